@@ -1,0 +1,19 @@
+//! The types that every layer shares: texts seen as their bytes, lists, lists of pairs, want of
+//! memory, and a counter of steps.
+#![tactic(auto)]
+
+mod listed;
+mod pairs;
+mod step_count;
+mod text;
+
+pub use listed::Listed;
+pub use pairs::Pairs;
+pub use step_count::Steps;
+pub use text::Text;
+
+/// Want of memory: an allocation that was refused, and nothing else.
+pub type Memory = std::alloc::AllocError;
+
+/// A list of bytes, as the content of a file.
+pub type Bytes = Listed<u8>;
