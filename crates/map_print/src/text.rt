@@ -1,0 +1,58 @@
+ghost use Rattle.std.specs.Prelude.{◌≡◌, ◌<◌, ◌++◌, OnOk, OnErr};
+
+use primitives::Memory;
+
+const QUOTE: u8 = 34;
+const BACKSLASH: u8 = 92;
+const LESS_THAN: u8 = 60;
+
+/// Appends a text as a JSON string (RFC 8259, 7). `<` is escaped too, so that the string may stand in a script element.
+/// Without memory `into` stays as it was.
+pub fn print_text(into: &mut Vec<u8>, text: &str) -> Result<(), Memory> {
+    let start = into.len();
+    match push_quoted(into, text.as_bytes()) {
+        Ok(()) => Ok(()),
+        Err(memory) => {
+            into.truncate(start);
+            Err(memory)
+        }
+    }
+}
+
+fn push_quoted(into: &mut Vec<u8>, bytes: &[u8]) -> Result<(), Memory> {
+    into.push(QUOTE)?;
+    push_escaped(into, bytes)?;
+    into.push(QUOTE)?;
+    Ok(())
+}
+
+fn push_escaped(into: &mut Vec<u8>, bytes: &[u8]) -> Result<(), Memory> {
+    for byte in bytes {
+        push_byte(into, *byte)?;
+    }
+    Ok(())
+}
+
+fn push_byte(into: &mut Vec<u8>, byte: u8) -> Result<(), Memory> {
+    if byte == QUOTE || byte == BACKSLASH {
+        into.extend_from_slice(&[BACKSLASH, byte])
+    } else if byte < 32 || byte == LESS_THAN {
+        into.extend_from_slice(&[
+            BACKSLASH,
+            b'u',
+            b'0',
+            b'0',
+            lower_hex_digit(byte / 16),
+            lower_hex_digit(byte % 16),
+        ])
+    } else {
+        into.push(byte)?;
+        Ok(())
+    }
+}
+
+fn lower_hex_digit(value: u8) -> u8
+    requires { value < 16 }
+{
+    if value < 10 { b'0' + value } else { b'a' + (value - 10) }
+}
