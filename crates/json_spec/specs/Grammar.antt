@@ -1,0 +1,163 @@
+-- Which value a JSON text has, or its first fault. RFC 8259, 2 to 6.
+--     ReadsJson bytes out      the bytes have the value, or the first fault, out
+--     Reads depth bytes out      the same of one value at the front of the bytes, in which depth brackets may be open at once.
+-- A fault's place is counted from the end while the text is read, and is turned into an offset once, in `ReadsJson`.
+use Rattle.std.specs.Prelude.{◌≡◌, ℕ, zero, suc, ◌-◌, ◌≢◌, Bool, true, false, ◌||◌, ◌==◌, List, [], ◌∷◌, length, if◌then◌else◌, codes, Option, Some, None, Result, Ok, Err, IsUtf8}
+use Rattle.std.specs.Str.{IsValidUpTo}
+use Rattle.json_spec.specs.Value.{Json, a_null, a_bool, a_number, a_text, a_list, an_object, Items, no_items, an_item, Members, no_members, a_member, settled}
+use Rattle.json_spec.specs.Taken.{Taken, taken, refused, Read, and_then}
+use Rattle.json_spec.specs.Strings.{ReadsText, behind}
+use Rattle.json_spec.specs.Numbers.{number_at}
+
+-- own: where a text fails. `NotJson` stands at the first token that can't be read or can't stand where it stands, or at the end;
+-- `TooDeep` at an opening bracket that may stand there and would be open within 128 others. The number is a place
+pub data Fault : Type 0 where
+  NotJson : ℕ → Fault
+  TooDeep : ℕ → Fault
+
+abbrev pub Reading : Type 0 → Type 0
+Reading A = Taken A Fault
+
+-- RFC 8259, 2: white space
+abbrev pub is_space : ℕ → Bool
+is_space b = b == 32 || b == 9 || b == 10 || b == 13
+
+abbrev pub after_space : List ℕ → List ℕ
+after_space [] = []
+after_space (b ∷ bytes) = if is_space b then after_space bytes else b ∷ bytes
+
+-- the fault at the front of the bytes
+abbrev pub fault_here : {A : Type 0} → List ℕ → Reading A
+fault_here bytes = refused (NotJson (length bytes))
+
+-- RFC 8259, 3: the value whose word the bytes begin with, or another answer
+abbrev pub word_else : Json → Option (List ℕ) → Reading Json → Reading Json
+word_else value None other = other
+word_else value (Some rest) other = taken value rest
+
+abbrev pub as_number : List ℕ → Read (List ℕ) → Reading Json
+as_number bytes (taken number rest) = taken (a_number number) rest
+as_number bytes (refused e) = fault_here bytes
+
+-- RFC 8259, 3: a value that is no string, list or object
+abbrev pub scalar_at : List ℕ → Reading Json
+scalar_at bytes =
+    word_else (a_bool true) (behind (codes "true") bytes)
+    (word_else (a_bool false) (behind (codes "false") bytes)
+    (word_else a_null (behind (codes "null") bytes)
+    (as_number bytes (number_at bytes))))
+
+-- a string whose opening quote stands before the bytes, as a value. One that can't be read fails at that quote
+abbrev pub text_behind : {A : Type 0} → List ℕ → (List ℕ → List ℕ → Reading A) → Read (List ℕ) → Reading A
+text_behind bytes next (taken text rest) = next text rest
+text_behind bytes next (refused e) = refused (NotJson (suc (length bytes)))
+
+-- RFC 8259, 4: the colon behind a name
+abbrev pub colon_at : List ℕ → List ℕ → Reading (List ℕ)
+colon_at name [] = fault_here []
+colon_at name (b ∷ bytes) = if b == 58 then taken name bytes else fault_here (b ∷ bytes)
+
+-- RFC 8259, 4: a name and its colon
+pub data ReadsName : List ℕ → Reading (List ℕ) → Type 0 where
+  name_text : {bytes : List ℕ} {out : Read (List ℕ)} → ReadsText bytes out → ReadsName (34 ∷ bytes) (text_behind bytes (λ name rest. colon_at name (after_space rest)) out)
+  no_name : {b : ℕ} {bytes : List ℕ} → b ≢ 34 → ReadsName (b ∷ bytes) (fault_here (b ∷ bytes))
+  name_ends : ReadsName [] (fault_here [])
+
+pub data Member : Type 0 where
+  a_pair : List ℕ → Json → Member
+
+abbrev pub paired : List ℕ → Reading Json → Reading Member
+paired name out = and_then out (λ value rest. taken (a_pair name value) rest)
+
+-- RFC 8259, 4: a name, a colon and a value
+pub data ReadsMember (value : List ℕ → Reading Json → Type 0) : List ℕ → Reading Member → Type 0 where
+  member_value : {bytes middle name : List ℕ} {out : Reading Json} → ReadsName bytes (taken name middle) → value (after_space middle) out → ReadsMember value bytes (paired name out)
+  member_name : {bytes : List ℕ} {f : Fault} → ReadsName bytes (refused f) → ReadsMember value bytes (refused f)
+
+abbrev pub behind_member : List ℕ → Json → Reading Members → Reading Members
+behind_member name value out = and_then out (λ more rest. taken (a_member name value more) rest)
+
+abbrev pub behind_item : Json → Reading Items → Reading Items
+behind_item value out = and_then out (λ more rest. taken (an_item value more) rest)
+
+-- RFC 8259, 4: what follows a member, up to the closing brace
+pub data MoreMembers (value : List ℕ → Reading Json → Type 0) : List ℕ → Reading Members → Type 0 where
+  members_close : {rest : List ℕ} → MoreMembers value (125 ∷ rest) (taken no_members rest)
+  members_next : {bytes middle name : List ℕ} {v : Json} {out : Reading Members} → ReadsMember value (after_space bytes) (taken (a_pair name v) middle) → MoreMembers value (after_space middle) out → MoreMembers value (44 ∷ bytes) (behind_member name v out)
+  members_fault : {bytes : List ℕ} {f : Fault} → ReadsMember value (after_space bytes) (refused f) → MoreMembers value (44 ∷ bytes) (refused f)
+  members_other : {b : ℕ} {bytes : List ℕ} → b ≢ 125 → b ≢ 44 → MoreMembers value (b ∷ bytes) (fault_here (b ∷ bytes))
+  members_end : MoreMembers value [] (fault_here [])
+
+-- RFC 8259, 4: an object behind its opening brace and space
+pub data ReadsMembers (value : List ℕ → Reading Json → Type 0) : List ℕ → Reading Members → Type 0 where
+  no_member : {rest : List ℕ} → ReadsMembers value (125 ∷ rest) (taken no_members rest)
+  first_member : {b : ℕ} {bytes middle name : List ℕ} {v : Json} {out : Reading Members} → b ≢ 125 → ReadsMember value (b ∷ bytes) (taken (a_pair name v) middle) → MoreMembers value (after_space middle) out → ReadsMembers value (b ∷ bytes) (behind_member name v out)
+  member_fault : {b : ℕ} {bytes : List ℕ} {f : Fault} → b ≢ 125 → ReadsMember value (b ∷ bytes) (refused f) → ReadsMembers value (b ∷ bytes) (refused f)
+  object_ends : ReadsMembers value [] (fault_here [])
+
+-- RFC 8259, 5: what follows a value of a list, up to the closing bracket
+pub data MoreItems (value : List ℕ → Reading Json → Type 0) : List ℕ → Reading Items → Type 0 where
+  items_close : {rest : List ℕ} → MoreItems value (93 ∷ rest) (taken no_items rest)
+  items_next : {bytes middle : List ℕ} {v : Json} {out : Reading Items} → value (after_space bytes) (taken v middle) → MoreItems value (after_space middle) out → MoreItems value (44 ∷ bytes) (behind_item v out)
+  items_fault : {bytes : List ℕ} {f : Fault} → value (after_space bytes) (refused f) → MoreItems value (44 ∷ bytes) (refused f)
+  items_other : {b : ℕ} {bytes : List ℕ} → b ≢ 93 → b ≢ 44 → MoreItems value (b ∷ bytes) (fault_here (b ∷ bytes))
+  items_end : MoreItems value [] (fault_here [])
+
+-- RFC 8259, 5: a list behind its opening bracket and space
+pub data ReadsItems (value : List ℕ → Reading Json → Type 0) : List ℕ → Reading Items → Type 0 where
+  no_item : {rest : List ℕ} → ReadsItems value (93 ∷ rest) (taken no_items rest)
+  first_item : {b : ℕ} {bytes middle : List ℕ} {v : Json} {out : Reading Items} → b ≢ 93 → value (b ∷ bytes) (taken v middle) → MoreItems value (after_space middle) out → ReadsItems value (b ∷ bytes) (behind_item v out)
+  item_fault : {b : ℕ} {bytes : List ℕ} {f : Fault} → b ≢ 93 → value (b ∷ bytes) (refused f) → ReadsItems value (b ∷ bytes) (refused f)
+  list_ends : ReadsItems value [] (fault_here [])
+
+abbrev pub as_text : List ℕ → Read (List ℕ) → Reading Json
+as_text bytes out = text_behind bytes (λ text rest. taken (a_text text) rest) out
+
+abbrev pub as_list : Reading Items → Reading Json
+as_list out = and_then out (λ items rest. taken (a_list items) rest)
+
+abbrev pub as_object : Reading Members → Reading Json
+as_object out = and_then out (λ members rest. taken (an_object (settled members)) rest)
+
+-- RFC 8259, 3: a value, where its lists and objects are read as told
+pub data ReadsWith (items : List ℕ → Reading Items → Type 0) (members : List ℕ → Reading Members → Type 0) : List ℕ → Reading Json → Type 0 where
+  reads_text : {bytes : List ℕ} {out : Read (List ℕ)} → ReadsText bytes out → ReadsWith items members (34 ∷ bytes) (as_text bytes out)
+  reads_list : {bytes : List ℕ} {out : Reading Items} → items bytes out → ReadsWith items members (91 ∷ bytes) (as_list out)
+  reads_object : {bytes : List ℕ} {out : Reading Members} → members bytes out → ReadsWith items members (123 ∷ bytes) (as_object out)
+  reads_scalar : {b : ℕ} {bytes : List ℕ} → b ≢ 34 → b ≢ 91 → b ≢ 123 → ReadsWith items members (b ∷ bytes) (scalar_at (b ∷ bytes))
+  value_ends : ReadsWith items members [] (fault_here [])
+
+-- own: a bracket is refused where too many others are open
+abbrev pub IsTooDeep : {A : Type 0} → List ℕ → Reading A → Type 0
+IsTooDeep bytes out = out ≡ refused (TooDeep (suc (length bytes)))
+
+abbrev pub Reads : ℕ → List ℕ → Reading Json → Type 0
+Reads zero = ReadsWith IsTooDeep IsTooDeep
+Reads (suc depth) = ReadsWith (λ bytes. ReadsItems (Reads depth) (after_space bytes)) (λ bytes. ReadsMembers (Reads depth) (after_space bytes))
+
+-- own: how many brackets may be open at once
+abbrev pub most_brackets : ℕ
+most_brackets = 128
+
+-- RFC 8259, 2: nothing but white space stands behind the value
+abbrev pub alone : Json → List ℕ → Result Json Fault
+alone value [] = Ok value
+alone value (b ∷ rest) = Err (NotJson (length (b ∷ rest)))
+
+abbrev pub whole_text : Reading Json → Result Json Fault
+whole_text (taken value rest) = alone value (after_space rest)
+whole_text (refused fault) = Err fault
+
+-- the fault with its offset in a text of n bytes
+abbrev pub offset_in : ℕ → Fault → Fault
+offset_in n (NotJson left) = NotJson (n - left)
+offset_in n (TooDeep left) = TooDeep (n - left)
+
+abbrev pub with_offset : ℕ → Result Json Fault → Result Json Fault
+with_offset n (Ok value) = Ok value
+with_offset n (Err fault) = Err (offset_in n fault)
+
+-- RFC 8259, 2 and 8.1: a JSON text. Bytes that aren't UTF-8 fail at the first byte that no character has (own: before every other fault)
+pub data ReadsJson : List ℕ → Result Json Fault → Type 0 where
+  json_text : {bytes : List ℕ} {out : Reading Json} → IsUtf8 bytes → Reads most_brackets (after_space bytes) out → ReadsJson bytes (with_offset (length bytes) (whole_text out))
+  no_utf8 : {bytes : List ℕ} {at : ℕ} → IsValidUpTo bytes at → ReadsJson bytes (Err (NotJson at))

@@ -1,0 +1,6 @@
+pub mod Printed
+pub mod Value
+pub mod Taken
+pub mod Strings
+pub mod Numbers
+pub mod Grammar

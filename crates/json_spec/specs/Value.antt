@@ -1,0 +1,35 @@
+-- JSON values. RFC 8259, 3 to 7, with the members of an object in written order.
+--     Json, Items, Members      a value, the values of a list, the members of an object
+--     settled ms      an object's members, where its text writes ms
+use Rattle.std.specs.Prelude.{ℕ, Bool, List, if◌then◌else◌, bytes_eq}
+
+mutual
+  -- own: a number is its text, as it is written
+  pub data Json : Type 0 where
+    a_null : Json
+    a_bool : Bool → Json
+    a_number : List ℕ → Json
+    a_text : List ℕ → Json
+    a_list : Items → Json
+    an_object : Members → Json
+
+  pub data Items : Type 0 where
+    no_items : Items
+    an_item : Json → Items → Items
+
+  pub data Members : Type 0 where
+    no_members : Members
+    a_member : List ℕ → Json → Members → Members
+
+-- own: a key that stands already keeps its place and takes the new value, and a new key comes last
+abbrev pub put : List ℕ → Json → Members → Members
+put key value no_members = a_member key value no_members
+put key value (a_member k v more) = if bytes_eq key k then a_member k value more else a_member k v (put key value more)
+
+abbrev pub settled_onto : Members → Members → Members
+settled_onto ms no_members = ms
+settled_onto ms (a_member key value more) = settled_onto (put key value ms) more
+
+-- own: RFC 8259, 4, leaves repeated keys open. Here each keeps its first place and takes its last value
+abbrev pub settled : Members → Members
+settled ms = settled_onto no_members ms
