@@ -12,6 +12,6 @@ keys_of pairs = map (λ p. p.0) pairs
 abbrev pub InKeyOrder : {V : Type 0} → List (List ℕ × V) → Type 0
 InKeyOrder pairs = IsStrictlySortedBy (slice_cmp nat_cmp) (keys_of pairs)
 
-pub none_in_order : {V : Type 0} → InKeyOrder {V = V} []
+pub none_in_order : IsStrictlySortedBy (slice_cmp nat_cmp) []
 unfolding IsStrictlySortedBy
 none_in_order = tt

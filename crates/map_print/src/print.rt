@@ -1,3 +1,5 @@
+ghost use Rattle.std.specs.Prelude.{◌<◌};
+
 use crate::{Keyed, Layout, Mappings, print_text};
 use primitives::{Memory, Text};
 use std::alloc::{AllocError, Global};
@@ -70,21 +72,23 @@ fn push_scope(out: &mut Vec<u8>, scope: &(Text, Mappings)) -> Result<(), Memory>
 }
 
 // An object of texts whose opening brace stands on a line at this level.
-fn push_mappings(out: &mut Vec<u8>, level: usize, pairs: &[(Text, Text)]) -> Result<(), Memory> {
+fn push_mappings(out: &mut Vec<u8>, level: usize, pairs: &[(Text, Text)]) -> Result<(), Memory>
+    requires { level < 3 }
+{
     let Some((first, more)) = pairs.split_first() else {
         return out.extend_from_slice(b"{}".as_slice());
     };
     out.push(b'{')?;
-    push_pair(out, level, first)?;
+    push_pair(out, level + 1, first)?;
     for pair in more {
         out.push(b',')?;
-        push_pair(out, level, pair)?;
+        push_pair(out, level + 1, pair)?;
     }
     push_close(out, level)
 }
 
 fn push_pair(out: &mut Vec<u8>, level: usize, pair: &(Text, Text)) -> Result<(), Memory> {
-    push_key(out, level + 1, pair.0.as_str())?;
+    push_key(out, level, pair.0.as_str())?;
     print_text(out, pair.1.as_str())
 }
 

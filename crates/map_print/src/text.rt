@@ -1,4 +1,5 @@
-ghost use Rattle.std.specs.Prelude.{◌≡◌, ◌<◌, ◌++◌, OnOk, OnErr};
+ghost use Rattle.std.specs.Prelude.{◌≡◌, ◌<◌, ◌++◌, length, take, OnOk, OnErr};
+ghost use Rattle.json_spec.specs.Printed.{quoted, escaped, escaped_byte, hex_digit};
 
 use primitives::Memory;
 
@@ -8,7 +9,10 @@ const LESS_THAN: u8 = 60;
 
 /// Appends a text as a JSON string (RFC 8259, 7). `<` is escaped too, so that the string may stand in a script element.
 /// Without memory `into` stays as it was.
-pub fn print_text(into: &mut Vec<u8>, text: &str) -> Result<(), Memory> {
+pub fn print_text(into: &mut Vec<u8>, text: &str) -> Result<(), Memory>
+    ensures printed { OnOk result (into.new.items ≡ into.old.items ++ quoted text.now) }
+    ensures kept { OnErr result (into.new.items ≡ into.old.items) }
+{
     let start = into.len();
     match push_quoted(into, text.as_bytes()) {
         Ok(()) => Ok(()),
@@ -19,21 +23,30 @@ pub fn print_text(into: &mut Vec<u8>, text: &str) -> Result<(), Memory> {
     }
 }
 
-fn push_quoted(into: &mut Vec<u8>, bytes: &[u8]) -> Result<(), Memory> {
+fn push_quoted(into: &mut Vec<u8>, bytes: &[u8]) -> Result<(), Memory>
+    ensures printed { OnOk result (into.new.items ≡ into.old.items ++ quoted bytes.now) }
+    ensures kept { take (length into.old.items) into.new.items ≡ into.old.items }
+{
     into.push(QUOTE)?;
     push_escaped(into, bytes)?;
     into.push(QUOTE)?;
     Ok(())
 }
 
-fn push_escaped(into: &mut Vec<u8>, bytes: &[u8]) -> Result<(), Memory> {
+fn push_escaped(into: &mut Vec<u8>, bytes: &[u8]) -> Result<(), Memory>
+    ensures printed { OnOk result (into.new.items ≡ into.old.items ++ escaped bytes.now) }
+    ensures kept { take (length into.old.items) into.new.items ≡ into.old.items }
+{
     for byte in bytes {
         push_byte(into, *byte)?;
     }
     Ok(())
 }
 
-fn push_byte(into: &mut Vec<u8>, byte: u8) -> Result<(), Memory> {
+fn push_byte(into: &mut Vec<u8>, byte: u8) -> Result<(), Memory>
+    ensures printed { OnOk result (into.new.items ≡ into.old.items ++ escaped_byte byte) }
+    ensures kept { OnErr result (into.new.items ≡ into.old.items) }
+{
     if byte == QUOTE || byte == BACKSLASH {
         into.extend_from_slice(&[BACKSLASH, byte])
     } else if byte < 32 || byte == LESS_THAN {
@@ -53,6 +66,7 @@ fn push_byte(into: &mut Vec<u8>, byte: u8) -> Result<(), Memory> {
 
 fn lower_hex_digit(value: u8) -> u8
     requires { value < 16 }
+    ensures { result ≡ hex_digit value }
 {
     if value < 10 { b'0' + value } else { b'a' + (value - 10) }
 }
