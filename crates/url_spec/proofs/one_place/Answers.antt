@@ -1,0 +1,5 @@
+use Rattle.url_spec.specs.UrlLaws.{one_place as the_law}
+use Rattle.url_spec.proofs.one_place.Goals as goal
+
+pub returns : goal.returns
+returns c = the_law

@@ -1,0 +1,6 @@
+pub mod Parsing
+pub mod Specifiers
+pub mod WebNames
+pub mod FileUrls
+pub mod UrlLaws
+pub mod Examples

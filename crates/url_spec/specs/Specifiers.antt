@@ -1,0 +1,20 @@
+-- Specifiers that may be URLs (HTML, import maps: parse a URL-like import specifier).
+use Rattle.std.specs.Prelude.{◌||◌, nat_eq, ℕ, Bool, List, codes, Option, unwrap_or, if◌then◌else◌}
+use Rattle.std.specs.List.{starts_with}
+use Rattle.url_spec.specs.Parsing.{parse_alone, parse_against}
+
+-- the text begins with this one
+abbrev pub begins : List ℕ → List ℕ → Bool
+begins text front = starts_with nat_eq text front
+
+-- the text begins with `/`, `./` or `../`
+abbrev pub is_relative : List ℕ → Bool
+is_relative text = begins text (codes "/") || begins text (codes "./") || begins text (codes "../")
+
+-- the URL of a specifier: a relative one against the base, any other without one
+unfoldable pub as_url : List ℕ → List ℕ → Option (List ℕ)
+as_url base text = if is_relative text then parse_against base text else parse_alone text
+
+-- the normalized specifier: the text of the URL, or the specifier where there is none
+unfoldable pub normalized : List ℕ → List ℕ → List ℕ
+normalized base text = unwrap_or (as_url base text) text

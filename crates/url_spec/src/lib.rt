@@ -1,0 +1,48 @@
+//! URLs as texts: parsing, URL-like specifiers, web names, served paths and file URLs. Definitions,
+//! and their laws as the contracts of functions that do nothing.
+#![tactic(auto)]
+
+ghost use Rattle.url_spec.specs.Examples.{WorkedExamples};
+ghost use Rattle.url_spec.specs.UrlLaws.{KeptUrls, NoUrls, OwnUrls, BasesStay, OneServed, OnePlace};
+
+/// What parsing gives, with or without a base, is the text of a URL, and so is a web name.
+#[tactic(auto, using(crate::specs::UrlLaws::kept_urls))]
+pub fn kept_urls()
+    ensures { KeptUrls }
+{}
+
+/// A text that is empty, or that begins with `/`, `.`, a digit or any other visible byte that is no
+/// letter, is no URL without a base.
+#[tactic(auto, using(crate::specs::UrlLaws::no_urls))]
+pub fn no_urls()
+    ensures { NoUrls }
+{}
+
+/// As a specifier the text of a URL is that URL, against every base; and the URL of a specifier is
+/// the text of a URL.
+#[tactic(auto, using(crate::specs::UrlLaws::own_urls))]
+pub fn own_urls()
+    ensures { OwnUrls }
+{}
+
+/// The base that a text gives is its own base.
+#[tactic(auto, using(crate::specs::UrlLaws::bases_stay))]
+pub fn bases_stay()
+    ensures { BasesStay }
+{}
+
+/// At most one path is served at a URL.
+pub fn one_served()
+    ensures { OneServed }
+{}
+
+/// A file URL names one place.
+pub fn one_place()
+    ensures { OnePlace }
+{}
+
+/// Worked examples.
+#[tactic(auto, using(crate::specs::Examples::worked_examples))]
+pub fn worked_examples()
+    ensures { WorkedExamples }
+{}
