@@ -25,16 +25,16 @@ no_space b a c d e (inr (inl h)) = c h
 no_space b a c d e (inr (inr (inl h))) = d h
 no_space b a c d e (inr (inr (inr h))) = e h
 
-quote_no_space : IsSpace 34 → ⊥
+pub quote_no_space : IsSpace 34 → ⊥
 quote_no_space = no_space 34 (λ h. omega arith) (λ h. omega arith) (λ h. omega arith) (λ h. omega arith)
 
-end_no_space : IsSpace 59 → ⊥
+pub end_no_space : IsSpace 59 → ⊥
 end_no_space = no_space 59 (λ h. omega arith) (λ h. omega arith) (λ h. omega arith) (λ h. omega arith)
 
-word_no_space : IsSpace 105 → ⊥
+pub word_no_space : IsSpace 105 → ⊥
 word_no_space = no_space 105 (λ h. omega arith) (λ h. omega arith) (λ h. omega arith) (λ h. omega arith)
 
-quote_not_plain : IsPlainByte 34 → ⊥
+pub quote_not_plain : IsPlainByte 34 → ⊥
 quote_not_plain plain = plain.no_quote refl
 
 -- two statements at the front of a text are one
@@ -53,7 +53,7 @@ one_statement text specifier other rest behind a b =
     record { specifiers = texts.front; rests = (let e = ends.back in cc) }
 
 -- the statement's text begins with a letter
-starts : (text specifier rest : List ℕ) → IsStatement text specifier rest → (more : List ℕ) × (text ≡ 105 ∷ more)
+pub starts : (text specifier rest : List ℕ) → IsStatement text specifier rest → (more : List ℕ) × (text ≡ 105 ∷ more)
 starts text specifier rest a = (codes "mport" ++ (a.before ++ 34 ∷ (specifier ++ 34 ∷ (a.after ++ 59 ∷ rest))), a.split)
 
 pub one_reading : OneReading
