@@ -6,7 +6,7 @@ use Rattle.std.proofs.lemmas.List.{take-append-drop, get_or-drop, length-drop}
 use Rattle.std.proofs.lemmas.Slice.Eq.{bytes_eq-Decides}
 use Rattle.std.proofs.lemmas.List.Elements.{All-from_get_or, All-same}
 use Rattle.tree_spec.specs.Paths.{IsSegment, joined, HasDepth, root, child, IsPath, IsParent}
-use Rattle.tree_spec.specs.PathLaws.{IsFront, at_root, at_other, front_of, joined_at, one_split, HasLast, last_of, no_depth, not_empty}
+use Rattle.tree_spec.specs.PathLaws.{IsFront, at_root, at_other, front_of, joined_at, one_split, HasLast, last_of, no_depth, not_empty, not_root}
 use Rattle.tree_model.specs.Below.{IsBelow}
 
 -- what stands before and behind the last `/`
@@ -24,11 +24,6 @@ pub segment_if : (name : List ℕ) (found : Bool) → name ≢ [] → name ≢ c
     → IsTrue (not found) ↔ IsSegment name
 segment_if name true e h u s n = ((λ f. cc), (λ is. let at = n.0 refl in absurd (is.no_nul at.0 0 at.1 at.2)))
 segment_if name false e h u s n = ((λ f. record { nonempty = e; no_slash = s; no_nul = All-from_get_or (λ b. b ≢ 0) name 0 (λ k l z. let wrong : false ≡ true = n.1 k l z in cc); not_here = h; not_up = u }), (λ is. refl))
-
-not_root : (text front name : List ℕ) → text ≡ front ++ 47 ∷ name → IsSegment name → text ≢ codes "/"
-not_root text front name e is r =
-    let same : front ++ 47 ∷ name ≡ [] ++ 47 ∷ [] = sym e ∙ r in
-    is.nonempty (one_split front [] name [] same is.no_slash (λ k d l. absurd (omega arith))).1
 
 empty : (xs : List ℕ) → length xs ≡ 0 → xs ≡ []
 empty [] e = refl

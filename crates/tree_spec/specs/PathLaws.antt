@@ -79,3 +79,9 @@ no_depth depth text (child above _ parent last _ segments segment deeper e) none
 -- a text with a depth isn't empty
 pub not_empty : (depth : ℕ) (text : List ℕ) → HasDepth depth text → text ≢ []
 not_empty depth text h e = no_depth depth text h (All-same (λ b. b ≢ 47) _ _ e (λ k d l. absurd (omega arith)))
+
+-- a text with a segment behind a `/` isn't the root
+pub not_root : (text front name : List ℕ) → text ≡ front ++ 47 ∷ name → IsSegment name → text ≢ codes "/"
+not_root text front name e is r =
+    let same : front ++ 47 ∷ name ≡ [] ++ 47 ∷ [] = sym e ∙ r in
+    is.nonempty (one_split front [] name [] same is.no_slash (λ k d l. absurd (omega arith))).1
