@@ -1,3 +1,5 @@
 pub mod Paths
+pub mod PathLaws
 pub mod Trees
+pub mod TreeLaws
 pub mod Counts

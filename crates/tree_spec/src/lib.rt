@@ -1,6 +1,9 @@
-//! What a path and a tree of files are, and what a look at a path answers: definitions alone.
+//! What a path and a tree of files are, and what a look at a path answers: definitions and their laws alone.
 #![tactic(auto)]
 
+mod laws;
+
+pub use laws::{one_parent, one_placing, placing_in_folder, placing_in_root, placing_keeps_tree};
 use primitives::Bytes;
 
 /// What stands at a path of a tree.
