@@ -1,0 +1,3 @@
+pub mod UrlTexts
+pub mod EscapeLemmas
+pub mod BaseLemmas

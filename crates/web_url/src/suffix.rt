@@ -1,0 +1,145 @@
+ghost use Rattle.std.specs.Prelude.{◌≡◌, ◌↔◌, [], IfOk, IsTrue, MatchOption};
+ghost use Rattle.web_url.specs.Suffixes.{IsSuffix};
+
+use primitives::{Memory, Text};
+use std::alloc::Global;
+use std::cmp::Ordering;
+use std::hash::{Hash, Hasher};
+use std::marker::Model;
+
+/// The query and fragment of a URL with their marks, or nothing.
+#[derive(Debug, Drop)]
+pub struct Suffix {
+    text: Text,
+}
+
+impl Model for Suffix {
+    ghost use Rattle.std.specs.Prelude.{List, ℕ};
+    ghost use Rattle.web_url.specs.Suffixes.{IsSuffix};
+
+    ghost Value = { List ℕ };
+
+    ghost view = { λ s. s.text };
+
+    ghost invariant = { λ s. IsSuffix s.text };
+}
+
+impl Suffix {
+    /// The empty suffix.
+    pub fn none(alloc: Global) -> Suffix
+        ensures { result ≡ [] }
+    {
+        Suffix {
+            text: Text::new(alloc),
+        }
+    }
+
+    /// A copy of a text, where that is empty or begins with `?` or `#`.
+    pub fn of(alloc: Global, text: &str) -> Result<Option<Suffix>, Memory>
+        ensures { IfOk result (λ found. MatchOption found (¬ IsSuffix text.now) (λ suffix. suffix ≡ text.now)) }
+    {
+        if is_suffix(text) {
+            return Ok(Some(Suffix {
+                text: Text::of(alloc, text)?,
+            }));
+        }
+        Ok(None)
+    }
+
+    /// Lends the text.
+    pub fn as_str(&self) -> &str
+        ensures text { result.now ≡ self.now }
+        ensures is_suffix { IsSuffix self.now }
+    {
+        self.text.as_str()
+    }
+
+    /// An equal suffix.
+    pub fn copy(&self, alloc: Global) -> Result<Suffix, Memory>
+        ensures { IfOk result (λ copy. copy ≡ self.now) }
+    {
+        Ok(Suffix {
+            text: self.text.copy(alloc)?,
+        })
+    }
+}
+
+fn is_suffix(text: &str) -> bool
+    ensures { IsTrue result ↔ IsSuffix text.now }
+{
+    match text.as_bytes().first() {
+        None => true,
+        Some(byte) => *byte == b'?' || *byte == b'#',
+    }
+}
+
+impl PartialEq for Suffix {
+    ghost use Rattle.std.specs.Prelude.{bytes_eq};
+    ghost use Rattle.std.proofs.Common.{rules};
+    ghost use Rattle.std.specs.Cmp.Rules.{comparing};
+
+    ghost eq = { bytes_eq };
+
+    ghost laws = { Prim.search (comparing, rules) };
+
+    fn eq(&self, other: &Suffix) -> bool {
+        self.text.as_str() == other.text.as_str()
+    }
+}
+
+impl Eq for Suffix {
+    ghost use Rattle.std.proofs.Common.{rules};
+    ghost use Rattle.std.specs.Cmp.Rules.{comparing};
+
+    ghost laws = { Prim.search (comparing, rules) };
+}
+
+impl Hash for Suffix {
+    ghost use Rattle.std.proofs.Common.{rules};
+    ghost use Rattle.std.specs.Cmp.Rules.{hashing};
+    ghost use Rattle.std.specs.Hash as fed;
+
+    ghost hash_input = { fed.str };
+
+    ghost respects_eq = { Prim.search (hashing, rules) };
+
+    fn hash<H: Hasher>(&self, state: &mut H) {
+        self.text.as_str().hash(state);
+    }
+}
+
+impl Ord for Suffix {
+    ghost use Rattle.std.specs.Ordering.{nat_cmp};
+    ghost use Rattle.std.specs.Cmp.Lexicographic.{slice_cmp};
+    ghost use Rattle.std.proofs.Common.{rules};
+    ghost use Rattle.std.specs.Cmp.Rules.{comparing};
+
+    ghost cmp = { slice_cmp nat_cmp };
+
+    ghost total = { Prim.search (comparing, rules) };
+
+    ghost matches_partial_cmp = { Prim.search (comparing, rules) };
+
+    ghost matches_eq = { Prim.search (comparing, rules) };
+
+    fn cmp(&self, other: &Suffix) -> Ordering {
+        self.text.as_str().cmp(other.text.as_str())
+    }
+}
+
+impl PartialOrd for Suffix {
+    ghost use Rattle.std.specs.Ordering.{nat_cmp};
+    ghost use Rattle.std.specs.Ordering.{as_partial_cmp};
+    ghost use Rattle.std.specs.Cmp.Lexicographic.{slice_cmp};
+    ghost use Rattle.std.proofs.Common.{rules};
+    ghost use Rattle.std.specs.Cmp.Rules.{comparing};
+    ghost use Rattle.std.specs.Cmp.{partial_order_from_own_ties};
+
+    ghost partial_cmp = { as_partial_cmp (slice_cmp nat_cmp) };
+
+    ghost laws = { partial_order_from_own_ties (Prim.search (comparing, rules)) (Prim.search (comparing, rules)) };
+
+    fn partial_cmp(&self, other: &Suffix) -> Option<Ordering> {
+        Some(self.cmp(other))
+    }
+}
