@@ -1,0 +1,42 @@
+-- Node's resolution of a specifier in a parent file (Node.js, ECMAScript modules: resolution algorithm).
+--     Resolves tree parent specifier answer      the answer for a specifier in the file at the path `parent`
+use Rattle.std.specs.Prelude.{◌≡◌, ℕ, Bool, true, false, List, codes, nat_eq, Option, Some, None}
+use Rattle.std.specs.List.{ends_with}
+use Rattle.std.specs.FinMap.{get}
+use Rattle.tree_spec.specs.declared.Entry.TheVariants.{Stored, Directory}
+use Rattle.tree_spec.specs.Trees.{Tree}
+use Rattle.url_spec.specs.Parsing.{parse_against}
+use Rattle.url_spec.specs.Specifiers.{is_relative}
+use Rattle.url_spec.specs.WebNames.{suffix_of}
+use Rattle.url_spec.specs.FileUrls.{file_text, names_host, url_path, escapes_separator, NamesPath}
+use Rattle.node_spec.specs.declared.Cause.{Cause}
+use Rattle.node_spec.specs.declared.Cause.TheVariants.{InvalidSpecifier, NotFound, DirectoryImport}
+
+-- a module, which is a path with a suffix, or the cause of a refusal
+pub data Answer : Type 0 where
+  Resolved : List ℕ → List ℕ → Answer
+  Refused : Cause → Answer
+
+-- only a folder may stand at this URL path
+abbrev pub is_folder_path : List ℕ → Bool
+is_folder_path path = ends_with nat_eq path (codes "/")
+
+-- what stands at a file URL (Node.js, ECMAScript modules: ESM_RESOLVE, from "If resolved is a file: URL" on)
+pub data Judges (tree : Tree) (url : List ℕ) : Answer → Type 0 where
+  separator : escapes_separator (url_path url) ≡ true → Judges tree url (Refused InvalidSpecifier)
+  folder : (path : List ℕ) → NamesPath (url_path url) path → get tree path ≡ Some Directory → Judges tree url (Refused DirectoryImport)
+  nameless : escapes_separator (url_path url) ≡ false → ((path : List ℕ) → NamesPath (url_path url) path → ⊥) → Judges tree url (Refused NotFound)
+  absent : (path : List ℕ) → NamesPath (url_path url) path → get tree path ≡ None → Judges tree url (Refused NotFound)
+  no_folder : (path bytes : List ℕ) → NamesPath (url_path url) path → get tree path ≡ Some (Stored bytes) → is_folder_path (url_path url) ≡ true → Judges tree url (Refused NotFound)
+  file : (path bytes : List ℕ) → NamesPath (url_path url) path → get tree path ≡ Some (Stored bytes) → is_folder_path (url_path url) ≡ false → Judges tree url (Resolved path (suffix_of url))
+
+-- own: the URL of a relative specifier names no host (Node.js, ECMAScript modules: ESM_RESOLVE, "the URL resolution of specifier relative to parentURL")
+pub data Joins (tree : Tree) (parent specifier : List ℕ) : Answer → Type 0 where
+  no_url : parse_against (file_text parent false) specifier ≡ None → Joins tree parent specifier (Refused InvalidSpecifier)
+  other_host : (url : List ℕ) → parse_against (file_text parent false) specifier ≡ Some url → names_host url ≡ true → Joins tree parent specifier (Refused InvalidSpecifier)
+  joined : (url : List ℕ) (answer : Answer) → parse_against (file_text parent false) specifier ≡ Some url → names_host url ≡ false → Judges tree url answer → Joins tree parent specifier answer
+
+-- a specifier that begins with `/`, `./` or `../`; bare specifiers and those that begin with `#` have no answer here yet
+-- (Node.js, ECMAScript modules: ESM_RESOLVE)
+pub data Resolves (tree : Tree) (parent specifier : List ℕ) : Answer → Type 0 where
+  relative : (answer : Answer) → is_relative specifier ≡ true → Joins tree parent specifier answer → Resolves tree parent specifier answer
