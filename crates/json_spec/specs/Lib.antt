@@ -4,3 +4,4 @@ pub mod Taken
 pub mod Strings
 pub mod Numbers
 pub mod Grammar
+pub mod One
