@@ -5,3 +5,5 @@ pub mod Strings
 pub mod Numbers
 pub mod Grammar
 pub mod One
+pub mod PrintedValue
+pub mod TextBack
