@@ -7,3 +7,5 @@ pub mod Grammar
 pub mod One
 pub mod PrintedValue
 pub mod TextBack
+pub mod Settled
+pub mod ValueBack
