@@ -9,3 +9,7 @@ pub mod PrintedValue
 pub mod TextBack
 pub mod Settled
 pub mod ValueBack
+pub mod Utf8
+pub mod JsonBack
+pub mod Distinct
+pub mod Examples

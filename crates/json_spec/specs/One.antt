@@ -184,9 +184,9 @@ one_front {at = at} {other = other} a b =
     ]
 
 json_one : {bytes : List ℕ} {a c : Result Json Fault} → ReadsJson bytes a → ReadsJson bytes c → a ≡ c
-json_one (json_text {bytes = bytes} u r) (json_text v s) = ap (λ out. with_offset (length bytes) (whole_text out)) (reads_one most_brackets _ _ _ r s)
-json_one (json_text u r) (no_utf8 b) = absurd (front_of_text u b)
-json_one (no_utf8 b) (json_text u r) = absurd (front_of_text u b)
+json_one (json_text {bytes = bytes} p u r) (json_text q v s) = ap (λ out. with_offset (length bytes) (whole_text out)) (reads_one most_brackets _ _ _ r s)
+json_one (json_text p u r) (no_utf8 b) = absurd (front_of_text u b)
+json_one (no_utf8 b) (json_text p u r) = absurd (front_of_text u b)
 json_one (no_utf8 b) (no_utf8 d) = ap (λ at. Err (NotJson at)) (one_front b d)
 
 -- own law: one text has one outcome

@@ -44,7 +44,7 @@ pub record StartsValue (bytes : List ℕ) : Type 0 where
   pub no_space : is_space head ≡ false
   pub no_close : head ≢ 93
 
-printed_starts : (depth n : ℕ) (v : Json) (rest : List ℕ) → IsPrintable depth v → StartsValue (printed n v rest)
+pub printed_starts : (depth n : ℕ) (v : Json) (rest : List ℕ) → IsPrintable depth v → StartsValue (printed n v rest)
 printed_starts depth n a_null rest p = record { head = 110; tail = _; is = refl; no_space = refl; no_close = omega arith }
 printed_starts depth n (a_bool true) rest p = record { head = 116; tail = _; is = refl; no_space = refl; no_close = omega arith }
 printed_starts depth n (a_bool false) rest p = record { head = 102; tail = _; is = refl; no_space = refl; no_close = omega arith }
@@ -55,7 +55,7 @@ printed_starts depth n (a_list (an_item v more)) rest p = record { head = 91; ta
 printed_starts depth n (an_object no_members) rest p = record { head = 123; tail = _; is = refl; no_space = refl; no_close = omega arith }
 printed_starts depth n (an_object (a_member name v more)) rest p = record { head = 123; tail = _; is = refl; no_space = refl; no_close = omega arith }
 
-after_no_space : (bytes : List ℕ) → StartsValue bytes → after_space bytes ≡ bytes
+pub after_no_space : (bytes : List ℕ) → StartsValue bytes → after_space bytes ≡ bytes
 after_no_space bytes s = rw s.is (cond-false _ _ _ s.no_space)
 
 -- the line end and the margin before a value are passed over
@@ -97,7 +97,7 @@ object_back depth n name more middle rest v ms d r m =
     rw (settled_distinct (a_member name v ms) d) at object
 
 mutual
-  value_back : (depth n : ℕ) (v : Json) (rest : List ℕ) → IsPrintable depth v → Reads depth (printed n v rest) (taken v rest)
+  pub value_back : (depth n : ℕ) (v : Json) (rest : List ℕ) → IsPrintable depth v → Reads depth (printed n v rest) (taken v rest)
   value_back depth n a_null rest p = at_depth depth (λ items members. reads_scalar (omega arith) (omega arith) (omega arith))
   value_back depth n (a_bool true) rest p = at_depth depth (λ items members. reads_scalar (omega arith) (omega arith) (omega arith))
   value_back depth n (a_bool false) rest p = at_depth depth (λ items members. reads_scalar (omega arith) (omega arith) (omega arith))
@@ -115,7 +115,7 @@ mutual
       let here = member_back depth name (printed (suc n) v after) after v (printed_starts depth (suc n) v after p.1.1) (value_back depth (suc n) v after p.1.1) in
       object_back depth (suc n) name (codes ": " ++ printed (suc n) v after) after rest v more p.0 here (members_back depth (suc n) n more rest p.1.2)
 
-  items_back : (depth n m : ℕ) (vs : Items) (rest : List ℕ) → ArePrintable depth vs → MoreItems (Reads depth) (after_space (printed_items n vs (line m (93 ∷ rest)))) (taken vs rest)
+  pub items_back : (depth n m : ℕ) (vs : Items) (rest : List ℕ) → ArePrintable depth vs → MoreItems (Reads depth) (after_space (printed_items n vs (line m (93 ∷ rest)))) (taken vs rest)
   items_back depth n m no_items rest p = rw (after_margin m (93 ∷ rest)) items_close
   items_back depth n m (an_item v more) rest p =
       let after = printed_items n more (line m (93 ∷ rest)) in
@@ -123,7 +123,7 @@ mutual
       let here : Reads depth (after_space (line n (printed n v after))) (taken v after) = rw (after_line n (printed n v after) starts) (value_back depth n v after p.0) in
       items_next here (items_back depth n m more rest p.1)
 
-  members_back : (depth n m : ℕ) (ms : Members) (rest : List ℕ) → MembersArePrintable depth ms → MoreMembers (Reads depth) (after_space (printed_members n ms (line m (125 ∷ rest)))) (taken ms rest)
+  pub members_back : (depth n m : ℕ) (ms : Members) (rest : List ℕ) → MembersArePrintable depth ms → MoreMembers (Reads depth) (after_space (printed_members n ms (line m (125 ∷ rest)))) (taken ms rest)
   members_back depth n m no_members rest p = rw (after_margin m (125 ∷ rest)) members_close
   members_back depth n m (a_member name v more) rest p =
       let after = printed_members n more (line m (125 ∷ rest)) in
@@ -131,3 +131,6 @@ mutual
       let here = member_back depth name bytes after v (printed_starts depth n v after p.1) (value_back depth n v after p.1) in
       let there : ReadsMember (Reads depth) (after_space (line n (quoted name ++ (codes ": " ++ bytes)))) (taken (a_pair name v) after) = rw (after_line n (quoted name ++ (codes ": " ++ bytes)) (quoted_starts name (codes ": " ++ bytes))) here in
       members_next there (members_back depth n m more rest p.2)
+
+pub text_reads : (depth : ℕ) (v : Json) → IsPrintable depth v → Reads depth (after_space (printed_text v)) (taken v (10 ∷ []))
+text_reads depth v p = rw (after_no_space (printed_text v) (printed_starts depth 0 v (10 ∷ []) p)) (value_back depth 0 v (10 ∷ []) p)
