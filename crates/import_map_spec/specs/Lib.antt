@@ -1,0 +1,3 @@
+pub mod ParsedMap
+pub mod Parsing
+pub mod Resolving
