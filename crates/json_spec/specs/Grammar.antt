@@ -136,7 +136,7 @@ Reads zero = ReadsWith IsTooDeep IsTooDeep
 Reads (suc depth) = ReadsWith (λ bytes. ReadsItems (Reads depth) (after_space bytes)) (λ bytes. ReadsMembers (Reads depth) (after_space bytes))
 
 -- own: how many brackets may be open at once
-abbrev pub most_brackets : ℕ
+unfoldable pub most_brackets : ℕ
 most_brackets = 128
 
 -- RFC 8259, 2: nothing but white space stands behind the value
@@ -159,5 +159,5 @@ with_offset n (Err fault) = Err (offset_in n fault)
 
 -- RFC 8259, 2 and 8.1: a JSON text. Bytes that aren't UTF-8 fail at the first byte that no character has (own: before every other fault)
 pub data ReadsJson : List ℕ → Result Json Fault → Type 0 where
-  json_text : {bytes : List ℕ} {out : Reading Json} → IsUtf8 bytes → Reads most_brackets (after_space bytes) out → ReadsJson bytes (with_offset (length bytes) (whole_text out))
+  json_text : {bytes : List ℕ} (out : Reading Json) → IsUtf8 bytes → Reads most_brackets (after_space bytes) out → ReadsJson bytes (with_offset (length bytes) (whole_text out))
   no_utf8 : {bytes : List ℕ} {at : ℕ} → IsValidUpTo bytes at → ReadsJson bytes (Err (NotJson at))

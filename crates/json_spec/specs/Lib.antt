@@ -4,3 +4,12 @@ pub mod Taken
 pub mod Strings
 pub mod Numbers
 pub mod Grammar
+pub mod One
+pub mod PrintedValue
+pub mod TextBack
+pub mod Settled
+pub mod ValueBack
+pub mod Utf8
+pub mod JsonBack
+pub mod Distinct
+pub mod Examples

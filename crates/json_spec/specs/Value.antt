@@ -1,7 +1,9 @@
 -- JSON values. RFC 8259, 3 to 7, with the members of an object in written order.
 --     Json, Items, Members      a value, the values of a list, the members of an object
 --     settled ms      an object's members, where its text writes ms
-use Rattle.std.specs.Prelude.{ℕ, Bool, List, if◌then◌else◌, bytes_eq}
+--     AreDistinct ms      no name stands twice among the members
+--     HasDistinctNames v      the same in each object of a value, at every level
+use Rattle.std.specs.Prelude.{ℕ, Bool, ◌≢◌, List, ⊤, if◌then◌else◌, bytes_eq}
 
 mutual
   -- own: a number is its text, as it is written
@@ -33,3 +35,28 @@ settled_onto ms (a_member key value more) = settled_onto (put key value ms) more
 -- own: RFC 8259, 4, leaves repeated keys open. Here each keeps its first place and takes its last value
 abbrev pub settled : Members → Members
 settled ms = settled_onto no_members ms
+
+abbrev pub IsNewName : List ℕ → Members → Type 0
+IsNewName name no_members = ⊤
+IsNewName name (a_member other value more) = (name ≢ other) × IsNewName name more
+
+abbrev pub AreDistinct : Members → Type 0
+AreDistinct no_members = ⊤
+AreDistinct (a_member name value more) = IsNewName name more × AreDistinct more
+
+abbrev mutual
+  pub HasDistinctNames : Json → Type 0
+  HasDistinctNames a_null = ⊤
+  HasDistinctNames (a_bool b) = ⊤
+  HasDistinctNames (a_number number) = ⊤
+  HasDistinctNames (a_text text) = ⊤
+  HasDistinctNames (a_list items) = ItemsHaveDistinctNames items
+  HasDistinctNames (an_object members) = AreDistinct members × MembersHaveDistinctNames members
+
+  pub ItemsHaveDistinctNames : Items → Type 0
+  ItemsHaveDistinctNames no_items = ⊤
+  ItemsHaveDistinctNames (an_item value more) = HasDistinctNames value × ItemsHaveDistinctNames more
+
+  pub MembersHaveDistinctNames : Members → Type 0
+  MembersHaveDistinctNames no_members = ⊤
+  MembersHaveDistinctNames (a_member name value more) = HasDistinctNames value × MembersHaveDistinctNames more

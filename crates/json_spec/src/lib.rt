@@ -1,2 +1,36 @@
 //! JSON texts as ordered values: which value each text has, or its first fault, and how values are printed.
+//!
+//! Definitions and laws alone: each function here is empty, and its contract is a law.
 #![tactic(auto)]
+
+ghost use Rattle.json_spec.specs.Distinct.{NamesAreDistinct};
+ghost use Rattle.json_spec.specs.JsonBack.{TextsReadBack, ValuesReadBack};
+ghost use Rattle.json_spec.specs.One.{OneJson};
+
+/// A text has at most one outcome, a value or a first fault.
+#[tactic(auto, using(crate::specs::One::one_json))]
+pub fn one_json()
+    ensures { OneJson }
+{
+}
+
+/// No object of a text's value holds a name twice, at any level.
+#[tactic(auto, using(crate::specs::Distinct::names_are_distinct))]
+pub fn names_are_distinct()
+    ensures { NamesAreDistinct }
+{
+}
+
+/// A printed string reads back as its text.
+#[tactic(auto, using(crate::specs::JsonBack::texts_read_back))]
+pub fn texts_read_back()
+    ensures { TextsReadBack }
+{
+}
+
+/// A printed value reads back, unless it holds a number.
+#[tactic(auto, using(crate::specs::JsonBack::values_read_back))]
+pub fn values_read_back()
+    ensures { ValuesReadBack }
+{
+}

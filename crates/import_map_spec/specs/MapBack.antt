@@ -1,0 +1,1 @@
+-- A map whose keys, addresses and scopes stand as parsing leaves them is the map of its text.

@@ -1,0 +1,153 @@
+-- Parsing an import map (HTML, import maps: parse an import map string).
+--     parsed_map base value      the map of a JSON value against the map base, or the first part that is no object
+--     ParsesMap base bytes out      the same of a text
+use Rattle.std.specs.Prelude.{◌≡◌, ℕ, ◌+◌, ◌-◌, ◌*◌, Bool, not, ◌&&◌, ◌||◌, ◌==◌, nat_lt, nat_eq, false, List, [], ◌∷◌, length, codes, bytes_eq, if◌then◌else◌, Option, Some, None, Result, Ok, Err}
+use Rattle.std.specs.List.{ends_with}
+use Rattle.std.specs.Str.{all_ascii_digits}
+use Rattle.std.specs.FinMap.{insert, empty}
+use Rattle.json_spec.specs.Value.{Json, a_null, a_bool, a_number, a_text, a_list, an_object, Members, no_members, a_member}
+use Rattle.json_spec.specs.Grammar.{Fault, ReadsJson}
+use Rattle.url_spec.specs.Parsing.{parse_against}
+use Rattle.url_spec.specs.Specifiers.{as_url, normalized}
+use Rattle.import_map_spec.specs.declared.MapPart.{MapPart}
+use Rattle.import_map_spec.specs.declared.MapPart.TheVariants.{Top, Imports, Scopes, Scope, Integrity}
+use Rattle.import_map_spec.specs.ParsedMap.{Texts, Addresses, ParsedMap, MapFault, NoJson, NotObject}
+
+abbrev pub is_empty : List ℕ → Bool
+is_empty text = length text == 0
+
+abbrev pub ends_in_slash : List ℕ → Bool
+ends_in_slash text = ends_with nat_eq text (codes "/")
+
+-- a URL that ends in no `/` is no address of a key that does (HTML, import maps: sorting and normalizing a module specifier map)
+abbrev pub fitting : List ℕ → Option (List ℕ) → Option (List ℕ)
+fitting key None = None
+fitting key (Some url) = if ends_in_slash key && not (ends_in_slash url) then None else Some url
+
+-- the address of a key, null where the value is no string or no URL (HTML, import maps: sorting and normalizing a module specifier map)
+abbrev pub address_of : List ℕ → List ℕ → Json → Option (List ℕ)
+address_of base key (a_text text) = fitting key (as_url base text)
+address_of base key a_null = None
+address_of base key (a_bool b) = None
+address_of base key (a_number number) = None
+address_of base key (a_list items) = None
+address_of base key (an_object ms) = None
+
+-- a key that is empty is dropped, and each other one normalized (HTML, import maps: normalizing a specifier key)
+abbrev pub with_address : List ℕ → List ℕ → Json → Addresses → Addresses
+with_address base key value m = if is_empty key then m else insert m (normalized base key) (address_of base key value)
+
+-- in written order, so that a later key replaces an earlier one (HTML, import maps: sorting and normalizing a module specifier map)
+abbrev pub addresses_onto : List ℕ → Addresses → Members → Addresses
+addresses_onto base m no_members = m
+addresses_onto base m (a_member key value more) = addresses_onto base (with_address base key value m) more
+
+abbrev pub normalized_addresses : List ℕ → Members → Addresses
+normalized_addresses base members = addresses_onto base empty members
+
+-- the number that digits spell, behind others whose number is n
+abbrev pub number_onto : ℕ → List ℕ → ℕ
+number_onto n [] = n
+number_onto n (b ∷ digits) = number_onto (n * 10 + (b - 48)) digits
+
+abbrev pub number_of : List ℕ → ℕ
+number_of digits = number_onto 0 digits
+
+abbrev pub begins_with_zero : List ℕ → Bool
+begins_with_zero [] = false
+begins_with_zero (b ∷ text) = b == 48
+
+-- an array index is the decimal text of a number below 2^32 - 1 (ECMA-262, object type)
+abbrev pub is_array_index : List ℕ → Bool
+is_array_index text = not (is_empty text) && all_ascii_digits text && (length text == 1 || not (begins_with_zero text)) && nat_lt (number_of text) 4294967295
+
+-- a member before those of greater numbers
+abbrev pub by_number : List ℕ → Json → Members → Members
+by_number key value no_members = a_member key value no_members
+by_number key value (a_member k v more) = if nat_lt (number_of key) (number_of k) then a_member key value (a_member k v more) else a_member k v (by_number key value more)
+
+-- the members whose names are array indices, by ascending number, and the others as they are written
+abbrev pub index_members : Members → Members
+index_members no_members = no_members
+index_members (a_member key value more) = if is_array_index key then by_number key value (index_members more) else index_members more
+
+abbrev pub other_members : Members → Members
+other_members no_members = no_members
+other_members (a_member key value more) = if is_array_index key then other_members more else a_member key value (other_members more)
+
+abbrev pub joined : Members → Members → Members
+joined no_members others = others
+joined (a_member key value more) others = a_member key value (joined more others)
+
+-- the order in which an object gives its members (ECMA-262, OrdinaryOwnPropertyKeys)
+abbrev pub in_property_order : Members → Members
+in_property_order members = joined (index_members members) (other_members members)
+
+-- a scope whose key is no URL is dropped (HTML, import maps: sorting and normalizing scopes)
+abbrev pub with_scope : Option (List ℕ) → Addresses → Texts Addresses → Texts Addresses
+with_scope None addresses m = m
+with_scope (Some url) addresses m = insert m url addresses
+
+-- a later key replaces an earlier one, and a scope that is no object is a fault (HTML, import maps: sorting and normalizing scopes)
+abbrev pub scopes_onto : List ℕ → Texts Addresses → Members → Result (Texts Addresses) MapPart
+scopes_onto base m no_members = Ok m
+scopes_onto base m (a_member key (an_object ms) more) = scopes_onto base (with_scope (parse_against base key) (normalized_addresses base ms) m) more
+scopes_onto base m (a_member key _ more) = Err Scope
+
+abbrev pub normalized_scopes : List ℕ → Members → Result (Texts Addresses) MapPart
+normalized_scopes base members = scopes_onto base empty (in_property_order members)
+
+-- a key that is no URL is dropped, and so is a value that is no string (HTML, import maps: normalizing a module integrity map)
+abbrev pub with_integrity : Option (List ℕ) → Json → Texts (List ℕ) → Texts (List ℕ)
+with_integrity (Some url) (a_text text) m = insert m url text
+with_integrity _ _ m = m
+
+abbrev pub integrity_onto : List ℕ → Texts (List ℕ) → Members → Texts (List ℕ)
+integrity_onto base m no_members = m
+integrity_onto base m (a_member key value more) = integrity_onto base (with_integrity (as_url base key) value m) more
+
+abbrev pub normalized_integrity : List ℕ → Members → Texts (List ℕ)
+normalized_integrity base members = integrity_onto base empty members
+
+-- the value of a member that is there
+abbrev pub member : List ℕ → Members → Option Json
+member name no_members = None
+member name (a_member key value more) = if bytes_eq name key then Some value else member name more
+
+-- the members of a part, which must be an object, where it is there
+abbrev pub object_in : MapPart → Option Json → Result Members MapPart
+object_in part None = Ok no_members
+object_in part (Some (an_object ms)) = Ok ms
+object_in part (Some _) = Err part
+
+infixl 10 ◌>>=◌
+abbrev pub ◌>>=◌ : {A B : Type 0} → Result A MapPart → (A → Result B MapPart) → Result B MapPart
+(Ok x) >>= next = next x
+(Err part) >>= next = Err part
+
+-- the checks come in this order (HTML, import maps: parse an import map string)
+abbrev pub map_of_members : List ℕ → Members → Result ParsedMap MapPart
+map_of_members base top = do
+  imports ← object_in Imports (member (codes "imports") top)
+  scopes ← object_in Scopes (member (codes "scopes") top)
+  normal_scopes ← normalized_scopes base scopes
+  integrity ← object_in Integrity (member (codes "integrity") top)
+  Ok (record { imports = normalized_addresses base imports; scopes = normal_scopes; integrity = normalized_integrity base integrity })
+
+abbrev pub parsed_map : List ℕ → Json → Result ParsedMap MapPart
+parsed_map base (an_object ms) = map_of_members base ms
+parsed_map base _ = Err Top
+
+abbrev pub as_map : Result ParsedMap MapPart → Result ParsedMap MapFault
+as_map (Ok m) = Ok m
+as_map (Err part) = Err (NotObject part)
+
+abbrev pub map_from : List ℕ → Result Json Fault → Result ParsedMap MapFault
+map_from base (Ok value) = as_map (parsed_map base value)
+map_from base (Err fault) = Err (NoJson fault)
+
+-- the map of a text (HTML, import maps: parse an import map string)
+pub record ParsesMap (base bytes : List ℕ) (out : Result ParsedMap MapFault) : Type 0 where
+  pub json : Result Json Fault
+  pub reads : ReadsJson bytes json
+  pub is : out ≡ map_from base json

@@ -1,0 +1,65 @@
+-- The text of an import map.
+--     map_value m      the map as a JSON value;        map_text m      its text
+--     IsKept base m      each key, address and scope of the map stands as parsing against the map base leaves it
+use Rattle.std.specs.Prelude.{◌≡◌, ℕ, false, List, [], ◌∷◌, codes, Option, Some, None, ⊤, IsUtf8}
+use Rattle.std.specs.FinMap.{get, entries}
+use Rattle.json_spec.specs.Value.{Json, a_null, a_text, an_object, Members, no_members, a_member}
+use Rattle.json_spec.specs.PrintedValue.{printed_text}
+use Rattle.url_spec.specs.Parsing.{parse_against}
+use Rattle.url_spec.specs.Specifiers.{as_url, normalized}
+use Rattle.import_map_spec.specs.ParsedMap.{Texts, Addresses, ParsedMap}
+use Rattle.import_map_spec.specs.Parsing.{is_empty, address_of}
+
+abbrev pub members_of : {X : Type 0} → (X → Json) → List (List ℕ × X) → Members
+members_of value [] = no_members
+members_of value (e ∷ es) = a_member e.0 (value e.1) (members_of value es)
+
+abbrev pub address_value : Option (List ℕ) → Json
+address_value None = a_null
+address_value (Some url) = a_text url
+
+-- own: in each object below the top one the keys stand in byte order
+abbrev pub addresses_value : Addresses → Json
+addresses_value m = an_object (members_of address_value (entries m))
+
+-- own: a part that is empty is left out
+abbrev pub with_part : List ℕ → Members → Members → Members
+with_part name no_members more = more
+with_part name (a_member key value part) more = a_member name (an_object (a_member key value part)) more
+
+-- own: the imports, then the scopes and the integrity where there are any
+abbrev pub map_value : ParsedMap → Json
+map_value m =
+    an_object (a_member (codes "imports") (addresses_value m.imports)
+        (with_part (codes "scopes") (members_of addresses_value (entries m.scopes)) (with_part (codes "integrity") (members_of a_text (entries m.integrity)) no_members)))
+
+abbrev pub map_text : ParsedMap → List ℕ
+map_text m = printed_text (map_value m)
+
+abbrev pub IsKeptAddress : List ℕ → List ℕ → Option (List ℕ) → Type 0
+IsKeptAddress base key None = ⊤
+IsKeptAddress base key (Some url) = (address_of base key (a_text url) ≡ Some url) × IsUtf8 url
+
+pub record IsKeptKey (base key : List ℕ) (address : Option (List ℕ)) : Type 0 where
+  pub not_empty : is_empty key ≡ false
+  pub normal : normalized base key ≡ key
+  pub utf8 : IsUtf8 key
+  pub stands : IsKeptAddress base key address
+
+abbrev pub AreKept : List ℕ → Addresses → Type 0
+AreKept base m = (key : List ℕ) (address : Option (List ℕ)) → get m key ≡ Some address → IsKeptKey base key address
+
+pub record IsKeptScope (base key : List ℕ) (addresses : Addresses) : Type 0 where
+  pub url : parse_against base key ≡ Some key
+  pub utf8 : IsUtf8 key
+  pub kept : AreKept base addresses
+
+pub record IsKeptIntegrity (base key text : List ℕ) : Type 0 where
+  pub url : as_url base key ≡ Some key
+  pub key_utf8 : IsUtf8 key
+  pub text_utf8 : IsUtf8 text
+
+pub record IsKept (base : List ℕ) (m : ParsedMap) : Type 0 where
+  pub imports : AreKept base m.imports
+  pub scopes : (key : List ℕ) (addresses : Addresses) → get m.scopes key ≡ Some addresses → IsKeptScope base key addresses
+  pub integrity : (key text : List ℕ) → get m.integrity key ≡ Some text → IsKeptIntegrity base key text

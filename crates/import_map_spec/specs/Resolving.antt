@@ -1,0 +1,82 @@
+-- Resolving a specifier through an import map (HTML, import maps: resolve a module specifier).
+--     resolve_in map referrer specifier      the URL that the specifier has in the module or page at the referrer, or why it has none
+use Rattle.std.specs.Prelude.{ℕ, zero, suc, Bool, true, List, [], take, drop, length, Option, Some, None, if◌then◌else◌}
+use Rattle.std.specs.FinMap.{get}
+use Rattle.url_spec.specs.Parsing.{parse_against, has_special_scheme}
+use Rattle.url_spec.specs.Specifiers.{as_url, normalized, begins}
+use Rattle.import_map_spec.specs.ParsedMap.{Texts, Addresses, ParsedMap}
+use Rattle.import_map_spec.specs.Parsing.{ends_in_slash}
+
+-- a URL, or one of the ways to fail: a null address, no URL at all, a URL out of the address of its folder, a rest that doesn't parse
+pub data Resolution : Type 0 where
+  Resolved : List ℕ → Resolution
+  Blocked : Resolution
+  Bare : Resolution
+  Backtrack : Resolution
+  BadRest : Resolution
+
+abbrev pub first_answer : {A : Type 0} → Option A → Option A → Option A
+first_answer None other = other
+first_answer (Some x) other = Some x
+
+-- what the longest front of the text answers, of those of at most n bytes that answer. A front is asked with what follows it
+abbrev pub longest_front : {A : Type 0} → (List ℕ → List ℕ → Option A) → List ℕ → ℕ → Option A
+longest_front answer text zero = None
+longest_front answer text (suc n) = first_answer (answer (take (suc n) text) (drop (suc n) text)) (longest_front answer text n)
+
+-- a key that is the normalized specifier (HTML, import maps: resolve an imports match)
+abbrev pub exact_match : Option (Option (List ℕ)) → Option Resolution
+exact_match None = None
+exact_match (Some None) = Some Blocked
+exact_match (Some (Some url)) = Some (Resolved url)
+
+abbrev pub below_address : List ℕ → Option (List ℕ) → Resolution
+below_address address None = BadRest
+below_address address (Some url) = if begins url address then Resolved url else Backtrack
+
+-- a key that is a prefix of the normalized specifier, with what follows it (HTML, import maps: resolve an imports match)
+abbrev pub prefix_match : Option (Option (List ℕ)) → List ℕ → Option Resolution
+prefix_match None rest = None
+prefix_match (Some None) rest = Some Blocked
+prefix_match (Some (Some address)) rest = Some (below_address address (parse_against address rest))
+
+-- a prefix is a key that ends in `/` (HTML, import maps: resolve an imports match)
+abbrev pub prefix_key : Addresses → List ℕ → List ℕ → Option Resolution
+prefix_key m front rest = if ends_in_slash front then prefix_match (get m front) rest else None
+
+-- prefixes count for what is no URL, and for URLs of a special scheme (HTML, import maps: resolve an imports match)
+abbrev pub takes_prefixes : Option (List ℕ) → Bool
+takes_prefixes None = true
+takes_prefixes (Some url) = has_special_scheme url
+
+-- the keys are tried in descending order, so that of those that match the longest one answers (HTML, import maps: resolve an imports match)
+abbrev pub resolve_imports_match : Option (List ℕ) → List ℕ → Addresses → Option Resolution
+resolve_imports_match url text m = first_answer (exact_match (get m text)) (if takes_prefixes url then longest_front (prefix_key m) text (length text) else None)
+
+abbrev pub scope_match : Option (List ℕ) → List ℕ → Option Addresses → Option Resolution
+scope_match url text None = None
+scope_match url text (Some m) = resolve_imports_match url text m
+
+-- a scope whose key is a prefix of the referrer and ends in `/` (HTML, import maps: resolve a module specifier)
+abbrev pub prefix_scope : Option (List ℕ) → List ℕ → Texts Addresses → List ℕ → List ℕ → Option Resolution
+prefix_scope url text scopes front rest = if ends_in_slash front then scope_match url text (get scopes front) else None
+
+-- the scope of the referrer itself, and then the others from the longest key to the shortest (HTML, import maps: resolve a module specifier)
+abbrev pub resolve_scopes_match : Option (List ℕ) → List ℕ → List ℕ → Texts Addresses → Option Resolution
+resolve_scopes_match url text referrer scopes = first_answer (scope_match url text (get scopes referrer)) (longest_front (prefix_scope url text scopes) referrer (length referrer))
+
+-- a URL that no key matches stands for itself
+abbrev pub unmatched : Option (List ℕ) → Resolution
+unmatched None = Bare
+unmatched (Some url) = Resolved url
+
+abbrev pub answer_or : Option Resolution → Resolution → Resolution
+answer_or None other = other
+answer_or (Some answer) other = answer
+
+-- the same with the URL of the specifier, where it has one, and the normalized specifier (HTML, import maps: resolve a module specifier)
+abbrev pub resolve_normalized : ParsedMap → List ℕ → Option (List ℕ) → List ℕ → Resolution
+resolve_normalized m referrer url text = answer_or (first_answer (resolve_scopes_match url text referrer m.scopes) (resolve_imports_match url text m.imports)) (unmatched url)
+
+abbrev pub resolve_in : ParsedMap → List ℕ → List ℕ → Resolution
+resolve_in m referrer specifier = resolve_normalized m referrer (as_url referrer specifier) (normalized referrer specifier)

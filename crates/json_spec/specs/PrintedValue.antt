@@ -1,0 +1,40 @@
+-- The printed form of a value. RFC 8259, 2, leaves white space free, and this is the layout that is written.
+--     printed_text v      the whole text of v;        printed n v rest      v at depth n, and then rest
+use Rattle.std.specs.Prelude.{ℕ, zero, suc, true, false, List, [], ◌∷◌, ◌++◌, codes}
+use Rattle.json_spec.specs.Value.{Json, a_null, a_bool, a_number, a_text, a_list, an_object, Items, no_items, an_item, Members, no_members, a_member}
+use Rattle.json_spec.specs.Printed.{quoted}
+
+-- own: two spaces a level
+abbrev pub margin : ℕ → List ℕ → List ℕ
+margin zero rest = rest
+margin (suc n) rest = 32 ∷ 32 ∷ margin n rest
+
+-- own: a line end (LF), and the margin of the next line
+abbrev pub line : ℕ → List ℕ → List ℕ
+line n rest = 10 ∷ margin n rest
+
+-- own: each item and each member stands on its own line, a level deeper, with `,` after all but the last, and `: ` after a name
+abbrev mutual
+  pub printed : ℕ → Json → List ℕ → List ℕ
+  printed n a_null rest = codes "null" ++ rest
+  printed n (a_bool true) rest = codes "true" ++ rest
+  printed n (a_bool false) rest = codes "false" ++ rest
+  printed n (a_number number) rest = number ++ rest
+  printed n (a_text text) rest = quoted text ++ rest
+  printed n (a_list no_items) rest = codes "[]" ++ rest
+  printed n (a_list (an_item v more)) rest = 91 ∷ line (suc n) (printed (suc n) v (printed_items (suc n) more (line n (93 ∷ rest))))
+  printed n (an_object no_members) rest = codes "{}" ++ rest
+  printed n (an_object (a_member name v more)) rest = 123 ∷ line (suc n) (quoted name ++ (codes ": " ++ printed (suc n) v (printed_members (suc n) more (line n (125 ∷ rest)))))
+
+  -- what stands behind an item, and behind a member
+  pub printed_items : ℕ → Items → List ℕ → List ℕ
+  printed_items n no_items rest = rest
+  printed_items n (an_item v more) rest = 44 ∷ line n (printed n v (printed_items n more rest))
+
+  pub printed_members : ℕ → Members → List ℕ → List ℕ
+  printed_members n no_members rest = rest
+  printed_members n (a_member name v more) rest = 44 ∷ line n (quoted name ++ (codes ": " ++ printed n v (printed_members n more rest)))
+
+-- own: one line end closes the text
+abbrev pub printed_text : Json → List ℕ
+printed_text v = printed 0 v (10 ∷ [])
