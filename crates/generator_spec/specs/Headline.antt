@@ -1,0 +1,43 @@
+-- What a written map promises.
+use Rattle.std.specs.Prelude.{◌≡◌, ℕ, List, Option, Some, Contains, Ok}
+use Rattle.tree_spec.specs.Trees.{Tree}
+use Rattle.url_spec.specs.WebNames.{web, IsServed}
+use Rattle.node_spec.specs.Resolution.{Resolves}
+use Rattle.node_spec.specs.Resolution as node
+use Rattle.import_map_spec.specs.ParsedMap.{ParsedMap}
+use Rattle.import_map_spec.specs.Parsing.{ParsesMap}
+use Rattle.import_map_spec.specs.Resolving.{resolve_in}
+use Rattle.import_map_spec.specs.Resolving as html
+use Rattle.generator_spec.specs.Modules.{Config, Module, Referrer, the_page, a_module, path_of, web_name, Asks}
+
+-- own: the least set that holds the page and, with each member, what Node's resolver answers for its requests
+pub data Reachable (tree : Tree) (config : Config) : Referrer → Type 0 where
+  page : Reachable tree config the_page
+  requested : (referrer : Referrer) (specifiers : List (List ℕ)) (specifier : List ℕ) (target : Module) → Reachable tree config referrer → Asks tree config referrer specifiers → Contains specifiers specifier → Resolves tree (path_of config referrer) specifier (node.Resolved target.path target.suffix) → Reachable tree config (a_module target)
+
+-- own: HTML's resolution of a specifier gives the URL of exactly the file that Node's resolution gives
+pub record Leads (tree : Tree) (config : Config) (map : ParsedMap) (referrer : Referrer) (name specifier : List ℕ) : Type 0 where
+  pub path : List ℕ
+  pub suffix : List ℕ
+  pub url : List ℕ
+  pub node : Resolves tree (path_of config referrer) specifier (node.Resolved path suffix)
+  pub web : web config.base path suffix ≡ Some url
+  pub html : resolve_in map name specifier ≡ html.Resolved url
+  pub served : IsServed config.base url path
+
+-- own: a referrer has its requests, and each of them is led to its file
+pub record AllLead (tree : Tree) (config : Config) (map : ParsedMap) (referrer : Referrer) : Type 0 where
+  pub name : List ℕ
+  pub named : web_name config referrer ≡ Some name
+  pub specifiers : List (List ℕ)
+  pub asks : Asks tree config referrer specifiers
+  pub leads : (specifier : List ℕ) → Contains specifiers specifier → Leads tree config map referrer name specifier
+
+-- own: the bytes parse as a map at the page's URL, and through it every request of the page and of every reachable module
+-- leads to the file that Node's resolver gives
+pub record Serves (tree : Tree) (config : Config) (bytes : List ℕ) : Type 0 where
+  pub map_base : List ℕ
+  pub named : web_name config the_page ≡ Some map_base
+  pub map : ParsedMap
+  pub parses : ParsesMap map_base bytes (Ok map)
+  pub all_lead : (referrer : Referrer) → Reachable tree config referrer → AllLead tree config map referrer

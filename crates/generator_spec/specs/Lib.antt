@@ -1,0 +1,5 @@
+pub mod Modules
+pub mod Trace
+pub mod Generation
+pub mod Headline
+pub mod Laws

@@ -1,0 +1,2 @@
+//! Needs and the layout that serves them: definitions and their laws.
+#![tactic(auto)]
