@@ -1,3 +1,4 @@
 pub mod UrlTexts
 pub mod EscapeLemmas
 pub mod BaseLemmas
+pub mod NameLemmas

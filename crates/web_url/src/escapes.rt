@@ -94,3 +94,21 @@ fn first_three(text: &[u8]) -> &[u8]
 {
     if text.len() < 3 { text } else { &text[..3] }
 }
+
+/// A slash and the unescaped bytes of each segment of a text.
+pub fn unescape_segments(alloc: Global, text: &str) -> Result<Vec<u8>, Memory>
+    ensures { IfOk result (λ bytes. bytes.items ≡ flat_map read_segment (segments text.now)) }
+{
+    let mut bytes = Vec::new(alloc);
+    for segment in text.split('/') {
+        push_segment(&mut bytes, segment)?;
+    }
+    Ok(bytes)
+}
+
+fn push_segment(bytes: &mut Vec<u8>, segment: &str) -> Result<(), Memory>
+    ensures { OnOk result (bytes.new.items ≡ bytes.old.items ++ read_segment segment.now) }
+{
+    bytes.push(b'/')?;
+    percent_decode(segment.as_bytes()).append_to(bytes)
+}

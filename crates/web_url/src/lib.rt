@@ -4,10 +4,12 @@
 
 mod base;
 mod escapes;
+mod names;
 mod suffix;
 mod url_text;
 mod web_url;
 
 pub use base::{Base, BaseFault};
+pub use names::{WebFault, web_of};
 pub use suffix::Suffix;
 pub use web_url::WebUrl;
