@@ -120,6 +120,7 @@ assembled base m imports scopes integrity p q r =
 
 -- own law: the value of a map is read as that map
 pub map_back : (base : List ℕ) (m : ParsedMap) → IsKept base m → parsed_map base (map_value m) ≡ Ok m
+unfolding parsed_map map_value
 map_back base m k =
     let scopes = members_of addresses_value (entries m.scopes) in
     let integrity = members_of a_text (entries m.integrity) in

@@ -135,7 +135,7 @@ map_of_members base top = do
   integrity ← object_in Integrity (member (codes "integrity") top)
   Ok (record { imports = normalized_addresses base imports; scopes = normal_scopes; integrity = normalized_integrity base integrity })
 
-abbrev pub parsed_map : List ℕ → Json → Result ParsedMap MapPart
+unfoldable pub parsed_map : List ℕ → Json → Result ParsedMap MapPart
 parsed_map base (an_object ms) = map_of_members base ms
 parsed_map base _ = Err Top
 
