@@ -11,7 +11,9 @@ use Rattle.std.specs.FinMap.{FinMap, get, entries, insert, empty, find, is_sorte
 use Rattle.std.specs.FinMap.Entries.{below_all}
 use Rattle.std.proofs.lemmas.Cmp.{tied_itself}
 use Rattle.import_map_spec.specs.ParsedMap.{Texts}
+use Rattle.json_spec.specs.Value.{Json, IsNewName, AreDistinct}
 use Rattle.import_map_spec.specs.Resolving.{first_answer}
+use Rattle.import_map_spec.specs.Printing.{members_of}
 
 -- the same text, as the order of keys has it
 abbrev same_key : List ℕ → List ℕ → Bool
@@ -101,3 +103,21 @@ module _ {X : Type 0} where
   inserted_entries m =
       same_map nat_list_cmp_total (slice_cmp-IsAntisymmetric nat_cmp-IsAntisymmetric) _ _
           (λ q. get-insert_all (entries m) empty q (entries_sorted m) ∙ (ap (first_answer (found q (entries m))) (get-empty (slice_cmp nat_cmp) q) ∙ (none_after (found q (entries m)) ∙ sym (get-entries m q))))
+
+  -- a member for each entry
+  pub names_apart : (key : List ℕ) (value : X → Json) (es : List (List ℕ × X)) → Below key es → IsNewName key (members_of value es)
+  names_apart key value [] b = tt
+  names_apart key value (e ∷ es) b = let p = parts _ _ b in (not_equal p.0, names_apart key value es p.1)
+    where
+      not_equal : {other : List ℕ} → T (is_lt (slice_cmp nat_cmp key other)) → key ≢ other
+      not_equal {other} l same = let t = same_key_itself key in let f : same_key key other ≡ false = not_same _ l in absurd (never (ap (same_key key) (sym same) ∙ t) f)
+        where
+          never : same_key key other ≡ true → same_key key other ≡ false → ⊥
+          never p q = cc
+
+  members_apart : (value : X → Json) (es : List (List ℕ × X)) → Sorted es → AreDistinct (members_of value es)
+  members_apart value [] s = tt
+  members_apart value (e ∷ es) s = let p = parts _ _ s in (names_apart e.0 value es p.0, members_apart value es p.1)
+
+  pub distinct_members : (value : X → Json) (m : Texts X) → AreDistinct (members_of value (entries m))
+  distinct_members value m = members_apart value (entries m) (entries_sorted m)

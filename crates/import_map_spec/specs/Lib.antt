@@ -6,3 +6,4 @@ pub mod SameQuestion
 pub mod Printing
 pub mod Entries
 pub mod MapBack
+pub mod TextBack

@@ -1,7 +1,7 @@
 -- Parsing an import map (HTML, import maps: parse an import map string).
 --     parsed_map base value      the map of a JSON value against the map base, or the first part that is no object
 --     ParsesMap base bytes out      the same of a text
-use Rattle.std.specs.Prelude.{◌≡◌, ℕ, ◌+◌, ◌-◌, ◌*◌, Bool, not, ◌&&◌, ◌||◌, ◌==◌, nat_lt, nat_eq, false, List, [], ◌∷◌, length, codes, bytes_eq, if◌then◌else◌, Option, Some, None, Result, Ok, Err}
+use Rattle.std.specs.Prelude.{◌≡◌, ℕ, ◌+◌, ◌-◌, ◌*◌, Bool, not, ◌&&◌, ◌||◌, ◌==◌, nat_lt, nat_eq, true, false, List, [], ◌∷◌, length, codes, bytes_eq, if◌then◌else◌, Option, Some, None, Result, Ok, Err}
 use Rattle.std.specs.List.{ends_with}
 use Rattle.std.specs.Str.{all_ascii_digits}
 use Rattle.std.specs.FinMap.{insert, empty}
@@ -14,7 +14,8 @@ use Rattle.import_map_spec.specs.declared.MapPart.TheVariants.{Top, Imports, Sco
 use Rattle.import_map_spec.specs.ParsedMap.{Texts, Addresses, ParsedMap, MapFault, NoJson, NotObject}
 
 abbrev pub is_empty : List ℕ → Bool
-is_empty text = length text == 0
+is_empty [] = true
+is_empty (b ∷ text) = false
 
 abbrev pub ends_in_slash : List ℕ → Bool
 ends_in_slash text = ends_with nat_eq text (codes "/")
@@ -134,7 +135,7 @@ map_of_members base top = do
   integrity ← object_in Integrity (member (codes "integrity") top)
   Ok (record { imports = normalized_addresses base imports; scopes = normal_scopes; integrity = normalized_integrity base integrity })
 
-abbrev pub parsed_map : List ℕ → Json → Result ParsedMap MapPart
+unfoldable pub parsed_map : List ℕ → Json → Result ParsedMap MapPart
 parsed_map base (an_object ms) = map_of_members base ms
 parsed_map base _ = Err Top
 

@@ -78,5 +78,5 @@ answer_or (Some answer) other = answer
 abbrev pub resolve_normalized : ParsedMap → List ℕ → Option (List ℕ) → List ℕ → Resolution
 resolve_normalized m referrer url text = answer_or (first_answer (resolve_scopes_match url text referrer m.scopes) (resolve_imports_match url text m.imports)) (unmatched url)
 
-abbrev pub resolve_in : ParsedMap → List ℕ → List ℕ → Resolution
+unfoldable pub resolve_in : ParsedMap → List ℕ → List ℕ → Resolution
 resolve_in m referrer specifier = resolve_normalized m referrer (as_url referrer specifier) (normalized referrer specifier)

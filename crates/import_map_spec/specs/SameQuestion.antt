@@ -27,7 +27,7 @@ SameQuestion =
     → resolve_in m referrer one ≡ resolve_in m referrer other
 
 pub same_question : SameQuestion
-unfolding normalized
+unfolding normalized resolve_in
 same_question m referrer one other p q e =
     let urls = same_url one other (as_url referrer one) (as_url referrer other) (own_urls.1 referrer one) (own_urls.1 referrer other) p q e in
     λ i. resolve_normalized m referrer (urls i) (e i)

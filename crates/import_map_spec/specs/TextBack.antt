@@ -1,0 +1,84 @@
+-- The text of a map is read as that map.
+use Rattle.std.specs.Prelude.{◌≡◌, ℕ, suc, ◌≢◌, true, false, List, [], ◌∷◌, codes, bytes_eq, Option, Some, None, Ok, ⊤, IsUtf8, encode_utf8_all}
+use Rattle.std.specs.Char.{encode_utf8}
+use Rattle.std.specs.FinMap.{get, entries}
+use Rattle.std.proofs.Common.{refl, ap, sym, ◌∙◌, subst}
+use Rattle.std.proofs.Math.Utf8.{scalars}
+use Rattle.std.proofs.lemmas.Slice.Eq.{bytes_eq-Decides}
+use Rattle.json_spec.specs.Value.{Json, a_text, an_object, Members, no_members, a_member, IsNewName, AreDistinct}
+use Rattle.json_spec.specs.Grammar.{most_brackets}
+use Rattle.json_spec.specs.ValueBack.{IsPrintable, MembersArePrintable}
+use Rattle.json_spec.specs.JsonBack.{values_read_back}
+use Rattle.import_map_spec.specs.ParsedMap.{Texts, Addresses, ParsedMap}
+use Rattle.import_map_spec.specs.Parsing.{as_map, ParsesMap}
+use Rattle.import_map_spec.specs.Entries.{AllEntries, all_entries, distinct_members}
+use Rattle.import_map_spec.specs.Printing.{members_of, address_value, addresses_value, with_part, map_value, map_text, IsKeptAddress, IsKeptKey, AreKept, IsKeptScope, IsKeptIntegrity, IsKept}
+use Rattle.import_map_spec.specs.MapBack.{map_back}
+
+address_printable : (depth : ℕ) (base key : List ℕ) (address : Option (List ℕ)) → IsKeptAddress base key address → IsPrintable depth (address_value address)
+address_printable depth base key None k = tt
+address_printable depth base key (Some url) k = k.1
+
+addresses_printable : (depth : ℕ) (base : List ℕ) (es : List (List ℕ × Option (List ℕ))) → AllEntries (IsKeptKey base) es → MembersArePrintable depth (members_of address_value es)
+addresses_printable depth base [] k = tt
+addresses_printable depth base (e ∷ es) k = (k.0.utf8, address_printable depth base e.0 e.1 k.0.stands, addresses_printable depth base es k.1)
+
+-- the value of one map of addresses
+value_printable : (depth : ℕ) (base : List ℕ) (m : Addresses) → AreKept base m → IsPrintable (suc depth) (addresses_value m)
+value_printable depth base m k = (distinct_members address_value m, addresses_printable depth base (entries m) (all_entries (IsKeptKey base) m k))
+
+scopes_printable : (depth : ℕ) (base : List ℕ) (es : List (List ℕ × Addresses)) → AllEntries (IsKeptScope base) es → MembersArePrintable (suc depth) (members_of addresses_value es)
+scopes_printable depth base [] k = tt
+scopes_printable depth base (e ∷ es) k = (k.0.utf8, value_printable depth base e.1 k.0.kept, scopes_printable depth base es k.1)
+
+integrity_printable : (depth : ℕ) (base : List ℕ) (es : List (List ℕ × List ℕ)) → AllEntries (IsKeptIntegrity base) es → MembersArePrintable depth (members_of a_text es)
+integrity_printable depth base [] k = tt
+integrity_printable depth base (e ∷ es) k = (k.0.key_utf8, k.0.text_utf8, integrity_printable depth base es k.1)
+
+different : (a b : List ℕ) → bytes_eq a b ≡ false → a ≢ b
+different a b e same = let t : bytes_eq a b ≡ true = (bytes_eq-Decides a b).1 same in never t e
+  where
+    never : bytes_eq a b ≡ true → bytes_eq a b ≡ false → ⊥
+    never p q = cc
+
+new_part : (key name : List ℕ) (part more : Members) → bytes_eq key name ≡ false → IsNewName key more → IsNewName key (with_part name part more)
+new_part key name no_members more e n = n
+new_part key name (a_member k v ms) more e n = (different key name e, n)
+
+distinct_part : (name : List ℕ) (part more : Members) → IsNewName name more → AreDistinct more → AreDistinct (with_part name part more)
+distinct_part name no_members more n d = d
+distinct_part name (a_member k v ms) more n d = (n, d)
+
+printable_part : (depth : ℕ) (name : List ℕ) (part more : Members) → IsUtf8 name → AreDistinct part → MembersArePrintable depth part → MembersArePrintable (suc depth) more → MembersArePrintable (suc depth) (with_part name part more)
+printable_part depth name no_members more u d p q = q
+printable_part depth name (a_member k v ms) more u d p q = (u, (d, p), q)
+
+-- the three names are UTF-8
+names_utf8 : IsUtf8 (codes "imports") × IsUtf8 (codes "scopes") × IsUtf8 (codes "integrity")
+unfolding encode_utf8
+names_utf8 = ((codes "imports", (refl, refl)), (codes "scopes", (refl, refl)), (codes "integrity", (refl, refl)))
+
+map_printable : (depth : ℕ) (base : List ℕ) (m : ParsedMap) → IsKept base m → IsPrintable (suc (suc (suc depth))) (map_value m)
+unfolding map_value
+map_printable depth base m k =
+    let scopes = members_of addresses_value (entries m.scopes) in
+    let integrity = members_of a_text (entries m.integrity) in
+    let last = with_part (codes "integrity") integrity no_members in
+    let new_imports = new_part (codes "imports") (codes "scopes") scopes last refl (new_part (codes "imports") (codes "integrity") integrity no_members refl tt) in
+    let new_scopes = new_part (codes "scopes") (codes "integrity") integrity no_members refl tt in
+    let distinct = distinct_part (codes "scopes") scopes last new_scopes (distinct_part (codes "integrity") integrity no_members tt tt) in
+    let last_printable = printable_part (suc depth) (codes "integrity") integrity no_members names_utf8.2 (distinct_members a_text m.integrity) (integrity_printable (suc depth) base (entries m.integrity) (all_entries (IsKeptIntegrity base) m.integrity k.integrity)) tt in
+    let scopes_part = printable_part (suc depth) (codes "scopes") scopes last names_utf8.1 (distinct_members addresses_value m.scopes) (scopes_printable depth base (entries m.scopes) (all_entries (IsKeptScope base) m.scopes k.scopes)) last_printable in
+    ((new_imports, distinct), (names_utf8.0, value_printable (suc depth) base m.imports k.imports, scopes_part))
+
+within_limit : (base : List ℕ) (m : ParsedMap) → IsKept base m → IsPrintable most_brackets (map_value m)
+unfolding most_brackets
+within_limit base m k = map_printable 125 base m k
+
+-- own law: the text of a map is read as that map
+abbrev pub TextsReadBack : Type 0
+TextsReadBack = (base : List ℕ) (m : ParsedMap) → IsKept base m → ParsesMap base (map_text m) (Ok m)
+
+pub texts_read_back : TextsReadBack
+unfolding map_text
+texts_read_back base m k = record { json = Ok (map_value m); reads = values_read_back (map_value m) (within_limit base m k); is = sym (ap as_map (map_back base m k)) }
