@@ -3,3 +3,4 @@ pub mod Trace
 pub mod Generation
 pub mod Headline
 pub mod Laws
+pub mod Closed
