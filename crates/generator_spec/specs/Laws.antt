@@ -6,7 +6,7 @@ use Rattle.module_spec.specs.PlainForm.{IsPlain, Requests}
 use Rattle.module_spec.specs.Readings.{one_reading}
 use Rattle.node_spec.specs.Resolution.{Answer, Resolved, Resolves}
 use Rattle.node_spec.specs.Laws.{one_answer}
-use Rattle.layout_spec.specs.Needs.{Need}
+use Rattle.layout_spec.specs.declared.Need.{Need}
 use Rattle.generator_spec.specs.Modules.{Config, Module, Referrer, the_page, a_module, path_of, web_name, Asks}
 use Rattle.generator_spec.specs.Modules.Asks.{entries, requests}
 use Rattle.generator_spec.specs.Trace.{Passes, AllPass, Turn, IsTurn, TurnsOf, new_modules, targets_of, Levels, IsTrace}

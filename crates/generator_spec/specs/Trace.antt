@@ -7,7 +7,8 @@ use Rattle.tree_spec.specs.Trees.{Tree}
 use Rattle.url_spec.specs.Specifiers.{as_url, is_relative}
 use Rattle.url_spec.specs.WebNames.{web, IsServed}
 use Rattle.node_spec.specs.Resolution.{Resolved, Resolves}
-use Rattle.layout_spec.specs.Needs.{Need, counted}
+use Rattle.layout_spec.specs.declared.Need.{Need}
+use Rattle.layout_spec.specs.Needs.{counted}
 use Rattle.generator_spec.specs.Modules.{Config, Module, is_module, Referrer, the_page, a_module, path_of, web_name, Asks}
 
 -- own: no URL that is asked for or named ends in `/`

@@ -3,7 +3,7 @@
 use Rattle.std.specs.Prelude.{◌≡◌, ◌≢◌, ℕ, List, [], ◌∷◌, bytes_eq, if◌then◌else◌, Option, Some, None, unwrap_or, Contains}
 use Rattle.std.specs.FinMap.{get, insert, empty}
 use Rattle.import_map_spec.specs.ParsedMap.{Texts, Addresses, ParsedMap}
-use Rattle.layout_spec.specs.Needs.{Need}
+use Rattle.layout_spec.specs.declared.Need.{Need}
 
 -- the mappings of a scope, none where there is no such scope
 abbrev pub scope_of : Texts Addresses → List ℕ → Addresses

@@ -1,12 +1,8 @@
--- Needs: what a map has to serve.
+-- Needs: what a map has to serve. A need is a referrer's web name, a normalized specifier, and the web name of what it
+-- must lead to.
 use Rattle.std.specs.Prelude.{◌≡◌, ℕ, Bool, List, [], ◌∷◌, ◌++◌, ◌&&◌, bytes_eq, if◌then◌else◌, Contains}
 use Rattle.std.specs.List.{list_any}
-
--- own: a referrer's web name, a normalized specifier, and the web name of what it must lead to
-pub record Need : Type 0 where
-  pub referrer : List ℕ
-  pub asked : List ℕ
-  pub target : List ℕ
+use Rattle.layout_spec.specs.declared.Need.{Need}
 
 -- the same need
 abbrev pub is_need : Need → Need → Bool

@@ -1,0 +1,112 @@
+ghost use Rattle.std.specs.Prelude.{◌≡◌, ◌≢◌, ◌==◌, ◌++◌, ◌∷◌, List, [], ℕ, Bool, length, true, false, slice_get, option_copied, Some, IfErr, Contains, MatchOption};
+ghost use Rattle.std.specs.List.{list_any};
+ghost use Rattle.layout_spec.specs.declared.Need.{Need};
+ghost use Rattle.need_table.specs.Rows.{asks_alike};
+
+use crate::asking::Asking;
+use indexmap::IndexSet;
+use layout_spec::Need;
+use primitives::Memory;
+use std::alloc::Global;
+use std::marker::Model;
+
+/// The needs in first-seen order; no two of them agree in referrer and specifier.
+#[derive(Drop)]
+pub struct Needs {
+    rows: IndexSet<Asking>,
+}
+
+/// What adding a need did.
+#[derive(Clone, Copy, Debug, PartialEq, Eq)]
+pub enum Added {
+    /// The need is the last one now.
+    New,
+    /// The need was there.
+    Known,
+}
+
+/// Why a need isn't added.
+#[derive(Clone, Copy, Debug, PartialEq, Eq)]
+pub enum NeedFault {
+    /// The need at this place has its referrer and specifier, and another target.
+    Clash { first: usize },
+    /// Want of memory.
+    Memory,
+}
+
+impl Model for Needs {
+    ghost use Rattle.std.specs.Prelude.{List};
+    ghost use Rattle.layout_spec.specs.declared.Need.{Need};
+
+    ghost Value = { List Need };
+
+    ghost view = { λ n. n.rows.keys };
+}
+
+impl Needs {
+    /// No needs.
+    pub fn new(alloc: Global) -> Needs
+        ensures { result ≡ [] }
+    {
+        Needs {
+            rows: IndexSet::new(alloc),
+        }
+    }
+
+    /// The number of needs.
+    pub fn len(&self) -> usize
+        ensures { result ≡ length self.now }
+    {
+        self.rows.len()
+    }
+
+    /// Whether there is no need.
+    pub fn is_empty(&self) -> bool
+        ensures { result ≡ (length self.now == 0) }
+    {
+        self.rows.len() == 0
+    }
+
+    /// The need with this number, counted from 0.
+    pub fn at(&self, index: usize) -> Option<&Need>
+        ensures { option_copied result ≡ slice_get self.now index }
+    {
+        match self.rows.get_index(index) {
+            None => None,
+            Some(row) => Some(row.need()),
+        }
+    }
+
+    /// Adds a need that isn't there yet.
+    pub fn add(&mut self, need: Need) -> Result<Added, NeedFault>
+        ensures new { result ≡ Ok Added.New → (list_any (asks_alike need) self.old ≡ false) × (self.new ≡ self.old ++ need ∷ []) }
+        ensures known { result ≡ Ok Added.Known → Contains self.old need }
+        ensures clash { IfErr result (λ fault. (first : ℕ) → fault ≡ NeedFault.Clash first → (other : Need) × (slice_get self.old first ≡ Some other) × (asks_alike need other ≡ true) × (other.target ≢ need.target)) }
+        ensures same { result ≢ Ok Added.New → self.new ≡ self.old }
+    {
+        let row = Asking::new(need);
+        match place_of(&self.rows, &row) {
+            Some((first, other)) => {
+                if other.target == row.need().target {
+                    return Ok(Added::Known);
+                }
+                Err(NeedFault::Clash { first })
+            }
+            None => match self.rows.insert(row) {
+                Ok(_) => Ok(Added::New),
+                Err(_) => Err(NeedFault::Memory),
+            },
+        }
+    }
+}
+
+// The need that asks alike, with its place.
+#[tactic(auto, using(crate::proofs::Found::find_passes))]
+fn place_of<'a>(rows: &'a IndexSet<Asking>, row: &Asking) -> Option<(usize, &'a Need)>
+    ensures { MatchOption result (list_any (asks_alike row.now) rows.now.keys ≡ false) (λ found. (slice_get rows.now.keys found.0 ≡ Some found.1.now) × (asks_alike row.now found.1.now ≡ true)) }
+{
+    match rows.get_full(row) {
+        None => None,
+        Some((first, other)) => Some((first, other.need())),
+    }
+}
