@@ -1,5 +1,5 @@
 -- Web names and the paths that are served.
-use Rattle.std.proofs.Common.{◌≡◌, ◌≤◌, ◌++◌, ◌∷◌, [], List, ℕ, Bool, Option, None, true, false, length, drop, sym, refl, ap, ◌∙◌, subst, cond, append_assoc}
+use Rattle.std.proofs.Common.{◌≡◌, ◌++◌, ◌∷◌, [], List, ℕ, Bool, true, false, drop, sym, refl, ap, ◌∙◌, subst, cond, append_assoc}
 use Rattle.std.specs.Prelude.{codes, bytes_eq}
 use Rattle.std.specs.Prelude.{flat_map, IsUtf8}
 use Rattle.std.proofs.lemmas.Bool.{true≢false}
@@ -9,7 +9,6 @@ use Rattle.url_spec.specs.WebNames.{escaped, web, before_suffix, holds_escape, r
 use Rattle.web_url.specs.Serving.{SpellsBelow}
 use Rattle.std.proofs.lemmas.Str.{IsCharBoundary-from_ascii}
 use Rattle.std.proofs.lemmas.Str.Pattern.{starts_text, strip_prefix_char}
-use Rattle.std.proofs.lemmas.Slice.Eq.{starts_is}
 use Rattle.tree_spec.specs.Paths.{IsPath, HasDepth, root, child}
 
 -- ---- a path begins with `/`
@@ -76,4 +75,5 @@ unfolding web
 web_is base path suffix text e = ap parse_alone e
 
 pub ruleset roots = (strip_prefix_char)
+
 pub ruleset fronts = (starts_text, IsCharBoundary-from_ascii)

@@ -1,10 +1,11 @@
 -- What the kit's parser gives, as texts.
-use Rattle.std.proofs.Common.{◌≡◌, List, ℕ, Option, Some, None, true, sym, refl, ap, ◌∙◌, subst, IsAscii}
-use Rattle.std.specs.Prelude.{Ok, Err, IfSome, bytes_eq}
+use Rattle.std.proofs.Common.{◌≡◌, List, ℕ, Some, None, refl, ap, ◌∙◌, subst, IsAscii}
+use Rattle.std.specs.Prelude.{Ok, Err}
 use Rattle.std.proofs.lemmas.Bool.{cond-true}
 use Rattle.std.proofs.lemmas.Slice.Eq.{bytes_eq-Decides}
 use Rattle.url.specs.declared.error.ParseError.{ParseError}
-use Rattle.url.specs.Parts.{Parts, IsValid, serialize, kind_of}
+use Rattle.url.specs.Parts.{Parts, IsValid, serialize, kind_of, has_host}
+use Rattle.url_spec.specs.FileUrls.{names_host, with_host, url_path, path_or_empty}
 use Rattle.url.specs.Parser.{parse_url}
 use Rattle.url.specs.Canonical.{IsCanonical}
 use Rattle.url.proofs.Theorems.{parse_url-serialize}
@@ -69,6 +70,14 @@ pub special_written : (url : Parts) → IsWritten url → has_special_scheme (te
 unfolding has_special_scheme
 special_written url own = ap has_special (parts_written url own)
 
-pub ruleset texts = (own_text, text_value, text_ascii, special_written)
+pub host_written : (url : Parts) → IsWritten url → names_host (text_of url) ≡ has_host url
+unfolding names_host
+host_written url own = ap with_host (parts_written url own)
+
+pub path_written : (url : Parts) → IsWritten url → url_path (text_of url) ≡ url.path
+unfolding url_path
+path_written url own = ap path_or_empty (parts_written url own)
+
+pub ruleset texts = (own_text, text_value, text_ascii, special_written, host_written, path_written)
 
 pub ruleset parsing = (parsed_written, joined_written, alone_ok, alone_err, against_ok, against_err)

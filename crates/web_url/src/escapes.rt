@@ -3,7 +3,9 @@ ghost use Rattle.std.specs.Prelude.{◌≡◌, ◌≤◌, ◌++◌, OnOk, IfOk, 
 ghost use Rattle.url.specs.Input.{lowercase};
 ghost use Rattle.url_spec.specs.WebNames.{escaped, suffix_start, before_suffix, suffix_of, holds_escape, is_suffix_mark, read_segment, segments};
 
-use percent_encoding::{AsciiSet, NON_ALPHANUMERIC, ascii_set, percent_decode, utf8_percent_encode};
+use percent_encoding::{
+    AsciiSet, NON_ALPHANUMERIC, ascii_set, percent_decode, utf8_percent_encode,
+};
 use primitives::Memory;
 use std::alloc::Global;
 
@@ -106,7 +108,8 @@ pub fn unescape_segments(alloc: Global, text: &str) -> Result<Vec<u8>, Memory>
     Ok(bytes)
 }
 
-fn push_segment(bytes: &mut Vec<u8>, segment: &str) -> Result<(), Memory>
+/// Appends a slash and the unescaped bytes of a segment.
+pub fn push_segment(bytes: &mut Vec<u8>, segment: &str) -> Result<(), Memory>
     ensures { OnOk result (bytes.new.items ≡ bytes.old.items ++ read_segment segment.now) }
 {
     bytes.push(b'/')?;

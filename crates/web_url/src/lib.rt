@@ -4,12 +4,17 @@
 
 mod base;
 mod escapes;
+mod file;
 mod names;
+mod paths;
+mod specifier;
 mod suffix;
 mod url_text;
 mod web_url;
 
 pub use base::{Base, BaseFault};
-pub use names::{WebFault, web_of};
+pub use file::{FileFault, FileUrl, Place, file_join, file_of, file_url};
+pub use names::{WebFault, served, web_of};
+pub use specifier::{AskFault, Asked, as_url, ask, is_relative};
 pub use suffix::Suffix;
 pub use web_url::WebUrl;

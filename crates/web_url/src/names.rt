@@ -5,6 +5,7 @@ ghost use Rattle.web_url.specs.Serving.{SpellsBelow, IsUnservable};
 
 use crate::base::Base;
 use crate::escapes::{holds_escape, push_escaped, split_suffix, unescape_segments};
+use crate::paths::path_of;
 use crate::suffix::Suffix;
 use crate::web_url::WebUrl;
 use primitives::Memory;
@@ -15,9 +16,7 @@ use tree_model::Path;
 #[derive(Debug, Drop)]
 pub enum WebFault {
     /// The name is no URL, or the path isn't what is served at it: the URL, where there is one.
-    Unservable {
-        url: Option<WebUrl>,
-    },
+    Unservable { url: Option<WebUrl> },
     /// Want of memory.
     Memory,
 }
@@ -48,6 +47,16 @@ pub fn web_of(alloc: Global, base: &Base, path: &Path, suffix: &Suffix) -> Resul
                 Err(WebFault::Unservable { url: Some(url) })
             }
         }
+    }
+}
+
+/// The path that a base serves at a URL, or none.
+pub fn served(alloc: Global, base: &Base, url: &WebUrl) -> Result<Option<Path>, Memory>
+    ensures { IfOk result (λ found. MatchOption found ((path : List ℕ) → IsServed base.now url.now path → ⊥) (IsServed base.now url.now)) }
+{
+    match spelled_below(alloc, base, url)? {
+        None => Ok(None),
+        Some(bytes) => path_of(alloc, bytes.as_slice()),
     }
 }
 

@@ -1,6 +1,8 @@
-ghost use Rattle.std.specs.Prelude.{◌≡◌, ◌↔◌, [], IfOk, IsTrue, MatchOption};
+ghost use Rattle.std.specs.Prelude.{◌≡◌, ◌↔◌, [], IfOk, IsAscii, IsTrue, MatchOption};
+ghost use Rattle.url_spec.specs.WebNames.{suffix_of};
 ghost use Rattle.web_url.specs.Suffixes.{IsSuffix};
 
+use crate::escapes::{is_suffix_mark, split_suffix};
 use primitives::{Memory, Text};
 use std::alloc::Global;
 use std::cmp::Ordering;
@@ -46,6 +48,16 @@ impl Suffix {
         Ok(None)
     }
 
+    /// The suffix of a URL with this text.
+    pub(crate) fn behind(alloc: Global, url: &str) -> Result<Suffix, Memory>
+        requires { IsAscii url.now }
+        ensures { IfOk result (λ suffix. suffix ≡ suffix_of url.now) }
+    {
+        Ok(Suffix {
+            text: Text::of(alloc, split_suffix(url).1)?,
+        })
+    }
+
     /// Lends the text.
     pub fn as_str(&self) -> &str
         ensures text { result.now ≡ self.now }
@@ -69,7 +81,7 @@ fn is_suffix(text: &str) -> bool
 {
     match text.as_bytes().first() {
         None => true,
-        Some(byte) => *byte == b'?' || *byte == b'#',
+        Some(byte) => is_suffix_mark(*byte),
     }
 }
 

@@ -39,7 +39,7 @@ impl WebUrl {
     }
 
     /// The URL of a text against this one, or none.
-    pub fn join(&self, text: &str) -> Result<Option<WebUrl>, Memory>
+    pub fn join(&self, _alloc: Global, text: &str) -> Result<Option<WebUrl>, Memory>
         ensures { IfOk result (λ found. found ≡ parse_against self.now text.now) }
     {
         match url_text::join(&self.url, text)? {

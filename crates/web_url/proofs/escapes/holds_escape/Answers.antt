@@ -1,4 +1,4 @@
-use Rattle.std.proofs.Common.{◌≡◌, sym, ◌∙◌}
+use Rattle.std.proofs.Common.{sym, ◌∙◌}
 use Rattle.web_url.proofs.EscapeLemmas.{escape_here, escape_later, escape_end}
 use Rattle.web_url.proofs.escapes.holds_escape.Goals as goal
 

@@ -1,4 +1,4 @@
-use Rattle.std.proofs.Common.{◌≡◌, ℕ, length}
+use Rattle.std.proofs.Common.{◌≡◌, length}
 use Rattle.url_spec.specs.WebNames.{holds_escape}
 use Rattle.web_url.proofs.escapes.holds_escape.Given as goal
 

@@ -1,4 +1,4 @@
-use Rattle.std.proofs.Common.{◌≡◌, ◌<◌, ℕ, true, false, not, length, get_or, sym, ap, ◌∙◌, arith}
+use Rattle.std.proofs.Common.{not, length, sym, ap, ◌∙◌, arith}
 use Rattle.url.proofs.InputLemmas.{prefix_len_is}
 use Rattle.url_spec.specs.WebNames.{is_suffix_mark}
 use Rattle.web_url.proofs.escapes.suffix_start.Goals as goal

@@ -1,4 +1,4 @@
-use Rattle.std.proofs.Common.{◌≡◌, ◌∙◌, ap, flat_map, lit<, rules}
+use Rattle.std.proofs.Common.{◌∙◌, ap, flat_map, lit<, rules}
 use Rattle.std.proofs.lemmas.Iterator.Splits.{YieldsList-from_str_split}
 use Rattle.std.proofs.lemmas.Iterator.Consumers.{YieldsList-end}
 use Rattle.url_spec.specs.WebNames.{read_segment}

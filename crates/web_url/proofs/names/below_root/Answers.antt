@@ -1,4 +1,4 @@
-use Rattle.std.proofs.Common.{◌≡◌, ◌++◌, sym, ap, ◌∙◌, lit<}
+use Rattle.std.proofs.Common.{◌++◌, sym, ap, ◌∙◌, lit<}
 use Rattle.std.proofs.lemmas.Str.{encode_ascii}
 use Rattle.web_url.proofs.NameLemmas.{path_slash}
 use Rattle.web_url.proofs.names.below_root.Goals as goal

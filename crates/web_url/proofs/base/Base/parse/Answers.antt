@@ -1,4 +1,4 @@
-use Rattle.std.proofs.Common.{◌≡◌, Some, sym, ◌∙◌, subst}
+use Rattle.std.proofs.Common.{sym, ◌∙◌, subst}
 use Rattle.url_spec.specs.Parsing.{text_of, IsBase}
 use Rattle.web_url.proofs.UrlTexts.{text_value}
 use Rattle.web_url.proofs.BaseLemmas.{base_ok, base_stays}

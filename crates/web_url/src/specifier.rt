@@ -1,0 +1,93 @@
+//! Specifiers as URLs.
+ghost use Rattle.std.specs.Prelude.{◌≡◌, IfOk, IfErr, true};
+ghost use Rattle.url_spec.specs.Specifiers.{is_relative, as_url};
+ghost use Rattle.web_url.specs.Asking.{IsAsked, IsAskFault};
+
+use crate::web_url::WebUrl;
+use primitives::Memory;
+use std::alloc::{AllocError, Global};
+
+/// What a specifier asks for.
+#[derive(Debug, Drop)]
+pub enum Asked {
+    /// A URL.
+    Url(WebUrl),
+    /// No URL: a bare specifier.
+    Bare,
+}
+
+/// Why a specifier can't be asked for.
+#[derive(Clone, Copy, Debug, PartialEq, Eq)]
+pub enum AskFault {
+    /// It is relative, and no URL against the referrer.
+    Unaskable,
+    /// It is relative, and its URL ends in `/`.
+    TrailingSlash,
+    /// Want of memory.
+    Memory,
+}
+
+impl From<AllocError> for AskFault {
+    ghost use Rattle.std.specs.Prelude.{◌≡◌};
+    ghost use Rattle.web_url.specs.declared.specifier.AskFault.TheVariants.{Memory};
+
+    ghost from_gives = { λ _ e. e ≡ Memory };
+
+    fn from(_: AllocError) -> AskFault {
+        AskFault::Memory
+    }
+}
+
+/// Whether a specifier begins with `/`, `./` or `../`.
+#[tactic(auto, using(std::proofs::lemmas::Str::Pattern::starts_text))]
+pub fn is_relative(text: &str) -> bool
+    ensures { result ≡ is_relative text.now }
+{
+    text.starts_with("/") || text.starts_with("./") || text.starts_with("../")
+}
+
+/// The URL of a specifier: a relative one against the base, any other without one.
+#[tactic(auto, using(crate::proofs::AskLemmas::asking))]
+pub fn as_url(alloc: Global, specifier: &str, base: &WebUrl) -> Result<Option<WebUrl>, Memory>
+    ensures { IfOk result (λ found. found ≡ as_url base.now specifier.now) }
+{
+    if is_relative(specifier) {
+        base.join(alloc, specifier)
+    } else {
+        WebUrl::parse(alloc, specifier)
+    }
+}
+
+/// What a specifier of a referrer asks for. A relative one is refused where a map couldn't have its
+/// URL as a key for one module.
+#[tactic(auto, using(crate::proofs::AskLemmas::asking))]
+pub fn ask(alloc: Global, specifier: &str, referrer: &WebUrl) -> Result<Asked, AskFault>
+    ensures asked { IfOk result (IsAsked referrer.now specifier.now) }
+    ensures fault { IfErr result (IsAskFault referrer.now specifier.now) }
+{
+    if is_relative(specifier) {
+        return ask_relative(alloc, specifier, referrer);
+    }
+    match WebUrl::parse(alloc, specifier)? {
+        Some(url) => Ok(Asked::Url(url)),
+        None => Ok(Asked::Bare),
+    }
+}
+
+#[tactic(auto, using(crate::proofs::AskLemmas::asking))]
+fn ask_relative(alloc: Global, specifier: &str, referrer: &WebUrl) -> Result<Asked, AskFault>
+    requires { is_relative specifier.now ≡ true }
+    ensures asked { IfOk result (IsAsked referrer.now specifier.now) }
+    ensures fault { IfErr result (IsAskFault referrer.now specifier.now) }
+{
+    match referrer.join(alloc, specifier)? {
+        None => Err(AskFault::Unaskable),
+        Some(url) => {
+            if url.as_str().ends_with("/") {
+                Err(AskFault::TrailingSlash)
+            } else {
+                Ok(Asked::Url(url))
+            }
+        }
+    }
+}
