@@ -16,7 +16,7 @@ use Rattle.import_map_spec.specs.Resolving.{first_answer}
 use Rattle.import_map_spec.specs.Printing.{members_of}
 
 -- the same text, as the order of keys has it
-abbrev same_key : List ℕ → List ℕ → Bool
+abbrev pub same_key : List ℕ → List ℕ → Bool
 same_key = eq_by_cmp (slice_cmp nat_cmp)
 
 ordering : (o : Ordering) → is_eq o ≡ true → o ≡ Equal
@@ -42,6 +42,13 @@ not_same Greater t = absurd t
 none_after : {X : Type 0} (o : Option X) → first_answer o None ≡ o
 none_after None = refl
 none_after (Some x) = refl
+
+-- what an insert and the empty map answer
+pub get_inserted : {X : Type 0} (m : Texts X) (key : List ℕ) (x : X) (q : List ℕ) → get (insert m key x) q ≡ cond (same_key q key) (Some x) (get m q)
+get_inserted m key x q = get-insert nat_list_cmp_total m key x q
+
+pub get_nowhere : {X : Type 0} (q : List ℕ) → get {X = X} {R = slice_cmp nat_cmp} empty q ≡ None
+get_nowhere q = get-empty (slice_cmp nat_cmp) q
 
 module _ {X : Type 0} where
   abbrev Below : List ℕ → List (List ℕ × X) → Type 0
