@@ -1,5 +1,6 @@
 -- Maps that are written out as lists, and how they answer, for the worked examples.
-use Rattle.std.specs.Prelude.{◌≡◌, ℕ, Bool, true, false, cond, List, [], ◌∷◌, map, Option, Some, None, option_map}
+use Rattle.std.specs.Prelude.{◌≡◌, ℕ, Bool, true, false, cond, List, [], ◌∷◌, map, codes, ⊤, Option, Some, None, option_map}
+use Prim.Native.String.{String}
 use Rattle.std.specs.FinMap.{get, insert, empty}
 use Rattle.std.proofs.Common.{refl, ap, sym, ◌∙◌}
 use mathlib.Core.Path.{fun_ext}
@@ -7,7 +8,8 @@ use Rattle.std.specs.Ordering.{nat_cmp, eq_by_cmp}
 use Rattle.std.specs.Cmp.Lexicographic.{slice_cmp}
 use Rattle.import_map_spec.specs.ParsedMap.{Texts, Addresses, ParsedMap}
 use Rattle.import_map_spec.specs.Entries.{same_key, insert_all, get_inserted, get_nowhere}
-use Rattle.import_map_spec.specs.Resolving.{Lookup, Resolution, scope_addresses, resolve_normalized}
+use Rattle.import_map_spec.specs.Resolving.{Lookup, Resolution, scope_addresses, resolve_normalized, resolve_in}
+use Rattle.url_spec.specs.Specifiers.{as_url, normalized}
 
 -- the entries one after another: a later one replaces an earlier one
 abbrev pub map_of : {X : Type 0} → List (List ℕ × X) → Texts X
@@ -16,8 +18,14 @@ map_of es = insert_all empty es
 abbrev pub scope_of : List ℕ × List (List ℕ × Option (List ℕ)) → List ℕ × Addresses
 scope_of e = (e.0, map_of e.1)
 
-abbrev pub map_of_lists : List (List ℕ × Option (List ℕ)) → List (List ℕ × List (List ℕ × Option (List ℕ))) → List (List ℕ × List ℕ) → ParsedMap
-map_of_lists imports scopes integrity = record { imports = map_of imports; scopes = map_of (map scope_of scopes); integrity = map_of integrity }
+-- the parts of a map
+pub record Lists : Type 0 where
+  pub imports : List (List ℕ × Option (List ℕ))
+  pub scopes : List (List ℕ × List (List ℕ × Option (List ℕ)))
+  pub integrity : List (List ℕ × List ℕ)
+
+abbrev pub map_of_lists : Lists → ParsedMap
+map_of_lists l = record { imports = map_of l.imports; scopes = map_of (map scope_of l.scopes); integrity = map_of l.integrity }
 
 -- the look-up of a list of entries
 abbrev pub nowhere : {X : Type 0} → Lookup X
@@ -50,5 +58,25 @@ pub scopes_looked : (es : List (List ℕ × List (List ℕ × Option (List ℕ))
 scopes_looked es = fun_ext (λ q. ap (λ f. option_map get (f q)) (get_map_of (map scope_of es)) ∙ scope_looked es nowhere nowhere (λ k. refl) q)
 
 -- what such a map answers, as its lists answer
-pub lists_answer : (imports : List (List ℕ × Option (List ℕ))) (scopes : List (List ℕ × List (List ℕ × Option (List ℕ)))) (referrer : List ℕ) (url : Option (List ℕ)) (text : List ℕ) → resolve_normalized (get (map_of imports)) (scope_addresses (map_of (map scope_of scopes))) referrer url text ≡ resolve_normalized (looked imports) (λ q. option_map looked (looked scopes q)) referrer url text
-lists_answer imports scopes referrer url text = λ i. resolve_normalized (get_map_of imports i) (scopes_looked scopes i) referrer url text
+abbrev pub listed_answer : Lists → List ℕ → List ℕ → Resolution
+listed_answer l referrer specifier = resolve_normalized (looked l.imports) (λ q. option_map looked (looked l.scopes q)) referrer (as_url referrer specifier) (normalized referrer specifier)
+
+pub lists_answer : (l : Lists) (referrer specifier : List ℕ) → resolve_in (map_of_lists l) referrer specifier ≡ listed_answer l referrer specifier
+unfolding resolve_in
+lists_answer l referrer specifier = λ i. resolve_normalized (get_map_of l.imports i) (scopes_looked l.scopes i) referrer (as_url referrer specifier) (normalized referrer specifier)
+
+-- a table of referrers, specifiers and answers
+abbrev pub Questions : Type 0
+Questions = List (String × String × Resolution)
+
+abbrev pub Answer : ParsedMap → Questions → Type 0
+Answer m [] = ⊤
+Answer m (q ∷ qs) = (resolve_in m (codes q.0) (codes q.1) ≡ q.2) × Answer m qs
+
+abbrev pub ListsAnswer : Lists → Questions → Type 0
+ListsAnswer l [] = ⊤
+ListsAnswer l (q ∷ qs) = (listed_answer l (codes q.0) (codes q.1) ≡ q.2) × ListsAnswer l qs
+
+pub answered : (l : Lists) (qs : Questions) → ListsAnswer l qs → Answer (map_of_lists l) qs
+answered l [] e = tt
+answered l (q ∷ qs) e = (lists_answer l (codes q.0) (codes q.1) ∙ e.0, answered l qs e.1)
