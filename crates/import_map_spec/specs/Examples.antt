@@ -1,5 +1,5 @@
 -- Worked examples. The page is `https://app.test/index.html`, and its URL is the map base.
-use Rattle.std.specs.Prelude.{◌≡◌, ℕ, List, [], ◌∷◌, codes, Option, Some, None, Result, Ok, Err}
+use Rattle.std.specs.Prelude.{◌≡◌, ℕ, true, List, [], ◌∷◌, codes, Option, Some, None, Result, Ok, Err}
 use Prim.Native.String.{String}
 use Rattle.std.specs.FinMap.{insert, empty}
 use Rattle.std.proofs.Common.{refl, ap, sym, ◌∙◌}
@@ -10,7 +10,7 @@ use Rattle.url_spec.specs.Specifiers.{as_url, normalized}
 use Rattle.import_map_spec.specs.declared.MapPart.{MapPart}
 use Rattle.import_map_spec.specs.declared.MapPart.TheVariants.{Top, Imports, Scopes, Scope, Integrity}
 use Rattle.import_map_spec.specs.ParsedMap.{Texts, Addresses, ParsedMap}
-use Rattle.import_map_spec.specs.Parsing.{parsed_map}
+use Rattle.import_map_spec.specs.Parsing.{in_property_order, parsed_map}
 use Rattle.import_map_spec.specs.Literals.{Lists, map_of_lists, Questions, Answer, ListsAnswer, answered}
 use Rattle.import_map_spec.specs.Resolving.{Resolution, Resolved, Blocked, Bare, Backtrack, BadRest, resolve_in}
 
@@ -109,3 +109,107 @@ import_examples = record {
   no_map = computed refl (refl, (refl, (refl, (refl, (refl, tt)))));
   checked = computed refl (refl, (refl, (refl, (refl, tt))));
 }
+
+abbrev pub from : String → String → Resolution → String × String × Resolution
+from referrer specifier answer = (referrer, specifier, answer)
+
+abbrev pub at : String → List (String × String) → Members → Members
+at key addresses more = with key (an_object (strings addresses)) more
+
+abbrev pub scope : String → List (List ℕ × Option (List ℕ)) → List ℕ × List (List ℕ × Option (List ℕ))
+scope key entries = (codes key, entries)
+
+pub record ScopeExamples : Type 0 where
+  -- array indices come first, so that the other key of the URL replaces this one
+  pub replaced :
+    IsExample (scoping (at "./1" (("a", "/b") ∷ []) (at "1" (("a", "/c") ∷ []) no_members)))
+        (only_scopes (scope "https://app.test/1" (to_url "a" "https://app.test/c" ∷ []) ∷ scope "https://app.test/1" (to_url "a" "https://app.test/b" ∷ []) ∷ []))
+        (from "https://app.test/1" "a" (to "https://app.test/b") ∷ [])
+  -- a text with a leading zero is no array index
+  pub no_index :
+    IsExample (scoping (at "https://app.test/1" (("a", "/b") ∷ []) (at "01" (("a", "/c") ∷ []) (at "1" (("a", "/d") ∷ []) no_members))))
+        (only_scopes (scope "https://app.test/1" (to_url "a" "https://app.test/d" ∷ []) ∷ scope "https://app.test/1" (to_url "a" "https://app.test/b" ∷ []) ∷ scope "https://app.test/01" (to_url "a" "https://app.test/c" ∷ []) ∷ []))
+        (from "https://app.test/1" "a" (to "https://app.test/b") ∷ from "https://app.test/01" "a" (to "https://app.test/c") ∷ [])
+  pub no_url :
+    IsExample (scoping (at "https://[" (("a", "/b") ∷ []) (at "/x/" (("a", "/c") ∷ []) no_members))) (only_scopes (scope "https://app.test/x/" (to_url "a" "https://app.test/c" ∷ []) ∷ []))
+        (from "https://app.test/x/m" "a" (to "https://app.test/c") ∷ from_page "a" Bare ∷ [])
+  -- the longest scope answers first, in whatever order they are written
+  pub inner_last :
+    IsExample (scoping (at "/" (("a", "/1") ∷ ("b", "/3") ∷ []) (at "/x/" (("a", "/2") ∷ []) no_members)))
+        (only_scopes (scope "https://app.test/" (to_url "a" "https://app.test/1" ∷ to_url "b" "https://app.test/3" ∷ []) ∷ scope "https://app.test/x/" (to_url "a" "https://app.test/2" ∷ []) ∷ []))
+        (from "https://app.test/x/m" "a" (to "https://app.test/2") ∷ from "https://app.test/x/m" "b" (to "https://app.test/3") ∷ from_page "a" (to "https://app.test/1") ∷ [])
+  pub inner_first :
+    IsExample (scoping (at "/x/" (("a", "/2") ∷ []) (at "/" (("a", "/1") ∷ ("b", "/3") ∷ []) no_members)))
+        (only_scopes (scope "https://app.test/x/" (to_url "a" "https://app.test/2" ∷ []) ∷ scope "https://app.test/" (to_url "a" "https://app.test/1" ∷ to_url "b" "https://app.test/3" ∷ []) ∷ []))
+        (from "https://app.test/x/m" "a" (to "https://app.test/2") ∷ from "https://app.test/x/m" "b" (to "https://app.test/3") ∷ from_page "a" (to "https://app.test/1") ∷ [])
+  -- a scope of one referrer, and a key that ends in no `/` and so is no folder
+  pub exact :
+    IsExample (scoping (at "./index.html" (("a", "/s") ∷ []) (at "/x" (("a", "/t") ∷ []) no_members)))
+        (only_scopes (scope "https://app.test/index.html" (to_url "a" "https://app.test/s" ∷ []) ∷ scope "https://app.test/x" (to_url "a" "https://app.test/t" ∷ []) ∷ []))
+        (from_page "a" (to "https://app.test/s") ∷ from "https://app.test/x" "a" (to "https://app.test/t") ∷ from "https://app.test/x/m" "a" Bare ∷ [])
+  -- a null address in a scope blocks what the imports have, and a prefix in a scope goes before a key in the imports
+  pub over_imports :
+    IsExample (an_object (with "imports" (an_object (strings (("a", "/i") ∷ ("u/w", "/j") ∷ []))) (with "scopes" (an_object (with "/x/" (an_object (with "a" a_null (with "u/" (a_text (codes "/v/")) no_members))) no_members)) no_members)))
+        (record { imports = to_url "a" "https://app.test/i" ∷ to_url "u/w" "https://app.test/j" ∷ []; scopes = scope "https://app.test/x/" (to_null "a" ∷ to_url "u/" "https://app.test/v/" ∷ []) ∷ []; integrity = [] })
+        (from "https://app.test/x/m" "a" Blocked ∷ from "https://app.test/x/m" "u/w" (to "https://app.test/v/w") ∷ from_page "a" (to "https://app.test/i") ∷ from_page "u/w" (to "https://app.test/j") ∷ [])
+
+scope_examples : ScopeExamples
+unfolding parsed_map normalized as_url parse_alone parse_against has_special_scheme text_of url_on_literals
+scope_examples = record {
+  replaced = computed refl (refl, tt);
+  no_index = computed refl (refl, (refl, tt));
+  no_url = computed refl (refl, (refl, tt));
+  inner_last = computed refl (refl, (refl, (refl, tt)));
+  inner_first = computed refl (refl, (refl, (refl, tt)));
+  exact = computed refl (refl, (refl, (refl, tt)));
+  over_imports = computed refl (refl, (refl, (refl, (refl, tt))));
+}
+
+-- the checks come in one order
+pub record FaultExamples : Type 0 where
+  pub top : parsed_map page (a_list no_items) ≡ Err Top
+  pub imports : parsed_map page (an_object (with "imports" (a_list no_items) no_members)) ≡ Err Imports
+  pub scopes : parsed_map page (an_object (with "scopes" a_null no_members)) ≡ Err Scopes
+  pub scope : parsed_map page (scoping (with "/" (a_list no_items) no_members)) ≡ Err Scope
+  pub integrity : parsed_map page (an_object (with "integrity" (a_text []) no_members)) ≡ Err Integrity
+  pub imports_first : parsed_map page (an_object (with "integrity" a_null (with "scopes" a_null (with "imports" a_null no_members)))) ≡ Err Imports
+  pub scope_first : parsed_map page (an_object (with "integrity" a_null (with "scopes" (an_object (with "/" a_null no_members)) no_members))) ≡ Err Scope
+  pub others : parsed_map page (an_object (with "more" a_null no_members)) ≡ Ok (map_of_lists (only_imports []))
+
+fault_examples : FaultExamples
+unfolding parsed_map normalized as_url parse_alone parse_against text_of url_on_literals
+fault_examples = record { top = refl; imports = refl; scopes = refl; scope = refl; integrity = refl; imports_first = refl; scope_first = refl; others = refl }
+
+abbrev pub pair : String → String → List ℕ × List ℕ
+pair key text = (codes key, codes text)
+
+-- a key that is no URL is dropped, and a value that is no string, and of others a later one replaces an earlier one
+pub record IntegrityExamples : Type 0 where
+  pub dropped :
+    parsed_map page (an_object (with "integrity" (an_object (with "./a.mjs" (a_text (codes "sha384-x")) (with "b" (a_text (codes "y")) (with "/c" (a_bool true) no_members)))) no_members))
+    ≡ Ok (map_of_lists (record { imports = []; scopes = []; integrity = pair "https://app.test/a.mjs" "sha384-x" ∷ [] }))
+  pub replaced :
+    parsed_map page (an_object (with "integrity" (an_object (with "./a.mjs" (a_text (codes "x")) (with "/a.mjs" (a_text (codes "y")) (with "https://app.test/a.mjs" a_null no_members)))) no_members))
+    ≡ Ok (map_of_lists (record { imports = []; scopes = []; integrity = pair "https://app.test/a.mjs" "x" ∷ pair "https://app.test/a.mjs" "y" ∷ [] }))
+
+integrity_examples : IntegrityExamples
+unfolding parsed_map normalized as_url parse_alone parse_against text_of url_on_literals
+integrity_examples = record { dropped = refl; replaced = refl }
+
+abbrev pub named : List String → Members
+named [] = no_members
+named (name ∷ names) = with name a_null (named names)
+
+pub record OrderExamples : Type 0 where
+  pub by_number : in_property_order (named ("b" ∷ "10" ∷ "9" ∷ "a" ∷ [])) ≡ named ("9" ∷ "10" ∷ "b" ∷ "a" ∷ [])
+  pub greatest : in_property_order (named ("4294967295" ∷ "4294967294" ∷ "0" ∷ [])) ≡ named ("0" ∷ "4294967294" ∷ "4294967295" ∷ [])
+  pub no_digits : in_property_order (named ("" ∷ "01" ∷ "-1" ∷ "1.0" ∷ "1" ∷ [])) ≡ named ("1" ∷ "" ∷ "01" ∷ "-1" ∷ "1.0" ∷ [])
+
+order_examples : OrderExamples
+order_examples = record { by_number = refl; greatest = refl; no_digits = refl }
+
+abbrev pub WorkedExamples : Type 0
+WorkedExamples = ImportExamples × ScopeExamples × FaultExamples × IntegrityExamples × OrderExamples
+
+pub worked_examples : WorkedExamples
+worked_examples = (import_examples, scope_examples, fault_examples, integrity_examples, order_examples)

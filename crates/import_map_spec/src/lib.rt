@@ -3,6 +3,7 @@
 //! Definitions and laws alone: each function here is empty, and its contract is a law.
 #![tactic(auto)]
 
+ghost use Rattle.import_map_spec.specs.Examples.{WorkedExamples};
 ghost use Rattle.import_map_spec.specs.OneMap.{OneMap};
 ghost use Rattle.import_map_spec.specs.SameQuestion.{SameQuestion};
 ghost use Rattle.import_map_spec.specs.TextBack.{TextsReadBack};
@@ -40,5 +41,12 @@ pub fn same_question()
 #[tactic(auto, using(crate::specs::TextBack::texts_read_back))]
 pub fn texts_read_back()
     ensures { TextsReadBack }
+{
+}
+
+/// Worked examples.
+#[tactic(auto, using(crate::specs::Examples::worked_examples))]
+pub fn worked_examples()
+    ensures { WorkedExamples }
 {
 }
