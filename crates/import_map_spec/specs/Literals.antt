@@ -2,10 +2,8 @@
 use Rattle.std.specs.Prelude.{◌≡◌, ℕ, Bool, true, false, cond, List, [], ◌∷◌, map, codes, ⊤, Option, Some, None, option_map}
 use Prim.Native.String.{String}
 use Rattle.std.specs.FinMap.{get, insert, empty}
-use Rattle.std.proofs.Common.{refl, ap, sym, ◌∙◌}
+use Rattle.std.proofs.Common.{refl, ap, ◌∙◌}
 use mathlib.Core.Path.{fun_ext}
-use Rattle.std.specs.Ordering.{nat_cmp, eq_by_cmp}
-use Rattle.std.specs.Cmp.Lexicographic.{slice_cmp}
 use Rattle.import_map_spec.specs.ParsedMap.{Texts, Addresses, ParsedMap}
 use Rattle.import_map_spec.specs.Entries.{same_key, insert_all, get_inserted, get_nowhere}
 use Rattle.import_map_spec.specs.Resolving.{Lookup, Resolution, scope_addresses, resolve_normalized, resolve_in}

@@ -1,11 +1,11 @@
 -- Specifiers that are no URLs and have one normalized specifier have one answer in every map.
-use Rattle.std.specs.Prelude.{◌≡◌, ℕ, Bool, true, false, List, Option, Some, None, unwrap_or}
-use Rattle.std.proofs.Common.{refl, ap, sym, ◌∙◌, subst}
+use Rattle.std.specs.Prelude.{◌≡◌, ℕ, List, Option, Some, None, unwrap_or}
+use Rattle.std.proofs.Common.{refl, ap, sym, ◌∙◌}
 use Rattle.url_spec.specs.Parsing.{parse_alone, IsUrl}
 use Rattle.url_spec.specs.Specifiers.{as_url, normalized}
 use Rattle.url_spec.specs.UrlLaws.{own_urls}
 use Rattle.import_map_spec.specs.ParsedMap.{ParsedMap}
-use Rattle.import_map_spec.specs.Resolving.{Resolution, scope_addresses, resolve_normalized, resolve_in}
+use Rattle.import_map_spec.specs.Resolving.{scope_addresses, resolve_normalized, resolve_in}
 use Rattle.std.specs.FinMap.{get}
 
 -- the URL of a specifier is told by the normalized specifier, where the other has none
