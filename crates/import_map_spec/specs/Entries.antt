@@ -1,13 +1,13 @@
 -- What stands among the entries of a finite map from texts.
 use Rattle.std.specs.Prelude.{◌≡◌, ℕ, Bool, true, false, cond, ◌&&◌, ◌≢◌, T, List, [], ◌∷◌, Option, Some, None, ⊤}
-use Rattle.std.proofs.Common.{refl, ap, sym, ◌∙◌, subst}
+use Rattle.std.proofs.Common.{refl, ap, sym, ◌∙◌}
 use Rattle.std.proofs.lemmas.Bool.{cond-true, cond-false, cases_Bool}
 use mathlib.Core.Logic.{inl, inr}
 use Rattle.std.specs.declared.cmp.Ordering.{Ordering}
 use Rattle.std.specs.declared.cmp.Ordering.TheVariants.{Less, Equal, Greater}
 use Rattle.std.specs.Ordering.{nat_cmp, is_lt, is_eq, eq_by_cmp}
 use Rattle.std.specs.Cmp.Lexicographic.{slice_cmp, nat_list_cmp_total}
-use Rattle.std.specs.FinMap.{FinMap, get, entries, insert, empty, find, is_sorted, get-entries, get-empty, get-insert, entries_sorted, same_map, slice_cmp-IsAntisymmetric, nat_cmp-IsAntisymmetric}
+use Rattle.std.specs.FinMap.{get, entries, insert, empty, find, is_sorted, get-entries, get-empty, get-insert, entries_sorted, same_map, slice_cmp-IsAntisymmetric, nat_cmp-IsAntisymmetric}
 use Rattle.std.specs.FinMap.Entries.{below_all}
 use Rattle.std.proofs.lemmas.Cmp.{tied_itself}
 use Rattle.import_map_spec.specs.ParsedMap.{Texts}
@@ -16,7 +16,7 @@ use Rattle.import_map_spec.specs.Resolving.{first_answer}
 use Rattle.import_map_spec.specs.Printing.{members_of}
 
 -- the same text, as the order of keys has it
-abbrev same_key : List ℕ → List ℕ → Bool
+abbrev pub same_key : List ℕ → List ℕ → Bool
 same_key = eq_by_cmp (slice_cmp nat_cmp)
 
 ordering : (o : Ordering) → is_eq o ≡ true → o ≡ Equal
@@ -42,6 +42,13 @@ not_same Greater t = absurd t
 none_after : {X : Type 0} (o : Option X) → first_answer o None ≡ o
 none_after None = refl
 none_after (Some x) = refl
+
+-- what an insert and the empty map answer
+pub get_inserted : {X : Type 0} (m : Texts X) (key : List ℕ) (x : X) (q : List ℕ) → get (insert m key x) q ≡ cond (same_key q key) (Some x) (get m q)
+get_inserted m key x q = get-insert nat_list_cmp_total m key x q
+
+pub get_nowhere : {X : Type 0} (q : List ℕ) → get {X = X} {R = slice_cmp nat_cmp} empty q ≡ None
+get_nowhere q = get-empty (slice_cmp nat_cmp) q
 
 module _ {X : Type 0} where
   abbrev Below : List ℕ → List (List ℕ × X) → Type 0
@@ -102,7 +109,7 @@ module _ {X : Type 0} where
   pub inserted_entries : (m : Texts X) → insert_all empty (entries m) ≡ m
   inserted_entries m =
       same_map nat_list_cmp_total (slice_cmp-IsAntisymmetric nat_cmp-IsAntisymmetric) _ _
-          (λ q. get-insert_all (entries m) empty q (entries_sorted m) ∙ (ap (first_answer (found q (entries m))) (get-empty (slice_cmp nat_cmp) q) ∙ (none_after (found q (entries m)) ∙ sym (get-entries m q))))
+      (λ q. get-insert_all (entries m) empty q (entries_sorted m) ∙ (ap (first_answer (found q (entries m))) (get-empty (slice_cmp nat_cmp) q) ∙ (none_after (found q (entries m)) ∙ sym (get-entries m q))))
 
   -- a member for each entry
   pub names_apart : (key : List ℕ) (value : X → Json) (es : List (List ℕ × X)) → Below key es → IsNewName key (members_of value es)

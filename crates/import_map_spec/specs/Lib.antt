@@ -7,3 +7,5 @@ pub mod Printing
 pub mod Entries
 pub mod MapBack
 pub mod TextBack
+pub mod Literals
+pub mod Examples

@@ -1,19 +1,17 @@
 -- A map whose keys, addresses and scopes stand as parsing leaves them is the map of its value.
-use Rattle.std.specs.Prelude.{◌≡◌, ℕ, ◌≤◌, ◌<◌, Bool, true, false, ◌&&◌, not, ◌==◌, List, [], ◌∷◌, codes, length, bytes_eq, nat_lt, Option, Some, None, Result, Ok, Err, ⊤}
+use Rattle.std.specs.Prelude.{◌≡◌, ℕ, ◌≤◌, true, false, List, [], ◌∷◌, codes, Option, Some, None, Result, Ok, ⊤}
 use Rattle.std.specs.Char.{is_ascii_digit}
-use Rattle.std.specs.Str.{all_ascii_digits}
 use Rattle.std.specs.FinMap.{get, insert, empty, entries}
-use Rattle.std.proofs.Common.{refl, ap, sym, ◌∙◌, subst, arith}
-use Rattle.std.proofs.lemmas.Bool.{cond-true, cond-false, cases_Bool, and_parts, and_left, lt-leb, leb-true, ne_eqb}
+use Rattle.std.proofs.Common.{refl, ap, ◌∙◌, arith}
+use Rattle.std.proofs.lemmas.Bool.{cond-false, cases_Bool, and_parts, and_left, lt-leb, leb-true, ne_eqb}
 use mathlib.Core.Logic.{inl, inr}
-use Rattle.json_spec.specs.Value.{Json, a_null, a_text, an_object, Members, no_members, a_member}
-use Rattle.url_spec.specs.Parsing.{parse_alone, parse_against, IsUrl}
-use Rattle.url_spec.specs.Specifiers.{as_url, normalized}
+use Rattle.json_spec.specs.Value.{a_text, Members, no_members, a_member}
+use Rattle.url_spec.specs.Parsing.{IsUrl}
 use Rattle.url_spec.specs.UrlLaws.{kept_urls, no_url, IsNoStart}
 use Rattle.import_map_spec.specs.declared.MapPart.{MapPart}
-use Rattle.import_map_spec.specs.declared.MapPart.TheVariants.{Top, Imports, Scopes, Scope, Integrity}
+use Rattle.import_map_spec.specs.declared.MapPart.TheVariants.{Scopes, Integrity}
 use Rattle.import_map_spec.specs.ParsedMap.{Texts, Addresses, ParsedMap}
-use Rattle.import_map_spec.specs.Parsing.{is_empty, address_of, with_address, addresses_onto, normalized_addresses, is_array_index, begins_with_zero, number_of, index_members, other_members, joined, in_property_order, with_scope, scopes_onto, normalized_scopes, with_integrity, integrity_onto, normalized_integrity, member, object_in, ◌>>=◌, map_of_members, parsed_map}
+use Rattle.import_map_spec.specs.Parsing.{address_of, with_address, addresses_onto, normalized_addresses, is_array_index, index_members, other_members, joined, in_property_order, with_scope, scopes_onto, normalized_scopes, with_integrity, integrity_onto, normalized_integrity, member, object_in, ◌>>=◌, parsed_map}
 use Rattle.import_map_spec.specs.Entries.{AllEntries, all_entries, insert_all, inserted_entries}
 use Rattle.import_map_spec.specs.Printing.{members_of, address_value, addresses_value, with_part, map_value, IsKeptAddress, IsKeptKey, AreKept, IsKeptScope, IsKeptIntegrity, IsKept}
 
@@ -79,7 +77,7 @@ scopes_onto_back : (base : List ℕ) (es : List (List ℕ × Addresses)) (m : Te
 scopes_onto_back base [] m k = refl
 scopes_onto_back base (e ∷ es) m k =
     ap (λ u. scopes_onto base (with_scope u (normalized_addresses base (members_of address_value (entries e.1))) m) (members_of addresses_value es)) k.0.url
-        ∙ (ap (λ a. scopes_onto base (insert m e.0 a) (members_of addresses_value es)) (addresses_back base e.1 k.0.kept) ∙ scopes_onto_back base es (insert m e.0 e.1) k.1)
+    ∙ (ap (λ a. scopes_onto base (insert m e.0 a) (members_of addresses_value es)) (addresses_back base e.1 k.0.kept) ∙ scopes_onto_back base es (insert m e.0 e.1) k.1)
 
 scopes_back : (base : List ℕ) (m : Texts Addresses) → ((key : List ℕ) (addresses : Addresses) → get m key ≡ Some addresses → IsKeptScope base key addresses) → normalized_scopes base (members_of addresses_value (entries m)) ≡ Ok m
 scopes_back base m k =
@@ -116,7 +114,7 @@ checked base imports scopes integrity = do
 assembled : (base : List ℕ) (m : ParsedMap) (imports scopes integrity : Members) → normalized_addresses base imports ≡ m.imports → normalized_scopes base scopes ≡ Ok m.scopes → normalized_integrity base integrity ≡ m.integrity → checked base imports (Ok scopes) (Ok integrity) ≡ Ok m
 assembled base m imports scopes integrity p q r =
     ap (λ n. n >>= (λ normal. Ok (record { imports = normalized_addresses base imports; scopes = normal; integrity = normalized_integrity base integrity }))) q
-        ∙ (λ i. Ok (record { imports = p i; scopes = m.scopes; integrity = r i }))
+    ∙ (λ i. Ok (record { imports = p i; scopes = m.scopes; integrity = r i }))
 
 -- own law: the value of a map is read as that map
 pub map_back : (base : List ℕ) (m : ParsedMap) → IsKept base m → parsed_map base (map_value m) ≡ Ok m
@@ -125,4 +123,4 @@ map_back base m k =
     let scopes = members_of addresses_value (entries m.scopes) in
     let integrity = members_of a_text (entries m.integrity) in
     (λ i. checked base (members_of address_value (entries m.imports)) (scopes_found scopes integrity i) (integrity_found scopes integrity i))
-        ∙ assembled base m (members_of address_value (entries m.imports)) scopes integrity (addresses_back base m.imports k.imports) (scopes_back base m.scopes k.scopes) (integrity_back base m.integrity k.integrity)
+    ∙ assembled base m (members_of address_value (entries m.imports)) scopes integrity (addresses_back base m.imports k.imports) (scopes_back base m.scopes k.scopes) (integrity_back base m.integrity k.integrity)

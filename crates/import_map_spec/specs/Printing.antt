@@ -7,7 +7,7 @@ use Rattle.json_spec.specs.Value.{Json, a_null, a_text, an_object, Members, no_m
 use Rattle.json_spec.specs.PrintedValue.{printed_text}
 use Rattle.url_spec.specs.Parsing.{parse_against}
 use Rattle.url_spec.specs.Specifiers.{as_url, normalized}
-use Rattle.import_map_spec.specs.ParsedMap.{Texts, Addresses, ParsedMap}
+use Rattle.import_map_spec.specs.ParsedMap.{Addresses, ParsedMap}
 use Rattle.import_map_spec.specs.Parsing.{is_empty, address_of}
 
 abbrev pub members_of : {X : Type 0} → (X → Json) → List (List ℕ × X) → Members
@@ -31,7 +31,7 @@ with_part name (a_member key value part) more = a_member name (an_object (a_memb
 unfoldable pub map_value : ParsedMap → Json
 map_value m =
     an_object (a_member (codes "imports") (addresses_value m.imports)
-        (with_part (codes "scopes") (members_of addresses_value (entries m.scopes)) (with_part (codes "integrity") (members_of a_text (entries m.integrity)) no_members)))
+    (with_part (codes "scopes") (members_of addresses_value (entries m.scopes)) (with_part (codes "integrity") (members_of a_text (entries m.integrity)) no_members)))
 
 unfoldable pub map_text : ParsedMap → List ℕ
 map_text m = printed_text (map_value m)

@@ -1,6 +1,6 @@
 -- Resolving a specifier through an import map (HTML, import maps: resolve a module specifier).
 --     resolve_in map referrer specifier      the URL that the specifier has in the module or page at the referrer, or why it has none
-use Rattle.std.specs.Prelude.{ℕ, zero, suc, Bool, true, List, [], take, drop, length, Option, Some, None, if◌then◌else◌}
+use Rattle.std.specs.Prelude.{ℕ, zero, suc, Bool, true, List, take, drop, length, Option, Some, None, option_map, if◌then◌else◌}
 use Rattle.std.specs.FinMap.{get}
 use Rattle.url_spec.specs.Parsing.{parse_against, has_special_scheme}
 use Rattle.url_spec.specs.Specifiers.{as_url, normalized, begins}
@@ -40,9 +40,13 @@ prefix_match None rest = None
 prefix_match (Some None) rest = Some Blocked
 prefix_match (Some (Some address)) rest = Some (below_address address (parse_against address rest))
 
+-- what a map has at a key
+abbrev pub Lookup : Type 0 → Type 0
+Lookup X = List ℕ → Option X
+
 -- a prefix is a key that ends in `/` (HTML, import maps: resolve an imports match)
-abbrev pub prefix_key : Addresses → List ℕ → List ℕ → Option Resolution
-prefix_key m front rest = if ends_in_slash front then prefix_match (get m front) rest else None
+abbrev pub prefix_key : Lookup (Option (List ℕ)) → List ℕ → List ℕ → Option Resolution
+prefix_key addresses front rest = if ends_in_slash front then prefix_match (addresses front) rest else None
 
 -- prefixes count for what is no URL, and for URLs of a special scheme (HTML, import maps: resolve an imports match)
 abbrev pub takes_prefixes : Option (List ℕ) → Bool
@@ -50,20 +54,20 @@ takes_prefixes None = true
 takes_prefixes (Some url) = has_special_scheme url
 
 -- the keys are tried in descending order, so that of those that match the longest one answers (HTML, import maps: resolve an imports match)
-abbrev pub resolve_imports_match : Option (List ℕ) → List ℕ → Addresses → Option Resolution
-resolve_imports_match url text m = first_answer (exact_match (get m text)) (if takes_prefixes url then longest_front (prefix_key m) text (length text) else None)
+abbrev pub resolve_imports_match : Option (List ℕ) → List ℕ → Lookup (Option (List ℕ)) → Option Resolution
+resolve_imports_match url text addresses = first_answer (exact_match (addresses text)) (if takes_prefixes url then longest_front (prefix_key addresses) text (length text) else None)
 
-abbrev pub scope_match : Option (List ℕ) → List ℕ → Option Addresses → Option Resolution
+abbrev pub scope_match : Option (List ℕ) → List ℕ → Option (Lookup (Option (List ℕ))) → Option Resolution
 scope_match url text None = None
-scope_match url text (Some m) = resolve_imports_match url text m
+scope_match url text (Some addresses) = resolve_imports_match url text addresses
 
 -- a scope whose key is a prefix of the referrer and ends in `/` (HTML, import maps: resolve a module specifier)
-abbrev pub prefix_scope : Option (List ℕ) → List ℕ → Texts Addresses → List ℕ → List ℕ → Option Resolution
-prefix_scope url text scopes front rest = if ends_in_slash front then scope_match url text (get scopes front) else None
+abbrev pub prefix_scope : Option (List ℕ) → List ℕ → Lookup (Lookup (Option (List ℕ))) → List ℕ → List ℕ → Option Resolution
+prefix_scope url text scopes front rest = if ends_in_slash front then scope_match url text (scopes front) else None
 
 -- the scope of the referrer itself, and then the others from the longest key to the shortest (HTML, import maps: resolve a module specifier)
-abbrev pub resolve_scopes_match : Option (List ℕ) → List ℕ → List ℕ → Texts Addresses → Option Resolution
-resolve_scopes_match url text referrer scopes = first_answer (scope_match url text (get scopes referrer)) (longest_front (prefix_scope url text scopes) referrer (length referrer))
+abbrev pub resolve_scopes_match : Option (List ℕ) → List ℕ → List ℕ → Lookup (Lookup (Option (List ℕ))) → Option Resolution
+resolve_scopes_match url text referrer scopes = first_answer (scope_match url text (scopes referrer)) (longest_front (prefix_scope url text scopes) referrer (length referrer))
 
 -- a URL that no key matches stands for itself
 abbrev pub unmatched : Option (List ℕ) → Resolution
@@ -74,9 +78,12 @@ abbrev pub answer_or : Option Resolution → Resolution → Resolution
 answer_or None other = other
 answer_or (Some answer) other = answer
 
--- the same with the URL of the specifier, where it has one, and the normalized specifier (HTML, import maps: resolve a module specifier)
-abbrev pub resolve_normalized : ParsedMap → List ℕ → Option (List ℕ) → List ℕ → Resolution
-resolve_normalized m referrer url text = answer_or (first_answer (resolve_scopes_match url text referrer m.scopes) (resolve_imports_match url text m.imports)) (unmatched url)
+-- the scopes, then the imports, then the URL (HTML, import maps: resolve a module specifier)
+abbrev pub resolve_normalized : Lookup (Option (List ℕ)) → Lookup (Lookup (Option (List ℕ))) → List ℕ → Option (List ℕ) → List ℕ → Resolution
+resolve_normalized imports scopes referrer url text = answer_or (first_answer (resolve_scopes_match url text referrer scopes) (resolve_imports_match url text imports)) (unmatched url)
+
+abbrev pub scope_addresses : Texts Addresses → Lookup (Lookup (Option (List ℕ)))
+scope_addresses scopes key = option_map get (get scopes key)
 
 unfoldable pub resolve_in : ParsedMap → List ℕ → List ℕ → Resolution
-resolve_in m referrer specifier = resolve_normalized m referrer (as_url referrer specifier) (normalized referrer specifier)
+resolve_in m referrer specifier = resolve_normalized (get m.imports) (scope_addresses m.scopes) referrer (as_url referrer specifier) (normalized referrer specifier)

@@ -1,11 +1,12 @@
 -- Specifiers that are no URLs and have one normalized specifier have one answer in every map.
-use Rattle.std.specs.Prelude.{◌≡◌, ℕ, Bool, true, false, List, Option, Some, None, unwrap_or}
-use Rattle.std.proofs.Common.{refl, ap, sym, ◌∙◌, subst}
+use Rattle.std.specs.Prelude.{◌≡◌, ℕ, List, Option, Some, None, unwrap_or}
+use Rattle.std.proofs.Common.{refl, ap, sym, ◌∙◌}
 use Rattle.url_spec.specs.Parsing.{parse_alone, IsUrl}
 use Rattle.url_spec.specs.Specifiers.{as_url, normalized}
 use Rattle.url_spec.specs.UrlLaws.{own_urls}
 use Rattle.import_map_spec.specs.ParsedMap.{ParsedMap}
-use Rattle.import_map_spec.specs.Resolving.{Resolution, resolve_normalized, resolve_in}
+use Rattle.import_map_spec.specs.Resolving.{scope_addresses, resolve_normalized, resolve_in}
+use Rattle.std.specs.FinMap.{get}
 
 -- the URL of a specifier is told by the normalized specifier, where the other has none
 same_url : (s t : List ℕ) (u v : Option (List ℕ)) → ((url : List ℕ) → u ≡ Some url → IsUrl url) → ((url : List ℕ) → v ≡ Some url → IsUrl url) → parse_alone s ≡ None → parse_alone t ≡ None → unwrap_or u s ≡ unwrap_or v t → u ≡ v
@@ -30,4 +31,4 @@ pub same_question : SameQuestion
 unfolding normalized resolve_in
 same_question m referrer one other p q e =
     let urls = same_url one other (as_url referrer one) (as_url referrer other) (own_urls.1 referrer one) (own_urls.1 referrer other) p q e in
-    λ i. resolve_normalized m referrer (urls i) (e i)
+    λ i. resolve_normalized (get m.imports) (scope_addresses m.scopes) referrer (urls i) (e i)

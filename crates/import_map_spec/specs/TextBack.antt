@@ -1,15 +1,14 @@
 -- The text of a map is read as that map.
-use Rattle.std.specs.Prelude.{◌≡◌, ℕ, suc, ◌≢◌, true, false, List, [], ◌∷◌, codes, bytes_eq, Option, Some, None, Ok, ⊤, IsUtf8, encode_utf8_all}
+use Rattle.std.specs.Prelude.{◌≡◌, ℕ, suc, ◌≢◌, true, false, List, [], ◌∷◌, codes, bytes_eq, Option, Some, None, Ok, IsUtf8}
 use Rattle.std.specs.Char.{encode_utf8}
-use Rattle.std.specs.FinMap.{get, entries}
-use Rattle.std.proofs.Common.{refl, ap, sym, ◌∙◌, subst}
-use Rattle.std.proofs.Math.Utf8.{scalars}
+use Rattle.std.specs.FinMap.{entries}
+use Rattle.std.proofs.Common.{refl, ap, sym}
 use Rattle.std.proofs.lemmas.Slice.Eq.{bytes_eq-Decides}
-use Rattle.json_spec.specs.Value.{Json, a_text, an_object, Members, no_members, a_member, IsNewName, AreDistinct}
+use Rattle.json_spec.specs.Value.{a_text, Members, no_members, a_member, IsNewName, AreDistinct}
 use Rattle.json_spec.specs.Grammar.{most_brackets}
 use Rattle.json_spec.specs.ValueBack.{IsPrintable, MembersArePrintable}
 use Rattle.json_spec.specs.JsonBack.{values_read_back}
-use Rattle.import_map_spec.specs.ParsedMap.{Texts, Addresses, ParsedMap}
+use Rattle.import_map_spec.specs.ParsedMap.{Addresses, ParsedMap}
 use Rattle.import_map_spec.specs.Parsing.{as_map, ParsesMap}
 use Rattle.import_map_spec.specs.Entries.{AllEntries, all_entries, distinct_members}
 use Rattle.import_map_spec.specs.Printing.{members_of, address_value, addresses_value, with_part, map_value, map_text, IsKeptAddress, IsKeptKey, AreKept, IsKeptScope, IsKeptIntegrity, IsKept}

@@ -3,6 +3,7 @@
 //! Definitions and laws alone: each function here is empty, and its contract is a law.
 #![tactic(auto)]
 
+ghost use Rattle.import_map_spec.specs.Examples.{WorkedExamples};
 ghost use Rattle.import_map_spec.specs.OneMap.{OneMap};
 ghost use Rattle.import_map_spec.specs.SameQuestion.{SameQuestion};
 ghost use Rattle.import_map_spec.specs.TextBack.{TextsReadBack};
@@ -26,19 +27,22 @@ pub enum MapPart {
 #[tactic(auto, using(crate::specs::OneMap::one_map))]
 pub fn one_map()
     ensures { OneMap }
-{
-}
+{}
 
 /// Two specifiers that are no URLs and that normalize alike have one answer, in every map.
 #[tactic(auto, using(crate::specs::SameQuestion::same_question))]
 pub fn same_question()
     ensures { SameQuestion }
-{
-}
+{}
 
 /// The text of a map is read as that map, where its keys and addresses stand as parsing leaves them.
 #[tactic(auto, using(crate::specs::TextBack::texts_read_back))]
 pub fn texts_read_back()
     ensures { TextsReadBack }
-{
-}
+{}
+
+/// Worked examples.
+#[tactic(auto, using(crate::specs::Examples::worked_examples))]
+pub fn worked_examples()
+    ensures { WorkedExamples }
+{}

@@ -1,9 +1,9 @@
 -- In each object of a value that a text has, at every level, no name stands twice.
-use Rattle.std.specs.Prelude.{◌≡◌, ℕ, zero, suc, Bool, true, false, cond, List, [], ◌∷◌, ⊤, codes, Option, Some, None, Result, Ok, Err, bytes_eq, IfOk}
+use Rattle.std.specs.Prelude.{ℕ, zero, suc, List, [], ◌∷◌, ⊤, codes, Option, Some, None, Result, bytes_eq, IfOk}
 use Rattle.std.proofs.lemmas.Bool.{cond_both}
-use Rattle.json_spec.specs.Value.{Json, a_null, a_bool, a_number, a_text, a_list, an_object, Items, no_items, an_item, Members, no_members, a_member, put, settled_onto, settled, AreDistinct, HasDistinctNames, ItemsHaveDistinctNames, MembersHaveDistinctNames}
+use Rattle.json_spec.specs.Value.{Json, an_object, Items, Members, no_members, a_member, put, settled_onto, settled, HasDistinctNames, ItemsHaveDistinctNames, MembersHaveDistinctNames}
 use Rattle.json_spec.specs.Settled.{distinct_settled}
-use Rattle.json_spec.specs.Taken.{Taken, taken, refused, Read, and_then}
+use Rattle.json_spec.specs.Taken.{Taken, taken, refused, Read}
 use Rattle.json_spec.specs.Strings.{behind}
 use Rattle.json_spec.specs.Numbers.{number_at}
 use Rattle.json_spec.specs.Grammar.{Fault, Reading, after_space, Member, a_pair, ReadsMember, member_value, member_name, paired, MoreMembers, members_close, members_next, members_fault, members_other, members_end, ReadsMembers, no_member, first_member, member_fault, object_ends, MoreItems, items_close, items_next, items_fault, items_other, items_end, ReadsItems, no_item, first_item, item_fault, list_ends, behind_member, behind_item, as_text, as_list, as_object, as_number, word_else, scalar_at, ReadsWith, reads_text, reads_list, reads_object, reads_scalar, value_ends, IsTooDeep, Reads, ReadsJson, json_text, no_utf8, most_brackets, alone, whole_text, with_offset}

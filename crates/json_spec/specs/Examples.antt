@@ -1,15 +1,15 @@
 -- Worked examples.
-use Rattle.std.specs.Prelude.{◌≡◌, ℕ, true, List, [], ◌∷◌, codes, Result, Ok, Err, IsUtf8, encode_utf8_all}
+use Rattle.std.specs.Prelude.{◌≡◌, ℕ, true, List, [], ◌∷◌, codes, Err, IsUtf8, encode_utf8_all}
 use Rattle.std.specs.Char.{encode_utf8}
 use Rattle.std.proofs.Common.{refl, arith}
 use Rattle.std.proofs.Math.Utf8.{scalars}
-use Rattle.json_spec.specs.Value.{Json, a_null, a_number, a_list, an_object, no_items, no_members, a_member}
-use Rattle.json_spec.specs.Taken.{Taken, taken, refused, Read}
-use Rattle.json_spec.specs.Strings.{ReadsText, close, plain, escape_at}
+use Rattle.json_spec.specs.Value.{a_null, a_number, a_list, an_object, no_items, no_members, a_member}
+use Rattle.json_spec.specs.Taken.{taken, refused}
+use Rattle.json_spec.specs.Strings.{escape_at}
 use Rattle.json_spec.specs.Numbers.{number_at}
 use Rattle.json_spec.specs.Printed.{quoted}
 use Rattle.json_spec.specs.PrintedValue.{printed_text}
-use Rattle.json_spec.specs.Grammar.{Fault, NotJson, TooDeep, Reading, ReadsName, name_text, ReadsMember, member_value, first_member, members_next, members_close, first_item, no_item, items_fault, reads_list, reads_object, reads_scalar, value_ends, Reads, ReadsJson, json_text, most_brackets}
+use Rattle.json_spec.specs.Grammar.{NotJson, first_item, items_fault, reads_list, reads_scalar, value_ends, ReadsJson, json_text, most_brackets}
 
 -- ASCII text is UTF-8
 ascii : (bytes : List ℕ) → scalars bytes ≡ true → encode_utf8_all bytes ≡ bytes → IsUtf8 bytes
@@ -60,4 +60,4 @@ example_comma : ReadsJson (codes "[1,]") (Err (NotJson 3))
 unfolding most_brackets encode_utf8
 example_comma =
     json_text (refused (NotJson 1)) (ascii (codes "[1,]") refl refl)
-        (reads_list {out = refused (NotJson 1)} (first_item {v = a_number (codes "1")} {out = refused (NotJson 1)} (omega arith) (reads_scalar (omega arith) (omega arith) (omega arith)) (items_fault (reads_scalar (omega arith) (omega arith) (omega arith)))))
+    (reads_list {out = refused (NotJson 1)} (first_item {v = a_number (codes "1")} {out = refused (NotJson 1)} (omega arith) (reads_scalar (omega arith) (omega arith) (omega arith)) (items_fault (reads_scalar (omega arith) (omega arith) (omega arith)))))

@@ -1,15 +1,14 @@
 -- The laws on what is printed.
-use Rattle.std.specs.Prelude.{◌≡◌, ℕ, List, [], ◌∷◌, ◌++◌, Ok}
-use Rattle.std.proofs.Common.{refl, ap, subst, ◌∙◌}
+use Rattle.std.specs.Prelude.{ℕ, List, [], ◌∷◌, ◌++◌, Ok}
 use Rattle.json_spec.specs.Value.{Json}
 use Rattle.json_spec.specs.Taken.{taken}
-use Rattle.json_spec.specs.Printed.{escaped, quoted}
-use Rattle.json_spec.specs.PrintedValue.{printed, printed_text}
+use Rattle.json_spec.specs.Printed.{escaped}
+use Rattle.json_spec.specs.PrintedValue.{printed_text}
 use Rattle.json_spec.specs.Strings.{ReadsText}
 use Rattle.json_spec.specs.TextBack.{text_back}
 use Rattle.json_spec.specs.ValueBack.{IsPrintable, text_reads}
 use Rattle.json_spec.specs.Utf8.{text_utf8}
-use Rattle.json_spec.specs.Grammar.{Reads, after_space, ReadsJson, json_text, most_brackets}
+use Rattle.json_spec.specs.Grammar.{ReadsJson, json_text, most_brackets}
 
 -- own law: a printed string, behind its opening quote and before any bytes, reads back as its text
 abbrev pub TextsReadBack : Type 0

@@ -1,15 +1,14 @@
 -- One text has one outcome.
-use Rattle.std.specs.Prelude.{◌≡◌, ℕ, zero, suc, ◌<◌, List, [], ◌∷◌, length, Result, Ok, Err, IsUtf8}
-use mathlib.Core.Logic.{◌⊎◌, inl, inr}
+use Rattle.std.specs.Prelude.{◌≡◌, ℕ, zero, suc, List, [], ◌∷◌, length, Result, Err, IsUtf8}
+use mathlib.Core.Logic.{inl, inr}
 use Rattle.std.specs.Str.{IsValidUpTo}
 use Rattle.std.proofs.lemmas.Bool.{cases_order}
 use Rattle.std.proofs.lemmas.List.{take_all}
 use Rattle.std.proofs.Common.{refl, ap, sym, ◌∙◌, arith}
 use Rattle.json_spec.specs.Value.{Json, Items, Members}
-use Rattle.json_spec.specs.Taken.{Taken, taken, refused, Read, and_then, behind_piece}
-use Rattle.json_spec.specs.Strings.{ReadsText, close, plain, escape, no_escape, control, text_ends, escape_at}
-use Rattle.json_spec.specs.Grammar
-use Rattle.json_spec.specs.Grammar.{Fault, NotJson, TooDeep, Reading, after_space, ReadsName, name_text, no_name, name_ends, text_behind, colon_at, Member, a_pair, ReadsMember, member_value, member_name, paired, behind_member, behind_item, MoreMembers, members_close, members_next, members_fault, members_other, members_end, ReadsMembers, no_member, first_member, member_fault, object_ends, MoreItems, items_close, items_next, items_fault, items_other, items_end, ReadsItems, no_item, first_item, item_fault, list_ends, as_text, as_list, as_object, ReadsWith, reads_text, reads_list, reads_object, reads_scalar, value_ends, IsTooDeep, Reads, ReadsJson, json_text, no_utf8, most_brackets, whole_text, with_offset}
+use Rattle.json_spec.specs.Taken.{taken, refused, Read, behind_piece}
+use Rattle.json_spec.specs.Strings.{ReadsText, close, plain, escape, no_escape, control, text_ends}
+use Rattle.json_spec.specs.Grammar.{Fault, NotJson, Reading, after_space, ReadsName, name_text, no_name, name_ends, text_behind, colon_at, Member, a_pair, ReadsMember, member_value, member_name, MoreMembers, members_close, members_next, members_fault, members_other, members_end, ReadsMembers, no_member, first_member, member_fault, object_ends, MoreItems, items_close, items_next, items_fault, items_other, items_end, ReadsItems, no_item, first_item, item_fault, list_ends, as_text, as_list, as_object, ReadsWith, reads_text, reads_list, reads_object, reads_scalar, value_ends, IsTooDeep, Reads, ReadsJson, json_text, no_utf8, most_brackets, whole_text, with_offset}
 
 -- two answers of one reader
 same_piece : {A : Type 0} {x y : A} {rest more : List ℕ} {a : Read A} → a ≡ taken x rest → a ≡ taken y more → (x ≡ y) × (rest ≡ more)

@@ -1,7 +1,7 @@
 -- What `settled` does: distinct names stay as they are written, and what comes out has distinct names.
-use Rattle.std.specs.Prelude.{◌≡◌, ℕ, ◌≢◌, Bool, true, false, cond, List, ⊤, bytes_eq}
-use Rattle.std.proofs.Common.{refl, ap, sym, ◌∙◌, subst}
-use Rattle.std.proofs.lemmas.Bool.{cond_both, cond-true, cond-false, false_from_ne_true}
+use Rattle.std.specs.Prelude.{◌≡◌, ℕ, ◌≢◌, true, false, List, ⊤, bytes_eq}
+use Rattle.std.proofs.Common.{refl, ap, sym, ◌∙◌}
+use Rattle.std.proofs.lemmas.Bool.{cond_both, cond-false, false_from_ne_true}
 use Rattle.std.proofs.lemmas.Slice.Eq.{bytes_eq-Decides}
 use Rattle.json_spec.specs.Value.{Json, Members, no_members, a_member, put, settled_onto, settled, IsNewName, AreDistinct}
 

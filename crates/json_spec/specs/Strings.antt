@@ -1,8 +1,8 @@
 -- Strings. RFC 8259, 7 and 8.2.
 --     ReadsText bytes out      what a string is whose opening quote stands before the bytes
 --     escape_at bytes      the character of the escape whose `\` stands before the bytes
-use Rattle.std.specs.Prelude.{◌≡◌, ℕ, zero, suc, ◌+◌, ◌-◌, ◌*◌, ◌<◌, ◌≤◌, ◌≢◌, Bool, ◌&&◌, ◌||◌, ◌==◌, nat_le, nat_lt, List, [], ◌∷◌, if◌then◌else◌, Option, Some, None, MatchOption, encode_utf8}
-use Rattle.json_spec.specs.Taken.{Taken, taken, refused, Read, and_then, behind_piece}
+use Rattle.std.specs.Prelude.{◌≡◌, ℕ, zero, suc, ◌+◌, ◌-◌, ◌*◌, ◌<◌, ◌≤◌, ◌≢◌, Bool, ◌&&◌, ◌||◌, ◌==◌, nat_le, nat_lt, List, [], ◌∷◌, if◌then◌else◌, Option, Some, None, encode_utf8}
+use Rattle.json_spec.specs.Taken.{taken, refused, Read, and_then, behind_piece}
 
 -- RFC 8259, 7: the character that a `\` and one character stand for
 abbrev pub short_escape : ℕ → Option ℕ

@@ -1,12 +1,12 @@
 -- A printed string reads back as its text, and is UTF-8 where its text is.
-use Rattle.std.specs.Prelude.{◌≡◌, ℕ, ◌+◌, ◌-◌, ◌*◌, ◌/◌, ◌%◌, ◌<◌, ◌≤◌, ◌≢◌, ◌⊎◌, Bool, true, false, cond, ◌||◌, ◌==◌, ◌&&◌, nat_lt, nat_le, List, [], ◌∷◌, ◌++◌, Option, Some, None, encode_utf8}
-use Rattle.std.proofs.Common.{refl, ap, sym, ◌∙◌, subst, arith, append_assoc}
+use Rattle.std.specs.Prelude.{◌≡◌, ℕ, ◌+◌, ◌*◌, ◌/◌, ◌%◌, ◌<◌, ◌≤◌, ◌⊎◌, true, false, cond, ◌||◌, ◌==◌, ◌&&◌, nat_lt, nat_le, List, [], ◌∷◌, ◌++◌, Some}
+use Rattle.std.proofs.Common.{refl, ap, ◌∙◌, arith, append_assoc}
 use mathlib.Core.Logic.{inl, inr}
 use Rattle.std.proofs.lemmas.Bool.{cond_both, cond-true, cond-false, or_cases, or_parts, eqb-true, eqb-false, ltb-true, ltb-false, le-leb, lt-leb, and_from, and_left, and_right}
 use Rattle.std.proofs.lemmas.Str.{encode_ascii}
-use Rattle.json_spec.specs.Printed.{hex_digit, unicode_escape, escaped_byte, escaped, quoted}
-use Rattle.json_spec.specs.Taken.{taken, refused, Read, and_then, behind_piece}
-use Rattle.json_spec.specs.Strings.{ReadsText, close, plain, escape, escape_at, hex_value, hex_digits, four_digits, unicode_character, taken_from}
+use Rattle.json_spec.specs.Printed.{hex_digit, unicode_escape, escaped_byte, escaped}
+use Rattle.json_spec.specs.Taken.{taken, and_then}
+use Rattle.json_spec.specs.Strings.{ReadsText, close, plain, escape, escape_at, hex_value, four_digits, unicode_character}
 
 within : (low high x : ℕ) → low ≤ x → x ≤ high → (nat_le low x && nat_le x high) ≡ true
 within low high x l h = and_from _ _ (le-leb low x l) (le-leb x high h)
@@ -19,6 +19,7 @@ hex_back d l = cond_both (nat_lt d 10) (48 + d) (87 + d) (λ x. hex_value x ≡ 
   where
     low : nat_lt d 10 ≡ true → hex_value (48 + d) ≡ Some d
     low t = cond-true _ _ _ (within 48 57 (48 + d) (omega arith) (omega (arith, ltb-true d 10 t))) ∙ ap Some (omega arith)
+
     high : nat_lt d 10 ≡ false → hex_value (87 + d) ≡ Some d
     high t =
         let ten : 10 ≤ d = ltb-false d 10 t in
@@ -49,11 +50,13 @@ byte_back b t more rest r =
   where
     short : (b == 34 || b == 92) ≡ true → ReadsText (92 ∷ b ∷ more) (taken (b ∷ t) rest)
     short test = escape (short_back b more (elim (or_cases (b == 34) (b == 92) test) [ inl e ↦ inl (eqb-true b 34 e) | inr e ↦ inr (eqb-true b 92 e) ])) r
+
     others : (b == 34 || b == 92) ≡ false → ReadsText ((cond (nat_lt b 32 || b == 60) (unicode_escape b) (b ∷ [])) ++ more) (taken (b ∷ t) rest)
     others test = cond_both (nat_lt b 32 || b == 60) _ _ (λ piece. ReadsText (piece ++ more) (taken (b ∷ t) rest)) digits itself
       where
         digits : (nat_lt b 32 || b == 60) ≡ true → ReadsText (unicode_escape b ++ more) (taken (b ∷ t) rest)
         digits low = escape (unicode_back b more (elim (or_cases (nat_lt b 32) (b == 60) low) [ inl e ↦ omega (arith, ltb-true b 32 e) | inr e ↦ omega (arith, eqb-true b 60 e) ])) r
+
         itself : (nat_lt b 32 || b == 60) ≡ false → ReadsText (b ∷ more) (taken (b ∷ t) rest)
         itself high =
             let apart = or_parts (b == 34) (b == 92) test in

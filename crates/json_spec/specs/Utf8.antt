@@ -1,11 +1,10 @@
 -- What is printed is UTF-8 where its texts are.
-use Rattle.std.specs.Prelude.{◌≡◌, ℕ, zero, suc, ◌+◌, ◌/◌, ◌%◌, ◌<◌, ◌≤◌, Bool, true, false, cond, ◌||◌, ◌==◌, nat_lt, List, [], ◌∷◌, ◌++◌, ⊤, codes, IsUtf8, encode_utf8_all}
+use Rattle.std.specs.Prelude.{◌≡◌, ℕ, zero, suc, ◌+◌, ◌/◌, ◌%◌, ◌<◌, ◌≤◌, true, false, ◌||◌, ◌==◌, nat_lt, List, [], ◌∷◌, ◌++◌, codes, IsUtf8, encode_utf8_all}
 use Rattle.std.specs.Char.{encode_utf8}
-use Rattle.std.specs.List.{flat_map}
-use Rattle.std.proofs.Common.{refl, ap, sym, ◌∙◌, subst, append_assoc, arith}
+use Rattle.std.proofs.Common.{refl, ap, arith}
 use Rattle.std.proofs.Math.Utf8.{scalar, scalars, low_scalar}
 use mathlib.Core.Logic.{inl, inr}
-use Rattle.std.proofs.lemmas.Bool.{cases_lt, cond_both, cond-true, cond-false, and_from, and_parts, or_cases, or_parts, ltb-true, ltb-false, eqb-true}
+use Rattle.std.proofs.lemmas.Bool.{cases_lt, cond_both, and_from, and_parts, or_cases, ltb-true, eqb-true}
 use Rattle.std.proofs.lemmas.Str.{encode_ascii, IsUtf8-append, IsUtf8-encode, IsUtf8-nil}
 use Rattle.std.proofs.lemmas.Grind.{flat_map-append}
 use Rattle.json_spec.specs.Value.{Json, a_null, a_bool, a_number, a_text, a_list, an_object, Items, no_items, an_item, Members, no_members, a_member}
@@ -22,20 +21,21 @@ digit_low d l = cond_both (nat_lt d 10) (48 + d) (87 + d) (λ x. x < 128) (λ e.
 low_utf8 : (b : ℕ) (rest : List ℕ) → b < 128 → IsUtf8 rest → IsUtf8 (escaped_byte b ++ rest)
 low_utf8 b rest l u =
     cond_both (b == 34 || b == 92) _ _ (λ piece. IsUtf8 (piece ++ rest)) (λ e. ascii_first 92 _ (omega arith) itself)
-        (λ e. cond_both (nat_lt b 32 || b == 60) _ _ (λ piece. IsUtf8 (piece ++ rest)) (λ f. digits) (λ f. itself))
+    (λ e. cond_both (nat_lt b 32 || b == 60) _ _ (λ piece. IsUtf8 (piece ++ rest)) (λ f. digits) (λ f. itself))
   where
     itself : IsUtf8 (b ∷ rest)
     itself = ascii_first b rest l u
+
     digits : IsUtf8 (unicode_escape b ++ rest)
     digits =
         ascii_first 92 _ (omega arith) (ascii_first 117 _ (omega arith) (ascii_first 48 _ (omega arith) (ascii_first 48 _ (omega arith)
-            (ascii_first _ _ (digit_low (b / 16) (omega arith)) (ascii_first _ _ (digit_low (b % 16) (omega arith)) u)))))
+        (ascii_first _ _ (digit_low (b / 16) (omega arith)) (ascii_first _ _ (digit_low (b % 16) (omega arith)) u)))))
 
 -- a byte of a character past U+007F stands as it is
 high_byte : (b : ℕ) → 128 ≤ b → escaped_byte b ≡ b ∷ []
 high_byte b l =
     cond_both (b == 34 || b == 92) _ _ (λ piece. piece ≡ b ∷ []) (λ e. absurd (elim (or_cases (b == 34) (b == 92) e) [ inl f ↦ omega (arith, eqb-true b 34 f) | inr f ↦ omega (arith, eqb-true b 92 f) ]))
-        (λ e. cond_both (nat_lt b 32 || b == 60) _ _ (λ piece. piece ≡ b ∷ []) (λ f. absurd (elim (or_cases (nat_lt b 32) (b == 60) f) [ inl g ↦ omega (arith, ltb-true b 32 g) | inr g ↦ omega (arith, eqb-true b 60 g) ])) (λ f. refl))
+    (λ e. cond_both (nat_lt b 32 || b == 60) _ _ (λ piece. piece ≡ b ∷ []) (λ f. absurd (elim (or_cases (nat_lt b 32) (b == 60) f) [ inl g ↦ omega (arith, ltb-true b 32 g) | inr g ↦ omega (arith, eqb-true b 60 g) ])) (λ f. refl))
 
 high_first : (b : ℕ) (bytes : List ℕ) → 128 ≤ b → escaped bytes ≡ bytes → escaped (b ∷ bytes) ≡ b ∷ bytes
 high_first b bytes l e = rw (high_byte b l) (ap (λ (xs : List ℕ). b ∷ xs) e)
@@ -44,9 +44,9 @@ high_character : (c : ℕ) → 128 ≤ c → escaped (encode_utf8 c) ≡ encode_
 unfolding encode_utf8
 high_character c l =
     cond_both (nat_lt c 128) _ _ (λ bytes. escaped bytes ≡ bytes) (λ e. absurd (omega (arith, ltb-true c 128 e)))
-        (λ e. cond_both (nat_lt c 2048) _ _ (λ bytes. escaped bytes ≡ bytes) (λ f. high_first _ _ (omega arith) (high_first _ _ (omega arith) refl))
-            (λ f. cond_both (nat_lt c 65536) _ _ (λ bytes. escaped bytes ≡ bytes) (λ g. high_first _ _ (omega arith) (high_first _ _ (omega arith) (high_first _ _ (omega arith) refl)))
-                (λ g. high_first _ _ (omega arith) (high_first _ _ (omega arith) (high_first _ _ (omega arith) (high_first _ _ (omega arith) refl))))))
+    (λ e. cond_both (nat_lt c 2048) _ _ (λ bytes. escaped bytes ≡ bytes) (λ f. high_first _ _ (omega arith) (high_first _ _ (omega arith) refl))
+    (λ f. cond_both (nat_lt c 65536) _ _ (λ bytes. escaped bytes ≡ bytes) (λ g. high_first _ _ (omega arith) (high_first _ _ (omega arith) (high_first _ _ (omega arith) refl)))
+    (λ g. high_first _ _ (omega arith) (high_first _ _ (omega arith) (high_first _ _ (omega arith) (high_first _ _ (omega arith) refl))))))
 
 character_utf8 : (c : ℕ) → scalar c ≡ true → IsUtf8 (escaped (encode_utf8 c))
 character_utf8 c s =

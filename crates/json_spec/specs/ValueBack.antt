@@ -1,16 +1,15 @@
 -- What is printed reads back.
-use Rattle.std.specs.Prelude.{◌≡◌, ℕ, zero, suc, ◌+◌, ◌≢◌, Bool, true, false, List, [], ◌∷◌, ◌++◌, length, ⊤, codes, IsUtf8, Ok}
-use Rattle.std.proofs.Common.{refl, ap, sym, ◌∙◌, subst, append_assoc}
+use Rattle.std.specs.Prelude.{◌≡◌, ℕ, zero, suc, ◌≢◌, true, false, List, [], ◌∷◌, ◌++◌, ⊤, codes, IsUtf8}
+use Rattle.std.proofs.Common.{refl, ◌∙◌, append_assoc}
 use Rattle.json_spec.specs.Value.{Json, a_null, a_bool, a_number, a_text, a_list, an_object, Items, no_items, an_item, Members, no_members, a_member, settled, AreDistinct}
 use Rattle.std.proofs.Common.{arith}
 use Rattle.std.proofs.lemmas.Bool.{cond-false}
 use Rattle.json_spec.specs.Settled.{settled_distinct}
-use Rattle.json_spec.specs.Taken.{taken, refused}
-use Rattle.json_spec.specs.Printed.{escaped, quoted}
+use Rattle.json_spec.specs.Taken.{taken}
+use Rattle.json_spec.specs.Printed.{quoted}
 use Rattle.json_spec.specs.PrintedValue.{margin, line, printed, printed_items, printed_members, printed_text}
 use Rattle.json_spec.specs.TextBack.{text_back}
-use Rattle.json_spec.specs.Strings.{ReadsText}
-use Rattle.json_spec.specs.Grammar.{Reading, is_space, after_space, ReadsName, name_text, Member, a_pair, ReadsMember, member_value, MoreMembers, members_close, members_next, ReadsMembers, no_member, first_member, MoreItems, items_close, items_next, ReadsItems, no_item, first_item, ReadsWith, reads_text, reads_list, reads_object, reads_scalar, Reads, ReadsJson, json_text, most_brackets}
+use Rattle.json_spec.specs.Grammar.{Reading, is_space, after_space, ReadsName, name_text, a_pair, ReadsMember, member_value, MoreMembers, members_close, members_next, ReadsMembers, no_member, first_member, MoreItems, items_close, items_next, ReadsItems, no_item, first_item, ReadsWith, reads_text, reads_list, reads_object, reads_scalar, Reads}
 
 -- a value that is read back: no number, distinct names, texts in UTF-8, and no more than depth brackets open at once
 abbrev mutual

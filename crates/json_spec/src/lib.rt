@@ -11,26 +11,22 @@ ghost use Rattle.json_spec.specs.One.{OneJson};
 #[tactic(auto, using(crate::specs::One::one_json))]
 pub fn one_json()
     ensures { OneJson }
-{
-}
+{}
 
 /// No object of a text's value holds a name twice, at any level.
 #[tactic(auto, using(crate::specs::Distinct::names_are_distinct))]
 pub fn names_are_distinct()
     ensures { NamesAreDistinct }
-{
-}
+{}
 
 /// A printed string reads back as its text.
 #[tactic(auto, using(crate::specs::JsonBack::texts_read_back))]
 pub fn texts_read_back()
     ensures { TextsReadBack }
-{
-}
+{}
 
 /// A printed value reads back, unless it holds a number.
 #[tactic(auto, using(crate::specs::JsonBack::values_read_back))]
 pub fn values_read_back()
     ensures { ValuesReadBack }
-{
-}
+{}
