@@ -52,6 +52,14 @@ impl Model for Path {
 }
 
 impl Path {
+    /// The root.
+    pub fn root(alloc: Global) -> Result<Path, Memory>
+        ensures { IfOk result (λ path. path ≡ codes "/") }
+    {
+        let text = Text::of(alloc, "/")?;
+        Ok(Path { text })
+    }
+
     /// The path that a text spells.
     pub fn parse(alloc: Global, text: &str) -> Result<Path, PathFault>
         ensures path { IfOk result (λ path. (path ≡ text.now) × IsPath text.now) }
@@ -75,7 +83,8 @@ impl Path {
 
     /// An equal path.
     pub fn copy(&self, alloc: Global) -> Result<Path, Memory>
-        ensures { IfOk result (λ copy. copy ≡ self.now) }
+        ensures same { IfOk result (λ copy. copy ≡ self.now) }
+        ensures is_path { IsPath self.now }
     {
         Ok(Path {
             text: self.text.copy(alloc)?,
@@ -84,7 +93,8 @@ impl Path {
 
     /// The path without its last segment; the root has none.
     pub fn parent(&self, alloc: Global) -> Result<Option<Path>, Memory>
-        ensures { IfOk result (λ found. MatchOption found (self.now ≡ codes "/") (λ parent. IsParent parent self.now)) }
+        ensures parent { IfOk result (λ found. MatchOption found (self.now ≡ codes "/") (λ parent. IsParent parent self.now)) }
+        ensures is_path { IsPath self.now }
     {
         let text = self.text.as_str();
         if text == "/" {

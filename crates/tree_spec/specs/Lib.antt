@@ -2,4 +2,5 @@ pub mod Paths
 pub mod PathLaws
 pub mod Trees
 pub mod TreeLaws
+pub mod Decided
 pub mod Counts

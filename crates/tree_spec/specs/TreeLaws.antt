@@ -1,16 +1,17 @@
 -- What follows of trees: a placing has one outcome, it leaves a tree, and below a folder it is an insertion.
 use Rattle.std.specs.Prelude.{◌≡◌, ◌≢◌, ◌≤◌, ◌<◌, ◌+◌, ◌⊎◌, ◌↔◌, ℕ, Bool, true, false, cond, List, [], ◌∷◌, ◌++◌, length, codes, bytes_eq, Option, Some, None, refl}
 use Rattle.std.specs.Bool.{Decides}
-use Rattle.std.specs.Cmp.Lexicographic.{nat_list_cmp_total}
-use Rattle.std.specs.FinMap.{get, insert, get-insert, same_map, nat_cmp-IsAntisymmetric, slice_cmp-IsAntisymmetric}
-use Rattle.std.proofs.Common.{sym, ◌∙◌, ap, subst, inl, inr, arith, length-append}
+use Rattle.std.specs.Ordering.{nat_cmp}
+use Rattle.std.specs.Cmp.Lexicographic.{slice_cmp, nat_list_cmp_total}
+use Rattle.std.specs.FinMap.{get, insert, empty, get-empty, get-insert, same_map, nat_cmp-IsAntisymmetric, slice_cmp-IsAntisymmetric}
+use Rattle.std.proofs.Common.{sym, ◌∙◌, ap, subst, inl, inr, arith, lit≤, length-append}
 use Rattle.std.proofs.lemmas.Map.Text.{is_eq-slice_cmp}
 use Rattle.std.proofs.lemmas.Slice.Eq.{bytes_eq-Decides}
 use Rattle.tree_spec.specs.declared.Entry.{Entry}
 use Rattle.tree_spec.specs.declared.Entry.TheVariants.{Directory}
 use Rattle.tree_spec.specs.Paths.{IsSegment, joined, HasDepth, root, child, IsPath, IsParent, IsAbove, parent_of, further}
 use Rattle.tree_spec.specs.PathLaws.{IsFront, at_root, at_other, front_of, one_split, not_root, not_empty}
-use Rattle.tree_spec.specs.Trees.{Tree, IsTree, Places}
+use Rattle.tree_spec.specs.Trees.{Tree, IsTree, Places, bare_tree}
 
 -- ---- a path has one parent
 
@@ -220,6 +221,28 @@ below_folder tree parent path entry after t q is =
     let P : Tree → Type 0 = λ x. Places tree path entry x in
     ((λ p. places_inserted tree path entry after folders p), (λ e. subst P (sym e) (inserted_places tree path entry folders)))
 
+-- ---- the root alone
+
+root_only : (path : List ℕ) (entry : Entry) → (path ≡ codes "/") ⊎ (path ≢ codes "/") → get (bare_tree) path ≡ Some entry → path ≡ codes "/"
+root_only path entry (inl e) some = e
+root_only path entry (inr n) some = let wrong : None ≡ Some entry = sym (get_other empty (codes "/") Directory path n ∙ get-empty (slice_cmp nat_cmp) path) ∙ some in cc
+
+no_parent : (parent path : List ℕ) → IsParent parent path → path ≡ codes "/" → ⊥
+no_parent parent path p e = nothing_above_root parent path e (parent_of parent path p)
+
+root_is_path : (path : List ℕ) → path ≡ codes "/" → IsPath path
+root_is_path path e = let P : List ℕ → Type 0 = λ x. length x ≤ 1024 in record { depth = 0; segments = root path e; few = omega arith; short = subst P (sym e) (lit≤ tt) }
+
+root_alone : IsTree (bare_tree)
+root_alone = record {
+  paths = λ path entry some. root_is_path path (root_only path entry (text_same_or_not path (codes "/")) some);
+  root = get_here empty (codes "/") Directory;
+  parents = λ parent path entry some p. absurd (no_parent parent path p (root_only path entry (text_same_or_not path (codes "/")) some));
+}
+
+pub root_tree : (tree : Tree) → tree ≡ bare_tree → IsTree tree
+root_tree tree e = let P : Tree → Type 0 = λ x. IsTree x in subst P (sym e) root_alone
+
 -- ---- the laws
 
 -- a path has one parent
@@ -244,3 +267,7 @@ PlacingInRoot = (tree : Tree) (path : List ℕ) (entry : Entry) (after : Tree) �
 
 pub in_root : PlacingInRoot
 in_root tree path entry after t q = below_folder tree (codes "/") path entry after t q t.root
+
+-- the root alone is a tree
+abbrev pub RootAlone : Type 0
+RootAlone = (tree : Tree) → tree ≡ bare_tree → IsTree tree

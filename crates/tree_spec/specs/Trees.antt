@@ -2,7 +2,7 @@
 use Rattle.std.specs.Prelude.{◌≡◌, ◌≢◌, ◌<◌, ◌≤◌, ◌++◌, [], ◌∷◌, ℕ, List, length, codes, Bool, Option, Some, None, option_map, if◌then◌else◌}
 use Rattle.std.specs.Ordering.{nat_cmp}
 use Rattle.std.specs.Cmp.Lexicographic.{slice_cmp}
-use Rattle.std.specs.FinMap.{FinMap, get}
+use Rattle.std.specs.FinMap.{FinMap, get, insert, empty}
 use Rattle.tree_spec.specs.declared.Entry.{Entry}
 use Rattle.tree_spec.specs.declared.Entry.TheVariants.{Stored, Directory}
 use Rattle.tree_spec.specs.declared.Look.{Look}
@@ -18,6 +18,10 @@ pub record IsTree (tree : Tree) : Type 0 where
   pub paths : (path : List ℕ) (entry : Entry) → get tree path ≡ Some entry → IsPath path
   pub root : get tree (codes "/") ≡ Some Directory
   pub parents : (parent path : List ℕ) (entry : Entry) → get tree path ≡ Some entry → IsParent parent path → get tree parent ≡ Some Directory
+
+-- own: the tree that holds the root alone
+abbrev pub bare_tree : Tree
+bare_tree = insert empty (codes "/") Directory
 
 -- own: what a look at a path answers, where a file may have at most `limit` bytes
 abbrev pub IsLook : Tree → List ℕ → ℕ → Look → Type 0

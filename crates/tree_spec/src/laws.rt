@@ -1,4 +1,4 @@
-ghost use Rattle.tree_spec.specs.TreeLaws.{OneParent, OnePlacing, PlacingKeepsTree, PlacingInFolder, PlacingInRoot};
+ghost use Rattle.tree_spec.specs.TreeLaws.{OneParent, OnePlacing, PlacingKeepsTree, PlacingInFolder, PlacingInRoot, RootAlone};
 
 /// A path has one parent.
 pub fn one_parent()
@@ -23,4 +23,9 @@ pub fn placing_in_folder()
 /// In a tree, to place an entry in the root is to insert it.
 pub fn placing_in_root()
     ensures { PlacingInRoot }
+{}
+
+/// The root alone is a tree.
+pub fn root_alone()
+    ensures { RootAlone }
 {}

@@ -3,8 +3,11 @@
 
 mod laws;
 
-pub use laws::{one_parent, one_placing, placing_in_folder, placing_in_root, placing_keeps_tree};
+pub use laws::{
+    one_parent, one_placing, placing_in_folder, placing_in_root, placing_keeps_tree, root_alone,
+};
 use primitives::Bytes;
+use std::alloc::AllocError;
 
 /// What stands at a path of a tree.
 #[derive(Drop)]
@@ -35,6 +38,17 @@ pub enum LookFault {
     Failed,
     /// Want of memory.
     Memory,
+}
+
+impl From<AllocError> for LookFault {
+    ghost use Rattle.std.specs.Prelude.{◌≡◌};
+    ghost use Rattle.tree_spec.specs.declared.LookFault.TheVariants.{Memory};
+
+    ghost from_gives = { λ _ fault. fault ≡ Memory };
+
+    fn from(_: AllocError) -> Self {
+        LookFault::Memory
+    }
 }
 
 /// The quantities that have a limit, in the order in which they are listed to a user.

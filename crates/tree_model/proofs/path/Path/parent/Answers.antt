@@ -4,8 +4,8 @@ use Rattle.tree_model.proofs.Segments.{other_test, none_test, some_test, none_be
 use Rattle.tree_model.proofs.path.Path.parent.Goals as goal
 use Rattle.tree_model.proofs.path.Path.parent.Goals.{then-is_empty, else-is_empty}
 
-pub returns-in_ok-text-in-Some : goal.returns-in_ok-text-in-Some
-returns-in_ok-text-in-Some c =
+pub returns-in_ok-text-in-Some-clause-parent : goal.returns-in_ok-text-in-Some-clause-parent
+returns-in_ok-text-in-Some-clause-parent c =
     let same : c.as_str-text.result.now ≡ c.args.self.now = cc in
     let inner : c.self.inside.text ≡ c.as_str-text.result.now = cc in
     let P : List ℕ → Type 0 = λ x. IsPath x in
@@ -22,10 +22,10 @@ returns-in_ok-text-in-Some c =
     ]
 
 pub invariant_of-result : goal.invariant_of-result
-invariant_of-result c = (returns-in_ok-text-in-Some c).is_path
+invariant_of-result c = (returns-in_ok-text-in-Some-clause-parent c).is_path
 
-pub returns-in-None : goal.returns-in-None
-returns-in-None c =
+pub returns-in-None-clause-parent : goal.returns-in-None-clause-parent
+returns-in-None-clause-parent c =
     let inner : c.self.inside.text ≡ c.as_str-text.result.now = cc in
     let P : List ℕ → Type 0 = λ x. IsPath x in
     absurd (none_below _ _ c.in-None.ensures (below_path _ (other_test _ _ c.eq.ensures c.if-eq.false) (subst P inner c.self.invariant)))
