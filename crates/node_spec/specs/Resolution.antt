@@ -5,7 +5,7 @@ use Rattle.std.specs.List.{ends_with}
 use Rattle.std.specs.FinMap.{get}
 use Rattle.tree_spec.specs.declared.Entry.TheVariants.{Stored, Directory}
 use Rattle.tree_spec.specs.Trees.{Tree}
-use Rattle.url_spec.specs.Parsing.{parse_against}
+use Rattle.url_spec.specs.Parsing.{parse_alone, parse_against}
 use Rattle.url_spec.specs.Specifiers.{is_relative}
 use Rattle.url_spec.specs.WebNames.{suffix_of}
 use Rattle.url_spec.specs.FileUrls.{file_text, names_host, url_path, escapes_separator, NamesPath}
@@ -30,11 +30,20 @@ pub data Judges (tree : Tree) (url : List ℕ) : Answer → Type 0 where
   no_folder : (path bytes : List ℕ) → NamesPath (url_path url) path → get tree path ≡ Some (Stored bytes) → is_folder_path (url_path url) ≡ true → Judges tree url (Refused NotFound)
   file : (path bytes : List ℕ) → NamesPath (url_path url) path → get tree path ≡ Some (Stored bytes) → is_folder_path (url_path url) ≡ false → Judges tree url (Resolved path (suffix_of url))
 
+-- a specifier against the URL of its parent
+abbrev pub joined_onto : Option (List ℕ) → List ℕ → Option (List ℕ)
+joined_onto None specifier = None
+joined_onto (Some parent) specifier = parse_against parent specifier
+
+-- the URL of a relative specifier in the file at a path
+abbrev pub joined_url : List ℕ → List ℕ → Option (List ℕ)
+joined_url parent specifier = joined_onto (parse_alone (file_text parent false)) specifier
+
 -- own: the URL of a relative specifier names no host (Node.js, ECMAScript modules: ESM_RESOLVE, "the URL resolution of specifier relative to parentURL")
 pub data Joins (tree : Tree) (parent specifier : List ℕ) : Answer → Type 0 where
-  no_url : parse_against (file_text parent false) specifier ≡ None → Joins tree parent specifier (Refused InvalidSpecifier)
-  other_host : (url : List ℕ) → parse_against (file_text parent false) specifier ≡ Some url → names_host url ≡ true → Joins tree parent specifier (Refused InvalidSpecifier)
-  joined : (url : List ℕ) (answer : Answer) → parse_against (file_text parent false) specifier ≡ Some url → names_host url ≡ false → Judges tree url answer → Joins tree parent specifier answer
+  no_url : joined_url parent specifier ≡ None → Joins tree parent specifier (Refused InvalidSpecifier)
+  other_host : (url : List ℕ) → joined_url parent specifier ≡ Some url → names_host url ≡ true → Joins tree parent specifier (Refused InvalidSpecifier)
+  joined : (url : List ℕ) (answer : Answer) → joined_url parent specifier ≡ Some url → names_host url ≡ false → Judges tree url answer → Joins tree parent specifier answer
 
 -- a specifier that begins with `/`, `./` or `../`; bare specifiers and those that begin with `#` have no answer here yet
 -- (Node.js, ECMAScript modules: ESM_RESOLVE)
