@@ -1,6 +1,8 @@
 //! The top call: from the words of a command line to a status, with the folder and the streams that are handed in.
 #![tactic(auto)]
 
+mod answer;
+mod config;
+mod files;
+mod module;
 mod module_text;
-
-pub use module_text::requests_of;

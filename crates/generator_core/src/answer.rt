@@ -1,0 +1,110 @@
+ghost use Rattle.std.specs.Prelude.{◌≡◌, ◌≢◌, ◌≤◌, ℕ, List, true, false, Some, IfOk, IfSome, IsErrOf};
+ghost use Rattle.tree_spec.specs.Counts.{Rose};
+ghost use Rattle.url_spec.specs.Specifiers.{is_relative};
+ghost use Rattle.node_spec.specs.Resolution as node;
+ghost use Rattle.node_spec.specs.declared.Cause.TheVariants.{NotFound};
+ghost use Rattle.generator_spec.specs.Trace.{FitsFile};
+ghost use Rattle.generator_core.specs.Files.{KnowsFiles};
+ghost use Rattle.generator_core.specs.Answering.{Answers, StandsAsFile, StandsNot};
+
+use crate::files::{Files, Standing};
+use crate::module::Module;
+use primitives::Memory;
+use std::alloc::Global;
+use tree_model::{Folder, LimitName, LookFault};
+use web_url::{FileFault, FileUrl, Place, file_join, file_of};
+
+/// Why a request isn't led on.
+#[derive(Clone, Copy, Debug, PartialEq, Eq)]
+pub enum RequestFault {
+    /// Nothing stands where the specifier leads.
+    NotFound,
+    /// What the request wants isn't built.
+    NotBuilt,
+    /// A quantity passes its limit.
+    Limit { which: LimitName },
+    /// A look failed.
+    Failed,
+    /// Want of memory.
+    Memory,
+}
+
+impl From<Memory> for RequestFault {
+    ghost use Rattle.std.specs.Prelude.{◌≡◌};
+    ghost use Rattle.generator_core.specs.declared.answer.RequestFault.TheVariants.{Memory};
+
+    ghost from_gives = { λ _ fault. fault ≡ Memory };
+
+    fn from(_: Memory) -> RequestFault {
+        RequestFault::Memory
+    }
+}
+
+/// The module that Node's resolver gives for a relative specifier in the file with this URL.
+pub fn answer<F: Folder>(
+    alloc: Global,
+    folder: &mut F,
+    files: &mut Files,
+    parent: &FileUrl,
+    specifier: &str,
+) -> Result<Module, RequestFault>
+    requires { is_relative specifier.now ≡ true }
+    ensures found { IfOk result (λ target. IfSome (F.holds folder.old) (λ tree. KnowsFiles tree files.old → Answers tree parent.now specifier.now (node.Resolved target.path target.suffix) × FitsFile tree target.path × KnowsFiles tree files.new)) }
+    ensures missing { IsErrOf result RequestFault.NotFound → IfSome (F.holds folder.old) (λ tree. KnowsFiles tree files.old → Answers tree parent.now specifier.now (node.Refused NotFound)) }
+    ensures tree { F.holds folder.new ≡ F.holds folder.old }
+    ensures failed { IsErrOf result RequestFault.Failed → Rose (F.look_faults folder.old) (F.look_faults folder.new) }
+    ensures later { F.look_faults folder.old ≤ F.look_faults folder.new }
+    ensures writes { F.write_faults folder.new ≡ F.write_faults folder.old }
+{
+    let Some(url) = file_join(alloc, specifier, parent)? else {
+        return Err(RequestFault::NotBuilt);
+    };
+    match file_of(alloc, &url) {
+        Ok(place) => judge(alloc, folder, files, place),
+        Err(FileFault::BadFileUrl) => Err(RequestFault::NotBuilt),
+        Err(FileFault::Memory) => Err(RequestFault::Memory),
+    }
+}
+
+// What stands at the place of a URL.
+fn judge<F: Folder>(
+    alloc: Global,
+    folder: &mut F,
+    files: &mut Files,
+    place: Place,
+) -> Result<Module, RequestFault>
+    ensures found { IfOk result (λ target. IfSome (F.holds folder.old) (λ tree. KnowsFiles tree files.old → StandsAsFile tree place target × FitsFile tree target.path × KnowsFiles tree files.new)) }
+    ensures missing { IsErrOf result RequestFault.NotFound → IfSome (F.holds folder.old) (λ tree. KnowsFiles tree files.old → StandsNot tree place) }
+    ensures tree { F.holds folder.new ≡ F.holds folder.old }
+    ensures failed { IsErrOf result RequestFault.Failed → Rose (F.look_faults folder.old) (F.look_faults folder.new) }
+    ensures later { F.look_faults folder.old ≤ F.look_faults folder.new }
+    ensures writes { F.write_faults folder.new ≡ F.write_faults folder.old }
+{
+    let Place {
+        path,
+        folder_only,
+        escaped,
+        suffix,
+    } = place;
+    if escaped {
+        return Err(RequestFault::NotBuilt);
+    }
+    let Some(path) = path else {
+        return Err(RequestFault::NotFound);
+    };
+    match files.look(alloc, folder, &path) {
+        Ok(Standing::File) => {
+            if folder_only {
+                return Err(RequestFault::NotFound);
+            }
+            Ok(Module::new(path, suffix))
+        }
+        Ok(Standing::Absent) => Err(RequestFault::NotFound),
+        Ok(Standing::Folder) => Err(RequestFault::NotBuilt),
+        Ok(Standing::TooLarge) => Err(RequestFault::Limit {
+            which: LimitName::File,
+        }),
+        Err(LookFault::Failed) => Err(RequestFault::Failed),
+        Err(LookFault::Memory) => Err(RequestFault::Memory),
+    }
+}
