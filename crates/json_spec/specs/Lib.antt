@@ -12,4 +12,6 @@ pub mod ValueBack
 pub mod Utf8
 pub mod JsonBack
 pub mod Distinct
+pub mod Shorter
+pub mod Reader
 pub mod Examples
