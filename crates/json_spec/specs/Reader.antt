@@ -168,3 +168,168 @@ module _ (n : ℕ) (reads : List ℕ → Reading Json → Type 0) (value : List 
 
   member_sound : IsSound n (ReadsMember reads) (read_member value n)
   member_sound bytes l = let name = name_sound n bytes l in member_from bytes l (read_name n bytes) name.0 name.1
+
+module _ (n : ℕ) (reads : List ℕ → Reading Json → Type 0) (member : List ℕ → Reading Member) (sound : IsSound n (ReadsMember reads) member) where
+  abbrev MoreMembersAt : List ℕ → Reading Members → Type 0
+  MoreMembersAt bytes out = MoreMembers reads bytes out × Below (length bytes) out
+
+  next_member : (next : List ℕ → Reading Members) (bytes : List ℕ) → ((more : List ℕ) → length more < length bytes → MoreMembersAt more (next more)) → (out : Reading Member) → ReadsMember reads (after_space bytes) out → Below (length (after_space bytes)) out → MoreMembersAt (44 ∷ bytes) (and_then out (λ pair middle. behind_pair pair (next (after_space middle))))
+  next_member next bytes ih (taken (a_pair name v) middle) r m =
+      let s = space_at_most bytes in
+      let t = space_at_most middle in
+      let rest = ih (after_space middle) (omega arith) in
+      (members_next r rest.0, less_room (length (after_space middle)) _ (behind_pair (a_pair name v) (next (after_space middle))) (omega arith) (behind_pair_below _ (a_pair name v) (next (after_space middle)) rest.1))
+  next_member next bytes ih (refused f) r m = (members_fault r, tt)
+
+  members_comma_sound : (next : List ℕ → Reading Members) (b : ℕ) (bytes : List ℕ) → ((more : List ℕ) → length more < length bytes → MoreMembersAt more (next more)) → length bytes < n → (t : Bool) → b ≢ 125 → (b == 44) ≡ t → MoreMembersAt (b ∷ bytes) (members_comma member next b bytes t)
+  members_comma_sound next b bytes ih l true q e =
+      let s = space_at_most bytes in
+      let here = sound (after_space bytes) (omega arith) in
+      rw (eqb-true b 44 e) (next_member next bytes ih (member (after_space bytes)) here.0 here.1)
+  members_comma_sound next b bytes ih l false q e = (members_other q (eqb-false b 44 e), tt)
+
+  members_brace_sound : (next : List ℕ → Reading Members) (b : ℕ) (bytes : List ℕ) → ((more : List ℕ) → length more < length bytes → MoreMembersAt more (next more)) → length bytes < n → (t : Bool) → (b == 125) ≡ t → MoreMembersAt (b ∷ bytes) (members_brace member next b bytes t)
+  members_brace_sound next b bytes ih l true e = rw (eqb-true b 125 e) (members_close, omega arith)
+  members_brace_sound next b bytes ih l false e = members_comma_sound next b bytes ih l (b == 44) (eqb-false b 125 e) refl
+
+  more_members_sound : (k : ℕ) (bytes : List ℕ) → k ≤ n → length bytes < k → MoreMembersAt bytes (more_members member k bytes)
+  more_members_sound zero bytes m l = absurd (omega arith)
+  more_members_sound (suc k) [] m l = (members_end, tt)
+  more_members_sound (suc k) (b ∷ bytes) m l = members_brace_sound (λ more. more_members member k more) b bytes (λ more o. more_members_sound k more (omega arith) (omega arith)) (omega arith) (b == 125) refl
+
+  first_member_from : (b : ℕ) (bytes : List ℕ) → b ≢ 125 → length (b ∷ bytes) < n → (out : Reading Member) → ReadsMember reads (b ∷ bytes) out → Below (length (b ∷ bytes)) out → ReadsMembers reads (b ∷ bytes) (and_then out (λ pair middle. behind_pair pair (more_members member n (after_space middle)))) × Below (length (b ∷ bytes)) (and_then out (λ pair middle. behind_pair pair (more_members member n (after_space middle))))
+  first_member_from b bytes q l (taken (a_pair name v) middle) r m =
+      let t = space_at_most middle in
+      let rest = more_members_sound n (after_space middle) (omega arith) (omega arith) in
+      (first_member q r rest.0, less_room (length (after_space middle)) _ (behind_pair (a_pair name v) (more_members member n (after_space middle))) (omega arith) (behind_pair_below _ (a_pair name v) (more_members member n (after_space middle)) rest.1))
+  first_member_from b bytes q l (refused f) r m = (member_fault q r, tt)
+
+  first_members_sound : (b : ℕ) (bytes : List ℕ) → length (b ∷ bytes) < n → (t : Bool) → (b == 125) ≡ t → ReadsMembers reads (b ∷ bytes) (first_members member n b bytes t) × Below (length (b ∷ bytes)) (first_members member n b bytes t)
+  first_members_sound b bytes l true e = (rw (eqb-true b 125 e) no_member, omega arith)
+  first_members_sound b bytes l false e = let here = sound (b ∷ bytes) l in first_member_from b bytes (eqb-false b 125 e) l (member (b ∷ bytes)) here.0 here.1
+
+  members_sound : IsSound n (ReadsMembers reads) (read_members member n)
+  members_sound [] l = (object_ends, tt)
+  members_sound (b ∷ bytes) l = first_members_sound b bytes l (b == 125) refl
+
+module _ (n : ℕ) (reads : List ℕ → Reading Json → Type 0) (value : List ℕ → Reading Json) (sound : IsSound n reads value) where
+  abbrev MoreItemsAt : List ℕ → Reading Items → Type 0
+  MoreItemsAt bytes out = MoreItems reads bytes out × Below (length bytes) out
+
+  next_item : (next : List ℕ → Reading Items) (bytes : List ℕ) → ((more : List ℕ) → length more < length bytes → MoreItemsAt more (next more)) → (out : Reading Json) → reads (after_space bytes) out → Below (length (after_space bytes)) out → MoreItemsAt (44 ∷ bytes) (and_then out (λ v middle. behind_item v (next (after_space middle))))
+  next_item next bytes ih (taken v middle) r m =
+      let s = space_at_most bytes in
+      let t = space_at_most middle in
+      let rest = ih (after_space middle) (omega arith) in
+      (items_next r rest.0, less_room (length (after_space middle)) _ (behind_item v (next (after_space middle))) (omega arith) (behind_item_below _ v (next (after_space middle)) rest.1))
+  next_item next bytes ih (refused f) r m = (items_fault r, tt)
+
+  items_comma_sound : (next : List ℕ → Reading Items) (b : ℕ) (bytes : List ℕ) → ((more : List ℕ) → length more < length bytes → MoreItemsAt more (next more)) → length bytes < n → (t : Bool) → b ≢ 93 → (b == 44) ≡ t → MoreItemsAt (b ∷ bytes) (items_comma value next b bytes t)
+  items_comma_sound next b bytes ih l true q e =
+      let s = space_at_most bytes in
+      let here = sound (after_space bytes) (omega arith) in
+      rw (eqb-true b 44 e) (next_item next bytes ih (value (after_space bytes)) here.0 here.1)
+  items_comma_sound next b bytes ih l false q e = (items_other q (eqb-false b 44 e), tt)
+
+  items_bracket_sound : (next : List ℕ → Reading Items) (b : ℕ) (bytes : List ℕ) → ((more : List ℕ) → length more < length bytes → MoreItemsAt more (next more)) → length bytes < n → (t : Bool) → (b == 93) ≡ t → MoreItemsAt (b ∷ bytes) (items_bracket value next b bytes t)
+  items_bracket_sound next b bytes ih l true e = rw (eqb-true b 93 e) (items_close, omega arith)
+  items_bracket_sound next b bytes ih l false e = items_comma_sound next b bytes ih l (b == 44) (eqb-false b 93 e) refl
+
+  more_items_sound : (k : ℕ) (bytes : List ℕ) → k ≤ n → length bytes < k → MoreItemsAt bytes (more_items value k bytes)
+  more_items_sound zero bytes m l = absurd (omega arith)
+  more_items_sound (suc k) [] m l = (items_end, tt)
+  more_items_sound (suc k) (b ∷ bytes) m l = items_bracket_sound (λ more. more_items value k more) b bytes (λ more o. more_items_sound k more (omega arith) (omega arith)) (omega arith) (b == 93) refl
+
+  first_item_from : (b : ℕ) (bytes : List ℕ) → b ≢ 93 → length (b ∷ bytes) < n → (out : Reading Json) → reads (b ∷ bytes) out → Below (length (b ∷ bytes)) out → ReadsItems reads (b ∷ bytes) (and_then out (λ v middle. behind_item v (more_items value n (after_space middle)))) × Below (length (b ∷ bytes)) (and_then out (λ v middle. behind_item v (more_items value n (after_space middle))))
+  first_item_from b bytes q l (taken v middle) r m =
+      let t = space_at_most middle in
+      let rest = more_items_sound n (after_space middle) (omega arith) (omega arith) in
+      (first_item q r rest.0, less_room (length (after_space middle)) _ (behind_item v (more_items value n (after_space middle))) (omega arith) (behind_item_below _ v (more_items value n (after_space middle)) rest.1))
+  first_item_from b bytes q l (refused f) r m = (item_fault q r, tt)
+
+  first_items_sound : (b : ℕ) (bytes : List ℕ) → length (b ∷ bytes) < n → (t : Bool) → (b == 93) ≡ t → ReadsItems reads (b ∷ bytes) (first_items value n b bytes t) × Below (length (b ∷ bytes)) (first_items value n b bytes t)
+  first_items_sound b bytes l true e = (rw (eqb-true b 93 e) no_item, omega arith)
+  first_items_sound b bytes l false e = let here = sound (b ∷ bytes) l in first_item_from b bytes (eqb-false b 93 e) l (value (b ∷ bytes)) here.0 here.1
+
+  items_sound : IsSound n (ReadsItems reads) (read_items value n)
+  items_sound [] l = (list_ends, tt)
+  items_sound (b ∷ bytes) l = first_items_sound b bytes l (b == 93) refl
+
+-- ---- values
+
+abbrev value_object : (List ℕ → Reading Members) → ℕ → List ℕ → Bool → Reading Json
+value_object members b bytes true = as_object (members bytes)
+value_object members b bytes false = scalar_at (b ∷ bytes)
+
+abbrev value_list : (List ℕ → Reading Items) → (List ℕ → Reading Members) → ℕ → List ℕ → Bool → Reading Json
+value_list items members b bytes true = as_list (items bytes)
+value_list items members b bytes false = value_object members b bytes (b == 123)
+
+abbrev value_text : ℕ → (List ℕ → Reading Items) → (List ℕ → Reading Members) → ℕ → List ℕ → Bool → Reading Json
+value_text n items members b bytes true = as_text bytes (read_text n bytes)
+value_text n items members b bytes false = value_list items members b bytes (b == 91)
+
+abbrev read_with : ℕ → (List ℕ → Reading Items) → (List ℕ → Reading Members) → List ℕ → Reading Json
+read_with n items members [] = fault_here []
+read_with n items members (b ∷ bytes) = value_text n items members b bytes (b == 34)
+
+abbrev too_deep : {A : Type 0} → List ℕ → Reading A
+too_deep bytes = refused (TooDeep (suc (length bytes)))
+
+abbrev pub read_value : ℕ → ℕ → List ℕ → Reading Json
+read_value zero n bytes = read_with n too_deep too_deep bytes
+read_value (suc depth) n bytes = read_with n (λ more. read_items (λ xs. read_value depth n xs) n (after_space more)) (λ more. read_members (read_member (λ xs. read_value depth n xs) n) n (after_space more)) bytes
+
+as_list_below : (n : ℕ) (out : Reading Items) → Below n out → Below n (as_list out)
+as_list_below n (taken vs rest) l = l
+as_list_below n (refused f) l = tt
+
+as_object_below : (n : ℕ) (out : Reading Members) → Below n out → Below n (as_object out)
+as_object_below n (taken ms rest) l = l
+as_object_below n (refused f) l = tt
+
+as_text_below : (n : ℕ) (bytes : List ℕ) (out : Read (List ℕ)) → AtMost n out → Below (suc n) (as_text bytes out)
+as_text_below n bytes (taken text rest) l = omega arith
+as_text_below n bytes (refused e) l = tt
+
+-- a reader of lists or objects is asked behind the opening bracket
+abbrev IsSoundInside : {A : Type 0} → ℕ → (List ℕ → Reading A → Type 0) → (List ℕ → Reading A) → Type 0
+IsSoundInside n reads read = (bytes : List ℕ) → length bytes < n → reads bytes (read bytes) × Below (suc (length bytes)) (read bytes)
+
+module _ (n : ℕ) (items_read : List ℕ → Reading Items → Type 0) (members_read : List ℕ → Reading Members → Type 0) (items : List ℕ → Reading Items) (members : List ℕ → Reading Members) (lists : IsSoundInside n items_read items) (objects : IsSoundInside n members_read members) where
+  abbrev ValueAt : List ℕ → Reading Json → Type 0
+  ValueAt bytes out = ReadsWith items_read members_read bytes out × Below (length bytes) out
+
+  object_sound : (b : ℕ) (bytes : List ℕ) → length (b ∷ bytes) < n → b ≢ 34 → b ≢ 91 → (t : Bool) → (b == 123) ≡ t → ValueAt (b ∷ bytes) (value_object members b bytes t)
+  object_sound b bytes l p q true e = let here = objects bytes (omega arith) in rw (eqb-true b 123 e) (reads_object here.0, as_object_below _ (members bytes) here.1)
+  object_sound b bytes l p q false e = (reads_scalar p q (eqb-false b 123 e), scalar_below (b ∷ bytes))
+
+  list_sound : (b : ℕ) (bytes : List ℕ) → length (b ∷ bytes) < n → b ≢ 34 → (t : Bool) → (b == 91) ≡ t → ValueAt (b ∷ bytes) (value_list items members b bytes t)
+  list_sound b bytes l p true e = let here = lists bytes (omega arith) in rw (eqb-true b 91 e) (reads_list here.0, as_list_below _ (items bytes) here.1)
+  list_sound b bytes l p false e = object_sound b bytes l p (eqb-false b 91 e) (b == 123) refl
+
+  text_value_sound : (b : ℕ) (bytes : List ℕ) → length (b ∷ bytes) < n → (t : Bool) → (b == 34) ≡ t → ValueAt (b ∷ bytes) (value_text n items members b bytes t)
+  text_value_sound b bytes l true e = let here = text_sound n bytes (omega arith) in rw (eqb-true b 34 e) (reads_text here.0, as_text_below _ bytes (read_text n bytes) here.1)
+  text_value_sound b bytes l false e = list_sound b bytes l (eqb-false b 34 e) (b == 91) refl
+
+  with_sound : IsSound n (ReadsWith items_read members_read) (read_with n items members)
+  with_sound [] l = (value_ends, tt)
+  with_sound (b ∷ bytes) l = text_value_sound b bytes l (b == 34) refl
+
+inside : {A : Type 0} (n : ℕ) (reads : List ℕ → Reading A → Type 0) (read : List ℕ → Reading A) → IsSound n reads read → IsSoundInside n (λ bytes. reads (after_space bytes)) (λ bytes. read (after_space bytes))
+inside n reads read sound bytes l =
+    let s = space_at_most bytes in
+    let here = sound (after_space bytes) (omega arith) in
+    (here.0, less_room (length (after_space bytes)) _ (read (after_space bytes)) (omega arith) here.1)
+
+pub value_sound : (depth n : ℕ) → IsSound n (Reads depth) (read_value depth n)
+value_sound zero n = with_sound n IsTooDeep IsTooDeep too_deep too_deep (λ bytes l. (refl, tt)) (λ bytes l. (refl, tt))
+value_sound (suc depth) n =
+    with_sound n _ _ _ _ (inside n (ReadsItems (Reads depth)) (read_items (λ xs. read_value depth n xs) n) (items_sound n (Reads depth) (λ xs. read_value depth n xs) (value_sound depth n)))
+        (inside n (ReadsMembers (Reads depth)) (read_members (read_member (λ xs. read_value depth n xs) n) n) (members_sound n (Reads depth) (read_member (λ xs. read_value depth n xs) n) (member_sound n (Reads depth) (λ xs. read_value depth n xs) (value_sound depth n))))
+
+abbrev pub read_json : List ℕ → Result Json Fault
+read_json bytes = with_offset (length bytes) (whole_text (read_value most_brackets (suc (length bytes)) (after_space bytes)))
+
+pub json_sound : (bytes : List ℕ) → IsUtf8 bytes → ReadsJson bytes (read_json bytes)
+json_sound bytes u = let s = space_at_most bytes in json_text (read_value most_brackets (suc (length bytes)) (after_space bytes)) u (value_sound most_brackets (suc (length bytes)) (after_space bytes) (omega arith)).0
