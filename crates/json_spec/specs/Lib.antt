@@ -14,4 +14,5 @@ pub mod JsonBack
 pub mod Distinct
 pub mod Shorter
 pub mod Reader
+pub mod Some
 pub mod Examples
