@@ -1,11 +1,11 @@
 -- Worked examples.
-use Rattle.std.specs.Prelude.{◌≡◌, ℕ, true, List, [], ◌∷◌, ◌++◌, codes, replicate, Result, Ok, Err, IsUtf8, encode_utf8_all}
+use Rattle.std.specs.Prelude.{◌≡◌, ℕ, true, List, [], ◌∷◌, codes, replicate, Result, Ok, Err}
 use Rattle.std.specs.Char.{encode_utf8}
 use Rattle.std.specs.Str.{IsValidUpTo, is_utf8, chars}
 use Rattle.std.proofs.Common.{refl, arith}
 use Rattle.std.proofs.lemmas.List.{take_all}
 use Rattle.std.proofs.lemmas.Str.{IsUtf8-from_is_utf8}
-use Rattle.json_spec.specs.Value.{Json, a_null, a_bool, a_number, a_text, a_list, an_object, no_items, an_item, no_members, a_member}
+use Rattle.json_spec.specs.Value.{Json, a_null, a_bool, a_text, a_list, an_object, no_items, an_item, no_members, a_member}
 use Rattle.json_spec.specs.Taken.{taken, refused}
 use Rattle.json_spec.specs.Strings.{escape_at}
 use Rattle.json_spec.specs.Numbers.{number_at}
@@ -18,8 +18,8 @@ use Rattle.json_spec.specs.Reader.{read_json, json_sound}
 pub record PrintedExamples : Type 0 where
   pub string : quoted (97 ∷ 34 ∷ 60 ∷ 10 ∷ []) ≡ codes "\"a\\\"\\u003c\\u000a\""
   pub value :
-    printed_text (an_object (a_member (codes "a") (a_list no_items) (a_member (codes "b") (an_object (a_member (codes "c") a_null no_members)) (a_member (codes "d") (a_list (an_item (a_text (codes "e")) (an_item (a_bool true) no_items))) no_members))))
-    ≡ codes "{\n  \"a\": [],\n  \"b\": {\n    \"c\": null\n  },\n  \"d\": [\n    \"e\",\n    true\n  ]\n}\n"
+      printed_text (an_object (a_member (codes "a") (a_list no_items) (a_member (codes "b") (an_object (a_member (codes "c") a_null no_members)) (a_member (codes "d") (a_list (an_item (a_text (codes "e")) (an_item (a_bool true) no_items))) no_members))))
+      ≡ codes "{\n  \"a\": [],\n  \"b\": {\n    \"c\": null\n  },\n  \"d\": [\n    \"e\",\n    true\n  ]\n}\n"
 
 printed_examples : PrintedExamples
 printed_examples = record { string = refl; value = refl }

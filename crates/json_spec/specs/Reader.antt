@@ -1,12 +1,12 @@
 -- A plain reader: each text in UTF-8 has an outcome. Its first argument bounds how many bytes it reads.
-use Rattle.std.specs.Prelude.{◌≡◌, ℕ, zero, suc, ◌+◌, ◌<◌, ◌≤◌, ◌≢◌, Bool, true, false, ◌==◌, nat_lt, List, [], ◌∷◌, length, if◌then◌else◌, ⊤, Result, Ok, Err, IsUtf8}
-use Rattle.std.proofs.Common.{refl, ap, sym, ◌∙◌, subst, arith}
+use Rattle.std.specs.Prelude.{◌≡◌, ℕ, zero, suc, ◌<◌, ◌≤◌, ◌≢◌, Bool, true, false, ◌==◌, nat_lt, List, [], ◌∷◌, length, if◌then◌else◌, Result, IsUtf8}
+use Rattle.std.proofs.Common.{refl, arith}
 use Rattle.std.proofs.lemmas.Bool.{eqb-true, eqb-false, ltb-true, ltb-false}
 use Rattle.json_spec.specs.Value.{Json, Items, no_items, Members, no_members}
-use Rattle.json_spec.specs.Taken.{Taken, taken, refused, Read, and_then, behind_piece}
+use Rattle.json_spec.specs.Taken.{taken, refused, Read, and_then, behind_piece}
 use Rattle.json_spec.specs.Strings.{ReadsText, close, plain, escape, no_escape, control, text_ends, escape_at}
-use Rattle.json_spec.specs.Grammar.{Fault, NotJson, TooDeep, Reading, after_space, fault_here, text_behind, colon_at, scalar_at, ReadsName, name_text, no_name, name_ends, Member, a_pair, paired, ReadsMember, member_value, member_name, behind_member, behind_item, MoreMembers, members_close, members_next, members_fault, members_other, members_end, ReadsMembers, no_member, first_member, member_fault, object_ends, MoreItems, items_close, items_next, items_fault, items_other, items_end, ReadsItems, no_item, first_item, item_fault, list_ends, as_text, as_list, as_object, ReadsWith, reads_text, reads_list, reads_object, reads_scalar, value_ends, IsTooDeep, Reads, ReadsJson, json_text, most_brackets, whole_text, with_offset}
-use Rattle.json_spec.specs.Shorter.{AtMost, Below, more_room, below_next, less_room, escape_at_most, space_at_most, scalar_below}
+use Rattle.json_spec.specs.Grammar.{Fault, TooDeep, Reading, after_space, fault_here, text_behind, colon_at, scalar_at, ReadsName, name_text, no_name, name_ends, Member, a_pair, paired, ReadsMember, member_value, member_name, behind_member, behind_item, MoreMembers, members_close, members_next, members_fault, members_other, members_end, ReadsMembers, no_member, first_member, member_fault, object_ends, MoreItems, items_close, items_next, items_fault, items_other, items_end, ReadsItems, no_item, first_item, item_fault, list_ends, as_text, as_list, as_object, ReadsWith, reads_text, reads_list, reads_object, reads_scalar, value_ends, IsTooDeep, Reads, ReadsJson, json_text, most_brackets, whole_text, with_offset}
+use Rattle.json_spec.specs.Shorter.{AtMost, Below, more_room, less_room, escape_at_most, space_at_most, scalar_below}
 
 -- ---- strings
 
@@ -326,7 +326,7 @@ pub value_sound : (depth n : ℕ) → IsSound n (Reads depth) (read_value depth 
 value_sound zero n = with_sound n IsTooDeep IsTooDeep too_deep too_deep (λ bytes l. (refl, tt)) (λ bytes l. (refl, tt))
 value_sound (suc depth) n =
     with_sound n _ _ _ _ (inside n (ReadsItems (Reads depth)) (read_items (λ xs. read_value depth n xs) n) (items_sound n (Reads depth) (λ xs. read_value depth n xs) (value_sound depth n)))
-        (inside n (ReadsMembers (Reads depth)) (read_members (read_member (λ xs. read_value depth n xs) n) n) (members_sound n (Reads depth) (read_member (λ xs. read_value depth n xs) n) (member_sound n (Reads depth) (λ xs. read_value depth n xs) (value_sound depth n))))
+    (inside n (ReadsMembers (Reads depth)) (read_members (read_member (λ xs. read_value depth n xs) n) n) (members_sound n (Reads depth) (read_member (λ xs. read_value depth n xs) n) (member_sound n (Reads depth) (λ xs. read_value depth n xs) (value_sound depth n))))
 
 abbrev pub read_json : List ℕ → Result Json Fault
 read_json bytes = with_offset (length bytes) (whole_text (read_value most_brackets (suc (length bytes)) (after_space bytes)))

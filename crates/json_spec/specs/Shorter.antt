@@ -1,12 +1,12 @@
 -- What readers leave is no longer than what they began with.
-use Rattle.std.specs.Prelude.{◌≡◌, ℕ, zero, suc, ◌+◌, ◌*◌, ◌<◌, ◌≤◌, Bool, true, false, cond, ◌==◌, ◌||◌, List, [], ◌∷◌, ◌++◌, length, ⊤, codes, Option, Some, None, encode_utf8}
-use Rattle.std.proofs.Common.{refl, arith}
+use Rattle.std.specs.Prelude.{ℕ, zero, suc, ◌+◌, ◌*◌, ◌<◌, ◌≤◌, Bool, true, false, cond, ◌==◌, List, [], ◌∷◌, length, ⊤, codes, Option, Some, None, encode_utf8}
+use Rattle.std.proofs.Common.{arith}
 use Rattle.std.proofs.lemmas.Bool.{cond_both}
 use Rattle.json_spec.specs.Value.{Json, a_null, a_bool}
 use Rattle.json_spec.specs.Taken.{Taken, taken, refused, Read, and_then, or_else, behind_piece}
 use Rattle.json_spec.specs.Strings.{short_escape, hex_value, taken_from, hex_digits, four_digits, behind, is_high_surrogate, is_low_surrogate, pair_character, second_half, unicode_character, escape_at}
 use Rattle.json_spec.specs.Numbers.{is_digit, leading_digits, after_digits, some_digits, digits_at, joined, maybe, one_of, int_at, frac_at, exp_at, number_at}
-use Rattle.json_spec.specs.Grammar.{Reading, Fault, is_space, after_space, word_else, as_number, scalar_at}
+use Rattle.json_spec.specs.Grammar.{Reading, is_space, after_space, word_else, as_number, scalar_at}
 
 -- what is left has at most n bytes, and fewer
 abbrev pub AtMost : {A E : Type 0} → ℕ → Taken A E → Type 0
@@ -61,14 +61,14 @@ pair_at_most n high more l = then_at_most n (four_digits more) (second_half high
 character_at_most : (n c : ℕ) (rest : List ℕ) → length rest ≤ n → AtMost n (unicode_character c rest)
 character_at_most n c rest l =
     either n (is_high_surrogate c) (taken_from (behind (92 ∷ 117 ∷ []) rest) (λ more. and_then (four_digits more) (second_half c))) (cond (is_low_surrogate c) (refused tt) (taken (encode_utf8 c) rest))
-        (behind_at_most n (92 ∷ 117 ∷ []) rest _ l (pair_at_most n c)) (either n (is_low_surrogate c) (refused tt) (taken (encode_utf8 c) rest) tt l)
+    (behind_at_most n (92 ∷ 117 ∷ []) rest _ l (pair_at_most n c)) (either n (is_low_surrogate c) (refused tt) (taken (encode_utf8 c) rest) tt l)
 
 pub escape_at_most : (bytes : List ℕ) → AtMost (length bytes) (escape_at bytes)
 escape_at_most [] = tt
 escape_at_most (b ∷ bytes) =
     either (length (b ∷ bytes)) (b == 117) (and_then (four_digits bytes) unicode_character) (taken_from (short_escape b) (λ c. taken (c ∷ []) bytes))
-        (then_at_most _ (four_digits bytes) unicode_character (more_room (length bytes) _ (four_digits bytes) (omega arith) (hex_at_most 4 0 bytes)) (character_at_most (length (b ∷ bytes))))
-        (from_at_most _ (short_escape b) (λ c. taken (c ∷ []) bytes) (λ c. omega arith))
+    (then_at_most _ (four_digits bytes) unicode_character (more_room (length bytes) _ (four_digits bytes) (omega arith) (hex_at_most 4 0 bytes)) (character_at_most (length (b ∷ bytes))))
+    (from_at_most _ (short_escape b) (λ c. taken (c ∷ []) bytes) (λ c. omega arith))
 
 pub space_at_most : (bytes : List ℕ) → length (after_space bytes) ≤ length bytes
 space_at_most [] = omega arith
@@ -114,7 +114,7 @@ keeps_joined one another k l bytes =
 takes_first : (one another : List ℕ → Read (List ℕ)) → Takes one → Keeps another → Takes (joined one another)
 takes_first one another t k bytes =
     then_below (length bytes) (one bytes) (λ piece rest. behind_piece piece (another rest)) (t bytes)
-        (λ piece rest m. piece_below _ piece (another rest) (less_room (suc (length rest)) _ (another rest) m (below_next _ (another rest) (k rest))))
+    (λ piece rest m. piece_below _ piece (another rest) (less_room (suc (length rest)) _ (another rest) m (below_next _ (another rest) (k rest))))
 
 takes_second : (one another : List ℕ → Read (List ℕ)) → Keeps one → Takes another → Takes (joined one another)
 takes_second one another k t bytes = go (one bytes) (k bytes)
@@ -185,5 +185,5 @@ word_below n value (Some rest) out l m = l
 pub scalar_below : (bytes : List ℕ) → Below (length bytes) (scalar_at bytes)
 scalar_below bytes =
     word_below _ (a_bool true) (behind (codes "true") bytes) _ (word_left 116 (codes "rue") bytes)
-        (word_below _ (a_bool false) (behind (codes "false") bytes) _ (word_left 102 (codes "alse") bytes)
-            (word_below _ a_null (behind (codes "null") bytes) _ (word_left 110 (codes "ull") bytes) (number_below _ bytes (number_at bytes) (takes_number bytes))))
+    (word_below _ (a_bool false) (behind (codes "false") bytes) _ (word_left 102 (codes "alse") bytes)
+    (word_below _ a_null (behind (codes "null") bytes) _ (word_left 110 (codes "ull") bytes) (number_below _ bytes (number_at bytes) (takes_number bytes))))

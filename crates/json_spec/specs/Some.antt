@@ -1,7 +1,7 @@
 -- Each text has an outcome.
-use Rattle.std.specs.Prelude.{◌≡◌, ℕ, zero, suc, ◌-◌, ◌<◌, Bool, true, false, List, [], ◌∷◌, length, take, Result, Ok, Err, IsUtf8}
+use Rattle.std.specs.Prelude.{◌≡◌, ℕ, zero, suc, ◌<◌, true, false, List, [], ◌∷◌, length, take, Result, Err, IsUtf8}
 use Rattle.std.specs.Str.{IsValidUpTo, is_utf8}
-use Rattle.std.proofs.Common.{refl, arith, subst}
+use Rattle.std.proofs.Common.{arith, subst}
 use mathlib.Core.Logic.{inl, inr}
 use Rattle.std.proofs.lemmas.Bool.{cases_Bool, cases_eq}
 use Rattle.std.proofs.lemmas.List.{take_all}
@@ -23,9 +23,9 @@ longest bytes (suc k) l none =
     elim (cases_Bool (is_utf8 (take (suc k) bytes))) [
       | inl t ↦ (suc k, record { short = l; front = IsUtf8-from_is_utf8 _ t; longest = none })
       | inr f ↦ longest bytes k (omega arith) (λ m o u. elim (cases_eq m (suc k)) [
-          | inl e ↦ is_no_utf8 _ f (subst (λ j. IsUtf8 (take j bytes)) e u)
-          | inr d ↦ none m (omega arith) u
-        ])
+        | inl e ↦ is_no_utf8 _ f (subst (λ j. IsUtf8 (take j bytes)) e u)
+        | inr d ↦ none m (omega arith) u
+      ])
     ]
 
 bad_front : (bytes : List ℕ) → is_utf8 bytes ≡ false → (n : ℕ) × IsValidUpTo bytes n

@@ -19,8 +19,7 @@ pub fn one_json()
 #[tactic(auto, using(crate::specs::Some::some_json))]
 pub fn some_json()
     ensures { SomeJson }
-{
-}
+{}
 
 /// No object of a text's value holds a name twice, at any level.
 #[tactic(auto, using(crate::specs::Distinct::names_are_distinct))]
@@ -44,5 +43,4 @@ pub fn values_read_back()
 #[tactic(auto, using(crate::specs::Examples::worked_examples))]
 pub fn worked_examples()
     ensures { WorkedExamples }
-{
-}
+{}
