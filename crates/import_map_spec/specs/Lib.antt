@@ -8,4 +8,6 @@ pub mod Entries
 pub mod MapBack
 pub mod TextBack
 pub mod Literals
+pub mod PrintedLists
+pub mod SomeMap
 pub mod Examples
