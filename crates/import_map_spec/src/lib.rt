@@ -6,6 +6,7 @@
 ghost use Rattle.import_map_spec.specs.Examples.{WorkedExamples};
 ghost use Rattle.import_map_spec.specs.OneMap.{OneMap};
 ghost use Rattle.import_map_spec.specs.SameQuestion.{SameQuestion};
+ghost use Rattle.import_map_spec.specs.SomeMap.{SomeMap};
 ghost use Rattle.import_map_spec.specs.TextBack.{TextsReadBack};
 
 /// What must be an object in the text of an import map.
@@ -27,6 +28,12 @@ pub enum MapPart {
 #[tactic(auto, using(crate::specs::OneMap::one_map))]
 pub fn one_map()
     ensures { OneMap }
+{}
+
+/// A text has a map or a first fault.
+#[tactic(auto, using(crate::specs::SomeMap::some_map))]
+pub fn some_map()
+    ensures { SomeMap }
 {}
 
 /// Two specifiers that are no URLs and that normalize alike have one answer, in every map.
