@@ -58,7 +58,7 @@ again false x y o = refl
 pub insert_again : {X : Type 0} (m : Texts X) (key : List ℕ) (x y : X) → insert (insert m key x) key y ≡ insert m key y
 insert_again m key x y =
     same_map nat_list_cmp_total (slice_cmp-IsAntisymmetric nat_cmp-IsAntisymmetric) _ _
-        (λ q. get_inserted (insert m key x) key y q ∙ (ap (cond (same_key q key) (Some y)) (get_inserted m key x q) ∙ (again (same_key q key) x y (get m q) ∙ sym (get_inserted m key y q))))
+    (λ q. get_inserted (insert m key x) key y q ∙ (ap (cond (same_key q key) (Some y)) (get_inserted m key x q) ∙ (again (same_key q key) x y (get m q) ∙ sym (get_inserted m key y q))))
 
 module _ {X : Type 0} where
   abbrev Below : List ℕ → List (List ℕ × X) → Type 0

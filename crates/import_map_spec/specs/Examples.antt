@@ -176,7 +176,7 @@ scope_examples = record {
 -- what is replaced is gone
 pub record ReplacedExamples : Type 0 where
   pub one_scope :
-    parsed_map page (scoping (at "./1" (("a", "/b") ∷ []) (at "1" (("a", "/c") ∷ []) no_members))) ≡ Ok (map_of_lists (only_scopes (scope "https://app.test/1" (to_url "a" "https://app.test/b" ∷ []) ∷ [])))
+      parsed_map page (scoping (at "./1" (("a", "/b") ∷ []) (at "1" (("a", "/c") ∷ []) no_members))) ≡ Ok (map_of_lists (only_scopes (scope "https://app.test/1" (to_url "a" "https://app.test/b" ∷ []) ∷ [])))
   pub one_key : parsed_map page (importing (strings (("./m", "/x") ∷ ("/m", "/y") ∷ []))) ≡ Ok (map_of_lists (only_imports (to_url "https://app.test/m" "https://app.test/y" ∷ [])))
 
 same_scopes : {one other : Texts Addresses} → one ≡ other → ◌≡◌ {A = Result ParsedMap MapPart} (Ok (record { imports = empty; scopes = one; integrity = empty })) (Ok (record { imports = empty; scopes = other; integrity = empty }))
@@ -252,8 +252,8 @@ several = record { imports = to_url "b" "https://app.test/b" ∷ to_null "a" ∷
 pub record TextExamples : Type 0 where
   pub no_scopes : map_text (map_of_lists only_integrity) ≡ codes "{\n  \"imports\": {},\n  \"integrity\": {\n    \"https://app.test/app.mjs\": \"sha384-x\"\n  }\n}\n"
   pub sorted :
-    map_text (map_of_lists several)
-    ≡ codes "{\n  \"imports\": {\n    \"a\": null,\n    \"b\": \"https://app.test/b\"\n  },\n  \"scopes\": {\n    \"https://app.test/x/\": {\n      \"#\\u003c\": \"https://app.test/y\"\n    }\n  }\n}\n"
+      map_text (map_of_lists several)
+      ≡ codes "{\n  \"imports\": {\n    \"a\": null,\n    \"b\": \"https://app.test/b\"\n  },\n  \"scopes\": {\n    \"https://app.test/x/\": {\n      \"#\\u003c\": \"https://app.test/y\"\n    }\n  }\n}\n"
 
 text_examples : TextExamples
 text_examples = record { no_scopes = lists_text only_integrity ∙ refl; sorted = lists_text several ∙ refl }

@@ -7,6 +7,7 @@ pub mod Printing
 pub mod Entries
 pub mod MapBack
 pub mod TextBack
+pub mod Longest
 pub mod Literals
 pub mod PrintedLists
 pub mod SomeMap

@@ -1,5 +1,5 @@
 -- The text of a map that is written out as lists, for the worked examples.
-use Rattle.std.specs.Prelude.{◌≡◌, ℕ, cond, List, [], ◌∷◌, length, map, codes, Option, Some, None}
+use Rattle.std.specs.Prelude.{◌≡◌, ℕ, List, [], ◌∷◌, length, map, codes, Option}
 use Rattle.std.specs.declared.cmp.Ordering.{Ordering}
 use Rattle.std.specs.declared.cmp.Ordering.TheVariants.{Less, Equal, Greater}
 use Rattle.std.specs.Ordering.{nat_cmp}
@@ -9,7 +9,7 @@ use Rattle.std.specs.FinMap.Entries.{by_order}
 use Rattle.std.proofs.Common.{refl, ap, sym, ◌∙◌, arith}
 use Rattle.json_spec.specs.Value.{Json, a_text, an_object, Members, no_members, a_member}
 use Rattle.json_spec.specs.PrintedValue.{printed_text}
-use Rattle.import_map_spec.specs.ParsedMap.{Texts, Addresses, ParsedMap}
+use Rattle.import_map_spec.specs.ParsedMap.{Texts, Addresses}
 use Rattle.import_map_spec.specs.Entries.{insert_all}
 use Rattle.import_map_spec.specs.Literals.{map_of, scope_of, Lists, map_of_lists}
 use Rattle.import_map_spec.specs.Printing.{members_of, address_value, addresses_value, with_part, map_value, map_text}

@@ -1,5 +1,5 @@
 -- Each text has a map or a first fault.
-use Rattle.std.specs.Prelude.{◌≡◌, ℕ, List, Result}
+use Rattle.std.specs.Prelude.{ℕ, List, Result}
 use Rattle.std.proofs.Common.{refl}
 use Rattle.json_spec.specs.Some.{some_json}
 use Rattle.import_map_spec.specs.ParsedMap.{ParsedMap, MapFault}

@@ -4,6 +4,7 @@
 #![tactic(auto)]
 
 ghost use Rattle.import_map_spec.specs.Examples.{WorkedExamples};
+ghost use Rattle.import_map_spec.specs.Longest.{KeyOrder};
 ghost use Rattle.import_map_spec.specs.OneMap.{OneMap};
 ghost use Rattle.import_map_spec.specs.SameQuestion.{SameQuestion};
 ghost use Rattle.import_map_spec.specs.SomeMap.{SomeMap};
@@ -40,6 +41,12 @@ pub fn some_map()
 #[tactic(auto, using(crate::specs::SameQuestion::same_question))]
 pub fn same_question()
     ensures { SameQuestion }
+{}
+
+/// Of the keys that match the longest one answers, and of the scopes that apply the longest one that has an answer.
+#[tactic(auto, using(crate::specs::Longest::key_order))]
+pub fn key_order()
+    ensures { KeyOrder }
 {}
 
 /// The text of a map is read as that map, where its keys and addresses stand as parsing leaves them.
