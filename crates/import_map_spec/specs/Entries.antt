@@ -50,6 +50,16 @@ get_inserted m key x q = get-insert nat_list_cmp_total m key x q
 pub get_nowhere : {X : Type 0} (q : List ℕ) → get {X = X} {R = slice_cmp nat_cmp} empty q ≡ None
 get_nowhere q = get-empty (slice_cmp nat_cmp) q
 
+again : {X : Type 0} (b : Bool) (x y : X) (o : Option X) → cond b (Some y) (cond b (Some x) o) ≡ cond b (Some y) o
+again true x y o = refl
+again false x y o = refl
+
+-- an insert at a key replaces what stood there
+pub insert_again : {X : Type 0} (m : Texts X) (key : List ℕ) (x y : X) → insert (insert m key x) key y ≡ insert m key y
+insert_again m key x y =
+    same_map nat_list_cmp_total (slice_cmp-IsAntisymmetric nat_cmp-IsAntisymmetric) _ _
+    (λ q. get_inserted (insert m key x) key y q ∙ (ap (cond (same_key q key) (Some y)) (get_inserted m key x q) ∙ (again (same_key q key) x y (get m q) ∙ sym (get_inserted m key y q))))
+
 module _ {X : Type 0} where
   abbrev Below : List ℕ → List (List ℕ × X) → Type 0
   Below key es = T (below_all (slice_cmp nat_cmp) key es)

@@ -1,13 +1,24 @@
 -- Worked examples. The page is `https://app.test/index.html`, and its URL is the map base.
-use Rattle.std.specs.Prelude.{◌≡◌, ℕ, true, List, [], ◌∷◌, codes, Option, Some, None, Ok, Err}
+use Rattle.std.specs.Prelude.{◌≡◌, ℕ, true, List, [], ◌∷◌, codes, Option, Some, None, Result, Ok, Err}
 use Prim.Native.String.{String}
-use Rattle.std.proofs.Common.{refl}
+use Rattle.std.proofs.Common.{refl, ◌∙◌}
+use Rattle.std.specs.FinMap.{insert, empty}
+use Rattle.import_map_spec.specs.declared.MapPart.{MapPart}
+use Rattle.import_map_spec.specs.ParsedMap.{Texts, Addresses, ParsedMap, NoJson, NotObject}
 use Rattle.url.proofs.OnLiterals.{url_on_literals}
 use Rattle.json_spec.specs.Value.{Json, a_null, a_bool, a_number, a_text, a_list, an_object, no_items, Members, no_members, a_member}
 use Rattle.url_spec.specs.Parsing.{text_of, parse_alone, parse_against, has_special_scheme}
 use Rattle.url_spec.specs.Specifiers.{as_url, normalized}
 use Rattle.import_map_spec.specs.declared.MapPart.TheVariants.{Top, Imports, Scopes, Scope, Integrity}
-use Rattle.import_map_spec.specs.Parsing.{in_property_order, parsed_map}
+use Rattle.import_map_spec.specs.Parsing.{in_property_order, parsed_map, ParsesMap}
+use Rattle.std.specs.Char.{encode_utf8}
+use Rattle.std.specs.Str.{is_utf8, chars}
+use Rattle.std.proofs.lemmas.Str.{IsUtf8-from_is_utf8}
+use Rattle.json_spec.specs.Grammar.{NotJson, most_brackets}
+use Rattle.json_spec.specs.Reader.{json_sound}
+use Rattle.import_map_spec.specs.Entries.{insert_again}
+use Rattle.import_map_spec.specs.Printing.{map_text}
+use Rattle.import_map_spec.specs.PrintedLists.{lists_text}
 use Rattle.import_map_spec.specs.Literals.{Lists, map_of_lists, Questions, Answer, ListsAnswer, answered}
 use Rattle.import_map_spec.specs.Resolving.{Resolution, Resolved, Blocked, Bare, Backtrack, BadRest}
 
@@ -162,6 +173,24 @@ scope_examples = record {
   over_imports = computed refl (refl, (refl, (refl, (refl, tt))));
 }
 
+-- what is replaced is gone
+pub record ReplacedExamples : Type 0 where
+  pub one_scope :
+      parsed_map page (scoping (at "./1" (("a", "/b") ∷ []) (at "1" (("a", "/c") ∷ []) no_members))) ≡ Ok (map_of_lists (only_scopes (scope "https://app.test/1" (to_url "a" "https://app.test/b" ∷ []) ∷ [])))
+  pub one_key : parsed_map page (importing (strings (("./m", "/x") ∷ ("/m", "/y") ∷ []))) ≡ Ok (map_of_lists (only_imports (to_url "https://app.test/m" "https://app.test/y" ∷ [])))
+
+same_scopes : {one other : Texts Addresses} → one ≡ other → ◌≡◌ {A = Result ParsedMap MapPart} (Ok (record { imports = empty; scopes = one; integrity = empty })) (Ok (record { imports = empty; scopes = other; integrity = empty }))
+same_scopes e = λ i. Ok (record { imports = empty; scopes = e i; integrity = empty })
+
+same_imports : {one other : Addresses} → one ≡ other → ◌≡◌ {A = Result ParsedMap MapPart} (Ok (record { imports = one; scopes = empty; integrity = empty })) (Ok (record { imports = other; scopes = empty; integrity = empty }))
+same_imports e = λ i. Ok (record { imports = e i; scopes = empty; integrity = empty })
+
+replaced_examples : ReplacedExamples
+replaced_examples = record {
+  one_scope = scope_examples.replaced.reads ∙ same_scopes (insert_again empty (codes "https://app.test/1") (insert empty (codes "a") (Some (codes "https://app.test/c"))) (insert empty (codes "a") (Some (codes "https://app.test/b"))));
+  one_key = import_examples.replaced.reads ∙ same_imports (insert_again empty (codes "https://app.test/m") (Some (codes "https://app.test/x")) (Some (codes "https://app.test/y")));
+}
+
 -- the checks come in one order
 pub record FaultExamples : Type 0 where
   pub top : parsed_map page (a_list no_items) ≡ Err Top
@@ -205,8 +234,32 @@ pub record OrderExamples : Type 0 where
 order_examples : OrderExamples
 order_examples = record { by_number = refl; greatest = refl; no_digits = refl }
 
+pub record ByteExamples : Type 0 where
+  pub map : ParsesMap page (codes "{\"imports\":{\"a\":3}}") (Ok (map_of_lists (only_imports (to_null "a" ∷ []))))
+  pub no_object : ParsesMap page (codes "[]") (Err (NotObject Top))
+  pub no_json : ParsesMap page (codes "{\"imports\":") (Err (NoJson (NotJson 11)))
+
+byte_examples : ByteExamples
+unfolding parsed_map normalized as_url parse_alone parse_against text_of url_on_literals most_brackets is_utf8 chars encode_utf8
+byte_examples = record { map = record { json = _; reads = json_sound _ (IsUtf8-from_is_utf8 _ refl); is = refl }; no_object = record { json = _; reads = json_sound _ (IsUtf8-from_is_utf8 _ refl); is = refl }; no_json = record { json = _; reads = json_sound _ (IsUtf8-from_is_utf8 _ refl); is = refl } }
+
+abbrev pub only_integrity : Lists
+only_integrity = record { imports = []; scopes = []; integrity = pair "https://app.test/app.mjs" "sha384-x" ∷ [] }
+
+abbrev pub several : Lists
+several = record { imports = to_url "b" "https://app.test/b" ∷ to_null "a" ∷ []; scopes = scope "https://app.test/x/" (to_url "#<" "https://app.test/y" ∷ []) ∷ []; integrity = [] }
+
+pub record TextExamples : Type 0 where
+  pub no_scopes : map_text (map_of_lists only_integrity) ≡ codes "{\n  \"imports\": {},\n  \"integrity\": {\n    \"https://app.test/app.mjs\": \"sha384-x\"\n  }\n}\n"
+  pub sorted :
+      map_text (map_of_lists several)
+      ≡ codes "{\n  \"imports\": {\n    \"a\": null,\n    \"b\": \"https://app.test/b\"\n  },\n  \"scopes\": {\n    \"https://app.test/x/\": {\n      \"#\\u003c\": \"https://app.test/y\"\n    }\n  }\n}\n"
+
+text_examples : TextExamples
+text_examples = record { no_scopes = lists_text only_integrity ∙ refl; sorted = lists_text several ∙ refl }
+
 abbrev pub WorkedExamples : Type 0
-WorkedExamples = ImportExamples × ScopeExamples × FaultExamples × IntegrityExamples × OrderExamples
+WorkedExamples = ImportExamples × ScopeExamples × ReplacedExamples × FaultExamples × IntegrityExamples × OrderExamples × ByteExamples × TextExamples
 
 pub worked_examples : WorkedExamples
-worked_examples = (import_examples, scope_examples, fault_examples, integrity_examples, order_examples)
+worked_examples = (import_examples, scope_examples, replaced_examples, fault_examples, integrity_examples, order_examples, byte_examples, text_examples)

@@ -7,5 +7,8 @@ pub mod Printing
 pub mod Entries
 pub mod MapBack
 pub mod TextBack
+pub mod Longest
 pub mod Literals
+pub mod PrintedLists
+pub mod SomeMap
 pub mod Examples

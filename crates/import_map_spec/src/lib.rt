@@ -4,8 +4,10 @@
 #![tactic(auto)]
 
 ghost use Rattle.import_map_spec.specs.Examples.{WorkedExamples};
+ghost use Rattle.import_map_spec.specs.Longest.{KeyOrder};
 ghost use Rattle.import_map_spec.specs.OneMap.{OneMap};
 ghost use Rattle.import_map_spec.specs.SameQuestion.{SameQuestion};
+ghost use Rattle.import_map_spec.specs.SomeMap.{SomeMap};
 ghost use Rattle.import_map_spec.specs.TextBack.{TextsReadBack};
 
 /// What must be an object in the text of an import map.
@@ -29,10 +31,22 @@ pub fn one_map()
     ensures { OneMap }
 {}
 
+/// A text has a map or a first fault.
+#[tactic(auto, using(crate::specs::SomeMap::some_map))]
+pub fn some_map()
+    ensures { SomeMap }
+{}
+
 /// Two specifiers that are no URLs and that normalize alike have one answer, in every map.
 #[tactic(auto, using(crate::specs::SameQuestion::same_question))]
 pub fn same_question()
     ensures { SameQuestion }
+{}
+
+/// Of the keys that match the longest one answers, and of the scopes that apply the longest one that has an answer.
+#[tactic(auto, using(crate::specs::Longest::key_order))]
+pub fn key_order()
+    ensures { KeyOrder }
 {}
 
 /// The text of a map is read as that map, where its keys and addresses stand as parsing leaves them.

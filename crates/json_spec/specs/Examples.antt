@@ -1,63 +1,110 @@
 -- Worked examples.
-use Rattle.std.specs.Prelude.{◌≡◌, ℕ, true, List, [], ◌∷◌, codes, Err, IsUtf8, encode_utf8_all}
+use Rattle.std.specs.Prelude.{◌≡◌, ℕ, true, List, [], ◌∷◌, codes, replicate, Result, Ok, Err}
 use Rattle.std.specs.Char.{encode_utf8}
+use Rattle.std.specs.Str.{IsValidUpTo, is_utf8, chars}
 use Rattle.std.proofs.Common.{refl, arith}
-use Rattle.std.proofs.Math.Utf8.{scalars}
-use Rattle.json_spec.specs.Value.{a_null, a_number, a_list, an_object, no_items, no_members, a_member}
+use Rattle.std.proofs.lemmas.List.{take_all}
+use Rattle.std.proofs.lemmas.Str.{IsUtf8-from_is_utf8}
+use Rattle.json_spec.specs.Value.{Json, a_null, a_bool, a_text, a_list, an_object, no_items, an_item, no_members, a_member}
 use Rattle.json_spec.specs.Taken.{taken, refused}
 use Rattle.json_spec.specs.Strings.{escape_at}
 use Rattle.json_spec.specs.Numbers.{number_at}
 use Rattle.json_spec.specs.Printed.{quoted}
 use Rattle.json_spec.specs.PrintedValue.{printed_text}
-use Rattle.json_spec.specs.Grammar.{NotJson, first_item, items_fault, reads_list, reads_scalar, value_ends, ReadsJson, json_text, most_brackets}
+use Rattle.json_spec.specs.Grammar.{Fault, NotJson, TooDeep, ReadsJson, no_utf8, most_brackets}
+use Rattle.json_spec.specs.Some.{is_no_utf8}
+use Rattle.json_spec.specs.Reader.{read_json, json_sound}
 
--- ASCII text is UTF-8
-ascii : (bytes : List ℕ) → scalars bytes ≡ true → encode_utf8_all bytes ≡ bytes → IsUtf8 bytes
-ascii bytes s e = (bytes, (s, e))
+pub record PrintedExamples : Type 0 where
+  pub string : quoted (97 ∷ 34 ∷ 60 ∷ 10 ∷ []) ≡ codes "\"a\\\"\\u003c\\u000a\""
+  pub value :
+      printed_text (an_object (a_member (codes "a") (a_list no_items) (a_member (codes "b") (an_object (a_member (codes "c") a_null no_members)) (a_member (codes "d") (a_list (an_item (a_text (codes "e")) (an_item (a_bool true) no_items))) no_members))))
+      ≡ codes "{\n  \"a\": [],\n  \"b\": {\n    \"c\": null\n  },\n  \"d\": [\n    \"e\",\n    true\n  ]\n}\n"
 
-example_quoted : quoted (97 ∷ 34 ∷ 60 ∷ 10 ∷ []) ≡ codes "\"a\\\"\\u003c\\u000a\""
-example_quoted = refl
+printed_examples : PrintedExamples
+printed_examples = record { string = refl; value = refl }
 
-example_printed : printed_text (an_object (a_member (codes "a") (a_list no_items) (a_member (codes "b") (an_object (a_member (codes "c") a_null no_members)) no_members))) ≡ codes "{\n  \"a\": [],\n  \"b\": {\n    \"c\": null\n  }\n}\n"
-example_printed = refl
+-- the longest number stands; a surrogate pair is one character, and half of one is none
+pub record TokenExamples : Type 0 where
+  pub number : number_at (codes "-10.5e+3x") ≡ taken (codes "-10.5e+3") (codes "x")
+  pub zero : number_at (codes "01") ≡ taken (codes "0") (codes "1")
+  pub point : number_at (codes "1.") ≡ taken (codes "1") (codes ".")
+  pub exponent : number_at (codes "1e+") ≡ taken (codes "1") (codes "e+")
+  pub minus : number_at (codes "-") ≡ refused tt
+  pub pair : escape_at (codes "ud83d\\uDE00;") ≡ taken (240 ∷ 159 ∷ 152 ∷ 128 ∷ []) (codes ";")
+  pub lone_high : escape_at (codes "ud83dx") ≡ refused tt
+  pub two_high : escape_at (codes "ud83d\\ud83d") ≡ refused tt
+  pub lone_low : escape_at (codes "ude00") ≡ refused tt
+  pub slash : escape_at (codes "/") ≡ taken (codes "/") []
+  pub quote : escape_at (codes "'") ≡ refused tt
 
--- the longest number stands, and what is left of the bytes is no number
-example_number : number_at (codes "-10.5e+3x") ≡ taken (codes "-10.5e+3") (codes "x")
-example_number = refl
-
-example_zero : number_at (codes "01") ≡ taken (codes "0") (codes "1")
-example_zero = refl
-
-example_point : number_at (codes "1.") ≡ taken (codes "1") (codes ".")
-example_point = refl
-
-example_minus : number_at (codes "-") ≡ refused tt
-example_minus = refl
-
--- a surrogate pair is one character, and a lone surrogate none
-example_pair : escape_at (codes "ud83d\\ude00;") ≡ taken (240 ∷ 159 ∷ 152 ∷ 128 ∷ []) (codes ";")
+token_examples : TokenExamples
 unfolding encode_utf8
-example_pair = refl
+token_examples = record { number = refl; zero = refl; point = refl; exponent = refl; minus = refl; pair = refl; lone_high = refl; two_high = refl; lone_low = refl; slash = refl; quote = refl }
 
-example_lone_high : escape_at (codes "ud83dx") ≡ refused tt
-example_lone_high = refl
+-- a text, and its value or its first fault
+abbrev pub Fails : List ℕ → ℕ → Type 0
+Fails bytes at = ReadsJson bytes (Err (NotJson at))
 
-example_lone_low : escape_at (codes "ude00") ≡ refused tt
-example_lone_low = refl
+pub record TextExamples : Type 0 where
+  pub repeated : ReadsJson (codes "{\"a\":1,\"b\":[],\"a\":null}") (Ok (an_object (a_member (codes "a") a_null (a_member (codes "b") (a_list no_items) no_members))))
+  pub spaced : ReadsJson (codes " [ true , \"\\u003c\" ]\n") (Ok (a_list (an_item (a_bool true) (an_item (a_text (codes "<")) no_items))))
+  pub comma : Fails (codes "[1,]") 3
+  pub empty : Fails [] 0
+  pub leading_zero : Fails (codes "01") 1
+  pub deep : ReadsJson (replicate 129 91) (Err (TooDeep 128))
+  pub byte_order_mark : Fails (239 ∷ 187 ∷ 191 ∷ codes "1") 0
+  pub word : Fails (codes "[tru]") 1
+  pub open_string : Fails (codes "[\"a") 1
+  pub bad_escape : Fails (codes "[\"a\\x\"]") 1
+  pub control : Fails (codes "\"\n\"") 0
+  pub no_colon : Fails (codes "{\"a\" 1}") 5
+  pub no_name : Fails (codes "{1:1}") 1
+  pub name_after_comma : Fails (codes "{\"a\":1,}") 7
+  pub second_value : Fails (codes "1 2") 2
+  pub cut_off : Fails (codes "[1 ") 3
+  pub point : Fails (codes "[1.]") 2
+  pub not_too_deep : Fails (replicate 128 91) 128
 
--- no bytes
-example_empty : ReadsJson [] (Err (NotJson 0))
-unfolding most_brackets
-example_empty = json_text (refused (NotJson 0)) (ascii [] refl refl) value_ends
+reads : (bytes : List ℕ) (out : Result Json Fault) → is_utf8 bytes ≡ true → read_json bytes ≡ out → ReadsJson bytes out
+reads bytes out u e = rw (← e) (json_sound bytes (IsUtf8-from_is_utf8 bytes u))
 
--- a zero begins no longer number
-example_leading_zero : ReadsJson (codes "01") (Err (NotJson 1))
-unfolding most_brackets encode_utf8
-example_leading_zero = json_text (taken (a_number (codes "0")) (codes "1")) (ascii (codes "01") refl refl) (reads_scalar (omega arith) (omega arith) (omega arith))
+text_examples : TextExamples
+unfolding most_brackets is_utf8 chars encode_utf8
+text_examples = record {
+  repeated = reads _ _ refl refl;
+  spaced = reads _ _ refl refl;
+  comma = reads _ _ refl refl;
+  empty = reads _ _ refl refl;
+  leading_zero = reads _ _ refl refl;
+  deep = reads _ _ refl refl;
+  byte_order_mark = reads _ _ refl refl;
+  word = reads _ _ refl refl;
+  open_string = reads _ _ refl refl;
+  bad_escape = reads _ _ refl refl;
+  control = reads _ _ refl refl;
+  no_colon = reads _ _ refl refl;
+  no_name = reads _ _ refl refl;
+  name_after_comma = reads _ _ refl refl;
+  second_value = reads _ _ refl refl;
+  cut_off = reads _ _ refl refl;
+  point = reads _ _ refl refl;
+  not_too_deep = reads _ _ refl refl;
+}
 
--- a comma before the end of a list
-example_comma : ReadsJson (codes "[1,]") (Err (NotJson 3))
-unfolding most_brackets encode_utf8
-example_comma =
-    json_text (refused (NotJson 1)) (ascii (codes "[1,]") refl refl)
-    (reads_list {out = refused (NotJson 1)} (first_item {v = a_number (codes "1")} {out = refused (NotJson 1)} (omega arith) (reads_scalar (omega arith) (omega arith) (omega arith)) (items_fault (reads_scalar (omega arith) (omega arith) (omega arith)))))
+-- the first byte that no character has, also within a string
+no_character : IsValidUpTo (34 ∷ 255 ∷ []) 1
+unfolding is_utf8 chars encode_utf8
+no_character = record { short = omega arith; front = IsUtf8-from_is_utf8 (34 ∷ []) refl; longest = λ m l u. is_no_utf8 (34 ∷ 255 ∷ []) refl (rw (take_all {A = ℕ} m (34 ∷ 255 ∷ []) (omega arith)) at u) }
+
+pub record ByteExamples : Type 0 where
+  pub no_utf8 : Fails (34 ∷ 255 ∷ []) 1
+
+byte_examples : ByteExamples
+byte_examples = record { no_utf8 = no_utf8 no_character }
+
+abbrev pub WorkedExamples : Type 0
+WorkedExamples = PrintedExamples × TokenExamples × TextExamples × ByteExamples
+
+pub worked_examples : WorkedExamples
+worked_examples = (printed_examples, token_examples, text_examples, byte_examples)

@@ -1,9 +1,11 @@
 -- Which value a JSON text has, or its first fault. RFC 8259, 2 to 6.
 --     ReadsJson bytes out      the bytes have the value, or the first fault, out
 --     Reads depth bytes out      the same of one value at the front of the bytes, in which depth brackets may be open at once.
+--     most_brackets      how many brackets may be open at once
 -- A fault's place is counted from the end while the text is read, and is turned into an offset once, in `ReadsJson`.
 use Rattle.std.specs.Prelude.{◌≡◌, ℕ, zero, suc, ◌-◌, ◌≢◌, Bool, true, false, ◌||◌, ◌==◌, List, [], ◌∷◌, length, if◌then◌else◌, codes, Option, Some, None, Result, Ok, Err, IsUtf8}
 use Rattle.std.specs.Str.{IsValidUpTo}
+use Rattle.std.proofs.Common.{refl}
 use Rattle.json_spec.specs.Value.{Json, a_null, a_bool, a_number, a_text, a_list, an_object, Items, no_items, an_item, Members, no_members, a_member, settled}
 use Rattle.json_spec.specs.Taken.{Taken, taken, refused, Read, and_then}
 use Rattle.json_spec.specs.Strings.{ReadsText, behind}
@@ -138,6 +140,10 @@ Reads (suc depth) = ReadsWith (λ bytes. ReadsItems (Reads depth) (after_space b
 -- own: how many brackets may be open at once
 unfoldable pub most_brackets : ℕ
 most_brackets = 128
+
+pub most_brackets_is : most_brackets ≡ 128
+unfolding most_brackets
+most_brackets_is = refl
 
 -- RFC 8259, 2: nothing but white space stands behind the value
 abbrev pub alone : Json → List ℕ → Result Json Fault

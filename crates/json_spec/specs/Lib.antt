@@ -12,4 +12,7 @@ pub mod ValueBack
 pub mod Utf8
 pub mod JsonBack
 pub mod Distinct
+pub mod Shorter
+pub mod Reader
+pub mod Some
 pub mod Examples

@@ -4,13 +4,21 @@
 #![tactic(auto)]
 
 ghost use Rattle.json_spec.specs.Distinct.{NamesAreDistinct};
+ghost use Rattle.json_spec.specs.Examples.{WorkedExamples};
 ghost use Rattle.json_spec.specs.JsonBack.{TextsReadBack, ValuesReadBack};
 ghost use Rattle.json_spec.specs.One.{OneJson};
+ghost use Rattle.json_spec.specs.Some.{SomeJson};
 
 /// A text has at most one outcome, a value or a first fault.
 #[tactic(auto, using(crate::specs::One::one_json))]
 pub fn one_json()
     ensures { OneJson }
+{}
+
+/// A text has an outcome.
+#[tactic(auto, using(crate::specs::Some::some_json))]
+pub fn some_json()
+    ensures { SomeJson }
 {}
 
 /// No object of a text's value holds a name twice, at any level.
@@ -29,4 +37,10 @@ pub fn texts_read_back()
 #[tactic(auto, using(crate::specs::JsonBack::values_read_back))]
 pub fn values_read_back()
     ensures { ValuesReadBack }
+{}
+
+/// Worked examples.
+#[tactic(auto, using(crate::specs::Examples::worked_examples))]
+pub fn worked_examples()
+    ensures { WorkedExamples }
 {}

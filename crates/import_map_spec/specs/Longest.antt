@@ -1,0 +1,94 @@
+-- The walk over the fronts of a text is the walk over the keys in descending order: the longest key that matches answers.
+use Rattle.std.specs.Prelude.{◌≡◌, ℕ, zero, suc, ◌<◌, ◌≤◌, Bool, true, false, List, take, drop, length, Option, Some, None, if◌then◌else◌}
+use Rattle.std.proofs.Common.{refl, ap, sym, ◌∙◌, arith, subst}
+use mathlib.Core.Logic.{inl, inr}
+use Rattle.std.proofs.lemmas.Bool.{cond-true, cond-false, cases_Bool, cases_eq}
+use Rattle.import_map_spec.specs.Parsing.{ends_in_slash}
+use Rattle.import_map_spec.specs.Resolving.{Resolution, first_answer, longest_front, exact_match, prefix_match, Lookup, prefix_key, takes_prefixes, resolve_imports_match, scope_match, prefix_scope, resolve_scopes_match}
+
+module _ {A : Type 0} (answer : List ℕ → List ℕ → Option A) (text : List ℕ) where
+  abbrev At : ℕ → Option A
+  At k = answer (take k text) (drop k text)
+
+  longest_some : (n k : ℕ) (a : A) → 0 < k → k ≤ n → At k ≡ Some a → ((j : ℕ) → k < j → j ≤ n → At j ≡ None) → longest_front answer text n ≡ Some a
+  longest_some zero k a p l e none = absurd (omega arith)
+  longest_some (suc n) k a p l e none =
+      elim (cases_eq k (suc n)) [
+        | inl same ↦ ap (λ o. first_answer o (longest_front answer text n)) (subst (λ j. At j ≡ Some a) same e)
+        | inr other ↦ ap (λ o. first_answer o (longest_front answer text n)) (none (suc n) (omega arith) (omega arith)) ∙ longest_some n k a p (omega arith) e (λ j m o. none j m (omega arith))
+      ]
+
+  longest_none : (n : ℕ) → ((j : ℕ) → 0 < j → j ≤ n → At j ≡ None) → longest_front answer text n ≡ None
+  longest_none zero none = refl
+  longest_none (suc n) none = ap (λ o. first_answer o (longest_front answer text n)) (none (suc n) (omega arith) (omega arith)) ∙ longest_none n (λ j m o. none j m (omega arith))
+
+-- the front of k bytes is a prefix that a key may be
+pub record IsFolderFront (text : List ℕ) (k : ℕ) : Type 0 where
+  pub some : 0 < k
+  pub within : k ≤ length text
+  pub slash : ends_in_slash (take k text) ≡ true
+
+-- a look-up that answers for no such front of more than k bytes
+abbrev pub NoneAbove : {A : Type 0} → (List ℕ → Option A) → List ℕ → ℕ → Type 0
+NoneAbove look text k = (j : ℕ) → k < j → IsFolderFront text j → look (take j text) ≡ None
+
+slash_only : {A : Type 0} (look : List ℕ → Option A) (text : List ℕ) (k j : ℕ) → NoneAbove look text k → k < j → j ≤ length text → (if ends_in_slash (take j text) then look (take j text) else None) ≡ None
+slash_only look text k j none l m =
+    elim (cases_Bool (ends_in_slash (take j text))) [
+      | inl t ↦ cond-true _ _ _ t ∙ none j l (record { some = omega arith; within = m; slash = t })
+      | inr f ↦ cond-false _ _ _ f
+    ]
+
+-- own law: the longest key answers, and the longest scope that has an answer
+pub record KeyOrder : Type 0 where
+  pub exact : (addresses : Lookup (Option (List ℕ))) (url : Option (List ℕ)) (text : List ℕ) (address : Option (List ℕ)) → addresses text ≡ Some address → resolve_imports_match url text addresses ≡ exact_match (Some address)
+  pub prefix :
+      (addresses : Lookup (Option (List ℕ))) (url : Option (List ℕ)) (text : List ℕ) (k : ℕ) (address : Option (List ℕ)) → addresses text ≡ None → takes_prefixes url ≡ true → IsFolderFront text k → addresses (take k text) ≡ Some address
+      → NoneAbove addresses text k → resolve_imports_match url text addresses ≡ prefix_match (Some address) (drop k text)
+  pub no_key : (addresses : Lookup (Option (List ℕ))) (url : Option (List ℕ)) (text : List ℕ) → addresses text ≡ None → NoneAbove addresses text 0 → resolve_imports_match url text addresses ≡ None
+  pub scope :
+      (scopes : Lookup (Lookup (Option (List ℕ)))) (url : Option (List ℕ)) (text referrer : List ℕ) (k : ℕ) (answer : Resolution) → scope_match url text (scopes referrer) ≡ None → IsFolderFront referrer k → scope_match url text (scopes (take k referrer)) ≡ Some answer
+      → NoneAbove (λ key. scope_match url text (scopes key)) referrer k → resolve_scopes_match url text referrer scopes ≡ Some answer
+  pub no_scope :
+      (scopes : Lookup (Lookup (Option (List ℕ)))) (url : Option (List ℕ)) (text referrer : List ℕ) → scope_match url text (scopes referrer) ≡ None → NoneAbove (λ key. scope_match url text (scopes key)) referrer 0
+      → resolve_scopes_match url text referrer scopes ≡ None
+
+is_some_match : (address : Option (List ℕ)) (rest : List ℕ) → (a : Resolution) × (prefix_match (Some address) rest ≡ Some a)
+is_some_match None rest = (_, refl)
+is_some_match (Some url) rest = (_, refl)
+
+-- a front with no key has no answer
+no_match : (o : Option (Option (List ℕ))) (t : Bool) (rest : List ℕ) → (if t then o else None) ≡ None → (if t then prefix_match o rest else None) ≡ None
+no_match o true rest e = rw e refl
+no_match o false rest e = refl
+
+first_exact : (address : Option (List ℕ)) (other : Option Resolution) → first_answer (exact_match (Some address)) other ≡ exact_match (Some address)
+first_exact None other = refl
+first_exact (Some url) other = refl
+
+none_either : {A : Type 0} (b : Bool) (o : Option A) → o ≡ None → (if b then o else None) ≡ None
+none_either true o e = e
+none_either false o e = refl
+
+module _ (addresses : Lookup (Option (List ℕ))) (text : List ℕ) where
+  no_longer : (k : ℕ) → NoneAbove addresses text k → (j : ℕ) → k < j → j ≤ length text → prefix_key addresses (take j text) (drop j text) ≡ None
+  no_longer k none j l m = no_match (addresses (take j text)) (ends_in_slash (take j text)) (drop j text) (slash_only addresses text k j none l m)
+
+  prefix_answers : (k : ℕ) (address : Option (List ℕ)) → IsFolderFront text k → addresses (take k text) ≡ Some address → NoneAbove addresses text k → longest_front (prefix_key addresses) text (length text) ≡ prefix_match (Some address) (drop k text)
+  prefix_answers k address front found none =
+      let match = is_some_match address (drop k text) in
+      let here : prefix_key addresses (take k text) (drop k text) ≡ Some match.0 = cond-true _ _ _ front.slash ∙ (ap (λ o. prefix_match o (drop k text)) found ∙ match.1) in
+      longest_some (prefix_key addresses) text (length text) k match.0 front.some front.within here (no_longer k none) ∙ sym match.1
+
+pub key_order : KeyOrder
+key_order = record {
+  exact = λ addresses url text address e. ap (λ o. first_answer (exact_match o) (if takes_prefixes url then longest_front (prefix_key addresses) text (length text) else None)) e ∙ first_exact address _;
+  prefix = λ addresses url text k address e p front found none. ap (λ o. first_answer (exact_match o) (if takes_prefixes url then longest_front (prefix_key addresses) text (length text) else None)) e
+      ∙ (cond-true _ _ _ p ∙ prefix_answers addresses text k address front found none);
+  no_key = λ addresses url text e none. ap (λ o. first_answer (exact_match o) (if takes_prefixes url then longest_front (prefix_key addresses) text (length text) else None)) e
+      ∙ none_either (takes_prefixes url) (longest_front (prefix_key addresses) text (length text)) (longest_none (prefix_key addresses) text (length text) (λ j l m. no_longer addresses text 0 none j l m));
+  scope = λ scopes url text referrer k answer e front found none. ap (λ o. first_answer o (longest_front (prefix_scope url text scopes) referrer (length referrer))) e
+      ∙ longest_some (prefix_scope url text scopes) referrer (length referrer) k answer front.some front.within (cond-true _ _ _ front.slash ∙ found) (λ j l m. slash_only (λ key. scope_match url text (scopes key)) referrer k j none l m);
+  no_scope = λ scopes url text referrer e none. ap (λ o. first_answer o (longest_front (prefix_scope url text scopes) referrer (length referrer))) e
+      ∙ longest_none (prefix_scope url text scopes) referrer (length referrer) (λ j l m. slash_only (λ key. scope_match url text (scopes key)) referrer 0 j none l m);
+}

@@ -1,0 +1,74 @@
+-- The text of a map that is written out as lists, for the worked examples.
+use Rattle.std.specs.Prelude.{◌≡◌, ℕ, List, [], ◌∷◌, length, map, codes, Option}
+use Rattle.std.specs.declared.cmp.Ordering.{Ordering}
+use Rattle.std.specs.declared.cmp.Ordering.TheVariants.{Less, Equal, Greater}
+use Rattle.std.specs.Ordering.{nat_cmp}
+use Rattle.std.specs.Cmp.Lexicographic.{slice_cmp, nat_list_cmp_total}
+use Rattle.std.specs.FinMap.{insert, empty, entries, put, entries-insert, len-entries, len-empty}
+use Rattle.std.specs.FinMap.Entries.{by_order}
+use Rattle.std.proofs.Common.{refl, ap, sym, ◌∙◌, arith}
+use Rattle.json_spec.specs.Value.{Json, a_text, an_object, Members, no_members, a_member}
+use Rattle.json_spec.specs.PrintedValue.{printed_text}
+use Rattle.import_map_spec.specs.ParsedMap.{Texts, Addresses}
+use Rattle.import_map_spec.specs.Entries.{insert_all}
+use Rattle.import_map_spec.specs.Literals.{map_of, scope_of, Lists, map_of_lists}
+use Rattle.import_map_spec.specs.Printing.{members_of, address_value, addresses_value, with_part, map_value, map_text}
+
+abbrev put_onto : {X : Type 0} → List (List ℕ × X) → List (List ℕ × X) → List (List ℕ × X)
+put_onto done [] = done
+put_onto done (e ∷ es) = put_onto (put (slice_cmp nat_cmp) e.0 e.1 done) es
+
+-- the entries in the order of their keys
+abbrev pub in_key_order : {X : Type 0} → List (List ℕ × X) → List (List ℕ × X)
+in_key_order es = put_onto [] es
+
+entries_onto : {X : Type 0} (es : List (List ℕ × X)) (m : Texts X) → entries (insert_all m es) ≡ put_onto (entries m) es
+entries_onto [] m = refl
+entries_onto (e ∷ es) m = entries_onto es (insert m e.0 e.1) ∙ ap (λ done. put_onto done es) (entries-insert nat_list_cmp_total m e.0 e.1)
+
+no_entries : {X : Type 0} (es : List (List ℕ × X)) → length es ≡ 0 → es ≡ []
+no_entries [] e = refl
+no_entries (x ∷ es) e = absurd (omega arith)
+
+entries_empty : (X : Type 0) → entries (empty {X = X} {R = slice_cmp nat_cmp}) ≡ []
+entries_empty X = no_entries _ (sym (len-entries (empty {X = X} {R = slice_cmp nat_cmp})) ∙ len-empty (slice_cmp nat_cmp) X)
+
+entries_map_of : {X : Type 0} (es : List (List ℕ × X)) → entries (map_of es) ≡ in_key_order es
+entries_map_of {X} es = entries_onto es empty ∙ ap (λ done. put_onto done es) (entries_empty X)
+
+abbrev Entry : Type 0
+Entry = List ℕ × List (List ℕ × Option (List ℕ))
+
+abbrev pub listed_addresses : List (List ℕ × Option (List ℕ)) → Json
+listed_addresses es = an_object (members_of address_value (in_key_order es))
+
+put_step : (key : List ℕ) (value : List (List ℕ × Option (List ℕ))) (e : Entry) (es : List Entry) → put (slice_cmp nat_cmp) key (map_of value) (map scope_of es) ≡ map scope_of (put (slice_cmp nat_cmp) key value es) → (o : Ordering) → by_order o ((key, map_of value) ∷ scope_of e ∷ map scope_of es) ((e.0, map_of value) ∷ map scope_of es) (scope_of e ∷ put (slice_cmp nat_cmp) key (map_of value) (map scope_of es)) ≡ map scope_of (by_order o ((key, value) ∷ e ∷ es) ((e.0, value) ∷ es) (e ∷ put (slice_cmp nat_cmp) key value es))
+put_step key value e es later Less = refl
+put_step key value e es later Equal = refl
+put_step key value e es later Greater = ap (λ (xs : List (List ℕ × Addresses)). scope_of e ∷ xs) later
+
+put_scope : (key : List ℕ) (value : List (List ℕ × Option (List ℕ))) (es : List Entry) → put (slice_cmp nat_cmp) key (map_of value) (map scope_of es) ≡ map scope_of (put (slice_cmp nat_cmp) key value es)
+put_scope key value [] = refl
+put_scope key value (e ∷ es) = put_step key value e es (put_scope key value es) (slice_cmp nat_cmp key e.0)
+
+scopes_onto : (done es : List Entry) → put_onto (map scope_of done) (map scope_of es) ≡ map scope_of (put_onto done es)
+scopes_onto done [] = refl
+scopes_onto done (e ∷ es) = ap (λ (k : List (List ℕ × Addresses)). put_onto k (map scope_of es)) (put_scope e.0 e.1 done) ∙ scopes_onto (put (slice_cmp nat_cmp) e.0 e.1 done) es
+
+listed_scopes : (es : List Entry) → members_of addresses_value (map scope_of es) ≡ members_of listed_addresses es
+listed_scopes [] = refl
+listed_scopes (e ∷ es) = λ i. a_member e.0 (an_object (members_of address_value (entries_map_of e.1 i))) (listed_scopes es i)
+
+scopes_members : (es : List Entry) → members_of addresses_value (entries (map_of (map scope_of es))) ≡ members_of listed_addresses (in_key_order es)
+scopes_members es = ap (members_of addresses_value) (entries_map_of (map scope_of es) ∙ scopes_onto [] es) ∙ listed_scopes (in_key_order es)
+
+abbrev text_with : Members → Members → Members → List ℕ
+text_with imports scopes integrity = printed_text (an_object (a_member (codes "imports") (an_object imports) (with_part (codes "scopes") scopes (with_part (codes "integrity") integrity no_members))))
+
+-- the text of the map, as its lists have it
+abbrev pub listed_text : Lists → List ℕ
+listed_text l = text_with (members_of address_value (in_key_order l.imports)) (members_of listed_addresses (in_key_order l.scopes)) (members_of a_text (in_key_order l.integrity))
+
+pub lists_text : (l : Lists) → map_text (map_of_lists l) ≡ listed_text l
+unfolding map_text map_value
+lists_text l = λ i. text_with (members_of address_value (entries_map_of l.imports i)) (scopes_members l.scopes i) (members_of a_text (entries_map_of l.integrity i))
