@@ -1,3 +1,6 @@
 pub mod Statements
 pub mod Kept
 pub mod Answering
+pub mod Needs
+pub mod Modules
+pub mod Turns

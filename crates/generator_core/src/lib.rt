@@ -6,3 +6,4 @@ mod config;
 mod files;
 mod module;
 mod module_text;
+mod trace;

@@ -1,0 +1,163 @@
+ghost use Rattle.std.specs.Prelude.{◌≡◌, ◌≤◌, ◌<◌, ◌+◌, ◌++◌, ◌∷◌, [], ℕ, List, length, true, false, Some, None, IfOk, IfSome, OnOk, IsErrOf, slice_get};
+ghost use Rattle.std.specs.List.{list_any};
+ghost use Rattle.indexmap.specs.IndexMap.{keys};
+ghost use Rattle.tree_spec.specs.Counts.{Rose};
+ghost use Rattle.url_spec.specs.Specifiers.{is_relative, as_url};
+ghost use Rattle.generator_spec.specs.Modules as spec;
+ghost use Rattle.generator_spec.specs.Trace.{ends_in_slash, IsServable, new_modules};
+ghost use Rattle.layout_spec.specs.declared.Need.{Need};
+ghost use Rattle.layout_spec.specs.Needs.{counted_onto, NoClash};
+ghost use Rattle.generator_core.specs.Files.{KnowsFiles};
+ghost use Rattle.generator_core.specs.Walking.{AllNamed, IsAsker, Takes};
+
+use crate::answer::{RequestFault, answer};
+use crate::config::Config;
+use crate::files::Files;
+use crate::module::Module;
+use indexmap::IndexMap;
+use need_table::{Added, Need, NeedFault, Needs};
+use primitives::{Memory, Text};
+use std::alloc::Global;
+use tree_model::{Folder, LimitName};
+use web_url::{AskFault, Asked, FileUrl, WebFault, WebUrl, ask, is_relative, web_of};
+
+/// The most modules of a trace, without the page.
+pub const MOST_MODULES: usize = 20_000;
+
+/// The modules in trace order with their web names, the needs, and the files that were looked at.
+#[derive(Drop)]
+pub struct Trace {
+    pub files: Files,
+    pub modules: IndexMap<Module, WebUrl>,
+    pub needs: Needs,
+}
+
+/// The page or a module as it asks: its web name, and its URL as a file.
+#[derive(Drop)]
+pub struct Asker {
+    pub url: WebUrl,
+    pub file: FileUrl,
+}
+
+impl Trace {
+    pub fn new(alloc: Global) -> Trace
+        ensures modules { keys result.modules ≡ [] }
+        ensures needs { result.needs ≡ [] }
+    {
+        Trace {
+            files: Files::new(alloc),
+            modules: IndexMap::new(alloc),
+            needs: Needs::new(alloc),
+        }
+    }
+
+    /// Follows one request.
+    pub fn request<F: Folder>(
+        &mut self,
+        alloc: Global,
+        folder: &mut F,
+        config: &Config,
+        asker: &Asker,
+        specifier: &str,
+    ) -> Result<(), RequestFault>
+        ensures takes { OnOk result (IfSome (F.holds folder.old) (λ tree. (referrer : spec.Referrer) → IsAsker config.now referrer asker.now → KnowsFiles tree self.old.files → Takes tree config.now referrer specifier.now self.old self.new)) }
+        ensures tree { F.holds folder.new ≡ F.holds folder.old }
+        ensures failed { IsErrOf result RequestFault.Failed → Rose (F.look_faults folder.old) (F.look_faults folder.new) }
+        ensures later { F.look_faults folder.old ≤ F.look_faults folder.new }
+        ensures writes { F.write_faults folder.new ≡ F.write_faults folder.old }
+    {
+        if !is_relative(specifier) {
+            return Err(RequestFault::NotBuilt);
+        }
+        let asked = asked_url(alloc, &asker.url, specifier)?;
+        let target = answer(alloc, folder, &mut self.files, &asker.file, specifier)?;
+        let name = target_name(alloc, config, &target)?;
+        let need = Need {
+            referrer: Text::of(alloc, asker.url.as_str())?,
+            asked: asked.into_text(),
+            target: Text::of(alloc, name.as_str())?,
+        };
+        add_need(&mut self.needs, need)?;
+        add_module(&mut self.modules, target, name)?;
+        Ok(())
+    }
+}
+
+// The URL that a relative specifier asks for.
+fn asked_url(alloc: Global, referrer: &WebUrl, specifier: &str) -> Result<WebUrl, RequestFault>
+    requires { is_relative specifier.now ≡ true }
+    ensures url { IfOk result (λ url. (as_url referrer.now specifier.now ≡ Some url) × (ends_in_slash url ≡ false)) }
+    ensures failed { IsErrOf result RequestFault.Failed → ⊥ }
+{
+    match ask(alloc, specifier, referrer) {
+        Ok(Asked::Url(url)) => Ok(url),
+        Ok(Asked::Bare) => Err(RequestFault::NotBuilt),
+        Err(AskFault::Unaskable) => Err(RequestFault::NotBuilt),
+        Err(AskFault::TrailingSlash) => Err(RequestFault::NotBuilt),
+        Err(AskFault::Memory) => Err(RequestFault::Memory),
+    }
+}
+
+// The web name of a target, which ends in no `/`.
+fn target_name(alloc: Global, config: &Config, target: &Module) -> Result<WebUrl, RequestFault>
+    ensures url { IfOk result (λ url. IsServable config.now target.now.path target.now.suffix url × (ends_in_slash url ≡ false)) }
+    ensures failed { IsErrOf result RequestFault.Failed → ⊥ }
+{
+    match web_of(alloc, config.base(), target.path(), target.suffix()) {
+        Ok(url) => file_name(url),
+        Err(WebFault::Unservable { url: _ }) => Err(RequestFault::NotBuilt),
+        Err(WebFault::Memory) => Err(RequestFault::Memory),
+    }
+}
+
+#[tactic(auto, using(std::proofs::lemmas::Str::Pattern::ends_text))]
+fn file_name(url: WebUrl) -> Result<WebUrl, RequestFault>
+    ensures url { IfOk result (λ name. (name ≡ url) × (ends_in_slash name ≡ false)) }
+    ensures failed { IsErrOf result RequestFault.Failed → ⊥ }
+{
+    if url.as_str().ends_with("/") {
+        return Err(RequestFault::NotBuilt);
+    }
+    Ok(url)
+}
+
+#[tactic(auto, using(crate::proofs::Needs::need_rules))]
+fn add_need(needs: &mut Needs, need: Need) -> Result<(), RequestFault>
+    ensures counted { OnOk result (needs.new ≡ counted_onto needs.old (need ∷ [])) }
+    ensures no_clash { OnOk result (NoClash needs.old → NoClash needs.new) }
+    ensures failed { IsErrOf result RequestFault.Failed → ⊥ }
+{
+    match needs.add(need) {
+        Ok(Added::New) => Ok(()),
+        Ok(Added::Known) => Ok(()),
+        Err(NeedFault::Clash { first: _ }) => Err(RequestFault::NotBuilt),
+        Err(NeedFault::Memory) => Err(RequestFault::Memory),
+    }
+}
+
+fn add_module(modules: &mut IndexMap<Module, WebUrl>, target: Module, name: WebUrl) -> Result<(), RequestFault>
+    ensures keys { OnOk result (keys modules.new ≡ keys modules.old ++ new_modules (keys modules.old) (target ∷ [])) }
+    ensures names { OnOk result ((config : spec.Config) → AllNamed config modules.old.entries → IsServable config target.path target.suffix name → AllNamed config modules.new.entries) }
+    ensures few { OnOk result (length modules.old.entries ≤ 20000 → length modules.new.entries ≤ 20000) }
+    ensures failed { IsErrOf result RequestFault.Failed → ⊥ }
+{
+    if modules.contains_key(&target) {
+        return Ok(());
+    }
+    if modules.len() >= MOST_MODULES {
+        return Err(RequestFault::Limit {
+            which: LimitName::Modules,
+        });
+    }
+    put_module(modules, target, name)?;
+    Ok(())
+}
+
+// Puts a new module at the end.
+fn put_module(modules: &mut IndexMap<Module, WebUrl>, target: Module, name: WebUrl) -> Result<(), Memory>
+    requires { list_any (spec.is_module target) (keys modules.old) ≡ false }
+    ensures { OnOk result (modules.new.entries ≡ modules.old.entries ++ (target, name) ∷ []) }
+{
+    modules.insert(target, name)?;
+    Ok(())
+}
