@@ -6,7 +6,7 @@ use Rattle.std.proofs.lemmas.Bool.{cases_Bool, cond-true, cond-false}
 use Rattle.std.proofs.lemmas.Slice.Eq.{bytes_eq-Decides}
 use Rattle.tree_spec.specs.Trees.{Tree}
 use Rattle.generator_core.specs.declared.files.Files.{Files}
-use Rattle.generator_core.specs.Files.{IsFileOf, KnowsFiles}
+use Rattle.generator_core.specs.Files.{IsFileOf, KnowsFiles, Has, Grows}
 
 -- one more file is kept
 pub kept : (tree : Tree) (old new : Files) (path bytes : List ℕ) → ((other : List ℕ) → map.get bytes_eq new.known other ≡ cond (bytes_eq path other) (Some bytes) (map.get bytes_eq old.known other)) → KnowsFiles tree old → IsFileOf tree path bytes → KnowsFiles tree new
@@ -29,3 +29,21 @@ file_by tree path (Some bytes) e each = (bytes, each bytes refl)
 -- a file that is kept stands in the tree
 pub known_file : (tree : Tree) (files : Files) (path : List ℕ) → KnowsFiles tree files → is_some (map.get bytes_eq files.known path) ≡ true → (bytes : List ℕ) × IsFileOf tree path bytes
 known_file tree files path knows e = file_by tree path (map.get bytes_eq files.known path) e (λ bytes same. knows.each path bytes same)
+
+pub grows_same : (files : Files) → Grows files files
+grows_same files = record { each = λ path has. has }
+
+-- the files after one more was kept
+pub grown : (old new : Files) (path bytes : List ℕ) → ((other : List ℕ) → map.get bytes_eq new.known other ≡ cond (bytes_eq path other) (Some bytes) (map.get bytes_eq old.known other)) → Grows old new
+grown old new path bytes updates = record {
+  each = λ other has.
+      ⊎_elim
+      (λ here. ap is_some (updates other ∙ cond-true (bytes_eq path other) (Some bytes) _ here))
+      (λ there. ap is_some (updates other ∙ cond-false (bytes_eq path other) (Some bytes) _ there) ∙ has)
+      (cases_Bool (bytes_eq path other));
+}
+
+pub has_kept : (old new : Files) (path bytes : List ℕ) → ((other : List ℕ) → map.get bytes_eq new.known other ≡ cond (bytes_eq path other) (Some bytes) (map.get bytes_eq old.known other)) → Has new path
+has_kept old new path bytes updates = ap is_some (updates path ∙ cond-true (bytes_eq path path) (Some bytes) _ ((bytes_eq-Decides path path).1 refl))
+
+pub ruleset looking = (known_file, grows_same)

@@ -4,3 +4,4 @@ pub mod Answering
 pub mod Needs
 pub mod Modules
 pub mod Turns
+pub mod Walks

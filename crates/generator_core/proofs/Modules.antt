@@ -1,14 +1,16 @@
 -- Modules that are put into the table.
-use Rattle.std.proofs.Common.{◌≡◌, ◌≤◌, ℕ, Bool, true, false, List, [], ◌∷◌, ◌++◌, length, Option, Some, None, sym, refl, ap, ◌∙◌, subst, append-nil, if◌then◌else◌, All}
+use Rattle.std.proofs.Common.{◌≡◌, ◌≤◌, ℕ, Bool, true, false, List, [], ◌∷◌, ◌++◌, length, Option, Some, None, sym, refl, ap, ◌∙◌, subst, append-nil, if◌then◌else◌, All, ⊎_elim}
 use Rattle.std.specs.Prelude.{is_some}
 use Rattle.std.specs.List.{list_any}
 use Rattle.std.specs.Map.{keys_of, lookup}
 use Rattle.std.proofs.lemmas.Bool.{cond-true, cond-false}
 use Rattle.std.proofs.lemmas.Map.Made.{is_some-lookup}
-use Rattle.std.proofs.lemmas.List.Elements.{All-push}
+use Rattle.std.proofs.lemmas.List.Elements.{All-push, All-weaker}
 use Rattle.generator_spec.specs.Modules.{Config, Module, is_module}
 use Rattle.generator_spec.specs.Trace.{IsServable, new_modules}
-use Rattle.generator_core.specs.Walking.{AllNamed}
+use Rattle.generator_core.specs.declared.files.Files.{Files}
+use Rattle.generator_core.specs.Files.{Has, Grows}
+use Rattle.generator_core.specs.Walking.{AllNamed, AddsEntry}
 
 -- whether a look-up finds the module is whether it is among the keys
 pub found_among : (target : Module) (modules : List (Module × List ℕ)) (found : Bool) → found ≡ is_some (lookup (is_module target) modules) → found ≡ list_any (is_module target) (keys_of modules)
@@ -35,3 +37,12 @@ none_by (Some x) e = absurd (cc)
 -- a module that isn't among the keys has no entry
 pub none_found : (target : Module) (modules : List (Module × List ℕ)) → list_any (is_module target) (keys_of modules) ≡ false → lookup (is_module target) modules ≡ None
 none_found target modules fresh = none_by (lookup (is_module target) modules) (is_some-lookup (is_module target) modules ∙ fresh)
+
+-- the files of modules stay kept
+pub kept_push : (old new : Files) (target : Module) (name : List ℕ) (before after : List (Module × List ℕ)) → Grows old new → Has new target.path → AddsEntry before target name after → All (λ entry. Has old entry.0.path) before → All (λ entry. Has new entry.0.path) after
+kept_push old new target name before after grows has adds all =
+    let still : All (λ entry. Has new entry.0.path) before = All-weaker (λ entry. Has old entry.0.path) (λ entry. Has new entry.0.path) (λ entry h. grows.each entry.0.path h) before all in
+    ⊎_elim
+    (λ same. subst (All (λ entry. Has new entry.0.path)) (sym same) still)
+    (λ more. subst (All (λ entry. Has new entry.0.path)) (sym more) (All-push (λ entry. Has new entry.0.path) before (target, name) still has))
+    adds

@@ -32,8 +32,8 @@ pub not_there : (need : Need) (needs : List Need) → list_any (asks_alike need)
 not_there need [] e = refl
 not_there need (other ∷ needs) e =
     or_both (is_need need other) (list_any (is_need need) needs)
-      (asks_first (bytes_eq need.referrer other.referrer) (bytes_eq need.asked other.asked) (bytes_eq need.target other.target) (or_first _ _ e))
-      (not_there need needs (or_second (asks_alike need other) (list_any (asks_alike need) needs) e))
+    (asks_first (bytes_eq need.referrer other.referrer) (bytes_eq need.asked other.asked) (bytes_eq need.target other.target) (or_first _ _ e))
+    (not_there need needs (or_second (asks_alike need other) (list_any (asks_alike need) needs) e))
 
 same_text : (text : List ℕ) → bytes_eq text text ≡ true
 same_text text = (bytes_eq-Decides text text).1 refl
@@ -82,18 +82,18 @@ only_member x y (suc k, within, same) = absurd (omega arith)
 pub no_clash-new : (old new : List Need) (need : Need) → list_any (asks_alike need) old ≡ false → new ≡ old ++ need ∷ [] → NoClash old → NoClash new
 no_clash-new old new need none e clear = subst NoClash (sym e)
     (λ one other is_one is_other referrers asked.
-      ⊎_elim
-      (λ one_old.
-        ⊎_elim
-        (λ other_old. clear one other one_old other_old referrers asked)
-        (λ other_new. let same : other ≡ need = only_member need other other_new in
-          absurd (none_passes (asks_alike need) old one none one_old (alike need one (ap (λ n. n.referrer) (sym same) ∙ sym referrers) (ap (λ n. n.asked) (sym same) ∙ sym asked))))
-        (Contains-append_cases old (need ∷ []) other is_other))
-      (λ one_new. let same : one ≡ need = only_member need one one_new in
-        ⊎_elim
-        (λ other_old. absurd (none_passes (asks_alike need) old other none other_old (alike need other (ap (λ n. n.referrer) (sym same) ∙ referrers) (ap (λ n. n.asked) (sym same) ∙ asked))))
-        (λ other_new. ap (λ n. n.target) (same ∙ sym (only_member need other other_new)))
-        (Contains-append_cases old (need ∷ []) other is_other))
-      (Contains-append_cases old (need ∷ []) one is_one))
+    ⊎_elim
+    (λ one_old.
+    ⊎_elim
+    (λ other_old. clear one other one_old other_old referrers asked)
+    (λ other_new. let same : other ≡ need = only_member need other other_new in
+    absurd (none_passes (asks_alike need) old one none one_old (alike need one (ap (λ n. n.referrer) (sym same) ∙ sym referrers) (ap (λ n. n.asked) (sym same) ∙ sym asked))))
+    (Contains-append_cases old (need ∷ []) other is_other))
+    (λ one_new. let same : one ≡ need = only_member need one one_new in
+    ⊎_elim
+    (λ other_old. absurd (none_passes (asks_alike need) old other none other_old (alike need other (ap (λ n. n.referrer) (sym same) ∙ referrers) (ap (λ n. n.asked) (sym same) ∙ asked))))
+    (λ other_new. ap (λ n. n.target) (same ∙ sym (only_member need other other_new)))
+    (Contains-append_cases old (need ∷ []) other is_other))
+    (Contains-append_cases old (need ∷ []) one is_one))
 
 pub ruleset need_rules = (counted-known, counted-new, no_clash-new)

@@ -1,5 +1,5 @@
 -- Turns, request by request.
-use Rattle.std.proofs.Common.{◌≡◌, ◌≤◌, ℕ, Bool, true, false, List, [], ◌∷◌, ◌++◌, length, Some, sym, refl, ap, ◌∙◌, subst, append-nil, append_assoc, if◌then◌else◌}
+use Rattle.std.proofs.Common.{◌≡◌, ◌≤◌, ℕ, Bool, true, false, List, [], ◌∷◌, ◌++◌, length, Some, sym, refl, ap, ◌∙◌, subst, append-nil, append_assoc, add-zero, arith, length-append, ◌+◌, if◌then◌else◌}
 use Rattle.std.specs.List.{list_any}
 use Rattle.tree_spec.specs.Trees.{Tree}
 use Rattle.url_spec.specs.Specifiers.{is_relative, as_url}
@@ -20,28 +20,28 @@ use Rattle.indexmap.specs.IndexMap.{keys}
 pub passes : (tree : Tree) (config : Config) (referrer : Referrer) (asker : Asker) (specifier : List ℕ) (need : Need) (target : Module) → IsAsker config referrer asker → is_relative specifier ≡ true → need.referrer ≡ asker.url → as_url asker.url specifier ≡ Some need.asked → ends_in_slash need.asked ≡ false
     → Answers tree asker.file specifier (Resolved target.path target.suffix) → FitsFile tree target.path → IsServable config target.path target.suffix need.target → ends_in_slash need.target ≡ false → Passes tree config referrer specifier need target
 passes tree config referrer asker specifier need target is relative name asks file answers fits servable no_slash = record {
-    named = is.name ∙ ap Some (sym name);
-    is_relative = relative;
-    asks = ap (λ n. as_url n specifier) name ∙ asks;
-    asks_file = file;
-    answers = answers.each (path_of config referrer) is.file;
-    fits = fits;
-    servable = servable;
-    is_file = no_slash;
-  }
+  named = is.name ∙ ap Some (sym name);
+  is_relative = relative;
+  asks = ap (λ n. as_url n specifier) name ∙ asks;
+  asks_file = file;
+  answers = answers.each (path_of config referrer) is.file;
+  fits = fits;
+  servable = servable;
+  is_file = no_slash;
+}
 
 pub nothing_turned : (tree : Tree) (config : Config) (referrer : Referrer) (old : Trace) → KnowsFiles tree old.files → Turned tree config referrer [] old old
 nothing_turned tree config referrer old knows = record {
-    needs = [];
-    targets = [];
-    passes = no_requests;
-    counted = refl;
-    modules = sym (append-nil (keys old.modules));
-    no_clash = λ clear. clear;
-    names = λ named. named;
-    few = λ few. few;
-    knows = knows;
-  }
+  needs = [];
+  targets = [];
+  passes = no_requests;
+  counted = refl;
+  modules = sym (append-nil (keys old.modules));
+  no_clash = λ clear. clear;
+  names = λ named. named;
+  requests = sym (add-zero old.requests);
+  knows = knows;
+}
 
 all_pass_push : (tree : Tree) (config : Config) (referrer : Referrer) (specifiers more_specifiers : List (List ℕ)) (needs more_needs : List Need) (targets more_targets : List Module) → AllPass tree config referrer specifiers needs targets → AllPass tree config referrer more_specifiers more_needs more_targets → AllPass tree config referrer (specifiers ++ more_specifiers) (needs ++ more_needs) (targets ++ more_targets)
 all_pass_push tree config referrer specifiers more_specifiers needs more_needs targets more_targets no_requests more = more
@@ -55,17 +55,17 @@ counted_onto-append counted (need ∷ needs) more = counted_onto-append (if list
 -- requests and then more of them
 pub turned_more : (tree : Tree) (config : Config) (referrer : Referrer) (specifiers more : List (List ℕ)) (old middle new : Trace) → Turned tree config referrer specifiers old middle → Turned tree config referrer more middle new → Turned tree config referrer (specifiers ++ more) old new
 turned_more tree config referrer specifiers more old middle new a b = record {
-    needs = a.needs ++ b.needs;
-    targets = a.targets ++ b.targets;
-    passes = all_pass_push tree config referrer specifiers more a.needs b.needs a.targets b.targets a.passes b.passes;
-    counted = b.counted ∙ ((λ i. counted_onto (a.counted i) b.needs) ∙ sym (counted_onto-append old.needs a.needs b.needs));
-    modules =
+  needs = a.needs ++ b.needs;
+  targets = a.targets ++ b.targets;
+  passes = all_pass_push tree config referrer specifiers more a.needs b.needs a.targets b.targets a.passes b.passes;
+  counted = b.counted ∙ ((λ i. counted_onto (a.counted i) b.needs) ∙ sym (counted_onto-append old.needs a.needs b.needs));
+  modules =
       b.modules
-        ∙ ((λ i. a.modules i ++ new_modules (a.modules i) b.targets)
-          ∙ (append_assoc (keys old.modules) (new_modules (keys old.modules) a.targets) (new_modules (keys old.modules ++ new_modules (keys old.modules) a.targets) b.targets)
-            ∙ ap (λ ms. keys old.modules ++ ms) (sym (new_modules-append (keys old.modules) a.targets b.targets))));
-    no_clash = λ clear. b.no_clash (a.no_clash clear);
-    names = λ named. b.names (a.names named);
-    few = λ few. b.few (a.few few);
-    knows = b.knows;
-  }
+      ∙ ((λ i. a.modules i ++ new_modules (a.modules i) b.targets)
+      ∙ (append_assoc (keys old.modules) (new_modules (keys old.modules) a.targets) (new_modules (keys old.modules ++ new_modules (keys old.modules) a.targets) b.targets)
+      ∙ ap (λ ms. keys old.modules ++ ms) (sym (new_modules-append (keys old.modules) a.targets b.targets))));
+  no_clash = λ clear. b.no_clash (a.no_clash clear);
+  names = λ named. b.names (a.names named);
+  requests = omega (arith, a.requests, b.requests, length-append specifiers more);
+  knows = b.knows;
+}

@@ -1,5 +1,5 @@
 -- Files that were looked at.
-use Rattle.std.specs.Prelude.{◌≡◌, ◌<◌, ◌≤◌, ℕ, List, length, Some, None, bytes_eq}
+use Rattle.std.specs.Prelude.{◌≡◌, ◌<◌, ◌≤◌, ℕ, List, true, length, Some, None, bytes_eq, is_some}
 use Rattle.std.specs.HashMap as map
 use Rattle.std.specs.FinMap.{get}
 use Rattle.tree_spec.specs.declared.Entry.TheVariants.{Stored, Directory}
@@ -23,3 +23,11 @@ IsStanding tree path TooLarge = (bytes : List ℕ) × (get tree path ≡ Some (S
 -- each file that is kept stands in the tree
 pub record KnowsFiles (tree : Tree) (files : Files) : Type 0 where
   pub each : (path bytes : List ℕ) → map.get bytes_eq files.known path ≡ Some bytes → IsFileOf tree path bytes
+
+-- a file is kept for the path
+abbrev pub Has : Files → List ℕ → Type 0
+Has files path = is_some (map.get bytes_eq files.known path) ≡ true
+
+-- no file that was kept is lost
+pub record Grows (old new : Files) : Type 0 where
+  pub each : (path : List ℕ) → Has old path → Has new path

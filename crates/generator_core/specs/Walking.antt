@@ -1,15 +1,15 @@
 -- What the walk over the requests keeps true.
-use Rattle.std.specs.Prelude.{◌≡◌, ◌≤◌, ◌++◌, ◌∷◌, [], ℕ, Bool, false, List, length, Some, All}
+use Rattle.std.specs.Prelude.{◌≡◌, ◌⊎◌, ◌≤◌, ◌<◌, ◌+◌, ◌++◌, ◌∷◌, [], ℕ, Bool, false, List, length, Some, All, slice_get, take, flat_map}
 use Rattle.tree_spec.specs.Trees.{Tree}
 use Rattle.url_spec.specs.Parsing.{parse_alone}
 use Rattle.url_spec.specs.FileUrls.{file_text}
 use Rattle.layout_spec.specs.declared.Need.{Need}
 use Rattle.layout_spec.specs.Needs.{counted_onto, NoClash}
-use Rattle.generator_spec.specs.Modules.{Config, Module, Referrer, path_of, web_name}
-use Rattle.generator_spec.specs.Trace.{IsServable, Passes, AllPass, new_modules}
+use Rattle.generator_spec.specs.Modules.{Config, Module, Referrer, the_page, a_module, path_of, web_name, Asks}
+use Rattle.generator_spec.specs.Trace.{IsServable, AllPass, new_modules, Turn, IsTurn, TurnsOf, targets_of, IsTrace, needs_of}
 use Rattle.generator_core.specs.declared.trace.Trace.{Trace}
 use Rattle.generator_core.specs.declared.trace.Asker.{Asker}
-use Rattle.generator_core.specs.Files.{KnowsFiles}
+use Rattle.generator_core.specs.Files.{KnowsFiles, Has}
 use Rattle.indexmap.specs.IndexMap.{keys}
 
 -- each module stands with its web name
@@ -30,8 +30,51 @@ pub record Turned (tree : Tree) (config : Config) (referrer : Referrer) (specifi
   pub modules : keys new.modules ≡ keys old.modules ++ new_modules (keys old.modules) targets
   pub no_clash : NoClash old.needs → NoClash new.needs
   pub names : AllNamed config old.modules.entries → AllNamed config new.modules.entries
-  pub few : length old.modules.entries ≤ 20000 → length new.modules.entries ≤ 20000
+  pub requests : new.requests ≡ old.requests + length specifiers
   pub knows : KnowsFiles tree new.files
 
 abbrev pub Takes : Tree → Config → Referrer → List ℕ → Trace → Trace → Type 0
 Takes tree config referrer specifier old new = Turned tree config referrer (specifier ∷ []) old new
+
+-- the file of each module is kept
+abbrev pub AllKept : Trace → Type 0
+AllKept trace = All (λ entry. Has trace.files entry.0.path) trace.modules.entries
+
+-- the entries stay, or the module is put at their end with its name
+abbrev pub AddsEntry : List (Module × List ℕ) → Module → List ℕ → List (Module × List ℕ) → Type 0
+AddsEntry old target name new = (new ≡ old) ⊎ (new ≡ old ++ (target, name) ∷ [])
+
+-- the turn of the module with this number
+pub record ModuleTurned (tree : Tree) (config : Config) (number : ℕ) (old new : Trace) : Type 0 where
+  pub asker : Module
+  pub stands : slice_get (keys old.modules) number ≡ Some asker
+  pub specifiers : List (List ℕ)
+  pub asks : Asks tree config (a_module asker) specifiers
+  pub turned : Turned tree config (a_module asker) specifiers old new
+
+-- the turns of the page and of the first modules, and what the tables have of them
+pub record Walked (tree : Tree) (config : Config) (next : ℕ) (trace : Trace) : Type 0 where
+  pub page : Turn
+  pub turns : List Turn
+  pub is_page : page.referrer ≡ the_page
+  pub page_turn : IsTurn tree config page
+  pub are_turns : TurnsOf tree config (take next (keys trace.modules)) turns
+  pub closed : keys trace.modules ≡ new_modules [] (targets_of (page ∷ turns))
+  pub grounded : (i : ℕ) → i < next → i < length (new_modules [] (targets_of (page ∷ take i turns)))
+  pub counted : trace.needs ≡ needs_of (page ∷ turns)
+  pub no_clash : NoClash trace.needs
+  pub names : AllNamed config trace.modules.entries
+  pub requests : trace.requests ≡ length (flat_map (λ turn. turn.specifiers) (page ∷ turns))
+  pub knows : KnowsFiles tree trace.files
+
+-- the tables are those of the definition's trace, and nothing is refused
+pub record Traced (tree : Tree) (config : Config) (trace : Trace) : Type 0 where
+  pub page_name : List ℕ
+  pub page : IsServable config config.page [] page_name
+  pub turns : List Turn
+  pub is_trace : IsTrace tree config turns
+  pub counted : trace.needs ≡ needs_of turns
+  pub no_clash : NoClash trace.needs
+  pub modules : length trace.modules.entries + 1 ≡ length turns
+  pub few : length trace.modules.entries ≤ 20000
+  pub requests : trace.requests ≡ length (flat_map (λ turn. turn.specifiers) turns)

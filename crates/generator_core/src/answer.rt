@@ -1,10 +1,10 @@
-ghost use Rattle.std.specs.Prelude.{◌≡◌, ◌≢◌, ◌≤◌, ℕ, List, true, false, Some, IfOk, IfSome, IsErrOf};
+ghost use Rattle.std.specs.Prelude.{◌≡◌, ◌≢◌, ◌≤◌, ℕ, List, true, false, Some, IfOk, IfSome, OnOk, IsErrOf};
 ghost use Rattle.tree_spec.specs.Counts.{Rose};
 ghost use Rattle.url_spec.specs.Specifiers.{is_relative};
 ghost use Rattle.node_spec.specs.Resolution as node;
 ghost use Rattle.node_spec.specs.declared.Cause.TheVariants.{NotFound};
 ghost use Rattle.generator_spec.specs.Trace.{FitsFile};
-ghost use Rattle.generator_core.specs.Files.{KnowsFiles};
+ghost use Rattle.generator_core.specs.Files.{KnowsFiles, Has, Grows};
 ghost use Rattle.generator_core.specs.Answering.{Answers, StandsAsFile, StandsNot};
 
 use crate::files::{Files, Standing};
@@ -51,6 +51,8 @@ pub fn answer<F: Folder>(
     requires { is_relative specifier.now ≡ true }
     ensures found { IfOk result (λ target. IfSome (F.holds folder.old) (λ tree. KnowsFiles tree files.old → Answers tree parent.now specifier.now (node.Resolved target.path target.suffix) × FitsFile tree target.path × KnowsFiles tree files.new)) }
     ensures missing { IsErrOf result RequestFault.NotFound → IfSome (F.holds folder.old) (λ tree. KnowsFiles tree files.old → Answers tree parent.now specifier.now (node.Refused NotFound)) }
+    ensures grows { OnOk result (Grows files.old files.new) }
+    ensures kept { IfOk result (λ target. Has files.new target.path) }
     ensures tree { F.holds folder.new ≡ F.holds folder.old }
     ensures failed { IsErrOf result RequestFault.Failed → Rose (F.look_faults folder.old) (F.look_faults folder.new) }
     ensures later { F.look_faults folder.old ≤ F.look_faults folder.new }
@@ -75,6 +77,8 @@ fn judge<F: Folder>(
 ) -> Result<Module, RequestFault>
     ensures found { IfOk result (λ target. IfSome (F.holds folder.old) (λ tree. KnowsFiles tree files.old → StandsAsFile tree place target × FitsFile tree target.path × KnowsFiles tree files.new)) }
     ensures missing { IsErrOf result RequestFault.NotFound → IfSome (F.holds folder.old) (λ tree. KnowsFiles tree files.old → StandsNot tree place) }
+    ensures grows { OnOk result (Grows files.old files.new) }
+    ensures kept { IfOk result (λ target. Has files.new target.path) }
     ensures tree { F.holds folder.new ≡ F.holds folder.old }
     ensures failed { IsErrOf result RequestFault.Failed → Rose (F.look_faults folder.old) (F.look_faults folder.new) }
     ensures later { F.look_faults folder.old ≤ F.look_faults folder.new }

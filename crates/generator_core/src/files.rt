@@ -2,7 +2,7 @@ ghost use Rattle.std.specs.Prelude.{◌≡◌, ◌≤◌, None, Some, IfOk, IfSo
 ghost use Rattle.std.specs.HashMap.{get};
 ghost use Rattle.tree_spec.specs.Counts.{Rose};
 ghost use Rattle.tree_spec.specs.Trees.{Tree};
-ghost use Rattle.generator_core.specs.Files.{IsFileOf, IsStanding, KnowsFiles};
+ghost use Rattle.generator_core.specs.Files.{IsFileOf, IsStanding, KnowsFiles, Has, Grows};
 
 use primitives::{Bytes, Memory};
 use std::alloc::Global;
@@ -37,7 +37,7 @@ impl Files {
     }
 
     /// What stands at a path of the folder.
-    #[tactic(auto, using(crate::proofs::Kept::known_file))]
+    #[tactic(auto, using(crate::proofs::Kept::looking))]
     pub fn look<F: Folder>(
         &mut self,
         alloc: Global,
@@ -45,6 +45,8 @@ impl Files {
         path: &Path,
     ) -> Result<Standing, LookFault>
         ensures standing { IfOk result (λ standing. IfSome (F.holds folder.old) (λ tree. KnowsFiles tree self.old → IsStanding tree path.now standing × KnowsFiles tree self.new)) }
+        ensures grows { OnOk result (Grows self.old self.new) }
+        ensures kept { IfOk result (λ standing. standing ≡ Standing.File → Has self.new path.now) }
         ensures tree { F.holds folder.new ≡ F.holds folder.old }
         ensures failed { IsErrOf result LookFault.Failed → Rose (F.look_faults folder.old) (F.look_faults folder.new) }
         ensures later { F.look_faults folder.old ≤ F.look_faults folder.new }
@@ -65,7 +67,9 @@ impl Files {
     }
 
     fn keep(&mut self, path: Path, bytes: Bytes) -> Result<(), Memory>
-        ensures { OnOk result ((tree : Tree) → KnowsFiles tree self.old → IsFileOf tree path bytes → KnowsFiles tree self.new) }
+        ensures knows { OnOk result ((tree : Tree) → KnowsFiles tree self.old → IsFileOf tree path bytes → KnowsFiles tree self.new) }
+        ensures grows { OnOk result (Grows self.old self.new) }
+        ensures kept { OnOk result (Has self.new path) }
     {
         self.known.insert(path, bytes)?;
         Ok(())
@@ -73,7 +77,7 @@ impl Files {
 
     /// The bytes of a file that was looked at.
     pub fn bytes(&self, path: &Path) -> Option<&[u8]>
-        ensures { option_copied result ≡ get bytes_eq self.now.known path.now }
+        ensures found { option_copied result ≡ get bytes_eq self.now.known path.now }
     {
         match self.known.get(path) {
             None => None,

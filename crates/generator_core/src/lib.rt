@@ -6,4 +6,6 @@ mod config;
 mod files;
 mod module;
 mod module_text;
+mod stop;
 mod trace;
+mod walk;

@@ -2,13 +2,14 @@ ghost use Rattle.std.specs.Prelude.{◌≡◌, ◌≤◌, ◌<◌, ◌+◌, ◌+
 ghost use Rattle.std.specs.List.{list_any};
 ghost use Rattle.indexmap.specs.IndexMap.{keys};
 ghost use Rattle.tree_spec.specs.Counts.{Rose};
+ghost use Rattle.tree_spec.specs.Trees.{Tree};
 ghost use Rattle.url_spec.specs.Specifiers.{is_relative, as_url};
 ghost use Rattle.generator_spec.specs.Modules as spec;
 ghost use Rattle.generator_spec.specs.Trace.{ends_in_slash, IsServable, new_modules};
 ghost use Rattle.layout_spec.specs.declared.Need.{Need};
 ghost use Rattle.layout_spec.specs.Needs.{counted_onto, NoClash};
 ghost use Rattle.generator_core.specs.Files.{KnowsFiles};
-ghost use Rattle.generator_core.specs.Walking.{AllNamed, IsAsker, Takes};
+ghost use Rattle.generator_core.specs.Walking.{AllNamed, AllKept, AddsEntry, IsAsker, Takes};
 
 use crate::answer::{RequestFault, answer};
 use crate::config::Config;
@@ -30,24 +31,29 @@ pub struct Trace {
     pub files: Files,
     pub modules: IndexMap<Module, WebUrl>,
     pub needs: Needs,
+    pub requests: usize,
 }
 
-/// The page or a module as it asks: its web name, and its URL as a file.
+/// The page or a module as it asks: its web name, its URL as a file, and its path and suffix as they are shown.
 #[derive(Drop)]
 pub struct Asker {
     pub url: WebUrl,
     pub file: FileUrl,
+    pub shown: Text,
 }
 
 impl Trace {
     pub fn new(alloc: Global) -> Trace
-        ensures modules { keys result.modules ≡ [] }
+        ensures modules { result.modules.entries ≡ [] }
         ensures needs { result.needs ≡ [] }
+        ensures requests { result.requests ≡ 0 }
+        ensures files { (tree : Tree) → KnowsFiles tree result.files }
     {
         Trace {
             files: Files::new(alloc),
             modules: IndexMap::new(alloc),
             needs: Needs::new(alloc),
+            requests: 0,
         }
     }
 
@@ -61,11 +67,14 @@ impl Trace {
         specifier: &str,
     ) -> Result<(), RequestFault>
         ensures takes { OnOk result (IfSome (F.holds folder.old) (λ tree. (referrer : spec.Referrer) → IsAsker config.now referrer asker.now → KnowsFiles tree self.old.files → Takes tree config.now referrer specifier.now self.old self.new)) }
+        ensures few { OnOk result (length self.old.modules.entries ≤ 20000 → length self.new.modules.entries ≤ 20000) }
+        ensures kept { OnOk result (AllKept self.old → AllKept self.new) }
         ensures tree { F.holds folder.new ≡ F.holds folder.old }
         ensures failed { IsErrOf result RequestFault.Failed → Rose (F.look_faults folder.old) (F.look_faults folder.new) }
         ensures later { F.look_faults folder.old ≤ F.look_faults folder.new }
         ensures writes { F.write_faults folder.new ≡ F.write_faults folder.old }
     {
+        self.requests = one_more(self.requests)?;
         if !is_relative(specifier) {
             return Err(RequestFault::NotBuilt);
         }
@@ -81,6 +90,14 @@ impl Trace {
         add_module(&mut self.modules, target, name)?;
         Ok(())
     }
+}
+
+// More requests than a count holds are more than memory holds.
+fn one_more(count: usize) -> Result<usize, RequestFault>
+    ensures count { IfOk result (λ next. next ≡ count + 1) }
+    ensures failed { IsErrOf result RequestFault.Failed → ⊥ }
+{
+    count.checked_add(1).ok_or(RequestFault::Memory)
 }
 
 // The URL that a relative specifier asks for.
@@ -135,8 +152,13 @@ fn add_need(needs: &mut Needs, need: Need) -> Result<(), RequestFault>
     }
 }
 
-fn add_module(modules: &mut IndexMap<Module, WebUrl>, target: Module, name: WebUrl) -> Result<(), RequestFault>
+fn add_module(
+    modules: &mut IndexMap<Module, WebUrl>,
+    target: Module,
+    name: WebUrl,
+) -> Result<(), RequestFault>
     ensures keys { OnOk result (keys modules.new ≡ keys modules.old ++ new_modules (keys modules.old) (target ∷ [])) }
+    ensures entries { OnOk result (AddsEntry modules.old.entries target name modules.new.entries) }
     ensures names { OnOk result ((config : spec.Config) → AllNamed config modules.old.entries → IsServable config target.path target.suffix name → AllNamed config modules.new.entries) }
     ensures few { OnOk result (length modules.old.entries ≤ 20000 → length modules.new.entries ≤ 20000) }
     ensures failed { IsErrOf result RequestFault.Failed → ⊥ }
@@ -154,7 +176,11 @@ fn add_module(modules: &mut IndexMap<Module, WebUrl>, target: Module, name: WebU
 }
 
 // Puts a new module at the end.
-fn put_module(modules: &mut IndexMap<Module, WebUrl>, target: Module, name: WebUrl) -> Result<(), Memory>
+fn put_module(
+    modules: &mut IndexMap<Module, WebUrl>,
+    target: Module,
+    name: WebUrl,
+) -> Result<(), Memory>
     requires { list_any (spec.is_module target) (keys modules.old) ≡ false }
     ensures { OnOk result (modules.new.entries ≡ modules.old.entries ++ (target, name) ∷ []) }
 {

@@ -1,0 +1,200 @@
+ghost use Rattle.std.specs.Prelude.{◌≡◌, ◌≤◌, ◌<◌, ◌+◌, [], ℕ, List, length, Some, IfOk, IfSome, OnOk, IsErrOf, slice_get};
+ghost use Rattle.std.specs.Prelude.{codes, nat_eq, false};
+ghost use Rattle.std.specs.List.{ends_with};
+ghost use Rattle.tree_spec.specs.Counts.{Rose};
+ghost use Rattle.url_spec.specs.Parsing.{parse_alone};
+ghost use Rattle.url_spec.specs.FileUrls.{file_text};
+ghost use Rattle.generator_spec.specs.Modules as spec;
+ghost use Rattle.generator_spec.specs.Trace.{IsServable};
+ghost use Rattle.indexmap.specs.IndexMap.{keys};
+ghost use Rattle.generator_core.specs.Files.{KnowsFiles};
+ghost use Rattle.generator_core.specs.Walking.{AllNamed, AllKept, IsAsker, Turned, Takes, ModuleTurned, Traced};
+
+use crate::answer::RequestFault;
+use crate::config::Config;
+use crate::module::Module;
+use crate::module_text::requests_of;
+use crate::stop::Stop;
+use crate::trace::{Asker, Trace};
+use primitives::{Memory, Text};
+use std::alloc::Global;
+use tree_model::{Folder, Path};
+use web_url::{Suffix, WebFault, WebUrl, file_url, web_of};
+
+/// The trace of a folder and a config: follows every request of the page and of each module that is found.
+pub fn walk<F: Folder>(alloc: Global, folder: &mut F, config: &Config) -> Result<Trace, Stop>
+    ensures traced { IfOk result (λ trace. IfSome (F.holds folder.old) (λ tree. Traced tree config.now trace)) }
+    ensures tree { F.holds folder.new ≡ F.holds folder.old }
+    ensures failed { IsErrOf result Stop.ReadFault → Rose (F.look_faults folder.old) (F.look_faults folder.new) }
+    ensures later { F.look_faults folder.old ≤ F.look_faults folder.new }
+    ensures writes { F.write_faults folder.new ≡ F.write_faults folder.old }
+{
+    let page = page_asker(alloc, config)?;
+    let mut trace = Trace::new(alloc);
+    turn(alloc, folder, config, &mut trace, &page, config.entries())?;
+    let mut next = 0;
+    while next < trace.modules.len() {
+        module_turn(alloc, folder, config, &mut trace, next)?;
+        next += 1;
+    }
+    Ok(trace)
+}
+
+// The page as it asks, where it can be served.
+fn page_asker(alloc: Global, config: &Config) -> Result<Asker, Stop>
+    ensures asker { IfOk result (IsAsker config.now spec.the_page) }
+    ensures servable { IfOk result (λ asker. IsServable config.now config.now.page [] asker.url) }
+    ensures failed { IsErrOf result Stop.ReadFault → ⊥ }
+{
+    let suffix = Suffix::none(alloc);
+    match web_of(alloc, config.base(), config.page(), &suffix) {
+        Ok(url) => Ok(asker_of(alloc, url, config.page(), &suffix)?),
+        Err(WebFault::Unservable { url }) => Err(unservable(alloc, config.page(), url)),
+        Err(WebFault::Memory) => Err(Stop::Memory),
+    }
+}
+
+fn asker_of(alloc: Global, url: WebUrl, path: &Path, suffix: &Suffix) -> Result<Asker, Memory>
+    ensures url { IfOk result (λ asker. asker.url ≡ url) }
+    ensures file { IfOk result (λ asker. parse_alone (file_text path.now false) ≡ Some asker.file) }
+{
+    let mut shown = String::from_str(alloc, path.as_str())?;
+    shown.push_str(suffix.as_str())?;
+    Ok(Asker {
+        url,
+        file: file_url(alloc, path, false)?,
+        shown: Text::from_string(shown),
+    })
+}
+
+fn unservable(alloc: Global, page: &Path, url: Option<WebUrl>) -> Stop
+    ensures { result ≡ Stop.ReadFault → ⊥ }
+{
+    let Ok(path) = Text::of(alloc, page.as_str()) else {
+        return Stop::Memory;
+    };
+    let url = match url {
+        Some(url) => url.into_text(),
+        None => Text::new(alloc),
+    };
+    Stop::Unservable { path, url }
+}
+
+// Follows the requests of one asker in order.
+fn turn<F: Folder>(
+    alloc: Global,
+    folder: &mut F,
+    config: &Config,
+    trace: &mut Trace,
+    asker: &Asker,
+    specifiers: &[Text],
+) -> Result<(), Stop>
+    ensures turned { OnOk result (IfSome (F.holds folder.old) (λ tree. (referrer : spec.Referrer) → IsAsker config.now referrer asker.now → KnowsFiles tree trace.old.files → Turned tree config.now referrer specifiers.now trace.old trace.new)) }
+    ensures few { OnOk result (length trace.old.modules.entries ≤ 20000 → length trace.new.modules.entries ≤ 20000) }
+    ensures kept { OnOk result (AllKept trace.old → AllKept trace.new) }
+    ensures tree { F.holds folder.new ≡ F.holds folder.old }
+    ensures failed { IsErrOf result Stop.ReadFault → Rose (F.look_faults folder.old) (F.look_faults folder.new) }
+    ensures later { F.look_faults folder.old ≤ F.look_faults folder.new }
+    ensures writes { F.write_faults folder.new ≡ F.write_faults folder.old }
+{
+    for specifier in specifiers {
+        follow(alloc, folder, config, trace, asker, specifier.as_str())?;
+    }
+    Ok(())
+}
+
+// Follows one request, and names it where it stops.
+fn follow<F: Folder>(
+    alloc: Global,
+    folder: &mut F,
+    config: &Config,
+    trace: &mut Trace,
+    asker: &Asker,
+    specifier: &str,
+) -> Result<(), Stop>
+    ensures takes { OnOk result (IfSome (F.holds folder.old) (λ tree. (referrer : spec.Referrer) → IsAsker config.now referrer asker.now → KnowsFiles tree trace.old.files → Takes tree config.now referrer specifier.now trace.old trace.new)) }
+    ensures few { OnOk result (length trace.old.modules.entries ≤ 20000 → length trace.new.modules.entries ≤ 20000) }
+    ensures kept { OnOk result (AllKept trace.old → AllKept trace.new) }
+    ensures tree { F.holds folder.new ≡ F.holds folder.old }
+    ensures failed { IsErrOf result Stop.ReadFault → Rose (F.look_faults folder.old) (F.look_faults folder.new) }
+    ensures later { F.look_faults folder.old ≤ F.look_faults folder.new }
+    ensures writes { F.write_faults folder.new ≡ F.write_faults folder.old }
+{
+    match trace.request(alloc, folder, config, asker, specifier) {
+        Ok(()) => Ok(()),
+        Err(fault) => Err(stop_of(alloc, fault, asker, specifier)),
+    }
+}
+
+fn stop_of(alloc: Global, fault: RequestFault, asker: &Asker, specifier: &str) -> Stop
+    ensures { result ≡ Stop.ReadFault → fault ≡ RequestFault.Failed }
+{
+    let Ok(referrer) = asker.shown.copy(alloc) else {
+        return Stop::Memory;
+    };
+    let Ok(specifier) = Text::of(alloc, specifier) else {
+        return Stop::Memory;
+    };
+    match fault {
+        RequestFault::NotFound => Stop::NotFound {
+            referrer,
+            specifier,
+        },
+        RequestFault::NotBuilt => Stop::RequestNotBuilt {
+            referrer,
+            specifier,
+        },
+        RequestFault::Limit { which } => Stop::Limit { which },
+        RequestFault::Failed => Stop::ReadFault,
+        RequestFault::Memory => Stop::Memory,
+    }
+}
+
+// The turn of the module with this number.
+fn module_turn<F: Folder>(
+    alloc: Global,
+    folder: &mut F,
+    config: &Config,
+    trace: &mut Trace,
+    number: usize,
+) -> Result<(), Stop>
+    requires within { number < length trace.old.modules.entries }
+    requires kept { AllKept trace.old }
+    ensures turned { OnOk result (IfSome (F.holds folder.old) (λ tree. KnowsFiles tree trace.old.files → AllNamed config.now trace.old.modules.entries → ModuleTurned tree config.now number trace.old trace.new)) }
+    ensures few { OnOk result (length trace.old.modules.entries ≤ 20000 → length trace.new.modules.entries ≤ 20000) }
+    ensures kept { OnOk result (AllKept trace.new) }
+    ensures tree { F.holds folder.new ≡ F.holds folder.old }
+    ensures failed { IsErrOf result Stop.ReadFault → Rose (F.look_faults folder.old) (F.look_faults folder.new) }
+    ensures later { F.look_faults folder.old ≤ F.look_faults folder.new }
+    ensures writes { F.write_faults folder.new ≡ F.write_faults folder.old }
+{
+    let (module, asker) = asker_at(alloc, trace, number)?;
+    if !is_module_name(module.path()) {
+        return Err(Stop::ModuleNotBuilt { asker: asker.shown });
+    }
+    let bytes = trace.files.bytes(module.path()).unwrap();
+    let Some(requests) = requests_of(alloc, bytes)? else {
+        return Err(Stop::ModuleNotBuilt { asker: asker.shown });
+    };
+    turn(alloc, folder, config, trace, &asker, requests.as_slice())?;
+    Ok(())
+}
+
+fn asker_at(alloc: Global, trace: &Trace, number: usize) -> Result<(Module, Asker), Memory>
+    requires { number < length trace.now.modules.entries }
+    ensures entry { IfOk result (λ found. slice_get trace.now.modules.entries number ≡ Some (found.0, found.1.url)) }
+    ensures file { IfOk result (λ found. parse_alone (file_text found.0.path false) ≡ Some found.1.file) }
+{
+    let (module, url) = trace.modules.get_index(number).unwrap();
+    let module = module.copy(alloc)?;
+    let url = url.copy(alloc)?;
+    let asker = asker_of(alloc, url, module.path(), module.suffix())?;
+    Ok((module, asker))
+}
+
+#[tactic(auto, using(std::proofs::lemmas::Str::Pattern::ends_text))]
+fn is_module_name(path: &Path) -> bool
+    ensures { result ≡ ends_with nat_eq path.now (codes ".mjs") }
+{
+    path.as_str().ends_with(".mjs")
+}
