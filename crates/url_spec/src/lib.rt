@@ -3,6 +3,7 @@
 #![tactic(auto)]
 
 ghost use Rattle.url_spec.specs.Examples.{WorkedExamples};
+ghost use Rattle.url_spec.specs.FileUrlLaws.{FileUrls};
 ghost use Rattle.url_spec.specs.UrlLaws.{KeptUrls, NoUrls, OwnUrls, BasesStay, OneServed, OnePlace};
 
 /// What parsing gives, with or without a base, is the text of a URL, and so is a web name.
@@ -39,6 +40,11 @@ pub fn one_served()
 /// A file URL names one place.
 pub fn one_place()
     ensures { OnePlace }
+{}
+
+/// The file URL of a path is a URL without a host, and its path is what follows `file://`.
+pub fn file_urls()
+    ensures { FileUrls }
 {}
 
 /// Worked examples.
