@@ -9,6 +9,8 @@ mod names;
 mod paths;
 mod specifier;
 mod suffix;
+#[cfg(test)]
+mod tests;
 mod url_text;
 mod web_url;
 
