@@ -92,7 +92,7 @@ pub fn file_url(alloc: Global, path: &Path, folder: bool) -> Result<FileUrl, Mem
     let text = file_text(alloc, path, folder)?;
     match url_text::parse(alloc, text.as_str())? {
         Some(url) => Ok(FileUrl { url }),
-        None => Err(AllocError),
+        None => unreachable!(),
     }
 }
 
