@@ -4,4 +4,5 @@ pub mod WebNames
 pub mod FileUrls
 pub mod UrlLaws
 pub mod FileUrlLaws
+pub mod AgainstLaws
 pub mod Examples

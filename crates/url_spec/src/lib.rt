@@ -2,6 +2,7 @@
 //! and their laws as the contracts of functions that do nothing.
 #![tactic(auto)]
 
+ghost use Rattle.url_spec.specs.AgainstLaws.{SameAgainst};
 ghost use Rattle.url_spec.specs.Examples.{WorkedExamples};
 ghost use Rattle.url_spec.specs.FileUrlLaws.{FileUrls};
 ghost use Rattle.url_spec.specs.UrlLaws.{KeptUrls, NoUrls, OwnUrls, BasesStay, OneServed, OnePlace};
@@ -24,6 +25,11 @@ pub fn no_urls()
 #[tactic(auto, using(crate::specs::UrlLaws::own_urls))]
 pub fn own_urls()
     ensures { OwnUrls }
+{}
+
+/// The text of a URL, parsed against any URL, is that URL.
+pub fn urls_against()
+    ensures { SameAgainst }
 {}
 
 /// The base that a text gives is its own base.
