@@ -1,6 +1,6 @@
 use crate::{
     AskFault, Asked, Base, BaseFault, FileFault, FileUrl, Place, Suffix, WebUrl, ask, file_join,
-    file_of, file_url, is_relative, served, web_of,
+    file_of, file_url, is_relative, normalized, served, web_of,
 };
 use std::alloc::Global;
 use std::process::Abort;
@@ -114,6 +114,23 @@ fn asked(rt: HostRuntime) -> Result<(), Fail> {
     for (specifier, expected) in ASKED {
         let asked = ask(rt.alloc(), specifier, &referrer);
         assert_eq!(rt; asked_text(&asked), expected);
+    }
+    Ok(())
+}
+
+static NORMALIZED: [(&str, &str); 4] = [
+    ("./x/", "https://h/a/x/"),
+    ("HTTPS://H", "https://h/"),
+    ("ui", "ui"),
+    ("//[", "//["),
+];
+
+#[test]
+fn normal_forms(rt: HostRuntime) -> Result<(), Fail> {
+    let referrer = WebUrl::parse(rt.alloc(), "https://h/a/b.mjs")?.expect(&rt, "a URL");
+    for (specifier, expected) in NORMALIZED {
+        let text = normalized(rt.alloc(), specifier, &referrer)?;
+        assert_eq!(rt; text.as_str(), expected);
     }
     Ok(())
 }
