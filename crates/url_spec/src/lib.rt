@@ -2,7 +2,9 @@
 //! and their laws as the contracts of functions that do nothing.
 #![tactic(auto)]
 
+ghost use Rattle.url_spec.specs.AgainstLaws.{SameAgainst};
 ghost use Rattle.url_spec.specs.Examples.{WorkedExamples};
+ghost use Rattle.url_spec.specs.FileUrlLaws.{FileUrls};
 ghost use Rattle.url_spec.specs.UrlLaws.{KeptUrls, NoUrls, OwnUrls, BasesStay, OneServed, OnePlace};
 
 /// What parsing gives, with or without a base, is the text of a URL, and so is a web name.
@@ -25,6 +27,11 @@ pub fn own_urls()
     ensures { OwnUrls }
 {}
 
+/// The text of a URL, parsed against any URL, is that URL.
+pub fn urls_against()
+    ensures { SameAgainst }
+{}
+
 /// The base that a text gives is its own base.
 #[tactic(auto, using(crate::specs::UrlLaws::bases_stay))]
 pub fn bases_stay()
@@ -39,6 +46,11 @@ pub fn one_served()
 /// A file URL names one place.
 pub fn one_place()
     ensures { OnePlace }
+{}
+
+/// The file URL of a path is a URL without a host, and its path is what follows `file://`.
+pub fn file_urls()
+    ensures { FileUrls }
 {}
 
 /// Worked examples.

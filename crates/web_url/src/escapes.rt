@@ -1,5 +1,5 @@
 //! Percent-escapes of paths, and URLs without their suffixes.
-ghost use Rattle.std.specs.Prelude.{◌≡◌, ◌≤◌, ◌++◌, OnOk, IfOk, string_bytes, IsAscii, flat_map, length, take, bytes_eq};
+ghost use Rattle.std.specs.Prelude.{◌≡◌, ◌<◌, ◌≤◌, ◌++◌, All, OnOk, IfOk, string_bytes, IsAscii, flat_map, length, take, bytes_eq};
 ghost use Rattle.url.specs.Input.{lowercase};
 ghost use Rattle.url_spec.specs.WebNames.{escaped, suffix_start, before_suffix, suffix_of, holds_escape, is_suffix_mark, read_segment, segments};
 
@@ -34,7 +34,8 @@ const ESCAPED: AsciiSet = ascii_set!(
 /// Appends the escaped form of a path.
 #[tactic(auto, using(crate::proofs::EscapeLemmas::escaped_is))]
 pub fn push_escaped(out: &mut String, path: &str) -> Result<(), Memory>
-    ensures { OnOk result (string_bytes out.new ≡ string_bytes out.old ++ escaped path.now) }
+    ensures grown { OnOk result (string_bytes out.new ≡ string_bytes out.old ++ escaped path.now) }
+    ensures bytes { All (λ b. b < 256) path.now }
 {
     utf8_percent_encode(path, ESCAPED).append_to(out)
 }

@@ -1,4 +1,4 @@
-ghost use Rattle.std.specs.Prelude.{◌≡◌, ◌++◌, IfOk, IsAscii, IsErrOf, Some, true, false, string_bytes, codes, bytes_eq, ◌&&◌, not, [], if◌then◌else◌};
+ghost use Rattle.std.specs.Prelude.{◌≡◌, IfOk, OnOk, IsAscii, IsErrOf, Some, true, false, string_bytes, codes, bytes_eq, ◌&&◌, not, [], if◌then◌else◌};
 ghost use Rattle.url_spec.specs.Parsing.{parse_alone, parse_against, IsUrl};
 ghost use Rattle.url_spec.specs.Specifiers.{is_relative};
 ghost use Rattle.url_spec.specs.FileUrls.{file_text, names_host, url_path, IsPlace};
@@ -87,17 +87,18 @@ impl FileUrl {
 
 /// The URL of a file or a folder.
 pub fn file_url(alloc: Global, path: &Path, folder: bool) -> Result<FileUrl, Memory>
-    ensures { IfOk result (λ url. parse_alone (file_text path.now folder) ≡ Some url) }
+    ensures { IfOk result (λ url. url ≡ file_text path.now folder) }
 {
     let text = file_text(alloc, path, folder)?;
     match url_text::parse(alloc, text.as_str())? {
         Some(url) => Ok(FileUrl { url }),
-        None => Err(AllocError),
+        None => unreachable!(),
     }
 }
 
 fn file_text(alloc: Global, path: &Path, folder: bool) -> Result<String, Memory>
-    ensures { IfOk result (λ text. string_bytes text ≡ file_text path.now folder) }
+    ensures text { IfOk result (λ text. string_bytes text ≡ file_text path.now folder) }
+    ensures is_url { OnOk result (IsUrl (file_text path.now folder)) }
 {
     let mut text = String::from_str(alloc, "file://")?;
     push_escaped(&mut text, path.as_str())?;

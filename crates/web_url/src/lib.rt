@@ -9,12 +9,14 @@ mod names;
 mod paths;
 mod specifier;
 mod suffix;
+#[cfg(test)]
+mod tests;
 mod url_text;
 mod web_url;
 
 pub use base::{Base, BaseFault};
 pub use file::{FileFault, FileUrl, Place, file_join, file_of, file_url};
 pub use names::{WebFault, served, web_of};
-pub use specifier::{AskFault, Asked, as_url, ask, is_relative};
+pub use specifier::{AskFault, Asked, as_url, ask, is_relative, normalized};
 pub use suffix::Suffix;
 pub use web_url::WebUrl;

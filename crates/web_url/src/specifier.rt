@@ -1,10 +1,10 @@
 //! Specifiers as URLs.
 ghost use Rattle.std.specs.Prelude.{◌≡◌, IfOk, IfErr, true};
-ghost use Rattle.url_spec.specs.Specifiers.{is_relative, as_url};
+ghost use Rattle.url_spec.specs.Specifiers.{is_relative, as_url, normalized};
 ghost use Rattle.web_url.specs.Asking.{IsAsked, IsAskFault};
 
 use crate::web_url::WebUrl;
-use primitives::Memory;
+use primitives::{Memory, Text};
 use std::alloc::{AllocError, Global};
 
 /// What a specifier asks for.
@@ -55,6 +55,17 @@ pub fn as_url(alloc: Global, specifier: &str, base: &WebUrl) -> Result<Option<We
         base.join(alloc, specifier)
     } else {
         WebUrl::parse(alloc, specifier)
+    }
+}
+
+/// The normalized specifier: the text of its URL, or the specifier itself where it has none.
+#[tactic(auto, unfolding(url_spec::specs::Specifiers::normalized))]
+pub fn normalized(alloc: Global, specifier: &str, base: &WebUrl) -> Result<Text, Memory>
+    ensures { IfOk result (λ text. text ≡ normalized base.now specifier.now) }
+{
+    match as_url(alloc, specifier, base)? {
+        Some(url) => Ok(url.into_text()),
+        None => Text::of(alloc, specifier),
     }
 }
 

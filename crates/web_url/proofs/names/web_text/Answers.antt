@@ -4,5 +4,5 @@ use Rattle.web_url.proofs.names.web_text.Goals as goal
 
 pub returns : goal.returns
 returns c =
-    web_text_is c.args.base.now c.args.path.now c.below_root.result.now c.args.suffix.now _ _ _ c.below_root.ensures (c.in_ok-text.ensures.ok ∙ c.as_str.ensures.text) c.in_ok-push_escaped.ensures
+    web_text_is c.args.base.now c.args.path.now c.below_root.result.now c.args.suffix.now _ _ _ c.below_root.ensures (c.in_ok-text.ensures.ok ∙ c.as_str.ensures.text) c.in_ok-push_escaped.ensures.grown
     (c.in_ok-push_str.ensures.bytes ∙ ap (λ suffix. string_bytes c.push_escaped.new.out ++ suffix) c.as_str-2.ensures.text)
