@@ -43,11 +43,11 @@ static SIZES: [(u64, u64, bool); 6] = [
     (64, 16, false),
 ];
 
-fn same(found: &Option<Path>, text: Option<&str>) -> bool {
-    match (found, text) {
-        (None, None) => true,
-        (Some(path), Some(text)) => path.as_str() == text,
-        _ => false,
+fn spells_a_path(alloc: Global, text: &str) -> Result<bool, PathFault> {
+    match Path::parse(alloc, text) {
+        Ok(path) => Ok(path.as_str() == text),
+        Err(PathFault::BadPath) => Ok(false),
+        Err(PathFault::Memory) => Err(PathFault::Memory),
     }
 }
 
@@ -62,36 +62,67 @@ fn text_of(alloc: Global, segments: u64, bytes: u64) -> Result<String, Memory> {
     Ok(text)
 }
 
+fn is_named(found: &Option<Path>, text: Option<&str>) -> bool {
+    match (found, text) {
+        (None, None) => true,
+        (Some(path), Some(text)) => path.as_str() == text,
+        _ => false,
+    }
+}
+
+fn has_parent(alloc: Global, text: &str, parent: Option<&str>) -> Result<bool, PathFault> {
+    let path = Path::parse(alloc, text)?;
+    let found = path.parent(alloc)?;
+    Ok(path.copy(alloc)? == path && is_named(&found, parent))
+}
+
+fn joins_to(
+    alloc: Global,
+    text: &str,
+    rest: &str,
+    joined: Option<&str>,
+) -> Result<bool, PathFault> {
+    let path = Path::parse(alloc, text)?;
+    let found = path.join(alloc, rest)?;
+    Ok(is_named(&found, joined))
+}
+
 #[test]
-fn paths_follow_their_tables(rt: HostRuntime) -> Result<(), Fail> {
+fn texts_that_are_paths(rt: HostRuntime) -> Result<(), Fail> {
     let alloc = rt.alloc();
     for (text, is_path) in &TEXTS {
-        let parsed = Path::parse(alloc, text);
-        match parsed {
-            Ok(path) => assert!(rt; *is_path && path.as_str() == *text, "{text}"),
-            Err(fault) => assert!(rt; !*is_path && fault == PathFault::BadPath, "{text}"),
-        }
+        assert!(rt; spells_a_path(alloc, text)? == *is_path, "{text}");
     }
     for (segments, bytes, is_path) in &SIZES {
         let text = text_of(alloc, *segments, *bytes)?;
-        let parsed = Path::parse(alloc, text.as_str());
-        assert_eq!(rt; parsed.is_ok(), *is_path, "{segments} {bytes}");
+        assert!(rt;
+            spells_a_path(alloc, text.as_str())? == *is_path,
+            "{segments} {bytes}"
+        );
     }
-    for (text, parent) in &PARENTS {
-        let path = Path::parse(alloc, text)?;
-        let found = path.parent(alloc)?;
-        assert!(rt; same(&found, *parent), "{text}");
-        assert!(rt; path.copy(alloc)? == path, "{text}");
-    }
-    for (text, rest, joined) in &JOINS {
-        let path = Path::parse(alloc, text)?;
-        let found = path.join(alloc, rest)?;
-        assert!(rt; same(&found, *joined), "{text} {rest}");
-    }
-    let root = Path::root(alloc)?;
-    assert!(rt; root < Path::parse(alloc, "/a")?);
     Ok(())
 }
+
+#[test]
+fn parents_and_joins(rt: HostRuntime) -> Result<(), Fail> {
+    let alloc = rt.alloc();
+    for (text, parent) in &PARENTS {
+        assert!(rt; has_parent(alloc, text, *parent)?, "{text}");
+    }
+    for (text, rest, joined) in &JOINS {
+        assert!(rt; joins_to(alloc, text, rest, *joined)?, "{text} {rest}");
+    }
+    Ok(())
+}
+
+/// What is put into a folder in memory: path, bytes of a file or a folder, and whether it could be put.
+static PUTS: [(&str, Option<&str>, bool); 5] = [
+    ("/a/b", Some("xyz"), true),
+    ("/a/b", Some("new"), false),
+    ("/a", None, false),
+    ("/a/b/c", None, false),
+    ("/e/f", None, true),
+];
 
 /// Looks at a folder that holds `/a/b` with three bytes, of which the second look fails: path, limit and answer.
 static LOOKS: [(&str, u64, &str); 6] = [
@@ -129,30 +160,53 @@ fn answer(look: &Result<Look, LookFault>) -> &str {
     }
 }
 
+fn put(
+    alloc: Global,
+    folder: &mut MemFolder,
+    text: &str,
+    file: Option<&str>,
+) -> Result<bool, PathFault> {
+    let path = Path::parse(alloc, text)?;
+    match file {
+        None => Ok(folder.put(&path, None)?),
+        Some(file) => Ok(folder.put(&path, Some(file.as_bytes()))?),
+    }
+}
+
+fn looks(
+    alloc: Global,
+    folder: &mut MemFolder,
+    text: &str,
+    limit: u64,
+    wanted: &str,
+) -> Result<bool, PathFault> {
+    let path = Path::parse(alloc, text)?;
+    let look = folder.look(alloc, &path, limit);
+    Ok(answer(&look) == wanted)
+}
+
+fn writes(alloc: Global, folder: &mut MemFolder, text: &str) -> Result<bool, PathFault> {
+    let path = Path::parse(alloc, text)?;
+    let written = folder.write(&path, b"new");
+    Ok(written.is_ok() && folder.file(&path) == Some(b"new".as_slice()))
+}
+
 #[test]
-fn a_folder_in_memory_follows_its_tables(rt: HostRuntime) -> Result<(), Fail> {
+fn a_folder_in_memory(rt: HostRuntime) -> Result<(), Fail> {
     let alloc = rt.alloc();
     let mut folder = MemFolder::new(alloc, &[2], &[1])?;
-    let file = Path::parse(alloc, "/a/b")?;
-    assert!(rt; folder.put(&file, Some(b"xyz".as_slice()))?);
-    assert!(rt; !folder.put(&file, Some(b"q".as_slice()))?);
-    assert!(rt; !folder.put(&Path::parse(alloc, "/a")?, None)?);
-    assert!(rt; !folder.put(&Path::parse(alloc, "/a/b/c")?, None)?);
-    for (text, limit, wanted) in &LOOKS {
-        let look = folder.look(alloc, &Path::parse(alloc, text)?, *limit);
-        assert!(rt; answer(&look) == *wanted, "{text} {limit}");
+    for (text, file, wanted) in &PUTS {
+        assert!(rt; put(alloc, &mut folder, text, *file)? == *wanted, "{text}");
     }
-    for (text, wanted) in &WRITES {
-        let path = Path::parse(alloc, text)?;
-        let written = folder.write(&path, b"new");
-        assert_eq!(rt; written.is_ok(), *wanted, "{text}");
+    for (text, limit, wanted) in &LOOKS {
         assert!(rt;
-            !*wanted || folder.file(&path) == Some(b"new".as_slice()),
-            "{text}"
+            looks(alloc, &mut folder, text, *limit, wanted)?,
+            "{text} {limit}"
         );
     }
-    assert!(rt; folder.put(&Path::parse(alloc, "/e/f")?, None)?);
-    assert!(rt; folder.file(&Path::parse(alloc, "/e")?).is_none());
+    for (text, wanted) in &WRITES {
+        assert!(rt; writes(alloc, &mut folder, text)? == *wanted, "{text}");
+    }
     Ok(())
 }
 
