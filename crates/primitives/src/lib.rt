@@ -5,6 +5,8 @@
 mod listed;
 mod pairs;
 mod step_count;
+#[cfg(test)]
+mod tests;
 mod text;
 
 pub use listed::Listed;

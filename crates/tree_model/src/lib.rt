@@ -9,6 +9,8 @@ mod mem_source;
 mod numbers;
 mod path;
 mod stream;
+#[cfg(test)]
+mod tests;
 
 pub use folder::Folder;
 pub use mem_folder::MemFolder;

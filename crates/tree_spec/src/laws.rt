@@ -1,4 +1,4 @@
-ghost use Rattle.tree_spec.specs.TreeLaws.{OneParent, OnePlacing, PlacingKeepsTree, PlacingInFolder, PlacingInRoot, RootAlone};
+ghost use Rattle.tree_spec.specs.TreeLaws.{OneLook, OneParent, OnePlacing, PlacingKeepsTree, PlacingInFolder, PlacingInRoot, RootAlone};
 
 /// A path has one parent.
 pub fn one_parent()
@@ -28,4 +28,9 @@ pub fn placing_in_root()
 /// The root alone is a tree.
 pub fn root_alone()
     ensures { RootAlone }
+{}
+
+/// A look at a path has one answer.
+pub fn one_look()
+    ensures { OneLook }
 {}

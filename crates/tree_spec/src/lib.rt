@@ -4,7 +4,8 @@
 mod laws;
 
 pub use laws::{
-    one_parent, one_placing, placing_in_folder, placing_in_root, placing_keeps_tree, root_alone,
+    one_look, one_parent, one_placing, placing_in_folder, placing_in_root, placing_keeps_tree,
+    root_alone,
 };
 use primitives::Bytes;
 use std::alloc::AllocError;

@@ -1,0 +1,30 @@
+use super::*;
+use std::test::Fail;
+
+/// Texts in byte order.
+static TEXTS: [&str; 5] = ["", "A", "a", "ab", "ä"];
+
+#[test]
+fn texts_and_lists_keep_what_they_are_given(rt: HostRuntime) -> Result<(), Fail> {
+    let alloc = rt.alloc();
+    let mut list = Listed::new(alloc);
+    let mut pairs = Pairs::new(alloc);
+    for text in &TEXTS {
+        list.push(Text::of(alloc, text)?)?;
+        pairs.push(text.len(), Text::of(alloc, text)?.copy(alloc)?)?;
+    }
+    for i in 0..TEXTS.len() {
+        for j in 0..TEXTS.len() {
+            let first = list.at(i).ok_or("no item")?;
+            let (length, second) = pairs.at(j).ok_or("no pair")?;
+            assert_eq!(rt; *length, second.len());
+            assert!(rt;
+                first.cmp(second) == i.cmp(&j) && (first == second) == (i == j),
+                "{i} {j}"
+            );
+        }
+    }
+    let bytes = Bytes::of(alloc, b"xy")?;
+    assert_eq!(rt; bytes.as_bytes(), b"xy".as_slice());
+    Ok(())
+}
