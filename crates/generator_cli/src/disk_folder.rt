@@ -1,0 +1,235 @@
+//! A folder of the disk.
+ghost use Rattle.std.specs.Prelude.{◌≡◌, ◌≤◌, ◌<◌, ◌-◌, ◌^◌, ℕ, None, IfOk, IfSome, length};
+
+use std::alloc::{AllocError, Global};
+use std::collections::HashSet;
+use std::fs;
+use std::fs::OpenOptions;
+use std::io;
+use std::io::{ErrorKind, Read, Write};
+use std::rt::Files;
+use tree_model::{Bytes, Failed, Folder, Look, LookFault, Path};
+
+/// How many names a write tries for the file that it makes beside its goal.
+const DRAFTS: u8 = 100;
+
+/// A folder of the disk with all below it. It tells nothing of what it holds.
+///
+/// A link is never followed: a look at one, or past one, fails. A folder on the way to a file is judged once, so a
+/// link that takes the place of a folder later is followed.
+#[derive(Drop)]
+pub struct DiskFolder<'a, R> {
+    disk: Disk<'a, R>,
+    look_faults: u64,
+    write_faults: u64,
+}
+
+impl<'a, R> DiskFolder<'a, R> {
+    /// The folder with this name on the disk, which has not failed yet.
+    pub fn new(rt: R, alloc: Global, root: &'a str) -> DiskFolder<'a, R> {
+        DiskFolder {
+            disk: Disk {
+                rt,
+                alloc,
+                root,
+                judged: HashSet::new(alloc),
+            },
+            look_faults: 0,
+            write_faults: 0,
+        }
+    }
+}
+
+impl<'a, R: Files> Folder for DiskFolder<'a, R> {
+    ghost use Rattle.std.proofs.Common.{rules};
+
+    ghost holds = { λ _. None };
+
+    ghost look_faults = { λ f. f.look_faults };
+
+    ghost write_faults = { λ f. f.write_faults };
+
+    ghost asked = { λ _. None };
+
+    ghost told = { Prim.search rules };
+
+    fn look(&mut self, alloc: Global, path: &Path, limit: u64) -> Result<Look, LookFault> {
+        match self.disk.look(alloc, path.as_str(), limit) {
+            Ok(look) => Ok(look),
+            Err(fault) => {
+                if fault.kind() == ErrorKind::OutOfMemory {
+                    return Err(LookFault::Memory);
+                }
+                self.look_faults = self.look_faults.saturating_add(1);
+                Err(LookFault::Failed)
+            }
+        }
+    }
+
+    fn write(&mut self, path: &Path, bytes: &[u8]) -> Result<(), Failed> {
+        match self.disk.write(path.as_str(), bytes) {
+            Ok(()) => Ok(()),
+            Err(_) => {
+                self.write_faults = self.write_faults.saturating_add(1);
+                Err(Failed)
+            }
+        }
+    }
+}
+
+/// What stands under a name of the disk.
+#[derive(Clone, Copy)]
+enum Standing {
+    Absent,
+    Folder,
+    /// A file of this many bytes.
+    File(u64),
+}
+
+/// The files below one folder of the disk, with the names of the folders that were found to be no links.
+#[derive(Drop)]
+struct Disk<'a, R> {
+    rt: R,
+    alloc: Global,
+    root: &'a str,
+    judged: HashSet<String>,
+}
+
+impl<'a, R: Files> Disk<'a, R> {
+    /// What stands at a path, where a file may have at most `limit` bytes.
+    fn look(&mut self, alloc: Global, path: &str, limit: u64) -> io::Result<Look> {
+        let name = self.name_of(alloc, path)?;
+        if !self.reaches(alloc, name.as_str())? {
+            return Ok(Look::Absent);
+        }
+        match self.standing(name.as_str())? {
+            Standing::Absent => Ok(Look::Absent),
+            Standing::Folder => Ok(Look::Folder),
+            Standing::File(size) => {
+                if size > limit {
+                    return Ok(Look::TooLarge);
+                }
+                let file = fs::open(&self.rt, name.as_str())?;
+                content(alloc, file, size, limit.min(u64::MAX - 2))
+            }
+        }
+    }
+
+    /// Makes a file of these bytes, or leaves what stands there.
+    fn write(&mut self, path: &str, bytes: &[u8]) -> io::Result<()> {
+        let alloc = self.alloc;
+        let goal = self.name_of(alloc, path)?;
+        let above = above(goal.as_str());
+        if !self.reaches(alloc, goal.as_str())? {
+            fs::create_dir_all(&self.rt, above)?;
+        }
+        if let Standing::Folder = self.standing(goal.as_str())? {
+            return Err(io::Error::from(ErrorKind::IsADirectory));
+        }
+        let (draft, mut file) = self.draft(alloc, above)?;
+        let written = file.write_all(bytes);
+        drop(file);
+        let moved = match written {
+            Ok(()) => fs::rename(&self.rt, draft.as_str(), goal.as_str()),
+            Err(fault) => Err(fault),
+        };
+        if moved.is_err() {
+            // The fault to tell is the one before, whether or not the draft can be taken away.
+            let _ = fs::remove_file(&self.rt, draft.as_str());
+        }
+        moved
+    }
+
+    /// The name on the disk of what stands at a path.
+    fn name_of(&self, alloc: Global, path: &str) -> Result<String, AllocError> {
+        let mut name = String::from_str(alloc, self.root)?;
+        name.push_str(path)?;
+        Ok(name)
+    }
+
+    /// What stands under a name, a link not followed.
+    fn standing(&self, name: &str) -> io::Result<Standing> {
+        match fs::symlink_metadata(&self.rt, name) {
+            Ok(found) => {
+                if found.is_file() {
+                    Ok(Standing::File(found.len()))
+                } else if found.is_dir() {
+                    Ok(Standing::Folder)
+                } else {
+                    Err(io::Error::from(ErrorKind::Unsupported))
+                }
+            }
+            Err(fault) => match fault.kind() {
+                ErrorKind::NotFound | ErrorKind::NotADirectory | ErrorKind::InvalidFilename => {
+                    Ok(Standing::Absent)
+                }
+                _ => Err(fault),
+            },
+        }
+    }
+
+    /// Whether all that stands above a name, from the root folder on, are folders.
+    fn reaches(&mut self, alloc: Global, name: &str) -> io::Result<bool> {
+        let above = above(name);
+        if self.judged.contains(above) {
+            return Ok(true);
+        }
+        let mut place = String::from_str(alloc, self.root)?;
+        let Some(rest) = above.strip_prefix(self.root) else {
+            return Ok(true);
+        };
+        for segment in rest.split('/') {
+            if segment.is_empty() {
+                continue;
+            }
+            place.push_str("/")?;
+            place.push_str(segment)?;
+            if self.judged.contains(place.as_str()) {
+                continue;
+            }
+            match self.standing(place.as_str())? {
+                Standing::Folder => {}
+                Standing::Absent | Standing::File(_) => return Ok(false),
+            }
+            self.judged.insert(place.clone()?)?;
+        }
+        Ok(true)
+    }
+
+    /// A new file in a folder, with its name.
+    fn draft(&self, alloc: Global, above: &str) -> io::Result<(String, R::File)> {
+        for number in 0..DRAFTS {
+            let name = format!(in alloc; "{above}/.salimgub-draft-{number}")?;
+            match OpenOptions::new().write(true).create_new(true).open(&self.rt, name.as_str()) {
+                Ok(file) => return Ok((name, file)),
+                Err(fault) => {
+                    if fault.kind() != ErrorKind::AlreadyExists {
+                        return Err(fault);
+                    }
+                }
+            }
+        }
+        Err(io::Error::from(ErrorKind::AlreadyExists))
+    }
+}
+
+/// What stands before the last slash of a name.
+fn above(name: &str) -> &str {
+    match name.rsplit_once('/') {
+        None => "",
+        Some((above, _)) => above,
+    }
+}
+
+/// The content of a file of about `size` bytes, or too large where there are more than `limit`.
+fn content<F: Read + Drop>(alloc: Global, file: F, size: u64, limit: u64) -> io::Result<Look>
+    requires { limit < 2 ^ 64 - 1 }
+{
+    let room = size.min(limit) + 1;
+    let mut bytes = Vec::with_capacity(alloc, room as usize)?;
+    file.take(limit + 1).read_to_end(&mut bytes)?;
+    if bytes.len() as u64 > limit {
+        return Ok(Look::TooLarge);
+    }
+    Ok(Look::File(Bytes::from_vec(bytes)))
+}
