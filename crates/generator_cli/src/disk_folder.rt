@@ -1,13 +1,13 @@
 //! A folder of the disk.
 ghost use Rattle.std.specs.Prelude.{◌≡◌, ◌≤◌, ◌<◌, ◌-◌, ◌^◌, ℕ, None, IfOk, IfSome, length};
+ghost use Rattle.generator_cli.specs.Contents.{IsContent};
 
 use std::alloc::{AllocError, Global};
 use std::collections::HashSet;
-use std::fs;
 use std::fs::OpenOptions;
-use std::io;
 use std::io::{ErrorKind, Read, Write};
 use std::rt::Files;
+use std::{fs, io};
 use tree_model::{Bytes, Failed, Folder, Look, LookFault, Path};
 
 /// How many names a write tries for the file that it makes beside its goal.
@@ -200,7 +200,11 @@ impl<'a, R: Files> Disk<'a, R> {
     fn draft(&self, alloc: Global, above: &str) -> io::Result<(String, R::File)> {
         for number in 0..DRAFTS {
             let name = format!(in alloc; "{above}/.salimgub-draft-{number}")?;
-            match OpenOptions::new().write(true).create_new(true).open(&self.rt, name.as_str()) {
+            match OpenOptions::new()
+                .write(true)
+                .create_new(true)
+                .open(&self.rt, name.as_str())
+            {
                 Ok(file) => return Ok((name, file)),
                 Err(fault) => {
                     if fault.kind() != ErrorKind::AlreadyExists {
@@ -224,10 +228,12 @@ fn above(name: &str) -> &str {
 /// The content of a file of about `size` bytes, or too large where there are more than `limit`.
 fn content<F: Read + Drop>(alloc: Global, file: F, size: u64, limit: u64) -> io::Result<Look>
     requires { limit < 2 ^ 64 - 1 }
+    ensures { IfOk result (λ look. IfSome (F.remaining file) (λ all. IsContent all limit look)) }
 {
     let room = size.min(limit) + 1;
     let mut bytes = Vec::with_capacity(alloc, room as usize)?;
-    file.take(limit + 1).read_to_end(&mut bytes)?;
+    let mut front = file.take(limit + 1);
+    front.read_to_end(&mut bytes)?;
     if bytes.len() as u64 > limit {
         return Ok(Look::TooLarge);
     }

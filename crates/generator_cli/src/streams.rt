@@ -1,5 +1,7 @@
 //! The streams of the process.
-ghost use Rattle.std.specs.Prelude.{None, ℕ, min, ◌≤◌};
+ghost use Rattle.std.specs.Prelude.{◌≡◌, ◌≤◌, ℕ, length, None, take, drop, IfOk, OnOk, OnErr};
+ghost use Rattle.std.specs.Io.KnownBytes.{Appends, Consumes};
+ghost use Rattle.tree_spec.specs.Counts.{Rose};
 
 use std::io::{Read, Write};
 use tree_model::{Failed, Sink, Source};
@@ -16,7 +18,10 @@ pub struct StdSource<R> {
 
 impl<R> StdSource<R> {
     /// A source that has not failed yet.
-    pub fn new(input: R) -> StdSource<R> {
+    pub fn new(input: R) -> StdSource<R>
+        ensures input { result.input ≡ input }
+        ensures faults { result.faults ≡ 0 }
+    {
         StdSource { input, faults: 0 }
     }
 }
@@ -26,7 +31,15 @@ impl<R: Read> Source for StdSource<R> {
 
     ghost faults = { λ s. s.faults };
 
-    fn take(&mut self, into: &mut [u8]) -> Result<usize, Failed> {
+    fn take(&mut self, into: &mut [u8]) -> Result<usize, Failed>
+        ensures taken { IfOk result (λ count. Consumes (R.remaining self.old.input) (R.remaining self.new.input) (take count into.new)) }
+        ensures within { IfOk result (λ count. count ≤ length into.old) }
+        ensures behind { IfOk result (λ count. drop count into.new ≡ drop count into.old) }
+        ensures untouched { OnErr result (into.new ≡ into.old) }
+        ensures failed { OnErr result (Rose self.old.faults self.new.faults) }
+        ensures quiet { OnOk result (self.new.faults ≡ self.old.faults) }
+        ensures later { self.old.faults ≤ self.new.faults }
+    {
         // A reader may leave anything behind the bytes that it counts, and `into` may not change there.
         let mut part = [0u8; PART];
         let room = into.len().min(PART);
@@ -43,7 +56,7 @@ impl<R: Read> Source for StdSource<R> {
     }
 }
 
-/// A sink over a writer. It tells nothing of what has gone out.
+/// A sink over a writer. It tells nothing of what has gone out, since a writer that fails doesn't tell how much it took.
 #[derive(Drop)]
 pub struct StdSink<W> {
     output: W,
@@ -52,7 +65,10 @@ pub struct StdSink<W> {
 
 impl<W> StdSink<W> {
     /// A sink that has not failed yet.
-    pub fn new(output: W) -> StdSink<W> {
+    pub fn new(output: W) -> StdSink<W>
+        ensures output { result.output ≡ output }
+        ensures faults { result.faults ≡ 0 }
+    {
         StdSink { output, faults: 0 }
     }
 }
@@ -62,15 +78,16 @@ impl<W: Write> Sink for StdSink<W> {
 
     ghost faults = { λ s. s.faults };
 
-    fn give(&mut self, bytes: &[u8]) -> Result<(), Failed> {
-        let written = self.output.write_all(bytes);
-        let flushed = self.output.flush();
-        match (written, flushed) {
-            (Ok(()), Ok(())) => Ok(()),
-            _ => {
-                self.faults = self.faults.saturating_add(1);
-                Err(Failed)
-            }
+    fn give(&mut self, bytes: &[u8]) -> Result<(), Failed>
+        ensures sent { OnOk result (Appends (W.contents self.old.output) (W.contents self.new.output) bytes.now) }
+        ensures failed { OnErr result (Rose self.old.faults self.new.faults) }
+        ensures quiet { OnOk result (self.new.faults ≡ self.old.faults) }
+        ensures later { self.old.faults ≤ self.new.faults }
+    {
+        if self.output.write_all(bytes).is_err() || self.output.flush().is_err() {
+            self.faults = self.faults.saturating_add(1);
+            return Err(Failed);
         }
+        Ok(())
     }
 }
