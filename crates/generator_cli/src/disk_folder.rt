@@ -142,7 +142,8 @@ impl<'a, R: Files> Disk<'a, R> {
 
     /// The name on the disk of what stands at a path.
     fn name_of(&self, alloc: Global, path: &str) -> Result<String, AllocError> {
-        let mut name = String::from_str(alloc, self.root)?;
+        let mut name = String::with_capacity(alloc, self.root.len().saturating_add(path.len()))?;
+        name.push_str(self.root)?;
         name.push_str(path)?;
         Ok(name)
     }
