@@ -110,7 +110,8 @@ impl<'a, R: Files> Disk<'a, R> {
                     return Ok(Look::TooLarge);
                 }
                 let file = fs::open(&self.rt, name.as_str())?;
-                content(alloc, file, size, limit.min(u64::MAX - 2))
+                // No file is so long that the greatest number makes a difference.
+                content(alloc, file, size, limit.min(u64::MAX - 1))
             }
         }
     }
@@ -126,6 +127,7 @@ impl<'a, R: Files> Disk<'a, R> {
         if let Standing::Folder = self.standing(goal.as_str())? {
             return Err(io::Error::from(ErrorKind::IsADirectory));
         }
+        // Written beside the goal and moved over it, so that a write that fails leaves what was there.
         let (draft, mut file) = self.draft(alloc, above)?;
         let written = file.write_all(bytes);
         drop(file);
@@ -172,7 +174,7 @@ impl<'a, R: Files> Disk<'a, R> {
     /// Whether all that stands above a name, from the root folder on, are folders.
     fn reaches(&mut self, alloc: Global, name: &str) -> io::Result<bool> {
         let above = above(name);
-        if self.judged.contains(above) {
+        if above.len() <= self.root.len() || self.judged.contains(above) {
             return Ok(true);
         }
         let mut place = String::from_str(alloc, self.root)?;
@@ -239,4 +241,169 @@ fn content<F: Read + Drop>(alloc: Global, file: F, size: u64, limit: u64) -> io:
         return Ok(Look::TooLarge);
     }
     Ok(Look::File(Bytes::from_vec(bytes)))
+}
+
+#[cfg(test)]
+mod tests {
+    use super::*;
+    use std::os::unix::fs::symlink;
+    use std::test::Fail;
+    use std::{env, process};
+
+    #[derive(Clone, Copy, Debug, PartialEq, Eq)]
+    enum Seen {
+        Absent,
+        Folder,
+        File(usize),
+        TooLarge,
+        Failed,
+        Memory,
+    }
+
+    fn answered(answer: Result<Look, LookFault>) -> Seen {
+        match answer {
+            Ok(Look::Absent) => Seen::Absent,
+            Ok(Look::Folder) => Seen::Folder,
+            Ok(Look::File(bytes)) => Seen::File(bytes.len()),
+            Ok(Look::TooLarge) => Seen::TooLarge,
+            Err(LookFault::Failed) => Seen::Failed,
+            Err(LookFault::Memory) => Seen::Memory,
+        }
+    }
+
+    static LOOKS: [(&str, u64, Seen); 12] = [
+        ("/", 9, Seen::Folder),
+        ("/folder", 0, Seen::Folder),
+        ("/folder/five", 5, Seen::File(5)),
+        ("/folder/five", 4, Seen::TooLarge),
+        ("/folder/empty", 0, Seen::File(0)),
+        ("/folder/none", 9, Seen::Absent),
+        ("/none/none", 9, Seen::Absent),
+        ("/folder/five/below", 9, Seen::Absent),
+        ("/linked_file", 9, Seen::Failed),
+        ("/linked_folder", 9, Seen::Failed),
+        ("/linked_folder/five", 9, Seen::Failed),
+        ("/folder/five", 9, Seen::File(5)),
+    ];
+
+    /// A new folder with the files that `LOOKS` speaks of.
+    fn made(rt: &HostRuntime, name: &str) -> Result<String, Fail> {
+        let alloc = rt.alloc();
+        let place = env::temp_dir(rt)?;
+        let number = process::id(rt.process());
+        let root = format!(in alloc; "{}/salimgub-{name}-{number}", place.as_str())?;
+        fs::create_dir_all(rt, format!(in alloc; "{root}/folder")?.as_str())?;
+        fs::write(
+            rt,
+            format!(in alloc; "{root}/folder/five")?.as_str(),
+            "12345",
+        )?;
+        fs::write(rt, format!(in alloc; "{root}/folder/empty")?.as_str(), "")?;
+        symlink(
+            rt,
+            "folder/five",
+            format!(in alloc; "{root}/linked_file")?.as_str(),
+        )?;
+        symlink(
+            rt,
+            "folder",
+            format!(in alloc; "{root}/linked_folder")?.as_str(),
+        )?;
+        Ok(root)
+    }
+
+    #[test]
+    fn looks(rt: HostRuntime) -> Result<(), Fail> {
+        let alloc = rt.alloc();
+        let root = made(&rt, "looks")?;
+        let mut folder = DiskFolder::new(rt.clone()?, alloc, root.as_str());
+        for (path, limit, wanted) in LOOKS {
+            let path = Path::parse(alloc, path)?;
+            assert_eq!(rt;
+                answered(folder.look(alloc, &path, limit)),
+                wanted,
+                "at {}",
+                path.as_str()
+            );
+        }
+        assert_eq!(rt; folder.look_faults, 3);
+        let mut devices = DiskFolder::new(rt.clone()?, alloc, "/dev");
+        let null = Path::parse(alloc, "/null")?;
+        assert_eq!(rt;
+            answered(devices.look(alloc, &null, 9)),
+            Seen::Failed,
+            "a special file"
+        );
+        fs::remove_dir_all(&rt, root.as_str())?;
+        Ok(())
+    }
+
+    /// Whether a write at a path is answered, and what a look at it answers then.
+    fn rewritten(
+        alloc: Global,
+        folder: &mut DiskFolder<'_, HostRuntime>,
+        path: &str,
+    ) -> Result<(bool, Seen), Fail> {
+        let path = Path::parse(alloc, path)?;
+        let is_written = folder.write(&path, b"written").is_ok();
+        Ok((is_written, answered(folder.look(alloc, &path, 9))))
+    }
+
+    static WRITES: [(&str, bool, Seen); 6] = [
+        ("/new/deep/map", true, Seen::File(7)),
+        ("/folder/empty", true, Seen::File(7)),
+        ("/folder", false, Seen::Folder),
+        ("/folder/five/below", false, Seen::Absent),
+        ("/linked_file", false, Seen::Failed),
+        ("/linked_folder/new", false, Seen::Failed),
+    ];
+
+    #[test]
+    fn writes(rt: HostRuntime) -> Result<(), Fail> {
+        let root = made(&rt, "writes")?;
+        let mut folder = DiskFolder::new(rt.clone()?, rt.alloc(), root.as_str());
+        for (path, is_written, read) in WRITES {
+            let found = rewritten(rt.alloc(), &mut folder, path)?;
+            assert!(rt; found == (is_written, read));
+        }
+        assert!(rt; folder.write_faults == 4);
+        fs::remove_dir_all(&rt, root.as_str())?;
+        Ok(())
+    }
+
+    /// Takes all names of the files that a write makes beside its goal.
+    fn take_drafts(rt: &HostRuntime, root: &str) -> Result<(), Fail> {
+        for number in 0..DRAFTS {
+            let draft = format!(in rt.alloc(); "{root}/folder/.salimgub-draft-{number}")?;
+            fs::write(rt, draft.as_str(), "")?;
+        }
+        Ok(())
+    }
+
+    #[test]
+    fn a_failed_write_leaves_the_file(rt: HostRuntime) -> Result<(), Fail> {
+        let root = made(&rt, "failed")?;
+        take_drafts(&rt, root.as_str())?;
+        let mut folder = DiskFolder::new(rt.clone()?, rt.alloc(), root.as_str());
+        let found = rewritten(rt.alloc(), &mut folder, "/folder/five")?;
+        assert!(rt; found == (false, Seen::File(5)));
+        fs::remove_dir_all(&rt, root.as_str())?;
+        Ok(())
+    }
+
+    /// A name of 256 bytes, one more than a disk takes.
+    const LONG: &str =
+        "/alone/xxxxxxxxxxxxxxxxxxxxxxxxxxxxxxxxxxxxxxxxxxxxxxxxxxxxxxxxxxxxxxxxxxxxxxxxxxxxxxxxxxxxxxxxxxxxxxxxxxxxxxxxxxxxxxxxxxxxxxxxxxxxxxxxxxxxxxxxxxxxxxxxxxxxxxxxxxxxxxxxxxxxxxxxxxxxxxxxxxxxxxxxxxxxxxxxxxxxxxxxxxxxxxxxxxxxxxxxxxxxxxxxxxxxxxxxxxxxxxxxxxxxxxxxxxxxxxxx";
+
+    #[test]
+    fn a_name_too_long_is_absent(rt: HostRuntime) -> Result<(), Fail> {
+        let root = made(&rt, "long")?;
+        let mut folder = DiskFolder::new(rt.clone()?, rt.alloc(), root.as_str());
+        let found = rewritten(rt.alloc(), &mut folder, LONG)?;
+        assert!(rt; found == (false, Seen::Absent));
+        // What the write made beside its goal is gone, so the folder can be taken away as an empty one.
+        fs::remove_dir(&rt, format!(in rt.alloc(); "{root}/alone")?.as_str())?;
+        fs::remove_dir_all(&rt, root.as_str())?;
+        Ok(())
+    }
 }
