@@ -2,6 +2,7 @@
 ghost use Rattle.std.specs.Prelude.{◌≡◌, ◌≤◌, ◌<◌, ◌-◌, ◌^◌, ℕ, None, IfOk, IfSome, length};
 ghost use Rattle.generator_cli.specs.Contents.{IsContent};
 
+use crate::faults::one_more;
 use std::alloc::{AllocError, Global};
 use std::collections::HashSet;
 use std::fs::OpenOptions;
@@ -60,7 +61,7 @@ impl<'a, R: Files> Folder for DiskFolder<'a, R> {
                 if fault.kind() == ErrorKind::OutOfMemory {
                     return Err(LookFault::Memory);
                 }
-                self.look_faults = self.look_faults.saturating_add(1);
+                self.look_faults = one_more(self.look_faults);
                 Err(LookFault::Failed)
             }
         }
@@ -70,7 +71,7 @@ impl<'a, R: Files> Folder for DiskFolder<'a, R> {
         match self.disk.write(path.as_str(), bytes) {
             Ok(()) => Ok(()),
             Err(_) => {
-                self.write_faults = self.write_faults.saturating_add(1);
+                self.write_faults = one_more(self.write_faults);
                 Err(Failed)
             }
         }

@@ -2,6 +2,7 @@
 #![tactic(auto)]
 
 mod disk_folder;
+mod faults;
 mod streams;
 
 use std::process::ExitCode;

@@ -3,6 +3,7 @@ ghost use Rattle.std.specs.Prelude.{◌≡◌, ◌≤◌, ℕ, length, None, tak
 ghost use Rattle.std.specs.Io.KnownBytes.{Appends, Consumes};
 ghost use Rattle.tree_spec.specs.Counts.{Rose};
 
+use crate::faults::one_more;
 use std::io::{Read, Write};
 use tree_model::{Failed, Sink, Source};
 
@@ -49,7 +50,7 @@ impl<R: Read> Source for StdSource<R> {
                 Ok(count)
             }
             Err(_) => {
-                self.faults = self.faults.saturating_add(1);
+                self.faults = one_more(self.faults);
                 Err(Failed)
             }
         }
@@ -85,7 +86,7 @@ impl<W: Write> Sink for StdSink<W> {
         ensures later { self.old.faults ≤ self.new.faults }
     {
         if self.output.write_all(bytes).is_err() || self.output.flush().is_err() {
-            self.faults = self.faults.saturating_add(1);
+            self.faults = one_more(self.faults);
             return Err(Failed);
         }
         Ok(())
