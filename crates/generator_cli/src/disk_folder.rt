@@ -16,8 +16,8 @@ const DRAFTS: u8 = 100;
 
 /// A folder of the disk with all below it. It tells nothing of what it holds.
 ///
-/// A link is never followed: a look at one, or past one, fails. A folder on the way to a file is judged once, so a
-/// link that takes the place of a folder later is followed.
+/// A link isn't followed: a look at one, or past one, fails. A folder on the way to a file is judged once, so a link
+/// that takes its place after that goes unseen.
 #[derive(Drop)]
 pub struct DiskFolder<'a, R> {
     disk: Disk<'a, R>,
@@ -317,7 +317,7 @@ mod tests {
     fn looks(rt: HostRuntime) -> Result<(), Fail> {
         let alloc = rt.alloc();
         let root = made(&rt, "looks")?;
-        let mut folder = DiskFolder::new(rt.clone()?, alloc, root.as_str());
+        let mut folder = DiskFolder::new(rt, alloc, root.as_str());
         for (path, limit, wanted) in LOOKS {
             let path = Path::parse(alloc, path)?;
             assert_eq!(rt;
@@ -328,7 +328,7 @@ mod tests {
             );
         }
         assert_eq!(rt; folder.look_faults, 3);
-        let mut devices = DiskFolder::new(rt.clone()?, alloc, "/dev");
+        let mut devices = DiskFolder::new(rt, alloc, "/dev");
         let null = Path::parse(alloc, "/null")?;
         assert_eq!(rt;
             answered(devices.look(alloc, &null, 9)),
@@ -362,7 +362,7 @@ mod tests {
     #[test]
     fn writes(rt: HostRuntime) -> Result<(), Fail> {
         let root = made(&rt, "writes")?;
-        let mut folder = DiskFolder::new(rt.clone()?, rt.alloc(), root.as_str());
+        let mut folder = DiskFolder::new(rt, rt.alloc(), root.as_str());
         for (path, is_written, read) in WRITES {
             let found = rewritten(rt.alloc(), &mut folder, path)?;
             assert!(rt; found == (is_written, read));
@@ -385,7 +385,7 @@ mod tests {
     fn a_failed_write_leaves_the_file(rt: HostRuntime) -> Result<(), Fail> {
         let root = made(&rt, "failed")?;
         take_drafts(&rt, root.as_str())?;
-        let mut folder = DiskFolder::new(rt.clone()?, rt.alloc(), root.as_str());
+        let mut folder = DiskFolder::new(rt, rt.alloc(), root.as_str());
         let found = rewritten(rt.alloc(), &mut folder, "/folder/five")?;
         assert!(rt; found == (false, Seen::File(5)));
         fs::remove_dir_all(&rt, root.as_str())?;
@@ -399,7 +399,7 @@ mod tests {
     #[test]
     fn a_name_too_long_is_absent(rt: HostRuntime) -> Result<(), Fail> {
         let root = made(&rt, "long")?;
-        let mut folder = DiskFolder::new(rt.clone()?, rt.alloc(), root.as_str());
+        let mut folder = DiskFolder::new(rt, rt.alloc(), root.as_str());
         let found = rewritten(rt.alloc(), &mut folder, LONG)?;
         assert!(rt; found == (false, Seen::Absent));
         // What the write made beside its goal is gone, so the folder can be taken away as an empty one.
