@@ -1,0 +1,36 @@
+#!/bin/sh
+# The project's own checks, on the program that the gate built. The argument is how many checks passed before; the last
+# line counts these too.
+cd "$(dirname "$0")/.." || exit 1
+passed=${1:-0}
+failed=0
+kept=$(mktemp -d) || exit 1
+trap 'rm -rf "$kept"' EXIT
+
+check() {
+    name=$1
+    shift
+    if "$@"; then
+        echo "$name: passed"
+        passed=$((passed + 1))
+    else
+        echo "$name: FAILED"
+        failed=$((failed + 1))
+    fi
+}
+
+# The example gives its line and the map that was typed by hand, in a copy, so that it stays as it is.
+example() {
+    program=$PWD/build/salimgub
+    cp -R examples/site "$kept/site" &&
+        rm -f "$kept/site/importmap.json" &&
+        (cd "$kept/site" && "$program" link --base https://app.test/ ./app.mjs >"$kept/out") &&
+        echo 'ok: 5 modules, 8 requests, 2 mappings' | diff - "$kept/out" &&
+        diff examples/expected-importmap.json "$kept/site/importmap.json"
+}
+
+check "build.sh" ./build.sh
+check "the example" example
+check "the benchmark on small trees" bench/run.sh smoke
+echo "$passed passed, $failed failed"
+[ "$failed" = 0 ]

@@ -1,0 +1,141 @@
+"""Measures build/salimgub, and says PASS or FAIL to each target."""
+
+import os
+import shutil
+import sys
+import tempfile
+import time
+
+import trees
+
+HERE = os.path.dirname(os.path.abspath(__file__))
+PROGRAM = os.path.join(HERE, "..", "build", "salimgub")
+WORDS = ["link", "--base", "https://app.test/", "./app.mjs"]
+MIB = 1024 * 1024
+# Below this a time says more about the machine than about the program.
+NOISE = 0.05
+SKIPPED = 77
+
+failures = 0
+
+
+class Run:
+    """The outcome of one program: status, output, seconds by the wall clock, and most bytes of memory."""
+
+    def __init__(self, command, folder, stdin=None):
+        with tempfile.TemporaryFile() as out:
+            started = time.perf_counter()
+            child = os.fork()
+            if child == 0:
+                os.chdir(folder)
+                source = os.open(stdin or os.devnull, os.O_RDONLY)
+                os.dup2(source, 0)
+                os.dup2(out.fileno(), 1)
+                try:
+                    os.execvp(command[0], command)
+                except OSError:
+                    os._exit(127)
+            _, status, used = os.wait4(child, 0)
+            self.seconds = time.perf_counter() - started
+            self.status = os.waitstatus_to_exitcode(status)
+            self.memory = used.ru_maxrss * 1024
+            out.seek(0)
+            self.out = out.read().decode("utf-8", "replace")
+
+
+def best(command, folder, tries, stdin=None):
+    """The fastest of a few runs."""
+    return min((Run(command, folder, stdin) for _ in range(tries)), key=lambda run: run.seconds)
+
+
+def say(passed, text):
+    global failures
+    if not passed:
+        failures += 1
+    print(f"{'PASS' if passed else 'FAIL'}  {text}", flush=True)
+
+
+def link(tree, tries):
+    """The fastest of a few links of a tree, where each is right."""
+    run = best([PROGRAM] + WORDS, tree.folder, tries)
+    wanted = f"ok: {len(tree.paths)} modules, {tree.requests} requests, 0 mappings\n"
+    if run.status != 0 or run.out != wanted:
+        say(False, f"{os.path.basename(tree.folder)}: status {run.status}, out {run.out!r}, wanted {wanted!r}")
+    return run
+
+
+def floor(tree, tries):
+    """Reads and digests each file of the tree once."""
+    names = os.path.join(tree.folder, "..", os.path.basename(tree.folder) + ".list")
+    with open(names, "w", encoding="utf-8") as file:
+        file.write("".join(path + "\0" for path in tree.paths))
+    return best(["xargs", "-0", "-n", "100000", "-s", "2000000", "sha384sum", "--"], tree.folder, tries, names)
+
+
+def against_peer(name, run, peer, share, label):
+    if peer.status in (SKIPPED, 127):
+        print(f"SKIP  {label}: {name} isn't installed", flush=True)
+    elif peer.status != 0:
+        print(f"SKIP  {label}: {name} ended with status {peer.status}", flush=True)
+    else:
+        say(run.seconds <= share * peer.seconds,
+            f"{label}: {run.seconds:.3f} s, {run.seconds / peer.seconds:.3f} of {name}'s {peer.seconds:.3f} s, at most {share}")
+
+
+def esbuild(tree, tries):
+    built = os.path.join(tree.folder, "..", "esbuild-" + os.path.basename(tree.folder))
+    return best(["esbuild", "--bundle", "--format=esm", "--log-level=error", f"--metafile={built}.json",
+                 f"--outfile={built}.js", "./app.mjs"], tree.folder, tries)
+
+
+def node(tree, tries):
+    return best(["node", "--no-warnings", "--experimental-import-meta-resolve", os.path.join(HERE, "node_link.mjs"),
+                 "./app.mjs"], tree.folder, tries)
+
+
+def measure(shape, work, modules, slack, tries, peers):
+    """Measures one shape at half the modules and at all of them."""
+    label = f"{shape.__name__} of {modules} modules"
+    half = shape(os.path.join(work, f"{shape.__name__}-{modules // 2}"), modules // 2)
+    whole = shape(os.path.join(work, f"{shape.__name__}-{modules}"), modules)
+    once, twice = link(half, tries), link(whole, tries)
+    # A tree at the limit of requests has twice the time and memory of one at the limit of modules alone.
+    at_limit = 2 if shape is trees.shared else 1
+    seconds = max(5 * at_limit * slack * modules / 20000, NOISE)
+    say(twice.seconds <= seconds, f"{label}: {twice.seconds:.3f} s, at most {seconds:g} s")
+    memory = min(512 * at_limit * MIB, slack * (3 * whole.size + 64 * MIB))
+    say(twice.memory <= memory, f"{label}: {twice.memory / MIB:.1f} MiB for {whole.size / MIB:.1f} MiB of files, "
+                                f"at most {memory / MIB:.1f} MiB")
+    ratio = twice.seconds / max(once.seconds, NOISE)
+    say(ratio <= 4, f"{label}: {ratio:.2f} times as long as for half of them, {once.seconds:.3f} s, at most 4")
+    if shape is not trees.shared:
+        sums = floor(whole, tries)
+        say(twice.seconds <= max(4 * slack * sums.seconds, NOISE),
+            f"{label}: {twice.seconds / sums.seconds:.2f} times as long as sha384sum, {sums.seconds:.3f} s, at most {4 * slack}")
+    if peers:
+        label = f"{shape.__name__} of {modules // 2} modules"
+        against_peer("esbuild", once, esbuild(half, tries), 0.5, label)
+        against_peer("Node with es-module-lexer", once, node(half, tries), 0.1, label)
+
+
+def main():
+    smoke = sys.argv[1:] == ["smoke"]
+    if sys.argv[1:] and not smoke:
+        sys.exit("usage: bench/run.sh [smoke]")
+    if not os.access(PROGRAM, os.X_OK):
+        sys.exit("bench: there is no build/salimgub: run ./build.sh first")
+    work = tempfile.mkdtemp(prefix="salimgub-bench-")
+    try:
+        for shape in (trees.chain, trees.fan, trees.deep, trees.shared):
+            if smoke:
+                measure(shape, work, 2000, 10, 2, False)
+            else:
+                measure(shape, work, 20000, 1, 3, shape in (trees.chain, trees.fan))
+    finally:
+        shutil.rmtree(work)
+    print(f"{failures} failed" if failures else "all passed")
+    sys.exit(1 if failures else 0)
+
+
+if __name__ == "__main__":
+    main()

@@ -1,0 +1,11 @@
+//! Counts of faults.
+ghost use Rattle.std.specs.Prelude.{◌≡◌, ◌≤◌, ℕ};
+ghost use Rattle.tree_spec.specs.Counts.{Rose};
+
+/// One more fault than before, up to the last number of the count.
+pub fn one_more(faults: u64) -> u64
+    ensures risen { Rose faults result }
+    ensures later { faults ≤ result }
+{
+    faults.saturating_add(1)
+}

@@ -1,0 +1,3 @@
+import "./lib/greet.mjs";
+import "./pages/home.mjs";
+import "./pages/[id].mjs";

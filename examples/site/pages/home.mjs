@@ -1,0 +1,2 @@
+import "../lib/greet.mjs";
+import "./[id].mjs";
