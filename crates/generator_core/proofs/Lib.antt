@@ -5,3 +5,4 @@ pub mod Needs
 pub mod Modules
 pub mod Turns
 pub mod Walks
+pub mod LinkWords

@@ -2,3 +2,5 @@ pub mod Reading
 pub mod Files
 pub mod Answering
 pub mod Walking
+pub mod Words
+pub mod Statuses

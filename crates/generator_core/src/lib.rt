@@ -6,6 +6,8 @@ mod config;
 mod files;
 mod module;
 mod module_text;
+mod refusal;
 mod stop;
 mod trace;
 mod walk;
+mod words;

@@ -60,9 +60,11 @@ fn asker_of(alloc: Global, url: WebUrl, path: &Path, suffix: &Suffix) -> Result<
 {
     let mut shown = String::from_str(alloc, path.as_str())?;
     shown.push_str(suffix.as_str())?;
+    let file = file_url(alloc, path, false)?;
+    let _text = file.as_str();
     Ok(Asker {
         url,
-        file: file_url(alloc, path, false)?,
+        file,
         shown: Text::from_string(shown),
     })
 }
