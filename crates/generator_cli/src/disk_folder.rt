@@ -1,5 +1,6 @@
 //! A folder of the disk.
-ghost use Rattle.std.specs.Prelude.{◌≡◌, ◌≤◌, ◌<◌, ◌-◌, ◌^◌, ℕ, None, IfOk, IfSome, length};
+ghost use Rattle.std.specs.Prelude.{◌≡◌, ◌≢◌, ◌≤◌, ◌<◌, ◌-◌, ◌^◌, ℕ, None, IfOk, IfSome, length};
+ghost use Rattle.tree_spec.specs.Counts.{Rose};
 ghost use Rattle.generator_cli.specs.Contents.{IsContent};
 
 use crate::faults::one_more;
@@ -39,6 +40,20 @@ impl<'a, R> DiskFolder<'a, R> {
             write_faults: 0,
         }
     }
+
+    /// The fault of a look that an error of the disk makes, counted where it isn't want of memory.
+    fn look_fault(&mut self, fault: io::Error) -> LookFault
+        ensures failed { result ≡ LookFault.Failed → Rose self.old.look_faults self.new.look_faults }
+        ensures quiet { result ≢ LookFault.Failed → self.new.look_faults ≡ self.old.look_faults }
+        ensures later { self.old.look_faults ≤ self.new.look_faults }
+        ensures writes { self.new.write_faults ≡ self.old.write_faults }
+    {
+        if fault.kind() == ErrorKind::OutOfMemory {
+            return LookFault::Memory;
+        }
+        self.look_faults = one_more(self.look_faults);
+        LookFault::Failed
+    }
 }
 
 impl<'a, R: Files> Folder for DiskFolder<'a, R> {
@@ -57,13 +72,7 @@ impl<'a, R: Files> Folder for DiskFolder<'a, R> {
     fn look(&mut self, alloc: Global, path: &Path, limit: u64) -> Result<Look, LookFault> {
         match self.disk.look(alloc, path.as_str(), limit) {
             Ok(look) => Ok(look),
-            Err(fault) => {
-                if fault.kind() == ErrorKind::OutOfMemory {
-                    return Err(LookFault::Memory);
-                }
-                self.look_faults = one_more(self.look_faults);
-                Err(LookFault::Failed)
-            }
+            Err(fault) => Err(self.look_fault(fault)),
         }
     }
 

@@ -4,6 +4,7 @@ ghost use Rattle.std.specs.Io.KnownBytes.{Appends, Consumes};
 ghost use Rattle.tree_spec.specs.Counts.{Rose};
 
 use crate::faults::one_more;
+use std::io;
 use std::io::{Read, Write};
 use tree_model::{Failed, Sink, Source};
 
@@ -85,10 +86,20 @@ impl<W: Write> Sink for StdSink<W> {
         ensures quiet { OnOk result (self.new.faults ≡ self.old.faults) }
         ensures later { self.old.faults ≤ self.new.faults }
     {
-        if self.output.write_all(bytes).is_err() || self.output.flush().is_err() {
-            self.faults = one_more(self.faults);
-            return Err(Failed);
+        match send(&mut self.output, bytes) {
+            Ok(()) => Ok(()),
+            Err(_) => {
+                self.faults = one_more(self.faults);
+                Err(Failed)
+            }
         }
-        Ok(())
     }
+}
+
+/// Writes all bytes, and keeps none back.
+fn send<W: Write>(output: &mut W, bytes: &[u8]) -> io::Result<()>
+    ensures { OnOk result (Appends (W.contents output.old) (W.contents output.new) bytes.now) }
+{
+    output.write_all(bytes)?;
+    output.flush()
 }
