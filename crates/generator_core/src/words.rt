@@ -15,13 +15,20 @@ pub fn link_words(words: &[String]) -> Option<(&str, &[String])>
     let Some(after_option) = after_word(after_command, "--base") else {
         return None;
     };
-    let Some((base, entries)) = after_option.split_first() else {
+    let Some((base, entries)) = first_word(after_option) else {
         return None;
     };
     if !are_entries(entries) {
         return None;
     }
-    Some((base.as_str(), entries))
+    Some((base, entries))
+}
+
+fn first_word(words: &[String]) -> Option<(&str, &[String])>
+    ensures { MatchOption result ((first : List ℕ) (rest : List (List ℕ)) → map string_bytes words.now ≡ first ∷ rest → ⊥) (λ found. map string_bytes words.now ≡ found.0.now ∷ map string_bytes found.1.now) }
+{
+    let (first, rest) = words.split_first()?;
+    Some((first.as_str(), rest))
 }
 
 fn after_word<'a>(words: &'a [String], word: &str) -> Option<&'a [String]>
