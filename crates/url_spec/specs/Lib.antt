@@ -5,4 +5,5 @@ pub mod FileUrls
 pub mod UrlLaws
 pub mod FileUrlLaws
 pub mod AgainstLaws
+pub mod OwnTexts
 pub mod Examples

@@ -5,12 +5,26 @@
 ghost use Rattle.url_spec.specs.AgainstLaws.{SameAgainst};
 ghost use Rattle.url_spec.specs.Examples.{WorkedExamples};
 ghost use Rattle.url_spec.specs.FileUrlLaws.{FileUrls};
+ghost use Rattle.url_spec.specs.OwnTexts.{AsciiUrls, KeptWhole};
 ghost use Rattle.url_spec.specs.UrlLaws.{KeptUrls, NoUrls, OwnUrls, BasesStay, OneServed, OnePlace};
 
 /// What parsing gives, with or without a base, is the text of a URL, and so is a web name.
 #[tactic(auto, using(crate::specs::UrlLaws::kept_urls))]
 pub fn kept_urls()
     ensures { KeptUrls }
+{}
+
+/// The text of a URL is ASCII.
+#[tactic(auto, using(crate::specs::OwnTexts::ascii_urls))]
+pub fn ascii_urls()
+    ensures { AsciiUrls }
+{}
+
+/// Each valid URL that the parser gives counts, with or without a base: its text is ASCII and
+/// parses to it.
+#[tactic(auto, using(crate::specs::OwnTexts::kept_whole))]
+pub fn kept_whole()
+    ensures { KeptWhole }
 {}
 
 /// A text that is empty, or that begins with `/`, `.`, a digit or any other visible byte that is no
