@@ -1,11 +1,11 @@
 -- What a list contains, and what a list of needs that counts each once contains.
-use Rattle.std.specs.Prelude.{◌≡◌, ℕ, zero, suc, ◌<◌, ◌⊎◌, ◌↔◌, true, List, [], ◌∷◌, ◌++◌, length, slice_index_or, if◌then◌else◌, Contains}
+use Rattle.std.specs.Prelude.{◌≡◌, ℕ, zero, suc, ◌<◌, ◌⊎◌, ◌↔◌, true, List, [], ◌∷◌, ◌++◌, length, slice_index_or, if◌then◌else◌, Contains, flat_map}
 use Rattle.std.specs.List.{list_any}
 use Rattle.std.proofs.Common.{refl, sym, subst, arith}
 use mathlib.Core.Logic.{inl, inr}
 use Rattle.std.proofs.lemmas.Bool.{cases_Bool, cond-true, cond-false, and_parts}
 use Rattle.std.proofs.lemmas.Slice.Eq.{bytes_eq-Decides}
-use Rattle.std.proofs.lemmas.List.Elements.{Contains-append_left, Contains-push, Contains-push_cases}
+use Rattle.std.proofs.lemmas.List.Elements.{Contains-append_left, Contains-append_right, Contains-append_cases, Contains-push, Contains-push_cases}
 use Rattle.std.proofs.lemmas.Map.Views.{Contains-from_any}
 use Rattle.layout_spec.specs.declared.Need.{Need}
 use Rattle.layout_spec.specs.Needs.{is_need, counted_onto, counted}
@@ -26,6 +26,29 @@ module _ {A : Type 0} where
 
   pub contains_none : (x : A) → Contains [] x → ⊥
   contains_none x c = let below = c.1 in absurd (omega arith)
+
+-- in a list that is put together from lists
+module _ {A B : Type 0} (f : A → List B) where
+  pub contains_flat : (x : A) (y : B) (xs : List A) → Contains xs x → Contains (f x) y → Contains (flat_map f xs) y
+  contains_flat x y [] c d = absurd (contains_none x c)
+  contains_flat x y (first ∷ xs) c d =
+      elim (contains_cases x first xs c) [
+        | inl same ↦ Contains-append_left (f first) (flat_map f xs) y (subst (λ z. Contains (f z) y) (sym same) d)
+        | inr later ↦ Contains-append_right (f first) (flat_map f xs) y (contains_flat x y xs later d)
+      ]
+
+  pub record FlatFrom (xs : List A) (y : B) : Type 0 where
+    pub item : A
+    pub is_item : Contains xs item
+    pub holds : Contains (f item) y
+
+  pub flat_from : (y : B) (xs : List A) → Contains (flat_map f xs) y → FlatFrom xs y
+  flat_from y [] c = absurd (contains_none y c)
+  flat_from y (first ∷ xs) c =
+      elim (Contains-append_cases (f first) (flat_map f xs) y c) [
+        | inl here ↦ record { item = first; is_item = contains_here first xs; holds = here }
+        | inr later ↦ let found = flat_from y xs later in record { item = found.item; is_item = contains_there found.item first xs found.is_item; holds = found.holds }
+      ]
 
 pub same_need : (one other : Need) → one.referrer ≡ other.referrer → one.asked ≡ other.asked → one.target ≡ other.target → one ≡ other
 same_need one other r a t = λ i. record { referrer = r i; asked = a i; target = t i }

@@ -5,6 +5,8 @@ use Rattle.std.proofs.Common.{refl, sym, ap, ◌∙◌, subst}
 use mathlib.Core.Logic.{inl, inr}
 use Rattle.std.proofs.lemmas.Bool.{cases_Bool, cond-true, cond-false, true≢false}
 use Rattle.std.proofs.lemmas.Slice.Eq.{bytes_eq-Decides}
+use Rattle.url_spec.specs.Parsing.{IsUrl}
+use Rattle.import_map_spec.specs.Parsing.{ends_in_slash}
 use Rattle.import_map_spec.specs.ParsedMap.{Texts, Addresses, ParsedMap}
 use Rattle.import_map_spec.specs.Entries.{same_key, same_key_is, same_key_itself, get_inserted, get_nowhere}
 use Rattle.layout_spec.specs.declared.Need.{Need}
@@ -41,6 +43,14 @@ pub record Lays (needs : List Need) (m : ParsedMap) : Type 0 where
   pub holds : (need : Need) → Contains needs need → WantsMapping need → mapped m.scopes need.referrer need.asked ≡ Some (Some need.target)
   pub only : (referrer asked : List ℕ) (address : Option (List ℕ)) → mapped m.scopes referrer asked ≡ Some address → (need : Need) × StandsFor needs referrer asked address need
   pub scopes : (referrer : List ℕ) (scope : Addresses) → get m.scopes referrer ≡ Some scope → (need : Need) × ScopesFor needs referrer need
+
+-- own: the texts of a need are those of URLs, and neither its referrer nor what it asks for is a folder
+pub record NamesFiles (need : Need) : Type 0 where
+  pub referrer : IsUrl need.referrer
+  pub asked : IsUrl need.asked
+  pub target : IsUrl need.target
+  pub referrer_is_file : ends_in_slash need.referrer ≡ false
+  pub asked_is_file : ends_in_slash need.asked ≡ false
 
 -- ---- one need more
 
