@@ -1,6 +1,6 @@
 -- Needs: what a map has to serve. A need is a referrer's web name, a normalized specifier, and the web name of what it
 -- must lead to.
-use Rattle.std.specs.Prelude.{◌≡◌, Bool, List, [], ◌∷◌, ◌++◌, ◌&&◌, bytes_eq, if◌then◌else◌, Contains}
+use Rattle.std.specs.Prelude.{◌≡◌, ℕ, Bool, List, [], ◌∷◌, ◌++◌, ◌&&◌, bytes_eq, if◌then◌else◌, Contains}
 use Rattle.std.specs.List.{list_any}
 use Rattle.layout_spec.specs.declared.Need.{Need}
 
