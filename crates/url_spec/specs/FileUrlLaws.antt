@@ -48,7 +48,7 @@ pub escaped-append : (xs ys : List ℕ) → escaped (xs ++ ys) ≡ escaped xs ++
 unfolding escaped
 escaped-append xs ys = flat_map-append escaped_byte xs ys
 
-All_escaped : (P Q : ℕ → Type 0) (bs : List ℕ) → All Q bs → ((b : ℕ) → Q b → is_plain b ≡ true → P b) → ((b : ℕ) → IsEscapeByte b → P b) → All P (escaped bs)
+pub All_escaped : (P Q : ℕ → Type 0) (bs : List ℕ) → All Q bs → ((b : ℕ) → Q b → is_plain b ≡ true → P b) → ((b : ℕ) → IsEscapeByte b → P b) → All P (escaped bs)
 unfolding escaped
 All_escaped P Q [] all plain escape = All-nil P
 All_escaped P Q (b ∷ bs) all plain escape =

@@ -6,4 +6,5 @@ pub mod UrlLaws
 pub mod FileUrlLaws
 pub mod AgainstLaws
 pub mod OwnTexts
+pub mod FileNames
 pub mod Examples

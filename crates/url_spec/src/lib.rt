@@ -4,6 +4,7 @@
 
 ghost use Rattle.url_spec.specs.AgainstLaws.{SameAgainst};
 ghost use Rattle.url_spec.specs.Examples.{WorkedExamples};
+ghost use Rattle.url_spec.specs.FileNames.{FilesEndInNoSlash};
 ghost use Rattle.url_spec.specs.FileUrlLaws.{FileUrls};
 ghost use Rattle.url_spec.specs.OwnTexts.{AsciiUrls, KeptWhole};
 ghost use Rattle.url_spec.specs.UrlLaws.{KeptUrls, NoUrls, OwnUrls, BasesStay, OneServed, OnePlace};
@@ -50,6 +51,12 @@ pub fn urls_against()
 #[tactic(auto, using(crate::specs::UrlLaws::bases_stay))]
 pub fn bases_stay()
     ensures { BasesStay }
+{}
+
+/// The web name of a path without a suffix ends in no `/` where the path is served at it and isn't
+/// the root.
+pub fn files_end_in_no_slash()
+    ensures { FilesEndInNoSlash }
 {}
 
 /// At most one path is served at a URL.
