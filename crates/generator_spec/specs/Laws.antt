@@ -24,7 +24,7 @@ one_asks tree config referrer some other (requests asker bytes a file reads) (re
     let same : bytes ≡ others = (let e = file.stored in let f = file_too.stored in cc) in
     one_reading bytes a b reads.plain (subst (λ t. IsPlain t b) (sym same) reads_too.plain)
 
-same_module : (some other : Module) → some.path ≡ other.path → some.suffix ≡ other.suffix → some ≡ other
+pub same_module : (some other : Module) → some.path ≡ other.path → some.suffix ≡ other.suffix → some ≡ other
 same_module some other p s = λ i. record { path = p i; suffix = s i }
 
 same_need : (some other : Need) → some.referrer ≡ other.referrer → some.asked ≡ other.asked → some.target ≡ other.target → some ≡ other

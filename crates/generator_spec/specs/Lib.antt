@@ -4,3 +4,4 @@ pub mod Generation
 pub mod Headline
 pub mod Laws
 pub mod Closed
+pub mod Reaching

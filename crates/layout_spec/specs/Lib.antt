@@ -1,2 +1,4 @@
 pub mod Needs
 pub mod Layout
+pub mod Contained
+pub mod Lays

@@ -1,6 +1,9 @@
 //! Needs and the layout that serves them: definitions and their laws.
 #![tactic(auto)]
 
+ghost use Rattle.layout_spec.specs.Contained.{CountedKeeps};
+ghost use Rattle.layout_spec.specs.Lays.{LayoutLays};
+
 use primitives::Text;
 
 /// A need: what a map has to serve.
@@ -13,3 +16,15 @@ pub struct Need {
     /// The web name of what the specifier must lead to.
     pub target: Text,
 }
+
+/// To count each need once leaves out none and adds none.
+pub fn counted_keeps()
+    ensures { CountedKeeps }
+{}
+
+/// The layout of needs of which no two clash has the mappings that they want, each in the scope of its referrer, and
+/// nothing else.
+#[tactic(auto, using(crate::specs::Lays::layout_lays))]
+pub fn layout_lays()
+    ensures { LayoutLays }
+{}

@@ -19,7 +19,7 @@ use Rattle.std.specs.List.{concat}
 use Rattle.url.proofs.InputLemmas.{IsNot, Passes, filter_all}
 use Rattle.url.proofs.SchemeLemmas.{scheme_bytes, scheme_at_front, file_from_scheme_type, file_from_is_file}
 use Rattle.url.proofs.RoundTrip.{split_own_scheme}
-use Rattle.url_spec.specs.Parsing.{text_of, url_text, is_text, kept, parse_alone, parse_onto, parse_against, IsUrl}
+use Rattle.url_spec.specs.Parsing.{text_of, url_text, is_own_text, kept, parse_alone, parse_onto, parse_against, IsUrl}
 
 -- ---- a special URL has its scheme and a host
 
@@ -263,7 +263,7 @@ pub record IsParsed (text : List ℕ) (r : Parsed Parts) : Type 0 where
   pub own : text_of url ≡ text
 
 kept_parsed : (text : List ℕ) (r : Parsed Parts) → kept (url_text r) ≡ Some text → IsParsed text r
-kept_parsed text (Ok url) e = record { url = url; parsed = refl; own = (cond_some (is_text (text_of url) (url_text (parse_url None (text_of url)))) (text_of url) text e).1 }
+kept_parsed text (Ok url) e = record { url = url; parsed = refl; own = (cond_some (is_own_text (text_of url)) (text_of url) text e).1 }
 kept_parsed text (Err fault) e = absurd (cc)
 
 pub url_parsed : (text : List ℕ) → IsUrl text → IsParsed text (parse_url None text)

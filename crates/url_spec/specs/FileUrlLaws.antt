@@ -1,5 +1,5 @@
 -- The URL of a path is a URL, without a host, and its path is the escaped path.
-use Rattle.std.proofs.Common.{◌≡◌, ◌≢◌, ℕ, suc, ◌<◌, ◌≤◌, ◌/◌, ◌%◌, Bool, true, false, not, cond, ◌==◌, ◌&&◌, ◌||◌, List, [], ◌∷◌, ◌++◌, length, take, drop, codes, Some, None, All, sym, refl, ap, ◌∙◌, subst, inl, ⊎_elim, append-nil, arith}
+use Rattle.std.proofs.Common.{◌≡◌, IsAscii, ◌≢◌, ℕ, suc, ◌<◌, ◌≤◌, ◌/◌, ◌%◌, Bool, true, false, not, cond, ◌==◌, ◌&&◌, ◌||◌, List, [], ◌∷◌, ◌++◌, length, take, drop, codes, Some, None, All, sym, refl, ap, ◌∙◌, subst, inl, ⊎_elim, append-nil, arith}
 use Rattle.std.specs.Prelude.{bytes_eq, slice_index, if◌then◌else◌, Ok}
 use Rattle.std.specs.Fmt.{digit_glyph}
 use Rattle.std.proofs.lemmas.Bool.{cond-true, cond-false, cases_Bool, cases_eq, cases_lt, true≢false, eqb-true, ne_eqb, and_parts, or_cases}
@@ -23,9 +23,9 @@ use Rattle.url.proofs.SetterLemmas.{empty_domain}
 use Rattle.url.proofs.Theorems.{parse_url-serialize}
 use Rattle.tree_spec.specs.Paths.{IsPath, HasDepth, root, child, IsSegment as IsName}
 use Rattle.std.specs.Result.{result_ok}
-use Rattle.std.proofs.lemmas.Slice.Eq.{bytes_eq-Decides}
-use Rattle.url_spec.specs.Parsing.{text_of, is_text, url_text, IsUrl}
-use Rattle.url_spec.specs.UrlLaws.{url_from_test}
+use Rattle.url_spec.specs.Parsing.{text_of, url_text, IsUrl}
+use Rattle.url_spec.specs.OwnTexts.{url_from_parse}
+use Rattle.url.proofs.ValidLemmas.{IsAscii-serialize}
 use Rattle.url_spec.specs.WebNames.{is_plain, escaped}
 use Rattle.url_spec.specs.FileUrls.{file_text, with_host, names_host, path_or_empty, url_path}
 
@@ -48,7 +48,7 @@ pub escaped-append : (xs ys : List ℕ) → escaped (xs ++ ys) ≡ escaped xs ++
 unfolding escaped
 escaped-append xs ys = flat_map-append escaped_byte xs ys
 
-All_escaped : (P Q : ℕ → Type 0) (bs : List ℕ) → All Q bs → ((b : ℕ) → Q b → is_plain b ≡ true → P b) → ((b : ℕ) → IsEscapeByte b → P b) → All P (escaped bs)
+pub All_escaped : (P Q : ℕ → Type 0) (bs : List ℕ) → All Q bs → ((b : ℕ) → Q b → is_plain b ≡ true → P b) → ((b : ℕ) → IsEscapeByte b → P b) → All P (escaped bs)
 unfolding escaped
 All_escaped P Q [] all plain escape = All-nil P
 All_escaped P Q (b ∷ bs) all plain escape =
@@ -262,26 +262,35 @@ begins_some _ _ (root text e) none = absurd (cc (e, none))
 begins_some _ _ (child depth deeper parent name text up is next e) none =
     absurd (omega (arith, ap length e, ap length none, length-append (if bytes_eq parent (codes "/") then [] else parent) (47 ∷ name)))
 
+file_path_valid : (path : List ℕ) (folder : Bool) → IsPath path → All (λ b. b < 256) path → IsValid (file_parts (escaped path ++ folder_slash path folder))
+file_path_valid path folder is small =
+    let end = folder_slash path folder in
+    let segments = ended (escaped path) (folder && not (bytes_eq path (codes "/"))) (path_segments is.depth path is.segments small) in
+    file_valid (escaped path ++ end) segments (omega (arith, length-append (escaped path) end, some_escaped path (begins_some is.depth path is.segments)))
+
 file_path_parsed : (path : List ℕ) (folder : Bool) → IsPath path → All (λ b. b < 256) path → parse_url None (file_text path folder) ≡ Ok (file_parts (escaped path ++ folder_slash path folder))
 unfolding file_text
 file_path_parsed path folder is small =
     let end = folder_slash path folder in
-    let segments = ended (escaped path) (folder && not (bytes_eq path (codes "/"))) (path_segments is.depth path is.segments small) in
     let no_bar = All-append (λ b. b ≢ 124) (escaped path) end (All_escaped (λ b. b ≢ 124) (λ b. b < 256) path small (λ b _. plain_no_bar b) escape_no_bar) (slash_no_bar _) in
-    let valid = file_valid (escaped path ++ end) segments (omega (arith, length-append (escaped path) end, some_escaped path (begins_some is.depth path is.segments))) in
-    ap (parse_url None) (sym (file_serialized (escaped path ++ end))) ∙ parse_url-serialize (file_parts (escaped path ++ end)) None valid (file_canonical (escaped path ++ end) no_bar)
+    ap (parse_url None) (sym (file_serialized (escaped path ++ end))) ∙ parse_url-serialize (file_parts (escaped path ++ end)) None (file_path_valid path folder is small) (file_canonical (escaped path ++ end) no_bar)
+
+file_path_ascii : (path : List ℕ) (folder : Bool) → IsPath path → All (λ b. b < 256) path → IsAscii (file_text path folder)
+unfolding file_text
+file_path_ascii path folder is small =
+    subst IsAscii (file_serialized (escaped path ++ folder_slash path folder)) (IsAscii-serialize (file_parts (escaped path ++ folder_slash path folder)) (file_path_valid path folder is small))
 
 abbrev pub FileUrls : Type 0
 FileUrls = (path : List ℕ) (folder : Bool) → IsPath path → All (λ b. b < 256) path → IsUrl (file_text path folder) × (names_host (file_text path folder) ≡ false) × (file_text path folder ≡ codes "file://" ++ url_path (file_text path folder))
 
-file_is_url : (text : List ℕ) (path : List ℕ) → text ≡ codes "file://" ++ path → parse_url None text ≡ Ok (file_parts path) → IsUrl text × (names_host text ≡ false) × (text ≡ codes "file://" ++ url_path text)
+file_is_url : (text : List ℕ) (path : List ℕ) → IsAscii text → text ≡ codes "file://" ++ path → parse_url None text ≡ Ok (file_parts path) → IsUrl text × (names_host text ≡ false) × (text ≡ codes "file://" ++ url_path text)
 unfolding text_of file_parts names_host url_path
-file_is_url text path e parsed = (
-  url_from_test text (ap (λ found. is_text text (url_text found)) parsed ∙ (bytes_eq-Decides text (text_of (file_parts path))).1 (e ∙ sym (file_serialized path))),
+file_is_url text path ascii e parsed = (
+  url_from_parse text ascii (ap url_text parsed ∙ ap Some (file_serialized path ∙ sym e)),
   ap (λ found. with_host (result_ok found)) parsed,
   e ∙ ap (λ p. codes "file://" ++ p) (sym (ap (λ found. path_or_empty (result_ok found)) parsed)),
 )
 
 pub file_urls : FileUrls
 unfolding file_text
-file_urls path folder is small = file_is_url (file_text path folder) (escaped path ++ folder_slash path folder) refl (file_path_parsed path folder is small)
+file_urls path folder is small = file_is_url (file_text path folder) (escaped path ++ folder_slash path folder) (file_path_ascii path folder is small) refl (file_path_parsed path folder is small)

@@ -5,4 +5,6 @@ pub mod FileUrls
 pub mod UrlLaws
 pub mod FileUrlLaws
 pub mod AgainstLaws
+pub mod OwnTexts
+pub mod FileNames
 pub mod Examples

@@ -1,6 +1,7 @@
 -- URLs by their texts: parsing with and without a base, as the URL Standard has it.
 use Rattle.std.specs.Prelude.{◌≡◌, ◌&&◌, ◌||◌, not, nat_eq, ℕ, Bool, false, List, codes, bytes_eq, Option, Some, None, is_some, Ok, Err, if◌then◌else◌}
-use Rattle.std.specs.List.{ends_with}
+use Rattle.std.specs.Char.{is_ascii}
+use Rattle.std.specs.List.{ends_with, list_all}
 use Rattle.std.specs.Result.{result_ok}
 use Rattle.url.specs.Parts.{Parts, kind_of, serialize, has_credentials}
 use Rattle.url.specs.Parser.{Parsed, parse_url}
@@ -20,10 +21,14 @@ abbrev pub is_text : List ℕ → Option (List ℕ) → Bool
 is_text text None = false
 is_text text (Some other) = bytes_eq text other
 
--- own: a URL counts where its text parses back to that text, as the text of each URL does
+-- the text is ASCII and parses back to itself
+abbrev pub is_own_text : List ℕ → Bool
+is_own_text text = list_all is_ascii text && is_text text (url_text (parse_url None text))
+
+-- own: a URL counts where its text is ASCII and parses back to that text, as the text of each URL does
 abbrev pub kept : Option (List ℕ) → Option (List ℕ)
 kept None = None
-kept (Some text) = if is_text text (url_text (parse_url None text)) then Some text else None
+kept (Some text) = if is_own_text text then Some text else None
 
 -- the URL of a text without a base (URL Standard, URL parsing)
 unfoldable pub parse_alone : List ℕ → Option (List ℕ)

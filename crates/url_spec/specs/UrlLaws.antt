@@ -2,7 +2,7 @@
 use Rattle.std.proofs.Common.{◌≡◌, ℕ, zero, suc, Bool, true, false, ◌==◌, List, [], ◌∷◌, ◌++◌, take, drop, Option, Some, None, sym, refl, ap, ◌∙◌, subst, ⊎_elim}
 use Rattle.std.specs.Prelude.{not, filter, flat_map, Ok, Err, MatchOption}
 use Rattle.std.specs.Char.{is_ascii_alphabetic}
-use Rattle.std.proofs.lemmas.Bool.{cond-true, cond-false, cases_Bool, true≢false, eqb-true}
+use Rattle.std.proofs.lemmas.Bool.{cond-true, cond-false, cases_Bool, true≢false, eqb-true, and_parts}
 use Rattle.std.proofs.lemmas.List.{append_cancel_left}
 use Rattle.std.proofs.lemmas.Slice.Eq.{bytes_eq-Decides}
 use Rattle.url.specs.declared.error.ParseError.TheVariants.{RelativeUrlWithoutBase}
@@ -10,33 +10,33 @@ use Rattle.url.specs.Input.{trim_c0_control_and_space, strip_tabs_and_new_lines,
 use Rattle.url.specs.Scheme.{scheme_len}
 use Rattle.url.specs.Parts.{Parts}
 use Rattle.url.specs.Parser.{Parsed, split_scheme, parse_url}
-use Rattle.url_spec.specs.Parsing.{url_text, is_text, kept, parse_alone, parse_onto, parse_against, IsUrl, parts_of, is_web_folder, folder_url, base_of, IsBase}
+use Rattle.url_spec.specs.Parsing.{url_text, is_text, is_own_text, kept, parse_alone, parse_onto, parse_against, IsUrl, parts_of, is_web_folder, folder_url, base_of, IsBase}
 use Rattle.url_spec.specs.Specifiers.{is_relative, as_url}
 use Rattle.url_spec.specs.WebNames.{escaped, web, read_segment, segments, IsServed}
 use Rattle.url_spec.specs.FileUrls.{url_path, NamesPath, IsPlace}
 
--- ---- what is kept parses to itself
+-- ---- what is kept is ASCII and parses to itself
 
 abbrev pub KeptUrls : Type 0
 KeptUrls =
     ((text url : List ℕ) → parse_alone text ≡ Some url → IsUrl url) × ((base text url : List ℕ) → parse_against base text ≡ Some url → IsUrl url)
     × ((base path suffix url : List ℕ) → web base path suffix ≡ Some url → IsUrl url)
 
-kept_some : (found : Option (List ℕ)) (url : List ℕ) → kept found ≡ Some url → is_text url (url_text (parse_url None url)) ≡ true
+pub kept_some : (found : Option (List ℕ)) (url : List ℕ) → kept found ≡ Some url → is_own_text url ≡ true
 kept_some None url e = absurd (cc)
 kept_some (Some text) url e =
     ⊎_elim
-    (λ yes. let same : text ≡ url = cc (cond-true (is_text text (url_text (parse_url None text))) (Some text) None yes) in subst (λ t. is_text t (url_text (parse_url None t)) ≡ true) same yes)
-    (λ no_text. absurd (cc (cond-false (is_text text (url_text (parse_url None text))) (Some text) None no_text)))
-    (cases_Bool (is_text text (url_text (parse_url None text))))
+    (λ yes. let same : text ≡ url = cc (cond-true (is_own_text text) (Some text) None yes) in subst (λ t. is_own_text t ≡ true) same yes)
+    (λ other. absurd (cc (cond-false (is_own_text text) (Some text) None other)))
+    (cases_Bool (is_own_text text))
 
 same_text : (url : List ℕ) (found : Option (List ℕ)) → is_text url found ≡ true → found ≡ Some url
 same_text url None e = absurd (true≢false (sym e))
 same_text url (Some other) e = ap Some (sym ((bytes_eq-Decides url other).0 e))
 
-pub url_from_test : (url : List ℕ) → is_text url (url_text (parse_url None url)) ≡ true → IsUrl url
+pub url_from_test : (url : List ℕ) → is_own_text url ≡ true → IsUrl url
 unfolding parse_alone
-url_from_test url e = ap kept (same_text url (url_text (parse_url None url)) e) ∙ cond-true _ _ _ e
+url_from_test url e = ap kept (same_text url (url_text (parse_url None url)) (and_parts _ _ e).1) ∙ cond-true _ _ _ e
 
 alone_kept : (text url : List ℕ) → parse_alone text ≡ Some url → IsUrl url
 unfolding parse_alone

@@ -4,13 +4,28 @@
 
 ghost use Rattle.url_spec.specs.AgainstLaws.{SameAgainst};
 ghost use Rattle.url_spec.specs.Examples.{WorkedExamples};
+ghost use Rattle.url_spec.specs.FileNames.{FilesEndInNoSlash};
 ghost use Rattle.url_spec.specs.FileUrlLaws.{FileUrls};
+ghost use Rattle.url_spec.specs.OwnTexts.{AsciiUrls, KeptWhole};
 ghost use Rattle.url_spec.specs.UrlLaws.{KeptUrls, NoUrls, OwnUrls, BasesStay, OneServed, OnePlace};
 
 /// What parsing gives, with or without a base, is the text of a URL, and so is a web name.
 #[tactic(auto, using(crate::specs::UrlLaws::kept_urls))]
 pub fn kept_urls()
     ensures { KeptUrls }
+{}
+
+/// The text of a URL is ASCII.
+#[tactic(auto, using(crate::specs::OwnTexts::ascii_urls))]
+pub fn ascii_urls()
+    ensures { AsciiUrls }
+{}
+
+/// Each valid URL that the parser gives counts, with or without a base: its text is ASCII and
+/// parses to it.
+#[tactic(auto, using(crate::specs::OwnTexts::kept_whole))]
+pub fn kept_whole()
+    ensures { KeptWhole }
 {}
 
 /// A text that is empty, or that begins with `/`, `.`, a digit or any other visible byte that is no
@@ -36,6 +51,12 @@ pub fn urls_against()
 #[tactic(auto, using(crate::specs::UrlLaws::bases_stay))]
 pub fn bases_stay()
     ensures { BasesStay }
+{}
+
+/// The web name of a path without a suffix ends in no `/` where the path is served at it and isn't
+/// the root.
+pub fn files_end_in_no_slash()
+    ensures { FilesEndInNoSlash }
 {}
 
 /// At most one path is served at a URL.

@@ -1,6 +1,11 @@
 -- Web names and the paths that are served.
-use Rattle.std.proofs.Common.{◌≡◌, ◌++◌, ◌∷◌, [], List, ℕ, Bool, true, false, drop, sym, refl, ap, ◌∙◌, subst, cond, append_assoc}
-use Rattle.std.specs.Prelude.{codes, bytes_eq}
+use Rattle.std.proofs.Common.{◌≡◌, ◌≢◌, ◌<◌, All, None, arith, ◌++◌, ◌∷◌, [], List, ℕ, Bool, true, false, drop, sym, refl, ap, ◌∙◌, subst, cond, append_assoc}
+use Rattle.std.specs.Prelude.{codes, bytes_eq, nat_eq}
+use Rattle.std.specs.List.{ends_with}
+use Rattle.std.proofs.lemmas.List.Elements.{All-cons}
+use Rattle.url.specs.Parser.{parse_url}
+use Rattle.url_spec.specs.FileNames.{files_end_in_no_slash}
+use Rattle.web_url.specs.Written.{IsParsedAs}
 use Rattle.std.specs.Prelude.{flat_map, IsUtf8}
 use Rattle.std.proofs.lemmas.Bool.{true≢false}
 use Rattle.std.proofs.lemmas.List.{append_cancel_left}
@@ -41,6 +46,17 @@ web_text_is base path rest suffix start middle whole path_is start_is middle_is 
     let dropped = root_dropped path rest path_is in
     let regrouped = append_assoc base (escaped rest) suffix in
     cc
+
+-- a path's bytes are those behind its `/`
+pub path_bytes : (path rest : List ℕ) → path ≡ 47 ∷ rest → All (λ b. b < 256) rest → All (λ b. b < 256) path
+path_bytes path rest e small = subst (All (λ b. b < 256)) (sym e) (All-cons (λ b. b < 256) 47 rest (omega arith) small)
+
+-- the web name of a file ends in no `/`
+pub file_named : (base path suffix text url : List ℕ) → text ≡ base ++ (drop 1 (escaped path) ++ suffix) → IsParsedAs text url → All (λ b. b < 256) path → IsServed base url path → suffix ≡ [] → path ≢ codes "/" → ends_with nat_eq url (codes "/") ≡ false
+file_named base path suffix text url is parsed small served no_suffix not_root =
+    let whole : text ≡ base ++ (drop 1 (escaped path) ++ []) = is ∙ ap (λ s. base ++ (drop 1 (escaped path) ++ s)) no_suffix in
+    subst (λ u. ends_with nat_eq u (codes "/") ≡ false) parsed.own
+    (files_end_in_no_slash base path parsed.parts (ap (parse_url None) (sym whole) ∙ parsed.is.parsed) parsed.is.valid small (subst (λ u. IsServed base u path) (sym parsed.own) served) not_root)
 
 -- ---- what is spelled and what is served
 

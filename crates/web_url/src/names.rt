@@ -1,5 +1,6 @@
 //! Web names of paths, and the paths that are served at URLs.
-ghost use Rattle.std.specs.Prelude.{◌≡◌, ◌↔◌, ◌++◌, ◌∷◌, List, ℕ, drop, flat_map, codes, string_bytes, IfOk, IfErr, IsTrue, MatchOption, Some, None, IsAscii, true};
+ghost use Rattle.std.specs.Prelude.{◌≡◌, ◌≢◌, ◌<◌, ◌↔◌, ◌++◌, ◌∷◌, [], List, ℕ, All, nat_eq, false, drop, flat_map, codes, string_bytes, IfOk, IfErr, IsTrue, MatchOption, Some, None, IsAscii, true};
+ghost use Rattle.std.specs.List.{ends_with};
 ghost use Rattle.url_spec.specs.WebNames.{escaped, web, before_suffix, holds_escape, read_segment, segments, IsServed};
 ghost use Rattle.web_url.specs.Serving.{SpellsBelow, IsUnservable};
 
@@ -35,6 +36,7 @@ impl From<AllocError> for WebFault {
 /// The web name of a module: its path and its suffix.
 pub fn web_of(alloc: Global, base: &Base, path: &Path, suffix: &Suffix) -> Result<WebUrl, WebFault>
     ensures url { IfOk result (λ url. (web base.now path.now suffix.now ≡ Some url) × IsServed base.now url path.now) }
+    ensures file { IfOk result (λ url. suffix.now ≡ [] → path.now ≢ codes "/" → ends_with nat_eq url (codes "/") ≡ false) }
     ensures fault { IfErr result (IsUnservable base.now path.now suffix.now) }
 {
     let text = web_text(alloc, base, path, suffix)?;
@@ -61,7 +63,8 @@ pub fn served(alloc: Global, base: &Base, url: &WebUrl) -> Result<Option<Path>, 
 }
 
 fn web_text(alloc: Global, base: &Base, path: &Path, suffix: &Suffix) -> Result<String, Memory>
-    ensures { IfOk result (λ text. string_bytes text ≡ base.now ++ (drop 1 (escaped path.now) ++ suffix.now)) }
+    ensures text { IfOk result (λ text. string_bytes text ≡ base.now ++ (drop 1 (escaped path.now) ++ suffix.now)) }
+    ensures bytes { IfOk result (λ _. All (λ b. b < 256) path.now) }
 {
     let mut text = String::from_str(alloc, base.as_str())?;
     push_escaped(&mut text, below_root(path))?;

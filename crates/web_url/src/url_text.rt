@@ -1,7 +1,7 @@
 //! Parsing and joining, with the kit's errors sorted: no URL, or want of memory.
-ghost use Rattle.std.specs.Prelude.{◌≡◌, None, Some, IfOk, MatchOption};
+ghost use Rattle.std.specs.Prelude.{◌≡◌, None, Some, IfOk, IfSome, MatchOption};
 ghost use Rattle.url_spec.specs.Parsing.{text_of, parse_alone, parse_against};
-ghost use Rattle.web_url.specs.Written.{IsWritten};
+ghost use Rattle.web_url.specs.Written.{IsWritten, IsParsed};
 
 use primitives::Memory;
 use std::alloc::{AllocError, Global};
@@ -11,6 +11,7 @@ use url::{ParseError, Url};
 #[tactic(auto, using(crate::proofs::UrlTexts::parsing))]
 pub fn parse(alloc: Global, text: &str) -> Result<Option<Url>, Memory>
     ensures written { IfOk result (λ found. MatchOption found (parse_alone text.now ≡ None) (λ url. (parse_alone text.now ≡ Some (text_of url)) × IsWritten url)) }
+    ensures valid { IfOk result (λ found. IfSome found (IsParsed text.now)) }
 {
     match Url::parse(alloc, text) {
         Ok(url) => {

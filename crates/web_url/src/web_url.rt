@@ -1,5 +1,6 @@
-ghost use Rattle.std.specs.Prelude.{◌≡◌, IfOk, IsAscii};
+ghost use Rattle.std.specs.Prelude.{◌≡◌, IfOk, IfSome, IsAscii};
 ghost use Rattle.url_spec.specs.Parsing.{parse_alone, parse_against, has_special_scheme, IsUrl};
+ghost use Rattle.web_url.specs.Written.{IsParsedAs};
 
 use crate::url_text;
 use primitives::{Memory, Text};
@@ -30,7 +31,8 @@ impl Model for WebUrl {
 impl WebUrl {
     /// The URL of a text without a base.
     pub fn parse(alloc: Global, text: &str) -> Result<Option<WebUrl>, Memory>
-        ensures { IfOk result (λ found. found ≡ parse_alone text.now) }
+        ensures url { IfOk result (λ found. found ≡ parse_alone text.now) }
+        ensures valid { IfOk result (λ found. IfSome found (IsParsedAs text.now)) }
     {
         match url_text::parse(alloc, text)? {
             Some(url) => Ok(Some(WebUrl { url })),

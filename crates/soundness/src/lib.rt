@@ -1,0 +1,11 @@
+//! The promise of a generated map: the theorem that joins Node's resolution and HTML's. It is a
+//! law of definitions alone; the code owes nothing but to give what generation is defined to give.
+#![tactic(auto)]
+
+ghost use Rattle.soundness.specs.Soundness.{Soundness};
+
+/// Wherever generation gives a map's text, this text serves: through it every request of the page
+/// and of each module that the page reaches leads to exactly the file that Node's resolver gives.
+pub fn map_is_sound()
+    ensures { Soundness }
+{}
