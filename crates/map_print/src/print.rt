@@ -1,6 +1,13 @@
-ghost use Rattle.std.specs.Prelude.{◌<◌};
+ghost use Rattle.std.specs.Prelude.{◌≡◌, ◌<◌, ◌∷◌, ◌++◌, IfOk, OnOk, codes};
+ghost use Rattle.json_spec.specs.Printed.{quoted};
+ghost use Rattle.json_spec.specs.Value.{a_text, an_object, no_members};
+ghost use Rattle.json_spec.specs.PrintedValue.{line, printed, printed_members, printed_text};
+ghost use Rattle.import_map_spec.specs.ParsedMap.{ParsedMap};
+ghost use Rattle.import_map_spec.specs.Printing.{members_of, with_part, map_text};
+ghost use Rattle.map_print.specs.Lists.{Lists, mappings_value, layout_value};
+ghost use Rattle.map_print.specs.Appending.{Appends};
 
-use crate::{Keyed, Layout, Mappings, print_text};
+use crate::{Layout, Mappings, print_text};
 use primitives::{Memory, Text};
 use std::alloc::{AllocError, Global};
 
@@ -27,17 +34,27 @@ pub fn print_map(
     alloc: Global,
     layout: &Layout,
     integrity: &Mappings,
-) -> Result<Vec<u8>, PrintFault> {
+) -> Result<Vec<u8>, PrintFault>
+    ensures { IfOk result (λ bytes. (m : ParsedMap) → Lists layout.now integrity.now m → bytes.items ≡ map_text m) }
+{
     let mut out = Vec::new(alloc);
-    out.extend_from_slice(b"{\n  \"imports\": ".as_slice())?;
-    push_mappings(&mut out, 1, layout.imports.as_slice())?;
-    push_scopes_member(&mut out, layout.scopes.as_slice())?;
-    push_integrity_member(&mut out, integrity.as_slice())?;
-    out.extend_from_slice(b"\n}\n".as_slice())?;
+    push_map(&mut out, layout, integrity)?;
     Ok(out)
 }
 
-fn push_scopes_member(out: &mut Vec<u8>, scopes: &[(Text, Mappings)]) -> Result<(), Memory> {
+fn push_map(out: &mut Vec<u8>, layout: &Layout, integrity: &Mappings) -> Result<(), Memory>
+    ensures { OnOk result (Appends out.old.items out.new.items (λ rest. printed 0 (layout_value layout.now integrity.now) (10 ∷ rest))) }
+{
+    out.extend_from_slice(b"{\n  \"imports\": ".as_slice())?;
+    push_mappings(out, 1, layout.imports.as_slice())?;
+    push_scopes_member(out, layout.scopes.as_slice())?;
+    push_integrity_member(out, integrity.as_slice())?;
+    out.extend_from_slice(b"\n}\n".as_slice())
+}
+
+fn push_scopes_member(out: &mut Vec<u8>, scopes: &[(Text, Mappings)]) -> Result<(), Memory>
+    ensures { OnOk result (Appends out.old.items out.new.items (printed_members 1 (with_part (codes "scopes") (members_of mappings_value scopes.now) no_members))) }
+{
     if scopes.is_empty() {
         return Ok(());
     }
@@ -45,7 +62,9 @@ fn push_scopes_member(out: &mut Vec<u8>, scopes: &[(Text, Mappings)]) -> Result<
     push_scopes(out, scopes)
 }
 
-fn push_integrity_member(out: &mut Vec<u8>, pairs: &[(Text, Text)]) -> Result<(), Memory> {
+fn push_integrity_member(out: &mut Vec<u8>, pairs: &[(Text, Text)]) -> Result<(), Memory>
+    ensures { OnOk result (Appends out.old.items out.new.items (printed_members 1 (with_part (codes "integrity") (members_of a_text pairs.now) no_members))) }
+{
     if pairs.is_empty() {
         return Ok(());
     }
@@ -53,20 +72,32 @@ fn push_integrity_member(out: &mut Vec<u8>, pairs: &[(Text, Text)]) -> Result<()
     push_mappings(out, 1, pairs)
 }
 
-fn push_scopes(out: &mut Vec<u8>, scopes: &[(Text, Mappings)]) -> Result<(), Memory> {
+fn push_scopes(out: &mut Vec<u8>, scopes: &[(Text, Mappings)]) -> Result<(), Memory>
+    ensures { OnOk result (Appends out.old.items out.new.items (printed 1 (an_object (members_of mappings_value scopes.now)))) }
+{
     let Some((first, more)) = scopes.split_first() else {
         return out.extend_from_slice(b"{}".as_slice());
     };
     out.push(b'{')?;
     push_scope(out, first)?;
-    for scope in more {
-        out.push(b',')?;
-        push_scope(out, scope)?;
-    }
+    push_more_scopes(out, more)?;
     push_close(out, 1)
 }
 
-fn push_scope(out: &mut Vec<u8>, scope: &(Text, Mappings)) -> Result<(), Memory> {
+// What stands behind the first scope.
+fn push_more_scopes(out: &mut Vec<u8>, scopes: &[(Text, Mappings)]) -> Result<(), Memory>
+    ensures { OnOk result (Appends out.old.items out.new.items (printed_members 2 (members_of mappings_value scopes.now))) }
+{
+    for scope in scopes {
+        out.push(b',')?;
+        push_scope(out, scope)?;
+    }
+    Ok(())
+}
+
+fn push_scope(out: &mut Vec<u8>, scope: &(Text, Mappings)) -> Result<(), Memory>
+    ensures { OnOk result (Appends out.old.items out.new.items (λ rest. line 2 (quoted scope.now.0 ++ (codes ": " ++ printed 2 (mappings_value scope.now.1) rest)))) }
+{
     push_key(out, 2, scope.0.as_str())?;
     push_mappings(out, 2, scope.1.as_slice())
 }
@@ -74,37 +105,54 @@ fn push_scope(out: &mut Vec<u8>, scope: &(Text, Mappings)) -> Result<(), Memory>
 // An object of texts whose opening brace stands on a line at this level.
 fn push_mappings(out: &mut Vec<u8>, level: usize, pairs: &[(Text, Text)]) -> Result<(), Memory>
     requires { level < 3 }
+    ensures { OnOk result (Appends out.old.items out.new.items (printed level (mappings_value pairs.now))) }
 {
     let Some((first, more)) = pairs.split_first() else {
         return out.extend_from_slice(b"{}".as_slice());
     };
     out.push(b'{')?;
     push_pair(out, level + 1, first)?;
-    for pair in more {
-        out.push(b',')?;
-        push_pair(out, level + 1, pair)?;
-    }
+    push_more_pairs(out, level + 1, more)?;
     push_close(out, level)
 }
 
-fn push_pair(out: &mut Vec<u8>, level: usize, pair: &(Text, Text)) -> Result<(), Memory> {
+// What stands behind the first pair.
+fn push_more_pairs(out: &mut Vec<u8>, level: usize, pairs: &[(Text, Text)]) -> Result<(), Memory>
+    ensures { OnOk result (Appends out.old.items out.new.items (printed_members level (members_of a_text pairs.now))) }
+{
+    for pair in pairs {
+        out.push(b',')?;
+        push_pair(out, level, pair)?;
+    }
+    Ok(())
+}
+
+fn push_pair(out: &mut Vec<u8>, level: usize, pair: &(Text, Text)) -> Result<(), Memory>
+    ensures { OnOk result (Appends out.old.items out.new.items (λ rest. line level (quoted pair.now.0 ++ (codes ": " ++ (quoted pair.now.1 ++ rest))))) }
+{
     push_key(out, level, pair.0.as_str())?;
     print_text(out, pair.1.as_str())
 }
 
-fn push_key(out: &mut Vec<u8>, level: usize, key: &str) -> Result<(), Memory> {
+fn push_key(out: &mut Vec<u8>, level: usize, key: &str) -> Result<(), Memory>
+    ensures { OnOk result (Appends out.old.items out.new.items (λ rest. line level (quoted key.now ++ (codes ": " ++ rest)))) }
+{
     push_line(out, level)?;
     print_text(out, key)?;
     out.extend_from_slice(b": ".as_slice())
 }
 
-fn push_close(out: &mut Vec<u8>, level: usize) -> Result<(), Memory> {
+fn push_close(out: &mut Vec<u8>, level: usize) -> Result<(), Memory>
+    ensures { OnOk result (Appends out.old.items out.new.items (λ rest. line level (125 ∷ rest))) }
+{
     push_line(out, level)?;
     out.push(b'}')?;
     Ok(())
 }
 
-fn push_line(out: &mut Vec<u8>, level: usize) -> Result<(), Memory> {
+fn push_line(out: &mut Vec<u8>, level: usize) -> Result<(), Memory>
+    ensures { OnOk result (Appends out.old.items out.new.items (line level)) }
+{
     out.push(b'\n')?;
     for _ in 0..level {
         out.extend_from_slice(b"  ".as_slice())?;

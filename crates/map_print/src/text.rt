@@ -4,7 +4,9 @@ ghost use Rattle.json_spec.specs.Printed.{quoted, escaped, escaped_byte, hex_dig
 use primitives::Memory;
 
 const QUOTE: u8 = 34;
+
 const BACKSLASH: u8 = 92;
+
 const LESS_THAN: u8 = 60;
 
 /// Appends a text as a JSON string (RFC 8259, 7). `<` is escaped too, so that the string may stand in a script element.
@@ -68,5 +70,9 @@ fn lower_hex_digit(value: u8) -> u8
     requires { value < 16 }
     ensures { result ≡ hex_digit value }
 {
-    if value < 10 { b'0' + value } else { b'a' + (value - 10) }
+    if value < 10 {
+        b'0' + value
+    } else {
+        b'a' + (value - 10)
+    }
 }

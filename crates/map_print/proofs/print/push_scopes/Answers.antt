@@ -1,0 +1,11 @@
+use Rattle.std.proofs.Common.{rules, refl}
+use Rattle.std.proofs.lemmas.Result.{on_ok_weaker}
+use Rattle.map_print.specs.Lists.{mappings_value}
+use Rattle.map_print.proofs.Appends.{object}
+use Rattle.map_print.proofs.print.push_scopes.Goals as goal
+
+pub returns : goal.returns
+returns c =
+    on_ok_weaker c.push_close.result
+    (object mappings_value 1 2 c.in-Some.first.now c.in-Some.more.now c.args.scopes.now refl (search rules) (search rules) (c.in_ok-push_scope.ensures) (c.in_ok-push_more_scopes.ensures))
+    c.push_close.ensures
