@@ -6,3 +6,4 @@ pub mod Modules
 pub mod Turns
 pub mod Walks
 pub mod LinkWords
+pub mod Endings

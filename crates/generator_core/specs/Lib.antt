@@ -4,3 +4,4 @@ pub mod Answering
 pub mod Walking
 pub mod Words
 pub mod Statuses
+pub mod Running

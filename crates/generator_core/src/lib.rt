@@ -2,8 +2,10 @@
 #![tactic(auto)]
 
 mod answer;
+mod command;
 mod config;
 mod files;
+mod layout;
 mod module;
 mod module_text;
 mod refusal;
@@ -11,3 +13,5 @@ mod stop;
 mod trace;
 mod walk;
 mod words;
+
+pub use command::run;
