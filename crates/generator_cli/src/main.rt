@@ -5,8 +5,50 @@ mod disk_folder;
 mod faults;
 mod streams;
 
+ghost use Rattle.std.specs.Prelude.{◌≡◌, ◌<◌, ℕ};
+
+use crate::disk_folder::DiskFolder;
+use crate::streams::{StdSink, StdSource};
+use generator_core::run;
+use primitives::Steps;
+use std::marker::Brand;
 use std::process::ExitCode;
+use std::rt::Runtime;
+use std::sync::ledger::{Blank, Ledger};
+use std::{env, io};
+
+/// The words after the program's name.
+fn words_of<R: Runtime + AllocGlobal>(rt: &R) -> io::Result<Vec<String>> {
+    let mut words = env::args(rt)?;
+    words.next();
+    Ok(words.collect(rt.alloc())?)
+}
+
+/// The status of a run with these words in the current folder.
+fn start<R: Runtime + AllocGlobal, L: Ledger>(rt: &R, words: &[String], blank: Blank) -> u8
+    requires name { blank.name ≡ L.name }
+    requires parts { blank.parts ≡ L.parts }
+    requires some { 0 < blank.parts }
+{
+    let mut folder = DiskFolder::new(rt, rt.alloc(), ".");
+    let mut input = StdSource::new(rt.reader());
+    let mut output = StdSink::new(io::writer(rt));
+    let mut steps = Steps::<L>::start(blank);
+    run(
+        rt.alloc(),
+        words,
+        &mut folder,
+        &mut input,
+        &mut output,
+        &mut steps,
+    )
+}
 
 fn main(rt: HostRuntime) -> ExitCode {
-    ExitCode::from(0)
+    // Words that can't be read, as those that aren't UTF-8, are none.
+    let words = match words_of(&rt) {
+        Ok(words) => words,
+        Err(_) => Vec::new(rt.alloc()),
+    };
+    ExitCode::from(start::<HostRuntime, Brand>(&rt, words.as_slice(), Blank::new(1)))
 }
