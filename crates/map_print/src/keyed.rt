@@ -91,7 +91,8 @@ impl<V: Drop> Keyed<V> {
 
     /// The entries of an ordered map, which are moved.
     pub fn from_map(alloc: Global, map: BTreeMap<Text, V>) -> Result<Keyed<V>, Memory>
-        ensures { IfOk result (λ keyed. keyed ≡ map.entries) }
+        ensures entries { IfOk result (λ keyed. keyed ≡ map.entries) }
+        ensures in_order { IfOk result InKeyOrder }
     {
         let _count = map.len();
         Ok(Keyed {

@@ -1,0 +1,89 @@
+-- Lists in key order are the entries of their finite map.
+use Rattle.std.proofs.Common.{◌≡◌, ℕ, Bool, true, false, List, [], ◌∷◌, ◌++◌, Option, Some, refl, sym, ap, subst, ◌∙◌, append_assoc}
+use Rattle.std.specs.Prelude.{◌&&◌, T, map, All}
+use Rattle.std.specs.List.{AllByRecursion}
+use Rattle.std.specs.List.Sorted.{IsStrictlySortedBy}
+use Rattle.std.specs.declared.cmp.Ordering.{Ordering}
+use Rattle.std.specs.declared.cmp.Ordering.TheVariants.{Less}
+use Rattle.std.specs.Ordering.{nat_cmp, is_lt}
+use Rattle.std.specs.Cmp.Lexicographic.{slice_cmp, nat_list_cmp_total}
+use Rattle.std.specs.FinMap.{FinMap, entries, empty, from_entries, from_sorted, is_sorted, len-entries, len-empty, get-from_entries, get-from_sorted, entries-from_sorted, same_map, slice_cmp-IsAntisymmetric, nat_cmp-IsAntisymmetric}
+use Rattle.std.specs.FinMap.Entries.{below_all}
+use Rattle.std.proofs.lemmas.List.{nil_from_length, map-append}
+use Rattle.std.proofs.lemmas.List.Elements.{All-head, All-tail}
+use Rattle.layout_spec.specs.declared.Need.{Need}
+use Rattle.layout_spec.specs.Layout.{scopes_onto, layout}
+use Rattle.map_print.specs.declared.keyed.Layout.{Layout}
+use Rattle.map_print.specs.Keys.{InKeyOrder}
+use Rattle.map_print.specs.Lists.{address_entry, scope_entries, scope_entry, Lists}
+use Rattle.map_flatten.specs.Grouped.{Scope, addresses_of, scope_of, scopes_of, listed_scope}
+use Rattle.map_flatten.proofs.Updates.{mapped}
+
+both : (a b : Bool) → T a → T b → T (a && b)
+both true b p q = q
+both false b p q = absurd p
+
+below : {X Y : Type 0} (f : X → Y) (key : List ℕ) (es : List (List ℕ × X)) → AllByRecursion (λ k. slice_cmp nat_cmp key k ≡ Less) (map (λ e. e.0) es) → T (below_all (slice_cmp nat_cmp) key (mapped f es))
+below f key [] h = tt
+below f key (e ∷ es) h = both _ _ (subst (λ o. T (is_lt o)) (sym h.0) tt) (below f key es h.1)
+
+sorted : {X Y : Type 0} (f : X → Y) (es : List (List ℕ × X)) → InKeyOrder es → T (is_sorted (slice_cmp nat_cmp) (mapped f es))
+unfolding IsStrictlySortedBy
+sorted f [] h = tt
+sorted f (e ∷ es) h = both _ _ (below f e.0 es h.0) (sorted f es h.1)
+
+pub entries_mapped : {X Y : Type 0} (f : X → Y) (es : List (List ℕ × X)) → InKeyOrder es → entries (from_entries {R = slice_cmp nat_cmp} (mapped f es)) ≡ mapped f es
+entries_mapped f es h =
+    let t = sorted f es h in
+    ap entries
+    (same_map nat_list_cmp_total (slice_cmp-IsAntisymmetric nat_cmp-IsAntisymmetric) (from_entries (mapped f es)) (from_sorted (mapped f es))
+    (λ q. get-from_entries nat_list_cmp_total (mapped f es) q ∙ sym (get-from_sorted (slice_cmp nat_cmp) (mapped f es) q t)))
+    ∙ entries-from_sorted (slice_cmp nat_cmp) (mapped f es) t
+
+no_entries : (X : Type 0) → entries (empty {X = X} {R = slice_cmp nat_cmp}) ≡ []
+no_entries X = nil_from_length _ (sym (len-entries (empty {X = X} {R = slice_cmp nat_cmp})) ∙ len-empty (slice_cmp nat_cmp) X)
+
+scopes_listed : (es : List (List ℕ × Scope)) → All (λ scope. InKeyOrder scope.1) (map listed_scope es) → map scope_entries (map scope_of es) ≡ map scope_entry (map listed_scope es)
+scopes_listed [] each = refl
+scopes_listed (e ∷ es) each =
+    let here : InKeyOrder e.1.entries = All-head (λ (scope : List ℕ × List (List ℕ × List ℕ)). InKeyOrder scope.1) (listed_scope e) (map listed_scope es) each in
+    let later = All-tail (λ (scope : List ℕ × List (List ℕ × List ℕ)). InKeyOrder scope.1) (listed_scope e) (map listed_scope es) each in
+    λ i. (e.0, entries_mapped Some e.1.entries here i) ∷ scopes_listed es later i
+
+same_keys : (es : List (List ℕ × Scope)) → map (λ e. e.0) (map listed_scope es) ≡ map (λ e. e.0) es
+same_keys [] = refl
+same_keys (e ∷ es) = ap (λ (ks : List (List ℕ)). e.0 ∷ ks) (same_keys es)
+
+pub lists : (grouped : List (List ℕ × Scope)) (imports : List (List ℕ × List ℕ)) (scopes : List (List ℕ × List (List ℕ × List ℕ))) (needs : List Need) → imports ≡ [] → from_entries (map scope_of grouped) ≡ scopes_onto empty needs → scopes ≡ map listed_scope grouped → InKeyOrder scopes → All (λ scope. InKeyOrder scope.1) scopes → Lists (record { imports = imports; scopes = scopes }) [] (layout needs)
+lists grouped imports scopes needs none wanted are in_order each =
+    let keys : InKeyOrder grouped = subst (IsStrictlySortedBy (slice_cmp nat_cmp)) (same_keys grouped) (subst InKeyOrder are in_order) in
+    record {
+      imports = no_entries (Option (List ℕ)) ∙ ap (map address_entry) (sym none);
+      scopes = ap (λ m. map scope_entries (entries m)) (sym wanted)
+          ∙ (ap (map scope_entries) (entries_mapped (λ (scope : Scope). addresses_of scope.entries) grouped keys)
+          ∙ (scopes_listed grouped (subst (All (λ scope. InKeyOrder scope.1)) are each) ∙ ap (map scope_entry) (sym are)));
+      integrity_texts = no_entries (List ℕ);
+    }
+
+front_below : (P : List ℕ → Type 0) (ks ls : List (List ℕ)) → AllByRecursion P (ks ++ ls) → AllByRecursion P ks
+front_below P [] ls h = tt
+front_below P (k ∷ ks) ls h = (h.0, front_below P ks ls h.1)
+
+front_sorted : (ks ls : List (List ℕ)) → IsStrictlySortedBy (slice_cmp nat_cmp) (ks ++ ls) → IsStrictlySortedBy (slice_cmp nat_cmp) ks
+unfolding IsStrictlySortedBy
+front_sorted [] ls h = tt
+front_sorted (k ∷ ks) ls h = (front_below _ ks ls h.0, front_sorted ks ls h.1)
+
+-- a front of a list in key order
+pub front_in_order : {V : Type 0} (front later whole : List (List ℕ × V)) → front ++ later ≡ whole → InKeyOrder whole → InKeyOrder front
+front_in_order front later whole e h =
+    front_sorted (map (λ p. p.0) front) (map (λ p. p.0) later) (subst (IsStrictlySortedBy (slice_cmp nat_cmp)) (map-append (λ p. p.0) front later) (subst InKeyOrder (sym e) h))
+
+pub listed_in_order : (es : List (List ℕ × Scope)) → InKeyOrder es → InKeyOrder (map listed_scope es)
+listed_in_order es h = subst (IsStrictlySortedBy (slice_cmp nat_cmp)) (sym (same_keys es)) h
+
+-- the scope that is listed next
+pub next_listed : (done : List (List ℕ × List (List ℕ × List ℕ))) (left more : List (List ℕ × Scope)) (referrer : List ℕ) (scope : Scope) (mappings : List (List ℕ × List ℕ)) {all : List (List ℕ × List (List ℕ × List ℕ))} → done ++ map listed_scope left ≡ all → left ≡ (referrer, scope) ∷ more → mappings ≡ scope.entries → (done ++ (referrer, mappings) ∷ []) ++ map listed_scope more ≡ all
+next_listed done left more referrer scope mappings e is are =
+    append_assoc done ((referrer, mappings) ∷ []) (map listed_scope more)
+    ∙ (ap (λ ms. done ++ (referrer, ms) ∷ map listed_scope more) are ∙ (ap (λ es. done ++ map listed_scope es) (sym is) ∙ e))

@@ -1,0 +1,17 @@
+use Rattle.std.proofs.Common.{rules, ◌≡◌, ◌++◌, ◌∷◌, [], map}
+use Rattle.map_print.specs.Keys.{InKeyOrder}
+use Rattle.map_flatten.specs.Grouped.{listed_scope}
+use Rattle.map_flatten.proofs.Ordered.{front_in_order, listed_in_order, next_listed}
+use Rattle.map_flatten.proofs.flatten.listed.Goals as goal
+
+pub push-requires : goal.push-requires
+push-requires c =
+    let whole : InKeyOrder (map listed_scope c.args.grouped.entries) = listed_in_order c.args.grouped.entries (search rules) in
+    front_in_order _ (map listed_scope c.next.new.self) _
+    (next_listed c.loop-referrer.scopes c.loop-referrer.referrer-iterator c.next.new.self c.in-Some.referrer c.in-Some.scope c.in_ok-from_map.field-0 (search rules) (search rules) (search rules))
+    whole
+
+pub returns-clause-in_order : goal.returns-clause-in_order
+returns-clause-in_order c =
+    let whole : InKeyOrder (map listed_scope c.args.grouped.entries) = listed_in_order c.args.grouped.entries (search rules) in
+    (front_in_order _ (map listed_scope c.loop-referrer.referrer-iterator) _ (search rules) whole, search rules)
