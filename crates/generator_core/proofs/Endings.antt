@@ -7,7 +7,14 @@ use Rattle.std.proofs.lemmas.List.Elements.{All-nil, All-cons}
 use Rattle.tree_spec.specs.declared.Entry.TheVariants.{Stored}
 use Rattle.tree_spec.specs.Trees.{Tree, Places}
 use Rattle.tree_spec.specs.Paths.{IsSegment, IsPath, HasDepth, root, child}
-use Rattle.generator_core.specs.Running.{IsWritten, Gives}
+use Rattle.layout_spec.specs.Needs.{NoClash}
+use Rattle.layout_spec.specs.Layout.{layout}
+use Rattle.import_map_spec.specs.Printing.{map_text}
+use Rattle.generator_spec.specs.Modules.{Config}
+use Rattle.soundness.proofs.Sound.{sound}
+use Rattle.generator_core.specs.declared.trace.Trace.{Trace}
+use Rattle.generator_core.specs.Walking.{Traced}
+use Rattle.generator_core.specs.Running.{IsWritten, IsConfigOf, IsGenerated, Linked, Gives, Tells}
 
 -- the whole line went out
 pub whole_given : (old new : Option (List ℕ)) (line : List ℕ) → new ≡ option_map (λ before. before ++ line) old → Gives old new line
@@ -57,3 +64,27 @@ map_path = root_file (codes "importmap.json") (codes "/importmap.json") refl ref
 
 pub page_path : IsPath (codes "/index.html")
 page_path = root_file (codes "index.html") (codes "/index.html") refl refl (lit≤ tt) (lit≤ tt) refl
+
+-- what generation gives is what stands there, and it serves
+pub linked : (tree : Tree) (words : List (List ℕ)) (bytes : List ℕ) (told : Option Tree) → IsGenerated tree words bytes → IsWritten tree bytes told → Linked tree words told
+linked tree words bytes told generated written = record { bytes = bytes; generated = generated; serves = sound tree generated.config bytes generated.generates; written = written }
+
+pub tells_more : {A B : Type 0} (old new : Option (List ℕ)) → (A → B) → Tells old new A → Tells old new B
+tells_more old new f tells = record { line = tells.line; gives = tells.gives; only_where_done = λ ok. f (tells.only_where_done ok) }
+
+-- a trace whose layout is printed is generation
+pub generated : (tree : Tree) (words : List (List ℕ)) (config : Config) (trace : Trace) (bytes : List ℕ) → IsConfigOf words config → Traced tree config trace → bytes ≡ map_text (layout trace.needs) → IsGenerated tree words bytes
+generated tree words config trace bytes is_config traced text = record {
+  config = config;
+  is_config = is_config;
+  generates = record {
+    page_name = traced.page_name;
+    page = traced.page;
+    page_is_file = traced.page_is_file (subst (λ p. p ≢ codes "/") (sym is_config.page) (λ e. let n = ap length e in omega arith));
+    trace = traced.turns;
+    is_trace = traced.is_trace;
+    few = omega (arith, traced.modules, traced.few);
+    no_clash = subst NoClash traced.counted traced.no_clash;
+    text = text ∙ ap (λ needs. map_text (layout needs)) traced.counted;
+  };
+}

@@ -1,5 +1,5 @@
 -- The walk over the table of modules, turn by turn.
-use Rattle.std.proofs.Common.{◌≡◌, ◌≢◌, ◌≤◌, ◌<◌, ◌+◌, ℕ, zero, suc, Bool, true, false, List, [], ◌∷◌, ◌++◌, length, take, get_or, Option, Some, None, IfSome, IsSome, sym, refl, ap, ◌∙◌, subst, append-nil, append_assoc, arith, length-append, ◌⊎◌, ⊎_elim, take_all, All, add-one, rules}
+use Rattle.std.proofs.Common.{◌≡◌, ◌≢◌, codes, ◌≤◌, ◌<◌, ◌+◌, ℕ, zero, suc, Bool, true, false, List, [], ◌∷◌, ◌++◌, length, take, get_or, Option, Some, None, IfSome, IsSome, sym, refl, ap, ◌∙◌, subst, append-nil, append_assoc, arith, length-append, ◌⊎◌, ⊎_elim, take_all, All, add-one, rules}
 use Rattle.std.specs.Prelude.{slice_get, is_some, option_copied, flat_map, bytes_eq}
 use Rattle.std.specs.HashMap as map
 use Rattle.std.specs.Map.{keys_of}
@@ -19,7 +19,7 @@ use Rattle.layout_spec.specs.declared.Need.{Need}
 use Rattle.layout_spec.specs.Needs.{counted_onto, NoClash}
 use Rattle.generator_spec.specs.Modules.{Config, Module, Referrer, the_page, a_module, IsModuleFile, Asks}
 use Rattle.generator_spec.specs.Modules.Asks.{entries, requests}
-use Rattle.generator_spec.specs.Trace.{IsServable, new_modules, Turn, IsTurn, TurnsOf, targets_of, Levels, IsTrace, needs_of}
+use Rattle.generator_spec.specs.Trace.{ends_in_slash, IsServable, new_modules, Turn, IsTurn, TurnsOf, targets_of, Levels, IsTrace, needs_of}
 use Rattle.generator_spec.specs.Trace.TurnsOf.{no_turns, a_turn}
 use Rattle.generator_spec.specs.Closed.{IsClosed, new_modules-append, targets_of-append, length-TurnsOf, levels_of_closed}
 use Rattle.generator_core.specs.declared.trace.Trace.{Trace}
@@ -184,8 +184,8 @@ length-keys_of : (modules : List (Module × List ℕ)) → length (keys_of modul
 length-keys_of [] = refl
 length-keys_of (entry ∷ modules) = ap suc (length-keys_of modules)
 
-pub traced : (tree : Tree) (config : Config) (next : ℕ) (trace : Trace) (page_name : List ℕ) → IsServable config config.page [] page_name → Walked tree config next trace → length trace.modules.entries ≤ next → length trace.modules.entries ≤ 20000 → Traced tree config trace
-traced tree config next trace page_name page walked ended few =
+pub traced : (tree : Tree) (config : Config) (next : ℕ) (trace : Trace) (page_name : List ℕ) → IsServable config config.page [] page_name → (config.page ≢ codes "/" → ends_in_slash page_name ≡ false) → Walked tree config next trace → length trace.modules.entries ≤ next → length trace.modules.entries ≤ 20000 → Traced tree config trace
+traced tree config next trace page_name page file walked ended few =
     let modules = keys trace.modules in
     let lengths : length modules ≡ length trace.modules.entries = length-keys_of trace.modules.entries in
     let whole : take next modules ≡ modules = take_all next modules (omega arith) in
@@ -194,6 +194,7 @@ traced tree config next trace page_name page walked ended few =
     record {
       page_name = page_name;
       page = page;
+      page_is_file = file;
       turns = walked.page ∷ walked.turns;
       is_trace = record {
         page = walked.page;

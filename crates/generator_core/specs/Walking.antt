@@ -1,12 +1,12 @@
 -- What the walk over the requests keeps true.
-use Rattle.std.specs.Prelude.{◌≡◌, ◌⊎◌, ◌≤◌, ◌<◌, ◌+◌, ◌++◌, ◌∷◌, [], ℕ, Bool, false, List, length, Some, All, slice_get, take, flat_map}
+use Rattle.std.specs.Prelude.{◌≡◌, ◌≢◌, ◌⊎◌, codes, false, ◌≤◌, ◌<◌, ◌+◌, ◌++◌, ◌∷◌, [], ℕ, Bool, List, length, Some, All, slice_get, take, flat_map}
 use Rattle.tree_spec.specs.Trees.{Tree}
 use Rattle.url_spec.specs.Parsing.{parse_alone}
 use Rattle.url_spec.specs.FileUrls.{file_text}
 use Rattle.layout_spec.specs.declared.Need.{Need}
 use Rattle.layout_spec.specs.Needs.{counted_onto, NoClash}
 use Rattle.generator_spec.specs.Modules.{Config, Module, Referrer, the_page, a_module, path_of, web_name, Asks}
-use Rattle.generator_spec.specs.Trace.{IsServable, AllPass, new_modules, Turn, IsTurn, TurnsOf, targets_of, IsTrace, needs_of}
+use Rattle.generator_spec.specs.Trace.{ends_in_slash, IsServable, AllPass, new_modules, Turn, IsTurn, TurnsOf, targets_of, IsTrace, needs_of}
 use Rattle.generator_core.specs.declared.trace.Trace.{Trace}
 use Rattle.generator_core.specs.declared.trace.Asker.{Asker}
 use Rattle.generator_core.specs.Files.{KnowsFiles, Has}
@@ -71,6 +71,7 @@ pub record Walked (tree : Tree) (config : Config) (next : ℕ) (trace : Trace) :
 pub record Traced (tree : Tree) (config : Config) (trace : Trace) : Type 0 where
   pub page_name : List ℕ
   pub page : IsServable config config.page [] page_name
+  pub page_is_file : config.page ≢ codes "/" → ends_in_slash page_name ≡ false
   pub turns : List Turn
   pub is_trace : IsTrace tree config turns
   pub counted : trace.needs ≡ needs_of turns

@@ -1,16 +1,19 @@
-ghost use Rattle.std.specs.Prelude.{◌≡◌, ◌≢◌, ◌⊎◌, ◌≤◌, ◌++◌, ℕ, List, Option, Some, IfSome, IfErr};
+ghost use Rattle.std.specs.Prelude.{◌≡◌, ◌≢◌, ◌⊎◌, ◌≤◌, ◌++◌, ℕ, List, Option, Some, IfSome, IfOk, IfErr, map, string_bytes};
 ghost use Rattle.tree_spec.specs.Counts.{Rose};
 ghost use Rattle.generator_core.specs.Statuses.{BeginsOk};
 ghost use Rattle.generator_core.specs.Statuses as statuses;
-ghost use Rattle.generator_core.specs.Running.{MapWritten, IsWritten, Gives, Tells, IsRefusalStatus};
+ghost use Rattle.generator_core.specs.Running.{IsWritten, IsConfigOf, IsGenerated, Linked, Gives, Tells, IsRefusalStatus};
+ghost use Rattle.import_map_spec.specs.Printing.{map_text};
+ghost use Rattle.layout_spec.specs.Layout as definition;
 
 use crate::config::Config;
-use crate::layout::{layout, mappings};
+use crate::layout::mappings;
 use crate::refusal::{Refusal, refusal_line, status_of};
 use crate::stop::Stop;
 use crate::trace::Trace;
 use crate::walk::walk;
 use crate::words::{distinct, link_words};
+use map_flatten::layout;
 use map_print::{Mappings, PrintFault, print_map};
 use primitives::{Memory, Steps, Text};
 use std::alloc::{AllocError, Global};
@@ -43,11 +46,11 @@ pub fn run<F: Folder, I: Source, O: Sink, L: Ledger>(
 ) -> u8
     ensures statuses { (result ≡ 0) ⊎ (result ≡ 5) ⊎ IsRefusalStatus result }
     ensures kept { IsRefusalStatus result → F.holds folder.new ≡ F.holds folder.old }
-    ensures done { result ≡ 0 → IfSome (F.holds folder.old) (λ tree. MapWritten tree (F.holds folder.new)) }
-    ensures write_fault { result ≡ 5 → (F.holds folder.new ≡ F.holds folder.old) ⊎ IfSome (F.holds folder.old) (λ tree. MapWritten tree (F.holds folder.new)) }
+    ensures done { result ≡ 0 → IfSome (F.holds folder.old) (λ tree. Linked tree (map string_bytes words.now) (F.holds folder.new)) }
+    ensures write_fault { result ≡ 5 → (F.holds folder.new ≡ F.holds folder.old) ⊎ IfSome (F.holds folder.old) (λ tree. Linked tree (map string_bytes words.now) (F.holds folder.new)) }
     ensures read { result ≡ 4 → Rose (F.look_faults folder.old) (F.look_faults folder.new) }
     ensures write { result ≡ 5 → Rose (F.write_faults folder.old) (F.write_faults folder.new) ⊎ Rose (O.faults out.old) (O.faults out.new) }
-    ensures told { Tells (O.got out.old) (O.got out.new) (IfSome (F.holds folder.old) (λ tree. MapWritten tree (F.holds folder.new))) }
+    ensures told { Tells (O.got out.old) (O.got out.new) (IfSome (F.holds folder.old) (λ tree. Linked tree (map string_bytes words.now) (F.holds folder.new))) }
 {
     match generate(alloc, words, folder) {
         Err(refusal) => refuse(alloc, &refusal, out),
@@ -78,7 +81,7 @@ fn finish<F: Folder, O: Sink>(
     ensures done { result ≡ 0 → IfSome (F.holds folder.old) (λ tree. IsWritten tree generated.now.map.items (F.holds folder.new)) }
     ensures write_fault { result ≡ 5 → (F.holds folder.new ≡ F.holds folder.old) ⊎ IfSome (F.holds folder.old) (λ tree. IsWritten tree generated.now.map.items (F.holds folder.new)) }
     ensures write { result ≡ 5 → Rose (F.write_faults folder.old) (F.write_faults folder.new) ⊎ Rose (O.faults out.old) (O.faults out.new) }
-    ensures told { Tells (O.got out.old) (O.got out.new) (IfSome (F.holds folder.old) (λ tree. MapWritten tree (F.holds folder.new))) }
+    ensures told { Tells (O.got out.old) (O.got out.new) (IfSome (F.holds folder.old) (λ tree. IsWritten tree generated.now.map.items (F.holds folder.new))) }
 {
     let path = match Path::parse(alloc, MAP_PATH) {
         Ok(path) => path,
@@ -108,6 +111,7 @@ fn generate<F: Folder>(
     words: &[String],
     folder: &mut F,
 ) -> Result<Generated, Refusal>
+    ensures generated { IfOk result (λ generated. IfSome (F.holds folder.old) (λ tree. IsGenerated tree (map string_bytes words.now) generated.map.items)) }
     ensures tree { F.holds folder.new ≡ F.holds folder.old }
     ensures read { IfErr result (λ refusal. statuses.status_of refusal ≡ 4 → Rose (F.look_faults folder.old) (F.look_faults folder.new)) }
     ensures writes { F.write_faults folder.new ≡ F.write_faults folder.old }
@@ -120,7 +124,9 @@ fn generate<F: Folder>(
 }
 
 // The map of a trace, and its counts.
-fn generated_of(alloc: Global, trace: &Trace) -> Result<Generated, Memory> {
+fn generated_of(alloc: Global, trace: &Trace) -> Result<Generated, Memory>
+    ensures { IfOk result (λ generated. generated.map.items ≡ map_text (definition.layout trace.now.needs)) }
+{
     let layout = layout(alloc, &trace.needs)?;
     let map = match print_map(alloc, &layout, &Mappings::new(alloc)) {
         Ok(map) => map,
@@ -137,6 +143,7 @@ fn generated_of(alloc: Global, trace: &Trace) -> Result<Generated, Memory> {
 
 // The config that the words give.
 fn config_of(alloc: Global, words: &[String]) -> Result<Config, Refusal>
+    ensures config { IfOk result (IsConfigOf (map string_bytes words.now)) }
     ensures read { IfErr result (λ refusal. statuses.status_of refusal ≡ 4 → ⊥) }
 {
     let Some((base, entries)) = link_words(words) else {

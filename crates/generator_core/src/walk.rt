@@ -1,11 +1,11 @@
 ghost use Rattle.std.specs.Prelude.{◌≡◌, ◌≤◌, ◌<◌, ◌+◌, [], ℕ, List, length, Some, IfOk, IfSome, OnOk, IsErrOf, slice_get};
-ghost use Rattle.std.specs.Prelude.{codes, nat_eq, false};
+ghost use Rattle.std.specs.Prelude.{◌≢◌, codes, nat_eq, false};
 ghost use Rattle.std.specs.List.{ends_with};
 ghost use Rattle.tree_spec.specs.Counts.{Rose};
 ghost use Rattle.url_spec.specs.Parsing.{parse_alone};
 ghost use Rattle.url_spec.specs.FileUrls.{file_text};
 ghost use Rattle.generator_spec.specs.Modules as spec;
-ghost use Rattle.generator_spec.specs.Trace.{IsServable};
+ghost use Rattle.generator_spec.specs.Trace.{ends_in_slash, IsServable};
 ghost use Rattle.indexmap.specs.IndexMap.{keys};
 ghost use Rattle.generator_core.specs.Files.{KnowsFiles};
 ghost use Rattle.generator_core.specs.Walking.{AllNamed, AllKept, IsAsker, Turned, Takes, ModuleTurned, Traced};
@@ -44,6 +44,7 @@ pub fn walk<F: Folder>(alloc: Global, folder: &mut F, config: &Config) -> Result
 fn page_asker(alloc: Global, config: &Config) -> Result<Asker, Stop>
     ensures asker { IfOk result (IsAsker config.now spec.the_page) }
     ensures servable { IfOk result (λ asker. IsServable config.now config.now.page [] asker.url) }
+    ensures file { IfOk result (λ asker. config.now.page ≢ codes "/" → ends_in_slash asker.url ≡ false) }
     ensures failed { IsErrOf result Stop.ReadFault → ⊥ }
 {
     let suffix = Suffix::none(alloc);

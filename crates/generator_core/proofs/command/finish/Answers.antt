@@ -18,5 +18,5 @@ pub returns-in-Ok-write-clause-told : goal.returns-in-Ok-write-clause-told
 returns-in-Ok-write-clause-told g c = record {
   line = _;
   gives = c.tell-in-Ok-write.ensures.given;
-  only_where_done = λ ok. if_some (g.F.Folder.holds c.args.folder.now) (λ tree written. record { bytes = _; written = written_is tree _ _ _ _ written c.in-Ok.ensures.path.0 c.as_slice-2.ensures.value }) c.in-Ok-write.ensures.written;
+  only_where_done = λ ok. if_some (g.F.Folder.holds c.args.folder.now) (λ tree written. written_is tree _ _ _ _ written c.in-Ok.ensures.path.0 c.as_slice-2.ensures.value) c.in-Ok-write.ensures.written;
 }

@@ -16,6 +16,7 @@ loop-next-init g c = record {
   few = c.in_ok-turn.ensures.few (let e : length c.new-trace.result.modules.entries ≡ 0 = ap length c.new-trace.ensures.modules in omega arith);
   kept = c.in_ok-turn.ensures.kept (none_kept c.new-trace.result c.new-trace.ensures.modules);
   page = c.in_ok-page.ensures.servable;
+  file = c.in_ok-page.ensures.file;
   tree = c.in_ok-turn.ensures.tree;
   later = c.in_ok-turn.ensures.later;
   writes = c.in_ok-turn.ensures.writes;
@@ -33,6 +34,7 @@ loop-next-preserved g c =
       few = c.in_ok-module_turn.ensures.few c.loop-next.invariant.few;
       kept = c.in_ok-module_turn.ensures.kept;
       page = c.loop-next.invariant.page;
+      file = c.loop-next.invariant.file;
       tree = c.in_ok-module_turn.ensures.tree ∙ c.loop-next.invariant.tree;
       later = omega (arith, c.in_ok-module_turn.ensures.later, c.loop-next.invariant.later);
       writes = c.in_ok-module_turn.ensures.writes ∙ c.loop-next.invariant.writes;
@@ -41,5 +43,5 @@ loop-next-preserved g c =
 pub returns-clause-traced : goal.returns-clause-traced
 returns-clause-traced g c =
     if_some (g.F.Folder.holds c.args.folder.now)
-    (λ tree walked. traced tree c.args.config.now c.loop-next.next c.loop-next.trace c.in_ok-page.page.url c.loop-next.invariant.page walked (omega (arith, c.len.ensures.len)) c.loop-next.invariant.few)
+    (λ tree walked. traced tree c.args.config.now c.loop-next.next c.loop-next.trace c.in_ok-page.page.url c.loop-next.invariant.page c.loop-next.invariant.file walked (omega (arith, c.len.ensures.len)) c.loop-next.invariant.few)
     c.loop-next.invariant.walked

@@ -1,5 +1,5 @@
-use Rattle.std.proofs.Common.{◌≡◌, ◌≤◌, ◌-◌, [], length, IfSome}
-use Rattle.generator_spec.specs.Trace.{IsServable}
+use Rattle.std.proofs.Common.{◌≡◌, ◌≢◌, codes, false, ◌≤◌, ◌-◌, [], length, IfSome}
+use Rattle.generator_spec.specs.Trace.{ends_in_slash, IsServable}
 use Rattle.generator_core.specs.Walking.{AllKept, Walked}
 use Rattle.generator_core.proofs.walk.walk.Given as goal
 
@@ -9,6 +9,7 @@ invariant-loop-next g l = record {
   few : length l.trace.modules.entries ≤ 20000;
   kept : AllKept l.trace;
   page : IsServable l.config l.config.page [] l.page.url;
+  file : l.config.page ≢ codes "/" → ends_in_slash l.page.url ≡ false;
   tree : g.F.Folder.holds l.folder ≡ g.F.Folder.holds l.fn.folder;
   later : g.F.Folder.look_faults l.fn.folder ≤ g.F.Folder.look_faults l.folder;
   writes : g.F.Folder.write_faults l.folder ≡ g.F.Folder.write_faults l.fn.folder;
