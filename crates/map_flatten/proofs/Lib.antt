@@ -1,3 +1,4 @@
 pub mod Updates
 pub mod Ordered
 pub mod Steps
+pub mod Counts
