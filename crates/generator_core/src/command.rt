@@ -7,13 +7,12 @@ ghost use Rattle.import_map_spec.specs.Printing.{map_text};
 ghost use Rattle.layout_spec.specs.Layout as definition;
 
 use crate::config::Config;
-use crate::layout::mappings;
 use crate::refusal::{Refusal, refusal_line, status_of};
 use crate::stop::Stop;
 use crate::trace::Trace;
 use crate::walk::walk;
 use crate::words::{distinct, link_words};
-use map_flatten::layout;
+use map_flatten::{layout, mappings};
 use map_print::{Mappings, PrintFault, print_map};
 use primitives::{Memory, Steps, Text};
 use std::alloc::{AllocError, Global};

@@ -5,7 +5,6 @@ mod answer;
 mod command;
 mod config;
 mod files;
-mod layout;
 mod module;
 mod module_text;
 mod refusal;
