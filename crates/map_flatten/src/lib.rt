@@ -3,6 +3,8 @@
 
 mod count;
 mod flatten;
+#[cfg(test)]
+mod tests;
 
 pub use count::mappings;
 pub use flatten::layout;

@@ -3,6 +3,8 @@
 
 mod keyed;
 mod print;
+#[cfg(test)]
+mod tests;
 mod text;
 
 pub use keyed::{Keyed, Layout, Mappings, Scopes};
