@@ -84,7 +84,7 @@ const BELOW_BASE: &str = "{
 ";
 
 /// The rows: maps, refusals, what isn't built, and faults.
-pub static CASES: [Case; 35] = [
+pub static CASES: [Case; 36] = [
     Case {
         words: LINK,
         files: ALONE,
@@ -136,6 +136,14 @@ pub static CASES: [Case; 35] = [
     Case {
         words: LINK,
         files: &[("/app.mjs", ""), ("/importmap.json", "old")],
+        fails: NONE,
+        status: 0,
+        line: "ok: 1 modules, 1 requests, 0 mappings\n",
+        map: Some(NO_MAPPINGS),
+    },
+    Case {
+        words: LINK,
+        files: &[("/app.mjs", ""), ("/importmap.json", NO_MAPPINGS)],
         fails: NONE,
         status: 0,
         line: "ok: 1 modules, 1 requests, 0 mappings\n",
