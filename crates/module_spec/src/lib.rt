@@ -1,4 +1,4 @@
-//! What a module text asks for: definitions and their laws. A text of this stage consists of white space and of
+//! What a module text asks for: definitions and their laws. A text of the plain form consists of white space and of
 //! statements that import a module for its effects.
 #![tactic(auto)]
 
