@@ -10,8 +10,8 @@ use Rattle.json_spec.specs.Taken.{Taken, taken, refused, Read, and_then}
 use Rattle.json_spec.specs.Strings.{ReadsString, behind}
 use Rattle.json_spec.specs.Numbers.{number_at}
 
--- own: what ends the reading of a text, with its place. `NotJson`: what stands there is no token, or none that the grammar has at
--- that point, or nothing is left. `TooDeep`: a `[` or `{` that the grammar has there, inside as many open ones as are let
+-- own: what ends the reading of a text, and its place. `NotJson`: nothing is left there, or what comes is no token, or one that the
+-- grammar hasn't at that point. `TooDeep`: a `[` or `{` that the grammar has there, while `most_brackets` others are open
 pub data Fault : Type 0 where
   NotJson : ℕ → Fault
   TooDeep : ℕ → Fault

@@ -34,5 +34,6 @@ pub record Requests (bytes : List ℕ) (specifiers : List (List ℕ)) : Type 0 w
   pub utf8 : IsUtf8 bytes
   pub plain : IsPlain bytes specifiers
 
+-- own law: a text asks for one list of specifiers at most
 abbrev pub OneReading : Type 0
 OneReading = (text : List ℕ) (some other : List (List ℕ)) → IsPlain text some → IsPlain text other → some ≡ other

@@ -9,6 +9,7 @@ use Rattle.node_spec.specs.Resolution.Judges.{separator, folder, nameless, absen
 use Rattle.node_spec.specs.Resolution.Joins.{no_url, other_host, joined}
 use Rattle.node_spec.specs.Resolution.Resolves.{relative}
 
+-- own law: a specifier in a file of a tree has one answer at most
 abbrev pub OneAnswer : Type 0
 OneAnswer = (tree : Tree) (parent specifier : List ℕ) (some other : Answer) → Resolves tree parent specifier some → Resolves tree parent specifier other → some ≡ other
 
