@@ -13,7 +13,6 @@ use Rattle.import_map_spec.specs.declared.MapPart.TheVariants.{Top, Imports, Sco
 use Rattle.import_map_spec.specs.Parsing.{in_property_order, parsed_map, ParsesMap}
 use Rattle.std.specs.Char.{encode_utf8}
 use Rattle.std.specs.Str.{is_utf8, chars}
-use Rattle.std.proofs.lemmas.Str.{IsUtf8-from_is_utf8}
 use Rattle.json_spec.specs.Grammar.{NotJson, most_brackets}
 use Rattle.json_spec.specs.Reader.{json_sound}
 use Rattle.import_map_spec.specs.Entries.{insert_again}
@@ -241,7 +240,7 @@ pub record ByteExamples : Type 0 where
 
 byte_examples : ByteExamples
 unfolding parsed_map normalized as_url parse_alone parse_against text_of url_on_literals most_brackets is_utf8 chars encode_utf8
-byte_examples = record { map = record { json = _; reads = json_sound _ (IsUtf8-from_is_utf8 _ refl); is = refl }; no_object = record { json = _; reads = json_sound _ (IsUtf8-from_is_utf8 _ refl); is = refl }; no_json = record { json = _; reads = json_sound _ (IsUtf8-from_is_utf8 _ refl); is = refl } }
+byte_examples = record { map = record { json = _; reads = json_sound _; is = refl }; no_object = record { json = _; reads = json_sound _; is = refl }; no_json = record { json = _; reads = json_sound _; is = refl } }
 
 abbrev pub only_integrity : Lists
 only_integrity = record { imports = []; scopes = []; integrity = pair "https://app.test/app.mjs" "sha384-x" ∷ [] }

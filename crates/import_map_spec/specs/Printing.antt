@@ -18,7 +18,7 @@ abbrev pub address_value : Option (List ℕ) → Json
 address_value None = a_null
 address_value (Some url) = a_text url
 
--- own: in each object below the top one the keys stand in byte order
+-- own: the names are sorted by their bytes, as those of the scopes and of the integrity are
 abbrev pub addresses_value : Addresses → Json
 addresses_value m = an_object (members_of address_value (entries m))
 

@@ -6,7 +6,7 @@ use Rattle.json_spec.specs.Settled.{distinct_settled}
 use Rattle.json_spec.specs.Taken.{Taken, taken, refused, Read}
 use Rattle.json_spec.specs.Strings.{behind}
 use Rattle.json_spec.specs.Numbers.{number_at}
-use Rattle.json_spec.specs.Grammar.{Fault, Reading, after_space, Member, a_pair, ReadsMember, member_value, member_name, paired, MoreMembers, members_close, members_next, members_fault, members_other, members_end, ReadsMembers, no_member, first_member, member_fault, object_ends, MoreItems, items_close, items_next, items_fault, items_other, items_end, ReadsItems, no_item, first_item, item_fault, list_ends, behind_member, behind_item, as_text, as_list, as_object, as_number, word_else, scalar_at, ReadsWith, reads_text, reads_list, reads_object, reads_scalar, value_ends, IsTooDeep, Reads, ReadsJson, json_text, no_utf8, most_brackets, alone, whole_text, with_offset}
+use Rattle.json_spec.specs.Grammar.{Fault, Reading, after_space, Member, a_pair, ReadsMember, member_value, member_name, paired, MoreMembers, members_close, members_next, members_fault, members_other, members_end, ReadsMembers, no_member, first_member, member_fault, object_ends, MoreItems, items_close, items_next, items_fault, items_other, items_end, ReadsItems, no_item, first_item, item_fault, list_ends, behind_member, behind_item, as_text, as_list, as_object, as_number, word_else, scalar_at, ReadsWith, reads_text, reads_list, reads_object, reads_scalar, value_ends, IsTooDeep, Reads, ReadsJson, json_text, most_brackets, alone, whole_text, with_offset}
 
 abbrev IfTaken : {A E : Type 0} → (A → Type 0) → Taken A E → Type 0
 IfTaken P (taken x rest) = P x
@@ -125,5 +125,4 @@ abbrev pub NamesAreDistinct : Type 0
 NamesAreDistinct = (bytes : List ℕ) (out : Result Json Fault) → ReadsJson bytes out → IfOk out HasDistinctNames
 
 pub names_are_distinct : NamesAreDistinct
-names_are_distinct bytes out (json_text o u r) = whole_names _ o (reads_names most_brackets _ o r)
-names_are_distinct bytes out (no_utf8 v) = tt
+names_are_distinct bytes out (json_text o r) = whole_names _ o (reads_names most_brackets _ o r)

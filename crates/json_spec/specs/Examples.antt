@@ -1,18 +1,15 @@
 -- Worked examples.
-use Rattle.std.specs.Prelude.{◌≡◌, ℕ, true, List, [], ◌∷◌, codes, replicate, Result, Ok, Err}
+use Rattle.std.specs.Prelude.{◌≡◌, ℕ, true, List, [], ◌∷◌, ◌++◌, codes, replicate, Result, Ok, Err}
 use Rattle.std.specs.Char.{encode_utf8}
-use Rattle.std.specs.Str.{IsValidUpTo, is_utf8, chars}
-use Rattle.std.proofs.Common.{refl, arith}
-use Rattle.std.proofs.lemmas.List.{take_all}
-use Rattle.std.proofs.lemmas.Str.{IsUtf8-from_is_utf8}
+use Rattle.std.specs.Str.{is_utf8, chars}
+use Rattle.std.proofs.Common.{refl}
 use Rattle.json_spec.specs.Value.{Json, a_null, a_bool, a_text, a_list, an_object, no_items, an_item, no_members, a_member}
 use Rattle.json_spec.specs.Taken.{taken, refused}
 use Rattle.json_spec.specs.Strings.{escape_at}
 use Rattle.json_spec.specs.Numbers.{number_at}
 use Rattle.json_spec.specs.Printed.{quoted}
 use Rattle.json_spec.specs.PrintedValue.{printed_text}
-use Rattle.json_spec.specs.Grammar.{Fault, NotJson, TooDeep, ReadsJson, no_utf8, most_brackets}
-use Rattle.json_spec.specs.Some.{is_no_utf8}
+use Rattle.json_spec.specs.Grammar.{Fault, NotJson, TooDeep, ReadsJson, most_brackets}
 use Rattle.json_spec.specs.Reader.{read_json, json_sound}
 
 pub record PrintedExamples : Type 0 where
@@ -66,42 +63,44 @@ pub record TextExamples : Type 0 where
   pub point : Fails (codes "[1.]") 2
   pub not_too_deep : Fails (replicate 128 91) 128
 
-reads : (bytes : List ℕ) (out : Result Json Fault) → is_utf8 bytes ≡ true → read_json bytes ≡ out → ReadsJson bytes out
-reads bytes out u e = rw (← e) (json_sound bytes (IsUtf8-from_is_utf8 bytes u))
+reads : (bytes : List ℕ) (out : Result Json Fault) → read_json bytes ≡ out → ReadsJson bytes out
+reads bytes out e = rw (← e) (json_sound bytes)
 
 text_examples : TextExamples
 unfolding most_brackets is_utf8 chars encode_utf8
 text_examples = record {
-  repeated = reads _ _ refl refl;
-  spaced = reads _ _ refl refl;
-  comma = reads _ _ refl refl;
-  empty = reads _ _ refl refl;
-  leading_zero = reads _ _ refl refl;
-  deep = reads _ _ refl refl;
-  byte_order_mark = reads _ _ refl refl;
-  word = reads _ _ refl refl;
-  open_string = reads _ _ refl refl;
-  bad_escape = reads _ _ refl refl;
-  control = reads _ _ refl refl;
-  no_colon = reads _ _ refl refl;
-  no_name = reads _ _ refl refl;
-  name_after_comma = reads _ _ refl refl;
-  second_value = reads _ _ refl refl;
-  cut_off = reads _ _ refl refl;
-  point = reads _ _ refl refl;
-  not_too_deep = reads _ _ refl refl;
+  repeated = reads _ _ refl;
+  spaced = reads _ _ refl;
+  comma = reads _ _ refl;
+  empty = reads _ _ refl;
+  leading_zero = reads _ _ refl;
+  deep = reads _ _ refl;
+  byte_order_mark = reads _ _ refl;
+  word = reads _ _ refl;
+  open_string = reads _ _ refl;
+  bad_escape = reads _ _ refl;
+  control = reads _ _ refl;
+  no_colon = reads _ _ refl;
+  no_name = reads _ _ refl;
+  name_after_comma = reads _ _ refl;
+  second_value = reads _ _ refl;
+  cut_off = reads _ _ refl;
+  point = reads _ _ refl;
+  not_too_deep = reads _ _ refl;
 }
 
--- the first byte that no character has, also within a string
-no_character : IsValidUpTo (34 ∷ 255 ∷ []) 1
-unfolding is_utf8 chars encode_utf8
-no_character = record { short = omega arith; front = IsUtf8-from_is_utf8 (34 ∷ []) refl; longest = λ m l u. is_no_utf8 (34 ∷ 255 ∷ []) refl (rw (take_all {A = ℕ} m (34 ∷ 255 ∷ []) (omega arith)) at u) }
-
+-- bytes that no character has: within a string the string fails, at its opening quote, and elsewhere they begin no token
 pub record ByteExamples : Type 0 where
-  pub no_utf8 : Fails (34 ∷ 255 ∷ []) 1
+  pub in_string : Fails (34 ∷ 255 ∷ 34 ∷ []) 0
+  pub in_name : Fails (123 ∷ 34 ∷ 97 ∷ 255 ∷ 34 ∷ codes ":1}") 1
+  pub cut_character : Fails (34 ∷ 195 ∷ codes "\\u00a9\"") 0
+  pub after_fault : Fails (120 ∷ 34 ∷ 255 ∷ 34 ∷ []) 0
+  pub no_token : Fails (91 ∷ 255 ∷ 93 ∷ []) 1
+  pub after_deep : ReadsJson (replicate 129 91 ++ 255 ∷ []) (Err (TooDeep 128))
 
 byte_examples : ByteExamples
-byte_examples = record { no_utf8 = no_utf8 no_character }
+unfolding most_brackets is_utf8 chars encode_utf8
+byte_examples = record { in_string = reads _ _ refl; in_name = reads _ _ refl; cut_character = reads _ _ refl; after_fault = reads _ _ refl; no_token = reads _ _ refl; after_deep = reads _ _ refl }
 
 abbrev pub WorkedExamples : Type 0
 WorkedExamples = PrintedExamples × TokenExamples × TextExamples × ByteExamples

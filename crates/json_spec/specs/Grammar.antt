@@ -3,16 +3,15 @@
 --     Reads depth bytes out      the same of one value at the front of the bytes, in which depth brackets may be open at once.
 --     most_brackets      how many brackets may be open at once
 -- A fault's place is counted from the end while the text is read, and is turned into an offset once, in `ReadsJson`.
-use Rattle.std.specs.Prelude.{◌≡◌, ℕ, zero, suc, ◌-◌, ◌≢◌, Bool, true, false, ◌||◌, ◌==◌, List, [], ◌∷◌, length, if◌then◌else◌, codes, Option, Some, None, Result, Ok, Err, IsUtf8}
-use Rattle.std.specs.Str.{IsValidUpTo}
+use Rattle.std.specs.Prelude.{◌≡◌, ℕ, zero, suc, ◌-◌, ◌≢◌, Bool, true, false, ◌||◌, ◌==◌, List, [], ◌∷◌, length, if◌then◌else◌, codes, Option, Some, None, Result, Ok, Err}
 use Rattle.std.proofs.Common.{refl}
 use Rattle.json_spec.specs.Value.{Json, a_null, a_bool, a_number, a_text, a_list, an_object, Items, no_items, an_item, Members, no_members, a_member, settled}
 use Rattle.json_spec.specs.Taken.{Taken, taken, refused, Read, and_then}
-use Rattle.json_spec.specs.Strings.{ReadsText, behind}
+use Rattle.json_spec.specs.Strings.{ReadsString, behind}
 use Rattle.json_spec.specs.Numbers.{number_at}
 
--- own: where a text fails. `NotJson` stands at the first token that can't be read or can't stand where it stands, or at the end;
--- `TooDeep` at an opening bracket that may stand there and would be open within 128 others. The number is a place
+-- own: what ends the reading of a text, and its place. `NotJson`: nothing is left there, or what comes is no token, or one that the
+-- grammar hasn't at that point. `TooDeep`: a `[` or `{` that the grammar has there, while `most_brackets` others are open
 pub data Fault : Type 0 where
   NotJson : ℕ → Fault
   TooDeep : ℕ → Fault
@@ -61,7 +60,7 @@ colon_at name (b ∷ bytes) = if b == 58 then taken name bytes else fault_here (
 
 -- RFC 8259, 4: a name and its colon
 pub data ReadsName : List ℕ → Reading (List ℕ) → Type 0 where
-  name_text : {bytes : List ℕ} {out : Read (List ℕ)} → ReadsText bytes out → ReadsName (34 ∷ bytes) (text_behind bytes (λ name rest. colon_at name (after_space rest)) out)
+  name_text : {bytes : List ℕ} {out : Read (List ℕ)} → ReadsString bytes out → ReadsName (34 ∷ bytes) (text_behind bytes (λ name rest. colon_at name (after_space rest)) out)
   no_name : {b : ℕ} {bytes : List ℕ} → b ≢ 34 → ReadsName (b ∷ bytes) (fault_here (b ∷ bytes))
   name_ends : ReadsName [] (fault_here [])
 
@@ -123,7 +122,7 @@ as_object out = and_then out (λ members rest. taken (an_object (settled members
 
 -- RFC 8259, 3: a value, where its lists and objects are read as told
 pub data ReadsWith (items : List ℕ → Reading Items → Type 0) (members : List ℕ → Reading Members → Type 0) : List ℕ → Reading Json → Type 0 where
-  reads_text : {bytes : List ℕ} {out : Read (List ℕ)} → ReadsText bytes out → ReadsWith items members (34 ∷ bytes) (as_text bytes out)
+  reads_text : {bytes : List ℕ} {out : Read (List ℕ)} → ReadsString bytes out → ReadsWith items members (34 ∷ bytes) (as_text bytes out)
   reads_list : {bytes : List ℕ} {out : Reading Items} → items bytes out → ReadsWith items members (91 ∷ bytes) (as_list out)
   reads_object : {bytes : List ℕ} {out : Reading Members} → members bytes out → ReadsWith items members (123 ∷ bytes) (as_object out)
   reads_scalar : {b : ℕ} {bytes : List ℕ} → b ≢ 34 → b ≢ 91 → b ≢ 123 → ReadsWith items members (b ∷ bytes) (scalar_at (b ∷ bytes))
@@ -163,7 +162,6 @@ abbrev pub with_offset : ℕ → Result Json Fault → Result Json Fault
 with_offset n (Ok value) = Ok value
 with_offset n (Err fault) = Err (offset_in n fault)
 
--- RFC 8259, 2 and 8.1: a JSON text. Bytes that aren't UTF-8 fail at the first byte that no character has (own: before every other fault)
+-- RFC 8259, 2 and 8.1: a JSON text. No token but a string has a byte past U+007F, so strings alone ask for UTF-8
 pub data ReadsJson : List ℕ → Result Json Fault → Type 0 where
-  json_text : {bytes : List ℕ} (out : Reading Json) → IsUtf8 bytes → Reads most_brackets (after_space bytes) out → ReadsJson bytes (with_offset (length bytes) (whole_text out))
-  no_utf8 : {bytes : List ℕ} {at : ℕ} → IsValidUpTo bytes at → ReadsJson bytes (Err (NotJson at))
+  json_text : {bytes : List ℕ} (out : Reading Json) → Reads most_brackets (after_space bytes) out → ReadsJson bytes (with_offset (length bytes) (whole_text out))

@@ -1,5 +1,5 @@
 -- The laws on what is printed.
-use Rattle.std.specs.Prelude.{ℕ, List, [], ◌∷◌, ◌++◌, Ok}
+use Rattle.std.specs.Prelude.{ℕ, List, [], ◌∷◌, ◌++◌, Ok, IsUtf8}
 use Rattle.json_spec.specs.Value.{Json}
 use Rattle.json_spec.specs.Taken.{taken}
 use Rattle.json_spec.specs.Printed.{escaped}
@@ -22,4 +22,11 @@ abbrev pub ValuesReadBack : Type 0
 ValuesReadBack = (v : Json) → IsPrintable most_brackets v → ReadsJson (printed_text v) (Ok v)
 
 pub values_read_back : ValuesReadBack
-values_read_back v p = json_text (taken v (10 ∷ [])) (text_utf8 most_brackets v p) (text_reads most_brackets v p)
+values_read_back v p = json_text (taken v (10 ∷ [])) (text_reads most_brackets v p)
+
+-- own law: the printed text of a value is UTF-8 where the texts in the value are
+abbrev pub PrintsUtf8 : Type 0
+PrintsUtf8 = (depth : ℕ) (v : Json) → IsPrintable depth v → IsUtf8 (printed_text v)
+
+pub prints_utf8 : PrintsUtf8
+prints_utf8 depth v p = text_utf8 depth v p

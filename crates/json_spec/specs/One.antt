@@ -1,14 +1,10 @@
 -- One text has one outcome.
-use Rattle.std.specs.Prelude.{◌≡◌, ℕ, zero, suc, List, [], ◌∷◌, length, Result, Err, IsUtf8}
-use mathlib.Core.Logic.{inl, inr}
-use Rattle.std.specs.Str.{IsValidUpTo}
-use Rattle.std.proofs.lemmas.Bool.{cases_order}
-use Rattle.std.proofs.lemmas.List.{take_all}
-use Rattle.std.proofs.Common.{refl, ap, sym, ◌∙◌, arith}
+use Rattle.std.specs.Prelude.{◌≡◌, ℕ, zero, suc, List, [], ◌∷◌, length, Result, IsUtf8}
+use Rattle.std.proofs.Common.{refl, ap, sym, ◌∙◌, arith, subst}
 use Rattle.json_spec.specs.Value.{Json, Items, Members}
 use Rattle.json_spec.specs.Taken.{taken, refused, Read, behind_piece}
-use Rattle.json_spec.specs.Strings.{ReadsText, close, plain, escape, no_escape, control, text_ends}
-use Rattle.json_spec.specs.Grammar.{Fault, NotJson, Reading, after_space, ReadsName, name_text, no_name, name_ends, text_behind, colon_at, Member, a_pair, ReadsMember, member_value, member_name, MoreMembers, members_close, members_next, members_fault, members_other, members_end, ReadsMembers, no_member, first_member, member_fault, object_ends, MoreItems, items_close, items_next, items_fault, items_other, items_end, ReadsItems, no_item, first_item, item_fault, list_ends, as_text, as_list, as_object, ReadsWith, reads_text, reads_list, reads_object, reads_scalar, value_ends, IsTooDeep, Reads, ReadsJson, json_text, no_utf8, most_brackets, whole_text, with_offset}
+use Rattle.json_spec.specs.Strings.{ReadsText, close, plain, escape, no_escape, control, text_ends, ReadsString, in_utf8, no_utf8, no_string}
+use Rattle.json_spec.specs.Grammar.{Fault, Reading, after_space, ReadsName, name_text, no_name, name_ends, text_behind, colon_at, Member, a_pair, ReadsMember, member_value, member_name, MoreMembers, members_close, members_next, members_fault, members_other, members_end, ReadsMembers, no_member, first_member, member_fault, object_ends, MoreItems, items_close, items_next, items_fault, items_other, items_end, ReadsItems, no_item, first_item, item_fault, list_ends, as_text, as_list, as_object, ReadsWith, reads_text, reads_list, reads_object, reads_scalar, value_ends, IsTooDeep, Reads, ReadsJson, json_text, most_brackets, whole_text, with_offset}
 
 -- two answers of one reader
 same_piece : {A : Type 0} {x y : A} {rest more : List ℕ} {a : Read A} → a ≡ taken x rest → a ≡ taken y more → (x ≡ y) × (rest ≡ more)
@@ -44,8 +40,22 @@ text_one (control l) (no_escape e) = refl
 text_one (control l) (control k) = refl
 text_one text_ends text_ends = refl
 
+same_utf8 : {x y rest more : List ℕ} → ◌≡◌ {A = Read (List ℕ)} (taken x rest) (taken y more) → IsUtf8 x → IsUtf8 y
+same_utf8 {x = x} {y = y} p u = let e : x ≡ y = cc in subst IsUtf8 e u
+
+pub string_one : {bytes : List ℕ} {a c : Read (List ℕ)} → ReadsString bytes a → ReadsString bytes c → a ≡ c
+string_one (in_utf8 r u) (in_utf8 s v) = text_one r s
+string_one (in_utf8 r u) (no_utf8 s n) = absurd (n (same_utf8 (text_one r s) u))
+string_one (in_utf8 r u) (no_string s) = absurd (never_both refl (text_one r s))
+string_one (no_utf8 r n) (in_utf8 s u) = absurd (n (same_utf8 (text_one s r) u))
+string_one (no_utf8 r n) (no_utf8 s m) = refl
+string_one (no_utf8 r n) (no_string s) = refl
+string_one (no_string r) (in_utf8 s u) = absurd (never_both refl (text_one s r))
+string_one (no_string r) (no_utf8 s n) = refl
+string_one (no_string r) (no_string s) = refl
+
 pub name_one : {bytes : List ℕ} {a c : Reading (List ℕ)} → ReadsName bytes a → ReadsName bytes c → a ≡ c
-name_one (name_text {bytes = bytes} r) (name_text s) = ap (text_behind bytes (λ name rest. colon_at name (after_space rest))) (text_one r s)
+name_one (name_text {bytes = bytes} r) (name_text s) = ap (text_behind bytes (λ name rest. colon_at name (after_space rest))) (string_one r s)
 name_one (name_text r) (no_name n) = absurd (n refl)
 name_one (no_name n) (name_text r) = absurd (n refl)
 name_one (no_name n) (no_name m) = refl
@@ -151,7 +161,7 @@ module _ {value : List ℕ → Reading Json → Type 0} (one : IsOne value) wher
 
 module _ {items : List ℕ → Reading Items → Type 0} {members : List ℕ → Reading Members → Type 0} (one_list : IsOne items) (one_object : IsOne members) where
   with_one : IsOne (ReadsWith items members)
-  with_one bytes a c (reads_text {bytes = rest} r) (reads_text s) = ap (as_text rest) (text_one r s)
+  with_one bytes a c (reads_text {bytes = rest} r) (reads_text s) = ap (as_text rest) (string_one r s)
   with_one bytes a c (reads_text r) (reads_scalar n m o) = absurd (n refl)
   with_one bytes a c (reads_list r) (reads_list s) = ap as_list (one_list _ _ _ r s)
   with_one bytes a c (reads_list r) (reads_scalar n m o) = absurd (m refl)
@@ -171,22 +181,8 @@ reads_one zero = with_one deep_one deep_one
 reads_one (suc depth) =
     with_one (λ bytes. items_one (reads_one depth) (after_space bytes)) (λ bytes. members_one (reads_one depth) (after_space bytes))
 
-front_of_text : {bytes : List ℕ} {at : ℕ} → IsUtf8 bytes → IsValidUpTo bytes at → ⊥
-front_of_text {bytes} good bad = bad.longest (length bytes) bad.short (rw (take_all (length bytes) bytes (omega arith)) good)
-
-one_front : {bytes : List ℕ} {at other : ℕ} → IsValidUpTo bytes at → IsValidUpTo bytes other → at ≡ other
-one_front {at = at} {other = other} a b =
-    elim (cases_order at other) [
-      | inl e ↦ e
-      | inr (inl l) ↦ absurd (a.longest other l b.front)
-      | inr (inr l) ↦ absurd (b.longest at l a.front)
-    ]
-
 json_one : {bytes : List ℕ} {a c : Result Json Fault} → ReadsJson bytes a → ReadsJson bytes c → a ≡ c
-json_one (json_text {bytes = bytes} p u r) (json_text q v s) = ap (λ out. with_offset (length bytes) (whole_text out)) (reads_one most_brackets _ _ _ r s)
-json_one (json_text p u r) (no_utf8 b) = absurd (front_of_text u b)
-json_one (no_utf8 b) (json_text p u r) = absurd (front_of_text u b)
-json_one (no_utf8 b) (no_utf8 d) = ap (λ at. Err (NotJson at)) (one_front b d)
+json_one (json_text {bytes = bytes} p r) (json_text q s) = ap (λ out. with_offset (length bytes) (whole_text out)) (reads_one most_brackets _ _ _ r s)
 
 -- own law: one text has one outcome
 abbrev pub OneJson : Type 0

@@ -13,7 +13,8 @@ margin (suc n) rest = 32 ∷ 32 ∷ margin n rest
 abbrev pub line : ℕ → List ℕ → List ℕ
 line n rest = 10 ∷ margin n rest
 
--- own: each item and each member stands on its own line, a level deeper, with `,` after all but the last, and `: ` after a name
+-- own: a list or an object that isn't empty has a line for each item or member, a level further in. A `,` ends such a line if another
+-- follows, and `: ` parts a name from its value
 abbrev mutual
   pub printed : ℕ → Json → List ℕ → List ℕ
   printed n a_null rest = codes "null" ++ rest
@@ -35,6 +36,6 @@ abbrev mutual
   printed_members n no_members rest = rest
   printed_members n (a_member name v more) rest = 44 ∷ line n (quoted name ++ (codes ": " ++ printed n v (printed_members n more rest)))
 
--- own: one line end closes the text
+-- own: a single LF stands behind the value
 abbrev pub printed_text : Json → List ℕ
 printed_text v = printed 0 v (10 ∷ [])

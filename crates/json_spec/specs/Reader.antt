@@ -1,10 +1,12 @@
--- A plain reader: each text in UTF-8 has an outcome. Its first argument bounds how many bytes it reads.
+-- A plain reader: each text has an outcome. Its first argument bounds how many bytes it reads.
 use Rattle.std.specs.Prelude.{◌≡◌, ℕ, zero, suc, ◌<◌, ◌≤◌, ◌≢◌, Bool, true, false, ◌==◌, nat_lt, List, [], ◌∷◌, length, if◌then◌else◌, Result, IsUtf8}
 use Rattle.std.proofs.Common.{refl, arith}
+use Rattle.std.specs.Str.{is_utf8}
+use Rattle.std.proofs.lemmas.Str.{IsUtf8-from_is_utf8, is_utf8-from_IsUtf8}
 use Rattle.std.proofs.lemmas.Bool.{eqb-true, eqb-false, ltb-true, ltb-false}
 use Rattle.json_spec.specs.Value.{Json, Items, no_items, Members, no_members}
 use Rattle.json_spec.specs.Taken.{taken, refused, Read, and_then, behind_piece}
-use Rattle.json_spec.specs.Strings.{ReadsText, close, plain, escape, no_escape, control, text_ends, escape_at}
+use Rattle.json_spec.specs.Strings.{ReadsText, close, plain, escape, no_escape, control, text_ends, escape_at, ReadsString, in_utf8, no_utf8, no_string}
 use Rattle.json_spec.specs.Grammar.{Fault, TooDeep, Reading, after_space, fault_here, text_behind, colon_at, scalar_at, ReadsName, name_text, no_name, name_ends, Member, a_pair, paired, ReadsMember, member_value, member_name, behind_member, behind_item, MoreMembers, members_close, members_next, members_fault, members_other, members_end, ReadsMembers, no_member, first_member, member_fault, object_ends, MoreItems, items_close, items_next, items_fault, items_other, items_end, ReadsItems, no_item, first_item, item_fault, list_ends, as_text, as_list, as_object, ReadsWith, reads_text, reads_list, reads_object, reads_scalar, value_ends, IsTooDeep, Reads, ReadsJson, json_text, most_brackets, whole_text, with_offset}
 use Rattle.json_spec.specs.Shorter.{AtMost, Below, more_room, less_room, escape_at_most, space_at_most, scalar_below}
 
@@ -60,10 +62,41 @@ text_sound zero bytes l = absurd (omega arith)
 text_sound (suc n) [] l = (text_ends, tt)
 text_sound (suc n) (b ∷ bytes) l = quote_sound (λ more. read_text n more) b bytes (λ more m. text_sound n more (omega arith)) (b == 34) refl
 
+abbrev checked : Bool → List ℕ → List ℕ → Read (List ℕ)
+checked true text rest = taken text rest
+checked false text rest = refused tt
+
+abbrev string_of : Read (List ℕ) → Read (List ℕ)
+string_of (taken text rest) = checked (is_utf8 text) text rest
+string_of (refused e) = refused e
+
+abbrev read_string : ℕ → List ℕ → Read (List ℕ)
+read_string n bytes = string_of (read_text n bytes)
+
+abbrev SoundString : List ℕ → Read (List ℕ) → Type 0
+SoundString bytes out = ReadsString bytes out × AtMost (length bytes) out
+
+is_no_utf8 : (bytes : List ℕ) → is_utf8 bytes ≡ false → IsUtf8 bytes → ⊥
+is_no_utf8 bytes f u = let t = is_utf8-from_IsUtf8 bytes u in never t f
+  where
+    never : is_utf8 bytes ≡ true → is_utf8 bytes ≡ false → ⊥
+    never p q = cc
+
+checked_sound : (bytes text rest : List ℕ) → SoundText bytes (taken text rest) → (t : Bool) → is_utf8 text ≡ t → SoundString bytes (checked t text rest)
+checked_sound bytes text rest s true e = (in_utf8 s.0 (IsUtf8-from_is_utf8 text e), s.1)
+checked_sound bytes text rest s false e = (no_utf8 s.0 (is_no_utf8 text e), tt)
+
+string_from : (bytes : List ℕ) (out : Read (List ℕ)) → SoundText bytes out → SoundString bytes (string_of out)
+string_from bytes (taken text rest) s = checked_sound bytes text rest s (is_utf8 text) refl
+string_from bytes (refused tt) s = (no_string s.0, tt)
+
+string_sound : (n : ℕ) (bytes : List ℕ) → length bytes < n → SoundString bytes (read_string n bytes)
+string_sound n bytes l = string_from bytes (read_text n bytes) (text_sound n bytes l)
+
 -- ---- names
 
 abbrev name_at : ℕ → ℕ → List ℕ → Bool → Reading (List ℕ)
-name_at n b bytes true = text_behind bytes (λ name rest. colon_at name (after_space rest)) (read_text n bytes)
+name_at n b bytes true = text_behind bytes (λ name rest. colon_at name (after_space rest)) (read_string n bytes)
 name_at n b bytes false = fault_here (b ∷ bytes)
 
 abbrev read_name : ℕ → List ℕ → Reading (List ℕ)
@@ -88,8 +121,8 @@ name_below bytes (refused e) l = tt
 
 name_step : (n b : ℕ) (bytes : List ℕ) → length (b ∷ bytes) < n → (t : Bool) → (b == 34) ≡ t → ReadsName (b ∷ bytes) (name_at n b bytes t) × Below (length (b ∷ bytes)) (name_at n b bytes t)
 name_step n b bytes l true e =
-    let text = text_sound n bytes (omega arith) in
-    (rw (eqb-true b 34 e) (name_text text.0), name_below bytes (read_text n bytes) text.1)
+    let text = string_sound n bytes (omega arith) in
+    (rw (eqb-true b 34 e) (name_text text.0), name_below bytes (read_string n bytes) text.1)
 name_step n b bytes l false e = (no_name (eqb-false b 34 e), tt)
 
 name_sound : (n : ℕ) → IsSound n ReadsName (read_name n)
@@ -266,7 +299,7 @@ value_list items members b bytes true = as_list (items bytes)
 value_list items members b bytes false = value_object members b bytes (b == 123)
 
 abbrev value_text : ℕ → (List ℕ → Reading Items) → (List ℕ → Reading Members) → ℕ → List ℕ → Bool → Reading Json
-value_text n items members b bytes true = as_text bytes (read_text n bytes)
+value_text n items members b bytes true = as_text bytes (read_string n bytes)
 value_text n items members b bytes false = value_list items members b bytes (b == 91)
 
 abbrev read_with : ℕ → (List ℕ → Reading Items) → (List ℕ → Reading Members) → List ℕ → Reading Json
@@ -309,7 +342,7 @@ module _ (n : ℕ) (items_read : List ℕ → Reading Items → Type 0) (members
   list_sound b bytes l p false e = object_sound b bytes l p (eqb-false b 91 e) (b == 123) refl
 
   text_value_sound : (b : ℕ) (bytes : List ℕ) → length (b ∷ bytes) < n → (t : Bool) → (b == 34) ≡ t → ValueAt (b ∷ bytes) (value_text n items members b bytes t)
-  text_value_sound b bytes l true e = let here = text_sound n bytes (omega arith) in rw (eqb-true b 34 e) (reads_text here.0, as_text_below _ bytes (read_text n bytes) here.1)
+  text_value_sound b bytes l true e = let here = string_sound n bytes (omega arith) in rw (eqb-true b 34 e) (reads_text here.0, as_text_below _ bytes (read_string n bytes) here.1)
   text_value_sound b bytes l false e = list_sound b bytes l (eqb-false b 34 e) (b == 91) refl
 
   with_sound : IsSound n (ReadsWith items_read members_read) (read_with n items members)
@@ -331,5 +364,5 @@ value_sound (suc depth) n =
 abbrev pub read_json : List ℕ → Result Json Fault
 read_json bytes = with_offset (length bytes) (whole_text (read_value most_brackets (suc (length bytes)) (after_space bytes)))
 
-pub json_sound : (bytes : List ℕ) → IsUtf8 bytes → ReadsJson bytes (read_json bytes)
-json_sound bytes u = let s = space_at_most bytes in json_text (read_value most_brackets (suc (length bytes)) (after_space bytes)) u (value_sound most_brackets (suc (length bytes)) (after_space bytes) (omega arith)).0
+pub json_sound : (bytes : List ℕ) → ReadsJson bytes (read_json bytes)
+json_sound bytes = let s = space_at_most bytes in json_text (read_value most_brackets (suc (length bytes)) (after_space bytes)) (value_sound most_brackets (suc (length bytes)) (after_space bytes) (omega arith)).0

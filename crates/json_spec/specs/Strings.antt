@@ -1,7 +1,8 @@
 -- Strings. RFC 8259, 7 and 8.2.
---     ReadsText bytes out      what a string is whose opening quote stands before the bytes
+--     ReadsString bytes out      what a string is whose opening quote stands before the bytes
+--     ReadsText bytes out      the same, whether its text is UTF-8 or not
 --     escape_at bytes      the character of the escape whose `\` stands before the bytes
-use Rattle.std.specs.Prelude.{◌≡◌, ℕ, zero, suc, ◌+◌, ◌-◌, ◌*◌, ◌<◌, ◌≤◌, ◌≢◌, Bool, ◌&&◌, ◌||◌, ◌==◌, nat_le, nat_lt, List, [], ◌∷◌, if◌then◌else◌, Option, Some, None, encode_utf8}
+use Rattle.std.specs.Prelude.{◌≡◌, ℕ, zero, suc, ◌+◌, ◌-◌, ◌*◌, ◌<◌, ◌≤◌, ◌≢◌, Bool, ◌&&◌, ◌||◌, ◌==◌, nat_le, nat_lt, List, [], ◌∷◌, if◌then◌else◌, Option, Some, None, encode_utf8, IsUtf8}
 use Rattle.json_spec.specs.Taken.{taken, refused, Read, and_then, behind_piece}
 
 -- RFC 8259, 7: the character that a `\` and one character stand for
@@ -79,3 +80,10 @@ pub data ReadsText : List ℕ → Read (List ℕ) → Type 0 where
   no_escape : {bytes : List ℕ} → escape_at bytes ≡ refused tt → ReadsText (92 ∷ bytes) (refused tt)
   control : {b : ℕ} {bytes : List ℕ} → b < 32 → ReadsText (b ∷ bytes) (refused tt)
   text_ends : ReadsText [] (refused tt)
+
+-- RFC 8259, 7 and 8.1: a string whose text is UTF-8. An escape gives whole characters, so the text is UTF-8 exactly where the bytes
+-- between the quotes are
+pub data ReadsString : List ℕ → Read (List ℕ) → Type 0 where
+  in_utf8 : {bytes text rest : List ℕ} → ReadsText bytes (taken text rest) → IsUtf8 text → ReadsString bytes (taken text rest)
+  no_utf8 : {bytes text rest : List ℕ} → ReadsText bytes (taken text rest) → (IsUtf8 text → ⊥) → ReadsString bytes (refused tt)
+  no_string : {bytes : List ℕ} → ReadsText bytes (refused tt) → ReadsString bytes (refused tt)

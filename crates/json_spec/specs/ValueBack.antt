@@ -6,6 +6,7 @@ use Rattle.std.proofs.Common.{arith}
 use Rattle.std.proofs.lemmas.Bool.{cond-false}
 use Rattle.json_spec.specs.Settled.{settled_distinct}
 use Rattle.json_spec.specs.Taken.{taken}
+use Rattle.json_spec.specs.Strings.{in_utf8}
 use Rattle.json_spec.specs.Printed.{quoted}
 use Rattle.json_spec.specs.PrintedValue.{margin, line, printed, printed_items, printed_members, printed_text}
 use Rattle.json_spec.specs.TextBack.{text_back}
@@ -75,14 +76,14 @@ at_depth : (depth : ℕ) {bytes : List ℕ} {out : Reading Json} → ((items : L
 at_depth zero r = r _ _
 at_depth (suc depth) r = r _ _
 
-name_back : (name rest : List ℕ) → ReadsName (quoted name ++ (58 ∷ rest)) (taken name rest)
-name_back name rest = rw append_assoc (name_text (text_back name (58 ∷ rest)))
+name_back : (name rest : List ℕ) → IsUtf8 name → ReadsName (quoted name ++ (58 ∷ rest)) (taken name rest)
+name_back name rest u = rw append_assoc (name_text (in_utf8 (text_back name (58 ∷ rest)) u))
 
-text_value_back : (text rest : List ℕ) {items : List ℕ → Reading Items → Type 0} {members : List ℕ → Reading Members → Type 0} → ReadsWith items members (quoted text ++ rest) (taken (a_text text) rest)
-text_value_back text rest = rw append_assoc (reads_text (text_back text rest))
+text_value_back : (text rest : List ℕ) → IsUtf8 text → {items : List ℕ → Reading Items → Type 0} {members : List ℕ → Reading Members → Type 0} → ReadsWith items members (quoted text ++ rest) (taken (a_text text) rest)
+text_value_back text rest u = rw append_assoc (reads_text (in_utf8 (text_back text rest) u))
 
-member_back : (depth : ℕ) (name bytes rest : List ℕ) (v : Json) → StartsValue bytes → Reads depth bytes (taken v rest) → ReadsMember (Reads depth) (quoted name ++ (codes ": " ++ bytes)) (taken (a_pair name v) rest)
-member_back depth name bytes rest v s r = member_value {out = taken v rest} (name_back name (32 ∷ bytes)) (rw (after_no_space bytes s) r)
+member_back : (depth : ℕ) (name bytes rest : List ℕ) (v : Json) → IsUtf8 name → StartsValue bytes → Reads depth bytes (taken v rest) → ReadsMember (Reads depth) (quoted name ++ (codes ": " ++ bytes)) (taken (a_pair name v) rest)
+member_back depth name bytes rest v u s r = member_value {out = taken v rest} (name_back name (32 ∷ bytes) u) (rw (after_no_space bytes s) r)
 
 list_back : (depth n : ℕ) (bytes middle rest : List ℕ) (v : Json) (vs : Items) → StartsValue bytes → Reads depth bytes (taken v middle) → MoreItems (Reads depth) (after_space middle) (taken vs rest) → Reads (suc depth) (91 ∷ line n bytes) (taken (a_list (an_item v vs)) rest)
 list_back depth n bytes middle rest v vs s r m =
@@ -101,7 +102,7 @@ mutual
   value_back depth n (a_bool true) rest p = at_depth depth (λ items members. reads_scalar (omega arith) (omega arith) (omega arith))
   value_back depth n (a_bool false) rest p = at_depth depth (λ items members. reads_scalar (omega arith) (omega arith) (omega arith))
   value_back depth n (a_number number) rest p = absurd p
-  value_back depth n (a_text text) rest p = at_depth depth (λ items members. text_value_back text rest)
+  value_back depth n (a_text text) rest p = at_depth depth (λ items members. text_value_back text rest p)
   value_back zero n (a_list vs) rest p = absurd p
   value_back zero n (an_object ms) rest p = absurd p
   value_back (suc depth) n (a_list no_items) rest p = reads_list no_item
@@ -111,7 +112,7 @@ mutual
   value_back (suc depth) n (an_object no_members) rest p = reads_object no_member
   value_back (suc depth) n (an_object (a_member name v more)) rest p =
       let after = printed_members (suc n) more (line n (125 ∷ rest)) in
-      let here = member_back depth name (printed (suc n) v after) after v (printed_starts depth (suc n) v after p.1.1) (value_back depth (suc n) v after p.1.1) in
+      let here = member_back depth name (printed (suc n) v after) after v p.1.0 (printed_starts depth (suc n) v after p.1.1) (value_back depth (suc n) v after p.1.1) in
       object_back depth (suc n) name (codes ": " ++ printed (suc n) v after) after rest v more p.0 here (members_back depth (suc n) n more rest p.1.2)
 
   pub items_back : (depth n m : ℕ) (vs : Items) (rest : List ℕ) → ArePrintable depth vs → MoreItems (Reads depth) (after_space (printed_items n vs (line m (93 ∷ rest)))) (taken vs rest)
@@ -127,7 +128,7 @@ mutual
   members_back depth n m (a_member name v more) rest p =
       let after = printed_members n more (line m (125 ∷ rest)) in
       let bytes = printed n v after in
-      let here = member_back depth name bytes after v (printed_starts depth n v after p.1) (value_back depth n v after p.1) in
+      let here = member_back depth name bytes after v p.0 (printed_starts depth n v after p.1) (value_back depth n v after p.1) in
       let there : ReadsMember (Reads depth) (after_space (line n (quoted name ++ (codes ": " ++ bytes)))) (taken (a_pair name v) after) = rw (after_line n (quoted name ++ (codes ": " ++ bytes)) (quoted_starts name (codes ": " ++ bytes))) here in
       members_next there (members_back depth n m more rest p.2)
 

@@ -5,7 +5,7 @@
 
 ghost use Rattle.json_spec.specs.Distinct.{NamesAreDistinct};
 ghost use Rattle.json_spec.specs.Examples.{WorkedExamples};
-ghost use Rattle.json_spec.specs.JsonBack.{TextsReadBack, ValuesReadBack};
+ghost use Rattle.json_spec.specs.JsonBack.{PrintsUtf8, TextsReadBack, ValuesReadBack};
 ghost use Rattle.json_spec.specs.One.{OneJson};
 ghost use Rattle.json_spec.specs.Some.{SomeJson};
 
@@ -37,6 +37,12 @@ pub fn texts_read_back()
 #[tactic(auto, using(crate::specs::JsonBack::values_read_back))]
 pub fn values_read_back()
     ensures { ValuesReadBack }
+{}
+
+/// A printed value is UTF-8.
+#[tactic(auto, using(crate::specs::JsonBack::prints_utf8))]
+pub fn prints_utf8()
+    ensures { PrintsUtf8 }
 {}
 
 /// Worked examples.

@@ -1,2 +1,3 @@
 pub mod PlainForm
 pub mod Readings
+pub mod Examples

@@ -13,7 +13,8 @@ pub record IsPlainByte (b : ℕ) : Type 0 where
   pub no_quote : b ≢ 34
   pub no_escape : b ≢ 92
 
--- ECMA-262, 16.2.2: `import`, a module specifier in double quotes, and `;`, with the text behind them
+-- own: of the declarations of ECMA-262, 16.2.2, those that are `import`, a specifier between double quotes that holds no escape, and a
+-- written `;`, with the text behind them
 pub record IsStatement (text specifier rest : List ℕ) : Type 0 where
   pub before : List ℕ
   pub after : List ℕ
@@ -22,7 +23,7 @@ pub record IsStatement (text specifier rest : List ℕ) : Type 0 where
   pub closed : All IsSpace after
   pub split : text ≡ codes "import" ++ (before ++ 34 ∷ (specifier ++ 34 ∷ (after ++ 59 ∷ rest)))
 
--- ECMA-262, 16.2: the items of a module one after another, and the specifiers that they ask for
+-- own: such statements (ECMA-262, 16.2) and white space one after another, and the specifiers that they ask for
 pub data IsPlain : List ℕ → List (List ℕ) → Type 0 where
   nothing : (text : List ℕ) → text ≡ [] → IsPlain text []
   space : (b : ℕ) (text rest : List ℕ) (specifiers : List (List ℕ)) → IsSpace b → text ≡ b ∷ rest → IsPlain rest specifiers → IsPlain text specifiers
@@ -33,5 +34,6 @@ pub record Requests (bytes : List ℕ) (specifiers : List (List ℕ)) : Type 0 w
   pub utf8 : IsUtf8 bytes
   pub plain : IsPlain bytes specifiers
 
+-- own law: a text asks for one list of specifiers at most
 abbrev pub OneReading : Type 0
 OneReading = (text : List ℕ) (some other : List (List ℕ)) → IsPlain text some → IsPlain text other → some ≡ other

@@ -1,5 +1,5 @@
 -- A text is read in one way.
-use Rattle.std.proofs.Common.{◌≡◌, ◌≢◌, ◌≤◌, ◌<◌, ℕ, List, [], ◌∷◌, ◌++◌, codes, All, sym, refl, ap, ◌∙◌, subst, ⊎_elim, inl, inr, arith, append_assoc}
+use Rattle.std.proofs.Common.{◌≡◌, ℕ, List, [], ◌∷◌, ◌++◌, codes, All, sym, refl, ◌∙◌, subst, inl, inr, arith}
 use Rattle.std.proofs.lemmas.List.Elements.{All-head, All-tail}
 use Rattle.std.proofs.lemmas.List.{append_cancel_left}
 use Rattle.module_spec.specs.PlainForm.{IsSpace, IsPlainByte, IsStatement, IsPlain, OneReading}
@@ -19,7 +19,7 @@ one_cut P (z ∷ xs) (w ∷ ys) x y us vs a b no_x no_y same =
     let more = one_cut P xs ys x y us vs (All-tail P z xs a) (All-tail P w ys b) no_x no_y (let e : xs ++ x ∷ us ≡ ys ++ y ∷ vs = cc in e) in
     record { front = (let e : xs ≡ ys = more.front in cc); back = more.back }
 
-no_space : (b : ℕ) → (b ≡ 32 → ⊥) → (b ≡ 9 → ⊥) → (b ≡ 13 → ⊥) → (b ≡ 10 → ⊥) → IsSpace b → ⊥
+pub no_space : (b : ℕ) → (b ≡ 32 → ⊥) → (b ≡ 9 → ⊥) → (b ≡ 13 → ⊥) → (b ≡ 10 → ⊥) → IsSpace b → ⊥
 no_space b a c d e (inl h) = a h
 no_space b a c d e (inr (inl h)) = c h
 no_space b a c d e (inr (inr (inl h))) = d h

@@ -1,15 +1,15 @@
 -- One answer.
-use Rattle.std.proofs.Common.{◌≡◌, ◌≢◌, ℕ, true, false, List, Option, Some, None, refl, sym, ap, ◌∙◌, subst, true≢false}
+use Rattle.std.proofs.Common.{◌≡◌, ℕ, List, Option, refl, sym, ap, ◌∙◌, subst}
 use Rattle.std.specs.FinMap.{get}
 use Rattle.tree_spec.specs.declared.Entry.{Entry}
-use Rattle.tree_spec.specs.declared.Entry.TheVariants.{Stored, Directory}
 use Rattle.tree_spec.specs.Trees.{Tree}
 use Rattle.url_spec.specs.FileUrls.{url_path, NamesPath}
-use Rattle.node_spec.specs.Resolution.{Answer, Resolved, Refused, Judges, Joins, Resolves}
+use Rattle.node_spec.specs.Resolution.{Answer, Judges, Joins, Resolves}
 use Rattle.node_spec.specs.Resolution.Judges.{separator, folder, nameless, absent, no_folder, file}
 use Rattle.node_spec.specs.Resolution.Joins.{no_url, other_host, joined}
 use Rattle.node_spec.specs.Resolution.Resolves.{relative}
 
+-- own law: a specifier in a file of a tree has one answer at most
 abbrev pub OneAnswer : Type 0
 OneAnswer = (tree : Tree) (parent specifier : List ℕ) (some other : Answer) → Resolves tree parent specifier some → Resolves tree parent specifier other → some ≡ other
 

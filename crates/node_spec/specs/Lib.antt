@@ -1,2 +1,4 @@
 pub mod Resolution
 pub mod Laws
+pub mod Some
+pub mod Examples

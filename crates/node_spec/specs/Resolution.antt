@@ -21,7 +21,8 @@ pub data Answer : Type 0 where
 abbrev pub is_folder_path : List ℕ → Bool
 is_folder_path path = ends_with nat_eq path (codes "/")
 
--- what stands at a file URL (Node.js, ECMAScript modules: ESM_RESOLVE, from "If resolved is a file: URL" on)
+-- what stands at a file URL (Node.js, ECMAScript modules: ESM_RESOLVE, from "If resolved is a file: URL" on). own: where the URL's path
+-- spells no path, nothing stands there
 pub data Judges (tree : Tree) (url : List ℕ) : Answer → Type 0 where
   separator : escapes_separator (url_path url) ≡ true → Judges tree url (Refused InvalidSpecifier)
   folder : (path : List ℕ) → NamesPath (url_path url) path → get tree path ≡ Some Directory → Judges tree url (Refused DirectoryImport)
@@ -45,7 +46,6 @@ pub data Joins (tree : Tree) (parent specifier : List ℕ) : Answer → Type 0 w
   other_host : (url : List ℕ) → joined_url parent specifier ≡ Some url → names_host url ≡ true → Joins tree parent specifier (Refused InvalidSpecifier)
   joined : (url : List ℕ) (answer : Answer) → joined_url parent specifier ≡ Some url → names_host url ≡ false → Judges tree url answer → Joins tree parent specifier answer
 
--- a specifier that begins with `/`, `./` or `../`; bare specifiers and those that begin with `#` have no answer here yet
--- (Node.js, ECMAScript modules: ESM_RESOLVE)
+-- a specifier that begins with `/`, `./` or `../`; no other specifier has an answer here (Node.js, ECMAScript modules: ESM_RESOLVE)
 pub data Resolves (tree : Tree) (parent specifier : List ℕ) : Answer → Type 0 where
   relative : (answer : Answer) → is_relative specifier ≡ true → Joins tree parent specifier answer → Resolves tree parent specifier answer

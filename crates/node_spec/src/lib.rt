@@ -1,7 +1,9 @@
 //! What Node's resolver answers for a specifier in a file of a tree: definitions and their laws.
 #![tactic(auto)]
 
+ghost use Rattle.node_spec.specs.Examples.{WorkedExamples};
 ghost use Rattle.node_spec.specs.Laws.{OneAnswer};
+ghost use Rattle.node_spec.specs.Some.{SomeAnswer};
 
 /// Why a specifier is refused.
 #[derive(Clone, Copy, Debug, PartialEq, Eq)]
@@ -30,4 +32,16 @@ pub enum Cause {
 #[tactic(auto, using(crate::specs::Laws::one_answer))]
 pub fn one_answer()
     ensures { OneAnswer }
+{}
+
+/// A relative specifier has an answer in each tree.
+#[tactic(auto, using(crate::specs::Some::some_answer))]
+pub fn some_answer()
+    ensures { SomeAnswer }
+{}
+
+/// Worked examples.
+#[tactic(auto, using(crate::specs::Examples::worked_examples))]
+pub fn worked_examples()
+    ensures { WorkedExamples }
 {}

@@ -1,4 +1,4 @@
-ghost use Rattle.std.specs.Prelude.{◌≡◌, ◌≢◌, ◌≤◌, List, ℕ, Option, Some, is_ok, IfOk, IfSome, OnOk, OnErr, IsErrOf};
+ghost use Rattle.std.specs.Prelude.{◌≡◌, ◌≢◌, ◌≤◌, List, ℕ, Option, Some, None, is_ok, IfOk, IfSome, OnOk, OnErr, IsErrOf};
 ghost use Rattle.tree_spec.specs.declared.Entry.TheVariants.{Stored};
 ghost use Rattle.tree_spec.specs.Counts.{Rose};
 ghost use Rattle.tree_spec.specs.Trees.{Tree, IsTree, IsLook, Places, asked_after};
@@ -35,6 +35,7 @@ pub trait Folder {
     fn write(&mut self, path: &Path, bytes: &[u8]) -> Result<(), Failed>
         ensures written { OnOk result (IfSome (holds self.old) (λ tree. (after : Tree) × (holds self.new ≡ Some after) × Places tree path.now (Stored bytes.now) after)) }
         ensures tree { OnErr result (holds self.new ≡ holds self.old) }
+        ensures untold { holds self.old ≡ None → holds self.new ≡ None }
         ensures asked { asked self.new ≡ asked self.old }
         ensures failed { OnErr result (Rose (write_faults self.old) (write_faults self.new)) }
         ensures quiet { OnOk result (write_faults self.new ≡ write_faults self.old) }

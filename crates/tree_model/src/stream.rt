@@ -1,4 +1,4 @@
-ghost use Rattle.std.specs.Prelude.{◌≡◌, ◌≤◌, ◌<◌, ◌++◌, [], List, ℕ, Option, Some, option_map, length, take, drop, IfOk, IfSome, OnOk, OnErr};
+ghost use Rattle.std.specs.Prelude.{◌≡◌, ◌≤◌, ◌<◌, ◌++◌, [], List, ℕ, Option, Some, None, option_map, length, take, drop, IfOk, IfSome, OnOk, OnErr};
 ghost use Rattle.tree_spec.specs.Counts.{Rose};
 
 /// What is outside failed, and counted it.
@@ -13,10 +13,12 @@ pub trait Source {
     /// How many calls failed, up to the last number of its type.
     ghost faults: { Self → ℕ };
 
-    /// Fills a front of `into` with the next bytes and answers their number. 0 into a slice that isn't empty is the end.
+    /// Moves what comes next into the beginning of `into`, and says how many bytes that was. None, although `into` has
+    /// room, means that nothing is left.
     fn take(&mut self, into: &mut [u8]) -> Result<usize, Failed>
         ensures within { IfOk result (λ count. count ≤ length into.old) }
         ensures bytes { IfOk result (λ count. IfSome (left self.old) (λ rest. (count ≤ length rest) × (take count into.new ≡ take count rest) × (left self.new ≡ Some (drop count rest)))) }
+        ensures untold { left self.old ≡ None → left self.new ≡ None }
         ensures end { IfOk result (λ count. count ≡ 0 → 0 < length into.old → IfSome (left self.old) (λ rest. rest ≡ [])) }
         ensures behind { IfOk result (λ count. drop count into.new ≡ drop count into.old) }
         ensures untouched { OnErr result (into.new ≡ into.old) }

@@ -30,7 +30,7 @@ IsLook tree path limit Folder = get tree path ≡ Some Directory
 IsLook tree path limit (File bytes) = (get tree path ≡ Some (Stored bytes)) × (length bytes ≤ limit)
 IsLook tree path limit TooLarge = (bytes : List ℕ) × (get tree path ≡ Some (Stored bytes)) × (limit < length bytes)
 
--- own: an entry was put at a path, the missing folders above it were made, and all else stays
+-- own: what a tree holds after an entry was placed at a path: the entry there, a folder at each path above, elsewhere what it held
 pub record Places (tree : Tree) (path : List ℕ) (entry : Entry) (after : Tree) : Type 0 where
   pub here : get after path ≡ Some entry
   pub above : (folder : List ℕ) → IsAbove folder path → get after folder ≡ Some Directory

@@ -7,7 +7,7 @@ use Rattle.url_spec.specs.Parsing.{parts_of}
 use Rattle.url_spec.specs.WebNames.{escaped, holds_escape, read_segment, segments, suffix_of}
 use Rattle.tree_spec.specs.Paths.{IsPath}
 
--- own: the URL of a file or a folder; a folder's ends in `/`
+-- own: the URL of a file or a folder. A folder's ends in one `/`, so the root's is `file:///`
 unfoldable pub file_text : List ℕ → Bool → List ℕ
 file_text path folder = codes "file://" ++ (escaped path ++ (if folder && not (bytes_eq path (codes "/")) then codes "/" else []))
 

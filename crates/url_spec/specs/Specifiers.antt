@@ -1,4 +1,4 @@
--- Specifiers that may be URLs (HTML, import maps: parse a URL-like import specifier).
+-- Specifiers that may be URLs (HTML, import maps: resolve a URL-like module specifier).
 use Rattle.std.specs.Prelude.{◌||◌, nat_eq, ℕ, Bool, List, codes, Option, unwrap_or, if◌then◌else◌}
 use Rattle.std.specs.List.{starts_with}
 use Rattle.url_spec.specs.Parsing.{parse_alone, parse_against}

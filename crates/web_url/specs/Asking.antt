@@ -1,4 +1,4 @@
--- What a specifier asks for (HTML, import maps: parse a URL-like import specifier).
+-- What a specifier asks for (HTML, import maps: resolve a URL-like module specifier).
 use Rattle.std.specs.Prelude.{◌≡◌, ℕ, List, Some, None, true, false, codes, nat_eq, ⊤}
 use Rattle.std.specs.List.{ends_with}
 use Rattle.url_spec.specs.Specifiers.{is_relative, as_url}

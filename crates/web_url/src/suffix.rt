@@ -5,12 +5,10 @@ ghost use Rattle.web_url.specs.Suffixes.{IsSuffix};
 use crate::escapes::{is_suffix_mark, split_suffix};
 use primitives::{Memory, Text};
 use std::alloc::Global;
-use std::cmp::Ordering;
-use std::hash::{Hash, Hasher};
 use std::marker::Model;
 
 /// The query and fragment of a URL with their marks, or nothing.
-#[derive(Debug, Drop)]
+#[derive(Debug, Drop, PartialEq, Eq, PartialOrd, Ord, Hash)]
 pub struct Suffix {
     text: Text,
 }
@@ -24,6 +22,8 @@ impl Model for Suffix {
     ghost view = { λ s. s.text };
 
     ghost invariant = { λ s. IsSuffix s.text };
+
+    ghost inverse = { λ t. record { text = t } };
 }
 
 impl Suffix {
@@ -82,76 +82,5 @@ fn is_suffix(text: &str) -> bool
     match text.as_bytes().first() {
         None => true,
         Some(byte) => is_suffix_mark(*byte),
-    }
-}
-
-impl PartialEq for Suffix {
-    ghost use Rattle.std.specs.Prelude.{bytes_eq};
-    ghost use Rattle.std.proofs.Common.{rules};
-    ghost use Rattle.std.specs.Cmp.Rules.{comparing};
-
-    ghost eq = { bytes_eq };
-
-    ghost laws = { Prim.search (comparing, rules) };
-
-    fn eq(&self, other: &Suffix) -> bool {
-        self.text.as_str() == other.text.as_str()
-    }
-}
-
-impl Eq for Suffix {
-    ghost use Rattle.std.proofs.Common.{rules};
-    ghost use Rattle.std.specs.Cmp.Rules.{comparing};
-
-    ghost laws = { Prim.search (comparing, rules) };
-}
-
-impl Hash for Suffix {
-    ghost use Rattle.std.proofs.Common.{rules};
-    ghost use Rattle.std.specs.Cmp.Rules.{hashing};
-    ghost use Rattle.std.specs.Hash as fed;
-
-    ghost hash_input = { fed.str };
-
-    ghost respects_eq = { Prim.search (hashing, rules) };
-
-    fn hash<H: Hasher>(&self, state: &mut H) {
-        self.text.as_str().hash(state);
-    }
-}
-
-impl Ord for Suffix {
-    ghost use Rattle.std.specs.Ordering.{nat_cmp};
-    ghost use Rattle.std.specs.Cmp.Lexicographic.{slice_cmp};
-    ghost use Rattle.std.proofs.Common.{rules};
-    ghost use Rattle.std.specs.Cmp.Rules.{comparing};
-
-    ghost cmp = { slice_cmp nat_cmp };
-
-    ghost total = { Prim.search (comparing, rules) };
-
-    ghost matches_partial_cmp = { Prim.search (comparing, rules) };
-
-    ghost matches_eq = { Prim.search (comparing, rules) };
-
-    fn cmp(&self, other: &Suffix) -> Ordering {
-        self.text.as_str().cmp(other.text.as_str())
-    }
-}
-
-impl PartialOrd for Suffix {
-    ghost use Rattle.std.specs.Ordering.{nat_cmp};
-    ghost use Rattle.std.specs.Ordering.{as_partial_cmp};
-    ghost use Rattle.std.specs.Cmp.Lexicographic.{slice_cmp};
-    ghost use Rattle.std.proofs.Common.{rules};
-    ghost use Rattle.std.specs.Cmp.Rules.{comparing};
-    ghost use Rattle.std.specs.Cmp.{partial_order_from_own_ties};
-
-    ghost partial_cmp = { as_partial_cmp (slice_cmp nat_cmp) };
-
-    ghost laws = { partial_order_from_own_ties (Prim.search (comparing, rules)) (Prim.search (comparing, rules)) };
-
-    fn partial_cmp(&self, other: &Suffix) -> Option<Ordering> {
-        Some(self.cmp(other))
     }
 }
