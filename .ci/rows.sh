@@ -1,0 +1,59 @@
+#!/bin/sh
+# Whole runs of build/salimgub in folders on disk: the status, the line, and the map where one is written, each typed by
+# hand. Every row that fails is named; the status tells whether all passed.
+program=$(cd "$(dirname "$0")/.." && pwd)/build/salimgub
+kept=$(mktemp -d) || exit 1
+trap 'rm -rf "$kept"' EXIT
+failed=0
+
+# Links ENTRY in the folder $kept/NAME: row NAME ENTRY STATUS LINE, and the map on the standard input. Without a map no
+# file may be written.
+row() {
+    cat >"$kept/map"
+    (cd "$kept/$1" && "$program" link --base https://app.test/ "$2" >"$kept/out")
+    status=$?
+    written=/dev/null
+    [ ! -e "$kept/$1/importmap.json" ] || written=$kept/$1/importmap.json
+    if [ "$status" = "$3" ] && echo "$4" | diff - "$kept/out" && diff "$kept/map" "$written"; then
+        return
+    fi
+    echo "$1: status $status"
+    failed=1
+}
+
+mkdir "$kept/smallest" && : >"$kept/smallest/app.mjs"
+row smallest ./app.mjs 0 'ok: 1 modules, 1 requests, 0 mappings' <<'MAP'
+{
+  "imports": {}
+}
+MAP
+
+mkdir "$kept/pair" && echo 'import "./b.mjs";' >"$kept/pair/app.mjs" && : >"$kept/pair/b.mjs"
+row pair ./app.mjs 0 'ok: 2 modules, 2 requests, 0 mappings' <<'MAP'
+{
+  "imports": {}
+}
+MAP
+
+mkdir "$kept/escaped" && echo 'import "./a%62.mjs";' >"$kept/escaped/app.mjs" && : >"$kept/escaped/ab.mjs"
+row escaped ./app.mjs 0 'ok: 2 modules, 2 requests, 1 mappings' <<'MAP'
+{
+  "imports": {},
+  "scopes": {
+    "https://app.test/app.mjs": {
+      "https://app.test/a%62.mjs": "https://app.test/ab.mjs"
+    }
+  }
+}
+MAP
+
+mkdir "$kept/quotes" && echo "  import './b.mjs';" >"$kept/quotes/app.mjs" && : >"$kept/quotes/b.mjs"
+row quotes ./app.mjs 9 'not built: "/app.mjs"' </dev/null
+
+mkdir "$kept/bare"
+row bare ui 9 'not built: from "/index.html" for "ui"' </dev/null
+
+mkdir "$kept/missing" && echo 'import "./q.mjs";' >"$kept/missing/app.mjs"
+row missing ./app.mjs 1 'refused: NotFound from "/app.mjs" for "./q.mjs"' </dev/null
+
+exit "$failed"
