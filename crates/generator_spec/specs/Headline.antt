@@ -10,12 +10,12 @@ use Rattle.import_map_spec.specs.Resolving.{resolve_in}
 use Rattle.import_map_spec.specs.Resolving as html
 use Rattle.generator_spec.specs.Modules.{Config, Module, Referrer, the_page, a_module, path_of, web_name, Asks}
 
--- own: the least set that holds the page and, with each member, what Node's resolver answers for its requests
+-- own: the page is reachable, and so is every module that Node answers for a request of something reachable
 pub data Reachable (tree : Tree) (config : Config) : Referrer → Type 0 where
   page : Reachable tree config the_page
   requested : (referrer : Referrer) (specifiers : List (List ℕ)) (specifier : List ℕ) (target : Module) → Reachable tree config referrer → Asks tree config referrer specifiers → Contains specifiers specifier → Resolves tree (path_of config referrer) specifier (node.Resolved target.path target.suffix) → Reachable tree config (a_module target)
 
--- own: HTML's resolution of a specifier gives the URL of exactly the file that Node's resolution gives
+-- own: Node answers a specifier with a file, HTML's resolution through the map ends at a URL, and this file is served there
 pub record Leads (tree : Tree) (config : Config) (map : ParsedMap) (referrer : Referrer) (name specifier : List ℕ) : Type 0 where
   pub path : List ℕ
   pub suffix : List ℕ
@@ -33,8 +33,8 @@ pub record AllLead (tree : Tree) (config : Config) (map : ParsedMap) (referrer :
   pub asks : Asks tree config referrer specifiers
   pub leads : (specifier : List ℕ) → Contains specifiers specifier → Leads tree config map referrer name specifier
 
--- own: the bytes parse as a map at the page's URL, and through it every request of the page and of every reachable module
--- leads to the file that Node's resolver gives
+-- own: what is promised of a map's text: parsed at the page's URL, it is a map through which each request of whatever is
+-- reachable finds its file
 pub record Serves (tree : Tree) (config : Config) (bytes : List ℕ) : Type 0 where
   pub map_base : List ℕ
   pub named : web_name config the_page ≡ Some map_base

@@ -11,7 +11,7 @@ use Rattle.layout_spec.specs.declared.Need.{Need}
 use Rattle.layout_spec.specs.Needs.{counted}
 use Rattle.generator_spec.specs.Modules.{Config, Module, is_module, Referrer, the_page, a_module, path_of, web_name, Asks}
 
--- own: no URL that is asked for or named ends in `/`
+-- the text ends in `/`
 abbrev pub ends_in_slash : List ℕ → Bool
 ends_in_slash url = ends_with nat_eq url (codes "/")
 
@@ -24,8 +24,8 @@ pub record IsServable (config : Config) (path suffix url : List ℕ) : Type 0 wh
   pub name : web config.base path suffix ≡ Some url
   pub back : IsServed config.base url path
 
--- own: a request that isn't refused, with its need and its target: it has a URL, Node answers it with a module, and that
--- module can be served
+-- own: a request that passes the checks that look at it alone, with its need and its target: it asks for the URL of a file,
+-- Node answers it with one, and that one can be served
 pub record Passes (tree : Tree) (config : Config) (referrer : Referrer) (specifier : List ℕ) (need : Need) (target : Module) : Type 0 where
   pub named : web_name config referrer ≡ Some need.referrer
   pub is_relative : is_relative specifier ≡ true
@@ -65,7 +65,8 @@ pub data TurnsOf (tree : Tree) (config : Config) : List Module → List Turn →
 abbrev pub targets_of : List Turn → List Module
 targets_of turns = flat_map (λ turn. turn.targets) turns
 
--- own: each further level has the targets of the level before that stand in no earlier level, in the order of first request
+-- own: the levels behind the one that is given. A module has its turn in the level behind the one that first asks for it, at
+-- the place where it is first asked for
 pub data Levels (tree : Tree) (config : Config) : List Module → List Turn → List Turn → Type 0 where
   last_level : (seen : List Module) (level : List Turn) → new_modules seen (targets_of level) ≡ [] → Levels tree config seen level []
   next_level : (seen : List Module) (level : List Turn) (first : Module) (others : List Module) (turns more : List Turn) → new_modules seen (targets_of level) ≡ first ∷ others → TurnsOf tree config (first ∷ others) turns → Levels tree config (seen ++ first ∷ others) turns more → Levels tree config seen level (turns ++ more)

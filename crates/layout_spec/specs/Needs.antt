@@ -1,5 +1,4 @@
--- Needs: what a map has to serve. A need is a referrer's web name, a normalized specifier, and the web name of what it
--- must lead to.
+-- Needs: who asks (by its URL), what for (the specifier as HTML normalizes it), and the URL that has to come of it.
 use Rattle.std.specs.Prelude.{◌≡◌, ℕ, Bool, List, [], ◌∷◌, ◌++◌, ◌&&◌, bytes_eq, if◌then◌else◌, Contains}
 use Rattle.std.specs.List.{list_any}
 use Rattle.layout_spec.specs.declared.Need.{Need}
@@ -16,6 +15,6 @@ counted_onto needs (need ∷ more) = counted_onto (if list_any (is_need need) ne
 abbrev pub counted : List Need → List Need
 counted needs = counted_onto [] needs
 
--- own: no two needs have one referrer and one specifier and different targets
+-- own: needs of one referrer and one specifier have one target
 abbrev pub NoClash : List Need → Type 0
 NoClash needs = (one other : Need) → Contains needs one → Contains needs other → one.referrer ≡ other.referrer → one.asked ≡ other.asked → one.target ≡ other.target
