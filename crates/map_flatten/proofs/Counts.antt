@@ -4,11 +4,10 @@ use Rattle.std.specs.Prelude.{map, option_map, unwrap_or}
 use Rattle.std.specs.Ordering.{nat_cmp}
 use Rattle.std.specs.Cmp.Lexicographic.{slice_cmp, nat_list_cmp_total}
 use Rattle.std.specs.List.{sum_by}
-use Rattle.std.specs.Map.{lookup, set_value, values_of, keys_of}
+use Rattle.std.specs.Map.{lookup, set_value, values_of}
 use Rattle.std.specs.BTreeMap as tree
 use Rattle.std.specs.BTreeMap.{BTreeMap, btree_map_len, insert_entry, is_at}
 use Rattle.std.specs.FinMap.{entries, len, len-entries}
-use Rattle.std.specs.List.Sorted.{IsStrictlySortedBy}
 use Rattle.std.proofs.lemmas.List.Sums.{sum_by-cons}
 use Rattle.std.proofs.lemmas.List.{length-map, take_all}
 use Rattle.std.proofs.lemmas.Map.Entries.{sum_by-set_value, sum_by-insert_entry}

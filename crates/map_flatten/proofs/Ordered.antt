@@ -3,20 +3,18 @@ use Rattle.std.proofs.Common.{◌≡◌, ℕ, Bool, true, false, List, [], ◌�
 use Rattle.std.specs.Prelude.{◌&&◌, T, map, All}
 use Rattle.std.specs.List.{AllByRecursion}
 use Rattle.std.specs.List.Sorted.{IsStrictlySortedBy}
-use Rattle.std.specs.declared.cmp.Ordering.{Ordering}
 use Rattle.std.specs.declared.cmp.Ordering.TheVariants.{Less}
 use Rattle.std.specs.Ordering.{nat_cmp, is_lt}
 use Rattle.std.specs.Cmp.Lexicographic.{slice_cmp, nat_list_cmp_total}
-use Rattle.std.specs.FinMap.{FinMap, entries, empty, from_entries, from_sorted, is_sorted, len-entries, len-empty, get-from_entries, get-from_sorted, entries-from_sorted, same_map, slice_cmp-IsAntisymmetric, nat_cmp-IsAntisymmetric}
+use Rattle.std.specs.FinMap.{entries, empty, from_entries, from_sorted, is_sorted, len-entries, len-empty, get-from_entries, get-from_sorted, entries-from_sorted, same_map, slice_cmp-IsAntisymmetric, nat_cmp-IsAntisymmetric}
 use Rattle.std.specs.FinMap.Entries.{below_all}
 use Rattle.std.proofs.lemmas.List.{nil_from_length, map-append}
 use Rattle.std.proofs.lemmas.List.Elements.{All-head, All-tail}
 use Rattle.layout_spec.specs.declared.Need.{Need}
 use Rattle.layout_spec.specs.Layout.{scopes_onto, layout}
-use Rattle.map_print.specs.declared.keyed.Layout.{Layout}
 use Rattle.map_print.specs.Keys.{InKeyOrder}
 use Rattle.map_print.specs.Lists.{address_entry, scope_entries, scope_entry, Lists}
-use Rattle.map_flatten.specs.Grouped.{Scope, addresses_of, scope_of, scopes_of, listed_scope}
+use Rattle.map_flatten.specs.Grouped.{Scope, addresses_of, scope_of, listed_scope}
 use Rattle.map_flatten.proofs.Updates.{mapped}
 
 both : (a b : Bool) → T a → T b → T (a && b)

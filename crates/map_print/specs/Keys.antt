@@ -1,5 +1,5 @@
 -- Lists of pairs in the byte order of their keys.
-use Rattle.std.specs.Prelude.{ℕ, List, map, ◌++◌, ◌∷◌, []}
+use Rattle.std.specs.Prelude.{ℕ, List, map, []}
 use Rattle.std.specs.Ordering.{nat_cmp}
 use Rattle.std.specs.Cmp.Lexicographic.{slice_cmp}
 use Rattle.std.specs.List.Sorted.{IsStrictlySortedBy}

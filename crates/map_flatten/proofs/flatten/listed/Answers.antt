@@ -1,4 +1,4 @@
-use Rattle.std.proofs.Common.{rules, ◌≡◌, ◌++◌, ◌∷◌, [], map}
+use Rattle.std.proofs.Common.{rules, map}
 use Rattle.map_print.specs.Keys.{InKeyOrder}
 use Rattle.map_flatten.specs.Grouped.{listed_scope}
 use Rattle.map_flatten.proofs.Ordered.{front_in_order, listed_in_order, next_listed}
