@@ -118,7 +118,7 @@ fn stop_line(alloc: Global, stop: &Stop) -> Result<Vec<u8>, Memory>
     }
 }
 
-// The limits of this stage are those of a file and of the modules; the others are never passed.
+// The limits that a walk can pass are those of a file and of the modules.
 fn limit_text(which: LimitName) -> &'static [u8]
     ensures { BeginsOk result.now → ⊥ }
 {
