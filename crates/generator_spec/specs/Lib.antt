@@ -2,6 +2,11 @@ pub mod Modules
 pub mod Trace
 pub mod Generation
 pub mod Headline
+pub mod Words
+pub mod Refusing
+pub mod Lines
+pub mod Outcome
 pub mod Laws
 pub mod Closed
 pub mod Reaching
+pub mod OneRefusal

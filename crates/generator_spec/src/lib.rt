@@ -4,6 +4,39 @@
 ghost use Rattle.generator_spec.specs.Laws.{OneTrace};
 ghost use Rattle.generator_spec.specs.Reaching.{NeedsNameFiles, ReachedTurns};
 
+use primitives::Text;
+use tree_spec::LimitName;
+
+/// Why a command ends before its first write, with what is shown of it.
+#[derive(Debug, Drop)]
+pub enum Refusal {
+    /// Words that aren't built.
+    Words,
+    /// A text that gives no base.
+    BadBase { text: Text },
+    /// The page can't be served: its path, and its URL, which is empty where it has none.
+    Unservable { path: Text, url: Text },
+    /// Nothing stands where a request leads.
+    NotFound { referrer: Text, specifier: Text },
+    /// What a request wants isn't built.
+    RequestNotBuilt { referrer: Text, specifier: Text },
+    /// A module whose kind or text isn't built.
+    ModuleNotBuilt { asker: Text },
+    /// A quantity passes its limit.
+    Limit { which: LimitName },
+}
+
+/// Why a request is refused.
+#[derive(Clone, Copy, Debug, PartialEq, Eq)]
+pub enum RequestRefusal {
+    /// Nothing stands where the specifier leads.
+    NotFound,
+    /// What the request wants isn't built.
+    NotBuilt,
+    /// A quantity passes its limit.
+    Limit { which: LimitName },
+}
+
 /// A tree and a config have one trace at most.
 #[tactic(auto, using(crate::specs::Laws::one_trace))]
 pub fn one_trace()

@@ -1,4 +1,5 @@
 pub mod Needs
 pub mod Layout
+pub mod Counting
 pub mod Contained
 pub mod Lays

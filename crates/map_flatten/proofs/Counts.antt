@@ -15,29 +15,8 @@ use Rattle.import_map_spec.specs.ParsedMap.{Addresses, ParsedMap}
 use Rattle.map_print.specs.declared.keyed.Layout.{Layout}
 use Rattle.map_print.specs.Lists.{address_entry, scope_entries, scope_entry, Lists}
 use Rattle.map_flatten.specs.Grouped.{Scope, listed_scope}
-use Rattle.map_flatten.specs.Counting.{mapping_count, listed_count, grouped_count}
-
-added : (a b c d k : ℕ) → a + b ≡ c + d → d ≤ b + k → a ≤ c + k
-added a b c d k e f = omega arith
-
-pub count_there : (m n : BTreeMap (List ℕ) Scope) (key : List ℕ) (scope after : Scope) → n.entries ≡ set_value (is_at (slice_cmp nat_cmp key)) m.entries after → Some scope ≡ tree.get (slice_cmp nat_cmp) m key → btree_map_len after ≤ btree_map_len scope + 1 → grouped_count n ≤ grouped_count m + 1
-count_there m n key scope after e there more =
-    added (grouped_count n) (btree_map_len scope) (grouped_count m) (btree_map_len after) 1
-    (ap (λ es. sum_by btree_map_len (values_of es) + btree_map_len scope) e ∙ sum_by-set_value btree_map_len (is_at (slice_cmp nat_cmp key)) m.entries scope after (sym there))
-    more
-
-pub count_new : (m n : BTreeMap (List ℕ) Scope) (key : List ℕ) (scope : Scope) → n.entries ≡ insert_entry (slice_cmp nat_cmp) m.entries key scope → tree.IsOrdered (slice_cmp nat_cmp) m → btree_map_len scope ≤ 1 → grouped_count n ≤ grouped_count m + 1
-count_new m n key scope e ordered few =
-    let was = unwrap_or (option_map btree_map_len (lookup (is_at (slice_cmp nat_cmp key)) m.entries)) 0 in
-    added (grouped_count n) was (grouped_count m) (btree_map_len scope) 1
-    (ap (λ es. sum_by btree_map_len (values_of es) + was) e ∙ sum_by-insert_entry btree_map_len nat_list_cmp_total m.entries key scope ordered)
-    (omega (arith, few))
-
-pub count_listed : (es : List (List ℕ × Scope)) → sum_by (λ scope. length scope.1) (map listed_scope es) ≡ sum_by btree_map_len (values_of es)
-count_listed [] = refl
-count_listed (e ∷ es) =
-    sum_by-cons (λ (scope : List ℕ × List (List ℕ × List ℕ)). length scope.1) (listed_scope e) (map listed_scope es)
-    ∙ (ap (λ n. length e.1.entries + n) (count_listed es) ∙ sym (sum_by-cons btree_map_len e.1 (values_of es)))
+use Rattle.layout_spec.specs.Counting.{mapping_count}
+use Rattle.map_flatten.specs.Counting.{listed_count}
 
 scopes_count : (scopes : List (List ℕ × Addresses)) → sum_by (λ scope. len scope.1) scopes ≡ sum_by (λ scope. length scope.1) (map scope_entries scopes)
 scopes_count [] = refl
@@ -55,12 +34,6 @@ pub counted : (layout : Layout) (integrity : List (List ℕ × List ℕ)) (m : P
 counted layout integrity m l =
     sym (λ i. (len-entries m.imports ∙ (ap length l.imports ∙ length-map layout.imports address_entry)) i
     + (scopes_count (entries m.scopes) ∙ (ap (sum_by (λ scope. length scope.1)) l.scopes ∙ lists_count layout.scopes)) i)
-
-pub count_kept : (n : ℕ) (imports : List (List ℕ × List ℕ)) (scopes : List (List ℕ × List (List ℕ × List ℕ))) (grouped : BTreeMap (List ℕ) Scope) → imports ≡ [] → scopes ≡ map listed_scope grouped.entries → grouped_count grouped < n → listed_count (record { imports = imports; scopes = scopes }) < n
-count_kept n imports scopes grouped none are fits =
-    let same : sum_by (λ scope. length scope.1) scopes ≡ grouped_count grouped = ap (sum_by (λ scope. length scope.1)) are ∙ count_listed grouped.entries in
-    let zero : length imports ≡ 0 = ap length none in
-    omega (arith, same, zero, fits)
 
 pub all_counted : (count n i : ℕ) (scopes slice : List (List ℕ × List (List ℕ × List ℕ))) → slice ≡ scopes → length slice ≤ i → count ≡ n + sum_by (λ scope. length scope.1) (take i slice) → count ≡ n + sum_by (λ scope. length scope.1) scopes
 all_counted count n i scopes slice is past e = e ∙ ap (λ ss. n + sum_by (λ scope. length scope.1) ss) (take_all i slice past ∙ is)

@@ -1,9 +1,8 @@
-ghost use Rattle.std.specs.Prelude.{◌≡◌, ◌≤◌, ◌<◌, ◌+◌, ◌^◌, length, [], List, ℕ, map, IfOk, OnOk, All};
+ghost use Rattle.std.specs.Prelude.{◌≡◌, [], List, ℕ, map, IfOk, OnOk, All};
 ghost use Rattle.std.specs.FinMap.{empty};
 ghost use Rattle.map_print.specs.Keys.{InKeyOrder};
 ghost use Rattle.map_print.specs.Lists.{Lists};
 ghost use Rattle.layout_spec.specs.Layout as definition;
-ghost use Rattle.map_flatten.specs.Counting.{listed_count, grouped_count};
 ghost use Rattle.map_flatten.specs.Grouped.{scopes_of, listed_scope};
 
 use map_print::{Layout, Mappings, Scopes};
@@ -18,8 +17,7 @@ type Scope = BTreeMap<Text, Text>;
 /// The layout of needs: in the scope of each referrer a mapping for each of its needs but those that lead to their
 /// target by themselves.
 pub fn layout(alloc: Global, needs: &Needs) -> Result<Layout, Memory>
-    ensures lists { IfOk result (λ layout. Lists layout [] (definition.layout needs.now)) }
-    ensures fits { IfOk result (λ layout. listed_count layout < 2 ^ 64) }
+    ensures { IfOk result (λ layout. Lists layout [] (definition.layout needs.now)) }
 {
     let scopes = scopes_by_referrer(alloc, needs)?;
     Ok(Layout {
@@ -29,8 +27,7 @@ pub fn layout(alloc: Global, needs: &Needs) -> Result<Layout, Memory>
 }
 
 fn scopes_by_referrer(alloc: Global, needs: &Needs) -> Result<BTreeMap<Text, Scope>, Memory>
-    ensures scopes { IfOk result (λ scopes. scopes_of scopes ≡ definition.scopes_onto empty needs.now) }
-    ensures fits { IfOk result (λ scopes. grouped_count scopes < 2 ^ 64) }
+    ensures { IfOk result (λ scopes. scopes_of scopes ≡ definition.scopes_onto empty needs.now) }
 {
     let mut scopes = BTreeMap::new(alloc);
     for index in 0..needs.len() {
@@ -43,8 +40,7 @@ fn scopes_by_referrer(alloc: Global, needs: &Needs) -> Result<BTreeMap<Text, Sco
 }
 
 fn add_need(alloc: Global, scopes: &mut BTreeMap<Text, Scope>, need: &Need) -> Result<(), Memory>
-    ensures scopes { OnOk result (scopes_of scopes.new ≡ definition.with_need need.now (scopes_of scopes.old)) }
-    ensures count { OnOk result (grouped_count scopes.new ≤ grouped_count scopes.old + 1) }
+    ensures { OnOk result (scopes_of scopes.new ≡ definition.with_need need.now (scopes_of scopes.old)) }
 {
     if need.asked == need.target {
         return Ok(());

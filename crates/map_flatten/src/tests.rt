@@ -30,7 +30,7 @@ fn a_target_that_is_asked_for_needs_no_mapping(rt: HostRuntime) -> Result<(), Fa
         })?;
     }
     let layout = layout(alloc, &needs)?;
-    assert_eq!(rt; mappings(&layout), 1);
+    assert_eq!(rt; mappings(&layout), Some(1));
     assert_eq!(rt; layout.imports.len() + layout.scopes.len(), 1);
     let (referrer, scope) = layout.scopes.at(0).ok_or("no scope")?;
     let (asked, target) = scope.at(0).ok_or("no mapping")?;

@@ -1,0 +1,75 @@
+-- What a command says, and its exit status.
+use Rattle.std.specs.Prelude.{ℕ, ◌-◌, List, [], ◌∷◌, ◌++◌, length, flat_map, codes}
+use Rattle.std.specs.Fmt.{decimal}
+use Rattle.tree_spec.specs.declared.LimitName.{LimitName}
+use Rattle.tree_spec.specs.declared.LimitName.TheVariants as limit
+use Rattle.json_spec.specs.Printed.{quoted}
+use Rattle.layout_spec.specs.Layout.{layout}
+use Rattle.layout_spec.specs.Counting.{mapping_count}
+use Rattle.generator_spec.specs.declared.Refusal.{Refusal}
+use Rattle.generator_spec.specs.declared.Refusal.TheVariants.{Words, BadBase, Unservable, NotFound, RequestNotBuilt, ModuleNotBuilt, Limit}
+use Rattle.generator_spec.specs.Trace.{Turn, needs_of}
+
+-- own: the name of a quantity that has a limit
+abbrev pub limit_name : LimitName → List ℕ
+limit_name limit.File = codes "file"
+limit_name limit.Bytes = codes "bytes"
+limit_name limit.Looks = codes "looks"
+limit_name limit.Modules = codes "modules"
+limit_name limit.ModuleRequests = codes "module-requests"
+limit_name limit.Requests = codes "requests"
+limit_name limit.Specifier = codes "specifier"
+limit_name limit.Entries = codes "entries"
+limit_name limit.Brackets = codes "brackets"
+limit_name limit.Depth = codes "depth"
+limit_name limit.Session = codes "session"
+limit_name limit.Map = codes "map"
+limit_name limit.Choices = codes "choices"
+
+-- own: the number that the quantity may not pass
+abbrev pub limit_number : LimitName → ℕ
+limit_number limit.File = 16777216
+limit_number limit.Bytes = 268435456
+limit_number limit.Looks = 400000
+limit_number limit.Modules = 20000
+limit_number limit.ModuleRequests = 4096
+limit_number limit.Requests = 200000
+limit_number limit.Specifier = 4096
+limit_number limit.Entries = 1024
+limit_number limit.Brackets = 4096
+limit_number limit.Depth = 128
+limit_number limit.Session = 268435456
+limit_number limit.Map = 67108864
+limit_number limit.Choices = 16777216
+
+-- own: the exit status of a refusal
+abbrev pub status_of : Refusal → ℕ
+status_of Words = 9
+status_of (BadBase text) = 2
+status_of (Unservable path url) = 1
+status_of (NotFound referrer specifier) = 1
+status_of (RequestNotBuilt referrer specifier) = 9
+status_of (ModuleNotBuilt asker) = 9
+status_of (Limit which) = 3
+
+abbrev pub end_of_line : List ℕ
+end_of_line = 10 ∷ []
+
+-- own: two texts, each as a JSON string, behind and between these words
+abbrev pub pair_line : List ℕ → List ℕ → List ℕ → List ℕ → List ℕ
+pair_line front first between second = front ++ (quoted first ++ (between ++ (quoted second ++ end_of_line)))
+
+-- own: the line of a refusal
+abbrev pub line_of : Refusal → List ℕ
+line_of Words = codes "not built: words" ++ end_of_line
+line_of (BadBase text) = codes "words: BadBase " ++ (quoted text ++ end_of_line)
+line_of (Unservable path url) = pair_line (codes "refused: Unservable ") path (codes " as ") url
+line_of (NotFound referrer specifier) = pair_line (codes "refused: NotFound from ") referrer (codes " for ") specifier
+line_of (RequestNotBuilt referrer specifier) = pair_line (codes "not built: from ") referrer (codes " for ") specifier
+line_of (ModuleNotBuilt asker) = codes "not built: " ++ (quoted asker ++ end_of_line)
+line_of (Limit which) = codes "limit: " ++ (limit_name which ++ (codes " above " ++ (decimal (limit_number which) ++ end_of_line)))
+
+-- own: what is said when a map was written: the modules of the trace without the page, its requests with the entries, and the
+-- mappings
+abbrev pub done_line : List Turn → List ℕ
+done_line trace = codes "ok: " ++ (decimal (length trace - 1) ++ (codes " modules, " ++ (decimal (length (flat_map (λ turn. turn.specifiers) trace)) ++ (codes " requests, " ++ (decimal (mapping_count (layout (needs_of trace))) ++ (codes " mappings" ++ end_of_line))))))
