@@ -1,19 +1,32 @@
 -- From the place of a URL to Node's answer.
-use Rattle.std.proofs.Common.{◌≡◌, ℕ, Bool, true, false, List, Option, Some, None, MatchOption, IfSome, IfOk, Result, Ok, Err, sym, refl, ap, ◌∙◌, subst}
+use Rattle.std.proofs.Common.{◌≡◌, ◌<◌, ℕ, true, false, List, length, Option, Some, None, MatchOption, IfSome, IfOk, Result, Ok, Err, sym, ap, ◌∙◌, subst, arith}
+use Rattle.std.specs.Prelude.{IfErr}
+use Rattle.std.specs.FinMap.{get}
+use Rattle.tree_spec.specs.declared.Entry.TheVariants.{Stored}
 use Rattle.tree_spec.specs.Trees.{Tree}
 use Rattle.url_spec.specs.Parsing.{parse_alone, parse_against}
 use Rattle.url_spec.specs.Specifiers.{is_relative}
 use Rattle.url_spec.specs.WebNames.{suffix_of}
 use Rattle.url_spec.specs.FileUrls.{file_text, names_host, url_path, NamesPath, IsPlace}
 use Rattle.web_url.specs.declared.file.Place.{Place}
-use Rattle.node_spec.specs.declared.Cause.TheVariants.{NotFound}
+use Rattle.node_spec.specs.declared.Cause.TheVariants.{NotFound, InvalidSpecifier, DirectoryImport}
 use Rattle.node_spec.specs.Resolution.{Answer, Resolved, Refused, Judges, joined_onto, joined_url, Joins, Resolves}
 use Rattle.node_spec.specs.Resolution.{Judges as judges}
-use Rattle.node_spec.specs.Resolution.Joins.{joined}
+use Rattle.node_spec.specs.Resolution.Joins.{no_url, other_host, joined}
 use Rattle.node_spec.specs.Resolution.Resolves.{relative}
+use Rattle.generator_spec.specs.declared.Refusal.{Refusal}
+use Rattle.generator_spec.specs.declared.RequestRefusal.{RequestRefusal}
+use Rattle.generator_spec.specs.declared.RequestRefusal.TheVariants.{NotBuilt}
 use Rattle.generator_spec.specs.Modules.{Module}
-use Rattle.generator_core.specs.Answering.{Answers, StandsAsFile, StandsNot}
-use Rattle.generator_core.specs.Answering.{StandsNot as not}
+use Rattle.generator_spec.specs.Refusing.{LooksAbove, NodeRefuses}
+use Rattle.generator_spec.specs.Refusing.NodeRefuses.{too_large, nothing_there, another_cause}
+use Rattle.generator_core.specs.declared.answer.RequestFault.{RequestFault}
+use Rattle.generator_core.specs.declared.answer.RequestFault.TheVariants as fault
+use Rattle.generator_core.specs.declared.stop.Stop.{Stop}
+use Rattle.generator_core.specs.declared.stop.Stop.TheVariants as stop
+use Rattle.generator_core.specs.Answering.{Answers, StandsAsFile, StandsNot, NotStands, IsRefusedBy}
+use Rattle.generator_core.specs.Answering.{StandsNot as not, NotStands as stands}
+use Rattle.generator_core.specs.Faults.{IfRequestRefused, IfRefused}
 
 -- what holds of a told value
 pub if_some : {A : Type 0} {P Q : A → Type 0} (told : Option A) → ((x : A) → P x → Q x) → IfSome told P → IfSome told Q
@@ -54,8 +67,88 @@ file_answers tree parent specifier url place target is_relative joins host is st
 nothing_judged : (tree : Tree) (url : List ℕ) (place : Place) → IsPlace url place.path place.folder_only place.escaped place.suffix → StandsNot tree place → Judges tree url (Refused NotFound)
 nothing_judged tree url place is (not.no_path escaped none) = judges.nameless (sym is.separator ∙ escaped) (no_path url place.path is.named none)
 nothing_judged tree url place is (not.absent path escaped some none) = judges.absent path (some_path url place.path path is.named some) none
-nothing_judged tree url place is (not.folder_only path bytes escaped some folder stored) =
-    judges.no_folder path bytes (some_path url place.path path is.named some) stored (sym is.ends_in_slash ∙ folder)
+nothing_judged tree url place is (not.folder_only path bytes escaped some folder file) =
+    judges.no_folder path bytes (some_path url place.path path is.named some) file.stored (sym is.ends_in_slash ∙ folder)
 
-pub nothing_answers : (tree : Tree) (parent specifier url : List ℕ) (place : Place) → is_relative specifier ≡ true → parse_against parent specifier ≡ Some url → names_host url ≡ false → IsPlace url place.path place.folder_only place.escaped place.suffix → StandsNot tree place → Answers tree parent specifier (Refused NotFound)
-nothing_answers tree parent specifier url place is_relative joins host is stands = judged tree parent specifier url _ is_relative joins host (nothing_judged tree url place is stands)
+-- ---- a file above the limit
+
+-- a URL leads to a file above the limit
+record AboveAt (tree : Tree) (url : List ℕ) : Type 0 where
+  pub path : List ℕ
+  pub bytes : List ℕ
+  pub names : NamesPath (url_path url) path
+  pub stored : get tree path ≡ Some (Stored bytes)
+  pub above : 16777216 < length bytes
+
+above_at : (tree : Tree) (path specifier url : List ℕ) → joined_url path specifier ≡ Some url → LooksAbove tree path specifier → AboveAt tree url
+above_at tree path specifier url joins a =
+    let same : a.looks.url ≡ url = (let e = a.looks.joins in cc) in
+    record { path = a.path; bytes = a.bytes; names = subst (λ u. NamesPath (url_path u) a.path) same a.looks.names; stored = a.stored; above = a.above }
+
+-- what stands at a path that the URL names is what is above the limit
+same_there : (tree : Tree) (url path : List ℕ) → NamesPath (url_path url) path → (a : AboveAt tree url) → get tree path ≡ Some (Stored a.bytes)
+same_there tree url path names a = ap (get tree) (names.spelled ∙ sym a.names.spelled) ∙ a.stored
+
+no_above : (tree : Tree) (url : List ℕ) (place : Place) → IsPlace url place.path place.folder_only place.escaped place.suffix → StandsNot tree place → AboveAt tree url → ⊥
+no_above tree url place is (not.no_path escaped none) a = no_path url place.path is.named none a.path a.names
+no_above tree url place is (not.absent path escaped some none) a = let e = same_there tree url path (some_path url place.path path is.named some) a in cc
+no_above tree url place is (not.folder_only path bytes escaped some folder file) a =
+    let e = same_there tree url path (some_path url place.path path is.named some) a in
+    let f = file.stored in
+    let same : a.bytes ≡ bytes = cc in
+    omega (arith, ap length same, file.within, a.above)
+
+-- ---- no module is answered
+
+-- what doesn't stand at the place of a URL is refused
+refuses : (tree : Tree) (path specifier url : List ℕ) (place : Place) (why : RequestRefusal) → is_relative specifier ≡ true → joined_url path specifier ≡ Some url → names_host url ≡ false → IsPlace url place.path place.folder_only place.escaped place.suffix → NotStands tree place why → NodeRefuses tree path specifier why
+refuses tree path specifier url place why r joins host is (stands.separator e) =
+    another_cause InvalidSpecifier (λ e. cc)
+    (λ above. let f = (above_at tree path specifier url joins above).names.no_separator in let g = is.separator in cc)
+    (relative _ r (joined url _ joins host (judges.separator (sym is.separator ∙ e))))
+refuses tree path specifier url place why r joins host is (stands.nothing n) =
+    nothing_there (λ above. no_above tree url place is n (above_at tree path specifier url joins above)) (relative _ r (joined url _ joins host (nothing_judged tree url place is n)))
+refuses tree path specifier url place why r joins host is (stands.a_folder at escaped some directory) =
+    let names = some_path url place.path at is.named some in
+    another_cause DirectoryImport (λ e. cc)
+    (λ above. let e = same_there tree url at names (above_at tree path specifier url joins above) in cc)
+    (relative _ r (joined url _ joins host (judges.folder at names directory)))
+refuses tree path specifier url place why r joins host is (stands.too_large at bytes escaped some stored above) =
+    too_large (record { path = at; bytes = bytes; looks = record { url = url; joins = joins; no_host = host; names = some_path url place.path at is.named some }; stored = stored; above = above })
+
+-- the parent's URL, where it is given
+joined_in : (path parent specifier : List ℕ) (found : Option (List ℕ)) → parse_alone (file_text path false) ≡ Some parent → parse_against parent specifier ≡ found → joined_url path specifier ≡ found
+joined_in path parent specifier found base joins = ap (λ b. joined_onto b specifier) base ∙ joins
+
+pub place_refused : (tree : Tree) (parent specifier url : List ℕ) (place : Place) (why : RequestRefusal) → is_relative specifier ≡ true → parse_against parent specifier ≡ Some url → names_host url ≡ false → IsPlace url place.path place.folder_only place.escaped place.suffix → NotStands tree place why → IsRefusedBy tree parent specifier why
+place_refused tree parent specifier url place why r joins host is stands = record { each = λ path base. refuses tree path specifier url place why r (joined_in path parent specifier (Some url) base joins) host is stands }
+
+pub no_url_refused : (tree : Tree) (parent specifier : List ℕ) → is_relative specifier ≡ true → parse_against parent specifier ≡ None → IsRefusedBy tree parent specifier NotBuilt
+no_url_refused tree parent specifier r joins = record {
+  each = λ path base.
+      let none = joined_in path parent specifier None base joins in
+      another_cause InvalidSpecifier (λ e. cc) (λ above. let e = above.looks.joins in cc) (relative _ r (no_url none));
+}
+
+pub host_refused : (tree : Tree) (parent specifier url : List ℕ) → is_relative specifier ≡ true → parse_against parent specifier ≡ Some url → names_host url ≡ true → IsRefusedBy tree parent specifier NotBuilt
+host_refused tree parent specifier url r joins host = record {
+  each = λ path base.
+      let some = joined_in path parent specifier (Some url) base joins in
+      another_cause InvalidSpecifier (λ e. cc)
+      (λ above. let e = above.looks.joins in let f = above.looks.no_host in let same : above.looks.url ≡ url = cc in let g : names_host above.looks.url ≡ true = ap names_host same ∙ host in cc)
+      (relative _ r (other_host url some host));
+}
+
+-- ---- under a result
+
+pub if_request : {A : Type 0} {P Q : RequestRefusal → Type 0} (result : Result A RequestFault) → ((why : RequestRefusal) → P why → Q why) → IfErr result (λ fault. IfRequestRefused fault P) → IfErr result (λ fault. IfRequestRefused fault Q)
+if_request (Ok x) f h = h
+if_request (Err (fault.Refused why)) f h = f why h
+if_request (Err fault.Failed) f h = h
+if_request (Err fault.Memory) f h = h
+
+pub if_stop : {A : Type 0} {P Q : Refusal → Type 0} (result : Result A Stop) → ((first : Refusal) → P first → Q first) → IfErr result (λ stop. IfRefused stop P) → IfErr result (λ stop. IfRefused stop Q)
+if_stop (Ok x) f h = h
+if_stop (Err (stop.Refused first)) f h = f first h
+if_stop (Err stop.ReadFault) f h = h
+if_stop (Err stop.Memory) f h = h

@@ -1,23 +1,37 @@
 -- How a run ends.
-use Rattle.std.proofs.Common.{◌≡◌, ◌≢◌, ◌≤◌, ◌<◌, ◌==◌, ℕ, Bool, true, false, List, [], ◌∷◌, ◌++◌, length, take, codes, Option, Some, All, refl, sym, ap, ◌∙◌, subst, arith, lit≤, eq-eqb}
+use Rattle.std.proofs.Common.{◌≡◌, ◌≢◌, ◌≤◌, ◌<◌, ◌==◌, ◌-◌, ◌⊎◌, ℕ, Bool, true, false, List, [], ◌∷◌, ◌++◌, length, take, codes, Option, Some, None, IfSome, All, inl, inr, refl, sym, ap, ◌∙◌, subst, arith, lit≤, eq-eqb}
 use Rattle.std.specs.Prelude.{option_map, ◌||◌}
 use Rattle.std.specs.List.{list_any}
 use Rattle.std.proofs.Math.Seq.{take-length}
 use Rattle.std.proofs.lemmas.List.Elements.{All-nil, All-cons}
 use Rattle.tree_spec.specs.declared.Entry.TheVariants.{Stored}
+use Rattle.tree_spec.specs.Counts.{Rose}
 use Rattle.tree_spec.specs.Trees.{Tree, Places}
 use Rattle.tree_spec.specs.Paths.{IsSegment, IsPath, HasDepth, root, child}
 use Rattle.layout_spec.specs.Needs.{NoClash}
 use Rattle.layout_spec.specs.Layout.{layout}
 use Rattle.import_map_spec.specs.Printing.{map_text}
+use Rattle.layout_spec.specs.Counting.{mapping_count}
+use Rattle.generator_spec.specs.declared.Refusal.{Refusal}
+use Rattle.generator_spec.specs.declared.Refusal.TheVariants as refusal
 use Rattle.generator_spec.specs.Modules.{Config}
+use Rattle.generator_spec.specs.Words.{IsLink, IsConfigOf, RefusesWords}
+use Rattle.generator_spec.specs.Words.RefusesWords.{no_link, bad_base}
+use Rattle.generator_spec.specs.Lines.{status_of, line_of, counts_line}
+use Rattle.generator_spec.specs.Outcome.{Outcome}
+use Rattle.generator_spec.specs.Outcome.Outcome.{words_refused, trace_refused}
 use Rattle.soundness.proofs.Sound.{sound}
+use Rattle.generator_core.specs.declared.stop.Stop.{Stop}
+use Rattle.generator_core.specs.declared.stop.Stop.TheVariants as stopped
 use Rattle.generator_core.specs.declared.trace.Trace.{Trace}
+use Rattle.generator_core.specs.Faults.{IfRefused}
 use Rattle.generator_core.specs.Walking.{Traced}
-use Rattle.generator_core.specs.Running.{IsWritten, IsConfigOf, IsGenerated, Linked, Gives, Tells}
+use Rattle.generator_core.specs.Running.{IsRefusalStatus, BeginsOk, IsWritten, IsGenerated, Linked, IsRefused, Gives, Tells, FolderState, SinkState, Says, Ends, SaysStop, SaysWrite}
+use Rattle.generator_core.specs.Running.IsRefused.{by_words, by_trace}
+use Rattle.generator_core.specs.Running.{Says as says, Ends as ends, SaysStop as stops, SaysWrite as writes}
 
 -- the whole line went out
-pub whole_given : (old new : Option (List ℕ)) (line : List ℕ) → new ≡ option_map (λ before. before ++ line) old → Gives old new line
+whole_given : (old new : Option (List ℕ)) (line : List ℕ) → new ≡ option_map (λ before. before ++ line) old → Gives old new line
 whole_given old new line e = record { count = length line; given = e ∙ ap (λ l. option_map (λ before. before ++ l) old) (sym (take-length line)) }
 
 pub written_is : (tree : Tree) (bytes slice path : List ℕ) (told : Option Tree) → ((after : Tree) × (told ≡ Some after) × Places tree path (Stored slice) after) → path ≡ codes "/importmap.json" → slice ≡ bytes → IsWritten tree bytes told
@@ -66,15 +80,12 @@ pub page_path : IsPath (codes "/index.html")
 page_path = root_file (codes "index.html") (codes "/index.html") refl refl (lit≤ tt) (lit≤ tt) refl
 
 -- what generation gives is what stands there, and it serves
-pub linked : (tree : Tree) (words : List (List ℕ)) (bytes : List ℕ) (told : Option Tree) → IsGenerated tree words bytes → IsWritten tree bytes told → Linked tree words told
-linked tree words bytes told generated written = record { bytes = bytes; generated = generated; serves = sound tree generated.config bytes generated.generates; written = written }
-
-pub tells_more : {A B : Type 0} (old new : Option (List ℕ)) → (A → B) → Tells old new A → Tells old new B
-tells_more old new f tells = record { line = tells.line; gives = tells.gives; only_where_done = λ ok. f (tells.only_where_done ok) }
+linked : (tree : Tree) (words : List (List ℕ)) (bytes line : List ℕ) (told : Option Tree) → IsGenerated tree words bytes line → IsWritten tree bytes told → Linked tree words told
+linked tree words bytes line told generated written = record { bytes = bytes; line = line; generated = generated; serves = sound tree generated.config bytes generated.generates; written = written }
 
 -- a trace whose layout is printed is generation
-pub generated : (tree : Tree) (words : List (List ℕ)) (config : Config) (trace : Trace) (bytes : List ℕ) → IsConfigOf words config → Traced tree config trace → bytes ≡ map_text (layout trace.needs) → IsGenerated tree words bytes
-generated tree words config trace bytes is_config traced text = record {
+pub generated : (tree : Tree) (words : List (List ℕ)) (config : Config) (trace : Trace) (bytes line : List ℕ) → IsConfigOf words config → Traced tree config trace → bytes ≡ map_text (layout trace.needs) → line ≡ counts_line (length trace.modules.entries) trace.requests (mapping_count (layout trace.needs)) → IsGenerated tree words bytes line
+generated tree words config trace bytes line is_config traced text says = record {
   config = config;
   is_config = is_config;
   generates = record {
@@ -87,4 +98,193 @@ generated tree words config trace bytes is_config traced text = record {
     no_clash = subst NoClash traced.counted traced.no_clash;
     text = text ∙ ap (λ needs. map_text (layout needs)) traced.counted;
   };
+  says =
+      says
+      ∙ (let modules : length trace.modules.entries ≡ length traced.turns - 1 = omega (arith, traced.modules) in
+      λ i. counts_line (modules i) (traced.requests i) (mapping_count (layout (traced.counted i))));
 }
+
+-- ---- words
+
+same_base : (words : List (List ℕ)) (base other : List ℕ) (entries more : List (List ℕ)) → IsLink words base entries → IsLink words other more → base ≡ other
+same_base words base other entries more a b = let e = a.split in let f = b.split in cc
+
+-- words that give a config aren't refused
+pub not_refused : (words : List (List ℕ)) (config : Config) (why : Refusal) → IsConfigOf words config → RefusesWords words why → ⊥
+not_refused words config why is (no_link none) = none is.base is.entries is.link
+not_refused words config why is (bad_base base entries link none) = let same = same_base words base is.base entries is.entries link is.link in let e = is.is_base in cc
+
+-- words are refused in one way
+pub one_refusal_of_words : (words : List (List ℕ)) (why other : Refusal) → RefusesWords words why → RefusesWords words other → why ≡ other
+one_refusal_of_words words why other (no_link none) (no_link more) = refl
+one_refusal_of_words words why other (no_link none) (bad_base base entries link bad) = absurd (none base entries link)
+one_refusal_of_words words why other (bad_base base entries link bad) (no_link none) = absurd (none base entries link)
+one_refusal_of_words words why other (bad_base base entries link bad) (bad_base second more link_too bad_too) = ap refusal.BadBase (same_base words base second entries more link link_too)
+
+-- ---- lines
+
+first_byte : List ℕ → ℕ
+first_byte [] = 0
+first_byte (b ∷ rest) = b
+
+refusal_is_not_ok : (why : Refusal) → BeginsOk (line_of why) → ⊥
+refusal_is_not_ok refusal.Words e = let n = ap first_byte e in omega arith
+refusal_is_not_ok (refusal.BadBase text) e = let n = ap first_byte e in omega arith
+refusal_is_not_ok (refusal.Unservable path url) e = let n = ap first_byte e in omega arith
+refusal_is_not_ok (refusal.NotFound referrer specifier) e = let n = ap first_byte e in omega arith
+refusal_is_not_ok (refusal.RequestNotBuilt referrer specifier) e = let n = ap first_byte e in omega arith
+refusal_is_not_ok (refusal.ModuleNotBuilt asker) e = let n = ap first_byte e in omega arith
+refusal_is_not_ok (refusal.Limit which) e = let n = ap first_byte e in omega arith
+
+gives_of : (status : ℕ) (line : List ℕ) (old new : SinkState) (result : ℕ) → Ends status line old new result → Gives old.got new.got line
+gives_of status line old new result (ends.said is given quiet) = whole_given old.got new.got line given
+gives_of status line old new result (ends.output_fault is gives rose) = gives
+
+-- ---- a command that stops
+
+-- own: the statuses of a refusal
+data IsRefusing (status : ℕ) : Type 0 where
+  one : status ≡ 1 → IsRefusing status
+  two : status ≡ 2 → IsRefusing status
+  three : status ≡ 3 → IsRefusing status
+  nine : status ≡ 9 → IsRefusing status
+
+refusing : (why : Refusal) → IsRefusing (status_of why)
+refusing refusal.Words = nine refl
+refusing (refusal.BadBase text) = two refl
+refusing (refusal.Unservable path url) = one refl
+refusing (refusal.NotFound referrer specifier) = one refl
+refusing (refusal.RequestNotBuilt referrer specifier) = nine refl
+refusing (refusal.ModuleNotBuilt asker) = nine refl
+refusing (refusal.Limit which) = three refl
+
+refusal_status : (status : ℕ) → IsRefusing status → IsRefusalStatus status
+refusal_status status (one e) = inl e
+refusal_status status (two e) = inr (inl e)
+refusal_status status (three e) = inr (inr (inl e))
+refusal_status status (nine e) = inr (inr (inr (inr (inr e))))
+
+no_refusing : (status : ℕ) → IsRefusing status → (status ≢ 0) × (status ≢ 4) × (status ≢ 5)
+no_refusing status (one e) = (λ f. omega arith, λ f. omega arith, λ f. omega arith)
+no_refusing status (two e) = (λ f. omega arith, λ f. omega arith, λ f. omega arith)
+no_refusing status (three e) = (λ f. omega arith, λ f. omega arith, λ f. omega arith)
+no_refusing status (nine e) = (λ f. omega arith, λ f. omega arith, λ f. omega arith)
+
+abbrev IsStatus : ℕ → Type 0
+IsStatus status = (status ≡ 0) ⊎ (status ≡ 5) ⊎ IsRefusalStatus status
+
+said_status : (status : ℕ) (stop : Stop) (line : List ℕ) → SaysStop stop status line → IsRefusalStatus status
+said_status status stop line (stops.refused why is e l) = subst IsRefusalStatus (sym e) (refusal_status (status_of why) (refusing why))
+said_status status stop line (stops.read_fault is e l) = inr (inr (inr (inl e)))
+said_status status stop line (stops.memory apart e l) = inr (inr (inr (inr (inl e))))
+
+pub stop_statuses : (stop : Stop) (status : ℕ) (line : List ℕ) (old new : SinkState) (result : ℕ) → SaysStop stop status line → Ends status line old new result → IsStatus result
+stop_statuses stop status line old new result says (ends.said is given quiet) = inr (inr (subst IsRefusalStatus (sym is) (said_status status stop line says)))
+stop_statuses stop status line old new result says (ends.output_fault is gives rose) = inr (inl is)
+
+pub stop_is_not_done : (stop : Stop) (status : ℕ) (line : List ℕ) (old new : SinkState) (result : ℕ) → SaysStop stop status line → Ends status line old new result → result ≢ 0
+stop_is_not_done stop status line old new result (stops.refused why is e l) (ends.said same given quiet) = λ zero. (no_refusing (status_of why) (refusing why)).0 (sym e ∙ (sym same ∙ zero))
+stop_is_not_done stop status line old new result (stops.read_fault is e l) (ends.said same given quiet) = λ zero. omega arith
+stop_is_not_done stop status line old new result (stops.memory apart e l) (ends.said same given quiet) = λ zero. omega arith
+stop_is_not_done stop status line old new result says (ends.output_fault is gives rose) = λ zero. omega arith
+
+pub stop_read : (stop : Stop) (status : ℕ) (line : List ℕ) (old new : SinkState) (result : ℕ) → SaysStop stop status line → Ends status line old new result → result ≡ 4 → stop ≡ stopped.ReadFault
+stop_read stop status line old new result (stops.refused why is e l) (ends.said same given quiet) four = absurd ((no_refusing (status_of why) (refusing why)).1 (sym e ∙ (sym same ∙ four)))
+stop_read stop status line old new result (stops.read_fault is e l) (ends.said same given quiet) four = is
+stop_read stop status line old new result (stops.memory apart e l) (ends.said same given quiet) four = absurd (omega arith)
+stop_read stop status line old new result says (ends.output_fault is gives rose) four = absurd (omega arith)
+
+pub stop_write : (stop : Stop) (status : ℕ) (line : List ℕ) (old new : SinkState) (result : ℕ) → SaysStop stop status line → Ends status line old new result → result ≡ 5 → Rose old.faults new.faults
+stop_write stop status line old new result (stops.refused why is e l) (ends.said same given quiet) five = absurd ((no_refusing (status_of why) (refusing why)).2 (sym e ∙ (sym same ∙ five)))
+stop_write stop status line old new result (stops.read_fault is e l) (ends.said same given quiet) five = absurd (omega arith)
+stop_write stop status line old new result (stops.memory apart e l) (ends.said same given quiet) five = absurd (omega arith)
+stop_write stop status line old new result says (ends.output_fault is gives rose) five = rose
+
+stop_is_not_ok : (stop : Stop) (status : ℕ) (line : List ℕ) → SaysStop stop status line → BeginsOk line → ⊥
+stop_is_not_ok stop status line (stops.refused why is e l) ok = refusal_is_not_ok why (subst BeginsOk l ok)
+stop_is_not_ok stop status line (stops.read_fault is e l) ok = let n = ap first_byte (ap (take 3) (sym l) ∙ ok) in omega arith
+stop_is_not_ok stop status line (stops.memory apart e l) ok = let n = ap first_byte (ap (take 3) (sym l) ∙ ok) in omega arith
+
+pub stop_tells : {A : Type 0} (stop : Stop) (status : ℕ) (line : List ℕ) (old new : SinkState) (result : ℕ) → SaysStop stop status line → Ends status line old new result → Tells old.got new.got A
+stop_tells stop status line old new result says ended = record { line = line; gives = gives_of status line old new result ended; only_where_done = λ ok. absurd (stop_is_not_ok stop status line says ok) }
+
+outcome_of : (words : List (List ℕ)) (told after : Option Tree) (why : Refusal) (status : ℕ) (line : List ℕ) → IsRefused words told why → after ≡ told → status ≡ status_of why → line ≡ line_of why → IfSome told (λ tree. (rest : Tree) × Outcome words tree status line rest × (after ≡ Some rest))
+outcome_of words None after why status line refused same s l = tt
+outcome_of words (Some tree) after why status line (by_words refuses) same s l = (tree, words_refused why refuses s l refl, same)
+outcome_of words (Some tree) after why status line (by_trace config is_config refuses) same s l = (tree, trace_refused config why is_config refuses s l refl, same)
+
+same_state : (old new : FolderState) → new.told ≡ old.told → new.look_faults ≡ old.look_faults → new.write_faults ≡ old.write_faults → new ≡ old
+same_state old new t l w = λ i. record { told = t i; look_faults = l i; write_faults = w i }
+
+pub says_stop : (words : List (List ℕ)) (old new : FolderState) (stop : Stop) (status : ℕ) (line : List ℕ) → IfRefused stop (IsRefused words old.told) → new.told ≡ old.told → (stop ≡ stopped.ReadFault → Rose old.look_faults new.look_faults) → (stop ≢ stopped.ReadFault → new.look_faults ≡ old.look_faults) → new.write_faults ≡ old.write_faults → SaysStop stop status line → Says words old new status line
+says_stop words old new stop status line refused told rose quiet writes (stops.refused why is e l) =
+    let here : IsRefused words old.told why = subst (λ s. IfRefused s (IsRefused words old.told)) is refused in
+    says.outcome (outcome_of words old.told new.told why status line here told e l) (quiet (λ fault. cc)) writes
+says_stop words old new stop status line refused told rose quiet writes (stops.read_fault is e l) = says.read_fault e l told (rose is) writes
+says_stop words old new stop status line refused told rose quiet writes (stops.memory apart e l) = says.memory e l (same_state old new told (quiet apart) writes)
+
+-- ---- a command that writes
+
+if_two : {A : Type 0} {P Q R : A → Type 0} (told : Option A) → ((x : A) → told ≡ Some x → P x → Q x → R x) → IfSome told P → IfSome told Q → IfSome told R
+if_two None f h k = h
+if_two (Some x) f h k = f x refl h k
+
+pub write_statuses : (old new : FolderState) (bytes done : List ℕ) (status : ℕ) (line : List ℕ) (before after : SinkState) (result : ℕ) → SaysWrite old new bytes done status line → Ends status line before after result → IsStatus result
+write_statuses old new bytes done status line before after result (writes.written e l w lk wr) (ends.said same given quiet) = inl (same ∙ e)
+write_statuses old new bytes done status line before after result (writes.write_fault e l t lk wr) (ends.said same given quiet) = inr (inl (same ∙ e))
+write_statuses old new bytes done status line before after result (writes.memory e l s) (ends.said same given quiet) = inr (inr (inr (inr (inr (inr (inl (same ∙ e)))))))
+write_statuses old new bytes done status line before after result says (ends.output_fault is gives rose) = inr (inl is)
+
+no_refusal_status : (result : ℕ) → (result ≡ 0) ⊎ (result ≡ 5) → IsRefusalStatus result → ⊥
+no_refusal_status result is status = grind (arith, is, status)
+
+pub write_kept : (old new : FolderState) (bytes done : List ℕ) (status : ℕ) (line : List ℕ) (before after : SinkState) (result : ℕ) → SaysWrite old new bytes done status line → Ends status line before after result → IsRefusalStatus result → new.told ≡ old.told
+write_kept old new bytes done status line before after result (writes.written e l w lk wr) (ends.said same given quiet) refused = absurd (no_refusal_status result (inl (same ∙ e)) refused)
+write_kept old new bytes done status line before after result (writes.write_fault e l t lk wr) ended refused = t
+write_kept old new bytes done status line before after result (writes.memory e l s) ended refused = ap (λ f. f.told) s
+write_kept old new bytes done status line before after result (writes.written e l w lk wr) (ends.output_fault is gives rose) refused = absurd (no_refusal_status result (inr is) refused)
+
+written_links : (words : List (List ℕ)) (old new : FolderState) (bytes done : List ℕ) → IfSome old.told (λ tree. IsGenerated tree words bytes done) → IfSome old.told (λ tree. IsWritten tree bytes new.told) → IfSome old.told (λ tree. Linked tree words new.told)
+written_links words old new bytes done generated written = if_two old.told (λ tree is g w. linked tree words bytes done new.told g w) generated written
+
+pub write_done : (words : List (List ℕ)) (old new : FolderState) (bytes done : List ℕ) (status : ℕ) (line : List ℕ) (before after : SinkState) (result : ℕ) → IfSome old.told (λ tree. IsGenerated tree words bytes done) → SaysWrite old new bytes done status line → Ends status line before after result → result ≡ 0 → IfSome old.told (λ tree. Linked tree words new.told)
+write_done words old new bytes done status line before after result generated (writes.written e l w lk wr) ended zero = written_links words old new bytes done generated w
+write_done words old new bytes done status line before after result generated (writes.write_fault e l t lk wr) (ends.said same given quiet) zero = absurd (omega arith)
+write_done words old new bytes done status line before after result generated (writes.memory e l s) (ends.said same given quiet) zero = absurd (omega arith)
+write_done words old new bytes done status line before after result generated (writes.write_fault e l t lk wr) (ends.output_fault is gives rose) zero = absurd (omega arith)
+write_done words old new bytes done status line before after result generated (writes.memory e l s) (ends.output_fault is gives rose) zero = absurd (omega arith)
+
+pub write_five : (words : List (List ℕ)) (old new : FolderState) (bytes done : List ℕ) (status : ℕ) (line : List ℕ) → IfSome old.told (λ tree. IsGenerated tree words bytes done) → SaysWrite old new bytes done status line → (new.told ≡ old.told) ⊎ IfSome old.told (λ tree. Linked tree words new.told)
+write_five words old new bytes done status line generated (writes.written e l w lk wr) = inr (written_links words old new bytes done generated w)
+write_five words old new bytes done status line generated (writes.write_fault e l t lk wr) = inl t
+write_five words old new bytes done status line generated (writes.memory e l s) = inl (ap (λ f. f.told) s)
+
+pub write_is_not_read : (old new : FolderState) (bytes done : List ℕ) (status : ℕ) (line : List ℕ) (before after : SinkState) (result : ℕ) → SaysWrite old new bytes done status line → Ends status line before after result → result ≢ 4
+write_is_not_read old new bytes done status line before after result (writes.written e l w lk wr) (ends.said same given quiet) = λ four. omega arith
+write_is_not_read old new bytes done status line before after result (writes.write_fault e l t lk wr) (ends.said same given quiet) = λ four. omega arith
+write_is_not_read old new bytes done status line before after result (writes.memory e l s) (ends.said same given quiet) = λ four. omega arith
+write_is_not_read old new bytes done status line before after result says (ends.output_fault is gives rose) = λ four. omega arith
+
+pub write_rose : (old new : FolderState) (bytes done : List ℕ) (status : ℕ) (line : List ℕ) (before after : SinkState) (result : ℕ) → SaysWrite old new bytes done status line → Ends status line before after result → result ≡ 5 → Rose old.write_faults new.write_faults ⊎ Rose before.faults after.faults
+write_rose old new bytes done status line before after result (writes.written e l w lk wr) (ends.said same given quiet) five = absurd (omega arith)
+write_rose old new bytes done status line before after result (writes.write_fault e l t lk wr) ended five = inl wr
+write_rose old new bytes done status line before after result (writes.memory e l s) (ends.said same given quiet) five = absurd (omega arith)
+write_rose old new bytes done status line before after result (writes.written e l w lk wr) (ends.output_fault is gives rose) five = inr rose
+write_rose old new bytes done status line before after result (writes.memory e l s) (ends.output_fault is gives rose) five = inr rose
+
+write_is_ok : (words : List (List ℕ)) (old new : FolderState) (bytes done : List ℕ) (status : ℕ) (line : List ℕ) → IfSome old.told (λ tree. IsGenerated tree words bytes done) → SaysWrite old new bytes done status line → BeginsOk line → IfSome old.told (λ tree. Linked tree words new.told)
+write_is_ok words old new bytes done status line generated (writes.written e l w lk wr) ok = written_links words old new bytes done generated w
+write_is_ok words old new bytes done status line generated (writes.write_fault e l t lk wr) ok = absurd (let n = ap first_byte (ap (take 3) (sym l) ∙ ok) in omega arith)
+write_is_ok words old new bytes done status line generated (writes.memory e l s) ok = absurd (let n = ap first_byte (ap (take 3) (sym l) ∙ ok) in omega arith)
+
+pub write_tells : (words : List (List ℕ)) (old new : FolderState) (bytes done : List ℕ) (status : ℕ) (line : List ℕ) (before after : SinkState) (result : ℕ) → IfSome old.told (λ tree. IsGenerated tree words bytes done) → SaysWrite old new bytes done status line → Ends status line before after result → Tells before.got after.got (IfSome old.told (λ tree. Linked tree words new.told))
+write_tells words old new bytes done status line before after result generated says ended = record { line = line; gives = gives_of status line before after result ended; only_where_done = write_is_ok words old new bytes done status line generated says }
+
+pub says_write : (words : List (List ℕ)) (old new : FolderState) (bytes done : List ℕ) (status : ℕ) (line : List ℕ) → IfSome old.told (λ tree. IsGenerated tree words bytes done) → SaysWrite old new bytes done status line → Says words old new status line
+says_write words old new bytes done status line generated (writes.written e l w lk wr) =
+    says.outcome (if_two old.told (λ tree is g written. (written.after, Outcome.done g.config bytes g.is_config g.generates e (l ∙ g.says) written.placed, written.is_told)) generated w) lk wr
+says_write words old new bytes done status line generated (writes.write_fault e l t lk wr) = says.write_fault e l t lk wr
+says_write words old new bytes done status line generated (writes.memory e l s) = says.memory e l s
+
+pub write_same : (old middle new : FolderState) (bytes done : List ℕ) (status : ℕ) (line : List ℕ) → middle ≡ old → SaysWrite middle new bytes done status line → SaysWrite old new bytes done status line
+write_same old middle new bytes done status line same says = subst (λ s. SaysWrite s new bytes done status line) same says

@@ -7,3 +7,4 @@ pub mod Turns
 pub mod Walks
 pub mod LinkWords
 pub mod Endings
+pub mod Refusals

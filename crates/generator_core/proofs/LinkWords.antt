@@ -5,7 +5,7 @@ use Rattle.std.specs.List.{list_any}
 use Rattle.std.proofs.lemmas.List.{take_more}
 use Rattle.std.proofs.lemmas.List.Elements.{All-head, All-tail, All-cons, All-nil, All-map, All-same}
 use Rattle.indexmap.specs.IndexSet.{insert_key}
-use Rattle.generator_core.specs.Words.{IsEntry, IsLink, once_onto}
+use Rattle.generator_spec.specs.Words.{IsEntry, IsLink, once_onto}
 
 once_onto-append : (seen xs ys : List (List ℕ)) → once_onto seen (xs ++ ys) ≡ once_onto (once_onto seen xs) ys
 once_onto-append seen [] ys = refl

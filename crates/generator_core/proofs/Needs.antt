@@ -66,12 +66,12 @@ pub counted-new : (old new : List Need) (need : Need) → list_any (asks_alike n
 counted-new old new need none e = e ∙ sym (cond-false (list_any (is_need need) old) old (old ++ need ∷ []) (not_there need old none))
 
 -- no member of a list passes a test that none passes
-none_passes : {X : Type 0} (test : X → Bool) (xs : List X) (x : X) → list_any test xs ≡ false → Contains xs x → test x ≡ true → ⊥
+pub none_passes : {X : Type 0} (test : X → Bool) (xs : List X) (x : X) → list_any test xs ≡ false → Contains xs x → test x ≡ true → ⊥
 none_passes test [] x e is passes = omega (arith, is.1)
 none_passes test (y ∷ xs) x e (zero, within, same) passes = let fails : test y ≡ false = or_first (test y) (list_any test xs) e in let f : test x ≡ false = subst (λ z. test z ≡ false) same fails in cc
 none_passes test (y ∷ xs) x e (suc k, within, same) passes = none_passes test xs x (or_second (test y) (list_any test xs) e) (k, omega arith, same) passes
 
-alike : (one other : Need) → one.referrer ≡ other.referrer → one.asked ≡ other.asked → asks_alike one other ≡ true
+pub alike : (one other : Need) → one.referrer ≡ other.referrer → one.asked ≡ other.asked → asks_alike one other ≡ true
 alike one other r a = and_true _ _ ((bytes_eq-Decides one.referrer other.referrer).1 r) ((bytes_eq-Decides one.asked other.asked).1 a)
 
 only_member : (x y : Need) → Contains (x ∷ []) y → y ≡ x

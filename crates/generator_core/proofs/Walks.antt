@@ -37,7 +37,7 @@ every (Some x) f = f x
 pub entry_of : (P : Module × List ℕ → Type 0) (modules : List (Module × List ℕ)) (number : ℕ) (entry : Module × List ℕ) → All P modules → slice_get modules number ≡ Some entry → P entry
 entry_of P modules number entry all e = All-contains P modules entry all (Contains-slice_get modules number entry e)
 
-key_of : (modules : List (Module × List ℕ)) (number : ℕ) (entry : Module × List ℕ) → slice_get modules number ≡ Some entry → slice_get (keys_of modules) number ≡ Some entry.0
+pub key_of : (modules : List (Module × List ℕ)) (number : ℕ) (entry : Module × List ℕ) → slice_get modules number ≡ Some entry → slice_get (keys_of modules) number ≡ Some entry.0
 key_of [] number entry e = absurd (cc)
 key_of (x ∷ modules) zero entry e = let f : x ≡ entry = cc in ap (λ y. Some y.0) f
 key_of (x ∷ modules) (suc number) entry e = key_of modules number entry e
@@ -75,7 +75,7 @@ module_turned tree config number old new asker name bytes specifiers e file read
 abbrev turn_of : (tree : Tree) (config : Config) (referrer : Referrer) (specifiers : List (List ℕ)) (old new : Trace) → Turned tree config referrer specifiers old new → Turn
 turn_of tree config referrer specifiers old new turned = record { referrer = referrer; specifiers = specifiers; needs = turned.needs; targets = turned.targets }
 
-none_clash : NoClash []
+pub none_clash : NoClash []
 none_clash one other is_one is_other r a = absurd (omega (arith, is_one.1))
 
 targets_of-one : (turn : Turn) → targets_of (turn ∷ []) ≡ turn.targets
@@ -106,7 +106,7 @@ turns_push : (tree : Tree) (config : Config) (modules : List Module) (turns : Li
 turns_push tree config modules turns asker turn no_turns is is_turn = a_turn asker turn [] [] is is_turn no_turns
 turns_push tree config modules turns asker turn (a_turn first here more rest e f are) is is_turn = a_turn first here (more ++ asker ∷ []) (rest ++ turn ∷ []) e f (turns_push tree config more rest asker turn are is is_turn)
 
-within_slice : {A : Type 0} (xs : List A) (i : ℕ) (x : A) → slice_get xs i ≡ Some x → i < length xs
+pub within_slice : {A : Type 0} (xs : List A) (i : ℕ) (x : A) → slice_get xs i ≡ Some x → i < length xs
 within_slice [] i x e = absurd (cc)
 within_slice (y ∷ xs) zero x e = omega arith
 within_slice (y ∷ xs) (suc i) x e = let more : i < length xs = within_slice xs i x e in omega arith
@@ -122,7 +122,7 @@ front_more old more new next asker grown e =
     let within : suc next ≤ length old = within_slice old next asker e in
     ap (take (suc next)) grown ∙ (take-append-le (suc next) old more within ∙ take_slice old next asker e)
 
-length-take-within : {A : Type 0} (i : ℕ) (xs : List A) → i ≤ length xs → length (take i xs) ≡ i
+pub length-take-within : {A : Type 0} (i : ℕ) (xs : List A) → i ≤ length xs → length (take i xs) ≡ i
 length-take-within zero xs h = refl
 length-take-within (suc i) [] h = absurd (omega arith)
 length-take-within (suc i) (x ∷ xs) h = ap suc (length-take-within i xs (omega arith))
@@ -180,7 +180,7 @@ walked_more tree config next old new so_far here =
 
 -- ---- the whole trace
 
-length-keys_of : (modules : List (Module × List ℕ)) → length (keys_of modules) ≡ length modules
+pub length-keys_of : (modules : List (Module × List ℕ)) → length (keys_of modules) ≡ length modules
 length-keys_of [] = refl
 length-keys_of (entry ∷ modules) = ap suc (length-keys_of modules)
 

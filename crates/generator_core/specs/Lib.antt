@@ -1,7 +1,6 @@
 pub mod Reading
 pub mod Files
 pub mod Answering
+pub mod Faults
 pub mod Walking
-pub mod Words
-pub mod Statuses
 pub mod Running

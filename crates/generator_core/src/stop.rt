@@ -1,20 +1,11 @@
-use primitives::{Memory, Text};
-use std::alloc::Global;
-use tree_model::LimitName;
+use generator_spec::Refusal;
+use primitives::Memory;
 
 /// Why nothing is generated.
 #[derive(Debug, Drop)]
 pub enum Stop {
-    /// The page can't be served: its path, and its URL where it has one.
-    Unservable { path: Text, url: Text },
-    /// Nothing stands where a request leads.
-    NotFound { referrer: Text, specifier: Text },
-    /// What a request wants isn't built.
-    RequestNotBuilt { referrer: Text, specifier: Text },
-    /// A module whose kind or text isn't built.
-    ModuleNotBuilt { asker: Text },
-    /// A quantity passes its limit.
-    Limit { which: LimitName },
+    /// The words, the page, a module or a request is refused.
+    Refused { refusal: Refusal },
     /// A look failed.
     ReadFault,
     /// Want of memory.

@@ -1,5 +1,5 @@
 ghost use Rattle.std.specs.Prelude.{◌≡◌, ◌↔◌, ◌++◌, ◌∷◌, [], List, ℕ, All, IsTrue, IfOk, MatchOption, map, string_bytes};
-ghost use Rattle.generator_core.specs.Words.{IsEntry, IsLink, once_onto};
+ghost use Rattle.generator_spec.specs.Words.{IsEntry, IsLink, once_onto};
 
 use indexmap::IndexSet;
 use primitives::{Listed, Memory, Text};

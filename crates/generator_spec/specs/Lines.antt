@@ -69,7 +69,10 @@ line_of (RequestNotBuilt referrer specifier) = pair_line (codes "not built: from
 line_of (ModuleNotBuilt asker) = codes "not built: " ++ (quoted asker ++ end_of_line)
 line_of (Limit which) = codes "limit: " ++ (limit_name which ++ (codes " above " ++ (decimal (limit_number which) ++ end_of_line)))
 
--- own: what is said when a map was written: the modules of the trace without the page, its requests with the entries, and the
--- mappings
+-- own: what is said when a map was written, of so many modules, requests and mappings
+abbrev pub counts_line : ℕ → ℕ → ℕ → List ℕ
+counts_line modules requests mappings = codes "ok: " ++ (decimal modules ++ (codes " modules, " ++ (decimal requests ++ (codes " requests, " ++ (decimal mappings ++ (codes " mappings" ++ end_of_line))))))
+
+-- own: the modules of the trace without the page, its requests with the entries, and the mappings of its layout
 abbrev pub done_line : List Turn → List ℕ
-done_line trace = codes "ok: " ++ (decimal (length trace - 1) ++ (codes " modules, " ++ (decimal (length (flat_map (λ turn. turn.specifiers) trace)) ++ (codes " requests, " ++ (decimal (mapping_count (layout (needs_of trace))) ++ (codes " mappings" ++ end_of_line))))))
+done_line trace = counts_line (length trace - 1) (length (flat_map (λ turn. turn.specifiers) trace)) (mapping_count (layout (needs_of trace)))

@@ -1,6 +1,6 @@
 use Rattle.std.proofs.Common.{◌≡◌, [], take, map}
 use Rattle.std.specs.Prelude.{string_bytes}
-use Rattle.generator_core.specs.Words.{once_onto}
+use Rattle.generator_spec.specs.Words.{once_onto}
 use Rattle.generator_core.proofs.words.distinct.Given as goal
 
 abbrev pub invariant-loop-entry : goal.invariant-loop-entry

@@ -1,7 +1,7 @@
 use Rattle.std.proofs.Common.{◌≡◌, ◌∷◌, List, ℕ, codes, map, IsTrue, ap, ◌∙◌}
 use Rattle.std.specs.Prelude.{string_bytes}
 use Rattle.std.proofs.lemmas.List.Elements.{All-map}
-use Rattle.generator_core.specs.Words.{IsEntry}
+use Rattle.generator_spec.specs.Words.{IsEntry}
 use Rattle.generator_core.proofs.LinkWords.{no_link}
 use Rattle.generator_core.proofs.words.link_words.Goals as goal
 

@@ -1,0 +1,20 @@
+-- What is said of a refusal, where a fault or a stop is one.
+use Rattle.std.specs.Prelude.{⊤}
+use Rattle.generator_spec.specs.declared.Refusal.{Refusal}
+use Rattle.generator_spec.specs.declared.RequestRefusal.{RequestRefusal}
+use Rattle.generator_core.specs.declared.answer.RequestFault.{RequestFault}
+use Rattle.generator_core.specs.declared.answer.RequestFault.TheVariants as fault
+use Rattle.generator_core.specs.declared.stop.Stop.{Stop}
+use Rattle.generator_core.specs.declared.stop.Stop.TheVariants as stop
+
+-- the fault isn't a refusal, or this holds of it
+abbrev pub IfRequestRefused : RequestFault → (RequestRefusal → Type 0) → Type 0
+IfRequestRefused (fault.Refused why) Of = Of why
+IfRequestRefused fault.Failed Of = ⊤
+IfRequestRefused fault.Memory Of = ⊤
+
+-- the stop isn't a refusal, or this holds of it
+abbrev pub IfRefused : Stop → (Refusal → Type 0) → Type 0
+IfRefused (stop.Refused why) Of = Of why
+IfRefused stop.ReadFault Of = ⊤
+IfRefused stop.Memory Of = ⊤
