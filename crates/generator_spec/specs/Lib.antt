@@ -10,3 +10,4 @@ pub mod Laws
 pub mod Closed
 pub mod Reaching
 pub mod OneRefusal
+pub mod RequestRefusals

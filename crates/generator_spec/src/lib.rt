@@ -2,6 +2,7 @@
 #![tactic(auto)]
 
 ghost use Rattle.generator_spec.specs.Laws.{OneTrace};
+ghost use Rattle.generator_spec.specs.OneRefusal.{OneRequestRefusal};
 ghost use Rattle.generator_spec.specs.Reaching.{NeedsNameFiles, ReachedTurns};
 
 use primitives::Text;
@@ -51,4 +52,9 @@ pub fn reached_turns()
 /// No need of a trace names a folder, neither as its referrer nor as what it asks for, where the page is no folder.
 pub fn needs_name_files()
     ensures { NeedsNameFiles }
+{}
+
+/// A request is refused in one way at most.
+pub fn one_request_refusal()
+    ensures { OneRequestRefusal }
 {}
