@@ -55,7 +55,7 @@ pub targets_of-append : (some more : List Turn) → targets_of (some ++ more) �
 targets_of-append some more = flat_map-append (λ turn. turn.targets) some more
 
 -- what a level and further turns newly ask for
-level_first : (seen : List Module) (level turns : List Turn) → new_modules seen (targets_of (level ++ turns)) ≡ new_modules seen (targets_of level) ++ new_modules (seen ++ new_modules seen (targets_of level)) (targets_of turns)
+pub level_first : (seen : List Module) (level turns : List Turn) → new_modules seen (targets_of (level ++ turns)) ≡ new_modules seen (targets_of level) ++ new_modules (seen ++ new_modules seen (targets_of level)) (targets_of turns)
 level_first seen level turns = ap (new_modules seen) (targets_of-append level turns) ∙ new_modules-append seen (targets_of level) (targets_of turns)
 
 none_left : {A : Type 0} (xs : List A) → length xs ≡ 0 → xs ≡ []

@@ -11,3 +11,6 @@ pub mod Closed
 pub mod Reaching
 pub mod OneRefusal
 pub mod RequestRefusals
+pub mod Fronts
+pub mod FirstRefusals
+pub mod Outcomes

@@ -68,6 +68,7 @@ refused_or_answered tree parent specifier why target (nothing_there fits resolve
 refused_or_answered tree parent specifier why target (another_cause other is_other fits resolves) answers =
     absurd (let same = one_answer tree parent specifier (Refused other) (Resolved target.path target.suffix) resolves answers.answers in cc)
 
+-- Node refuses in one way at most
 one_node_refusal : (tree : Tree) (parent specifier : List ℕ) (some other : RequestRefusal) → NodeRefuses tree parent specifier some → NodeRefuses tree parent specifier other → some ≡ other
 one_node_refusal tree parent specifier some other (too_large a) (too_large b) = refl
 one_node_refusal tree parent specifier some other (too_large a) (nothing_there fits r) = absurd (fits a)
@@ -81,6 +82,7 @@ one_node_refusal tree parent specifier some other (another_cause w n fits r) (no
     absurd (n (let same = one_answer tree parent specifier (Refused w) (Refused cause.NotFound) r s in cc))
 one_node_refusal tree parent specifier some other (another_cause w n fits r) (another_cause v m fits_too s) = refl
 
+-- Node answers with one module at most
 one_answered : (tree : Tree) (parent specifier : List ℕ) (target second : Module) → NodeAnswers tree parent specifier target → NodeAnswers tree parent specifier second → target ≡ second
 one_answered tree parent specifier target second a b =
     let same = one_answer tree parent specifier (Resolved target.path target.suffix) (Resolved second.path second.suffix) a.answers b.answers in
@@ -89,12 +91,15 @@ one_answered tree parent specifier target second a b =
 -- ---- a request that passes
 
 module _ (tree : Tree) (config : Config) (referrer : Referrer) (specifier : List ℕ) (need : Need) (target : Module) (passes : Passes tree config referrer specifier need target) where
+  -- it asks for the URL of a file
   pass_asks : AsksFile config referrer specifier need.referrer need.asked
   pass_asks = record { named = passes.named; relative = passes.is_relative; asks = passes.asks; asks_file = passes.asks_file }
 
+  -- Node answers it
   pass_answers : NodeAnswers tree (path_of config referrer) specifier target
   pass_answers = record { answers = passes.answers; fits = passes.fits }
 
+  -- its target has a name
   pass_has_name : HasName config target
   pass_has_name = record { url = need.target; servable = passes.servable; is_file = passes.is_file }
 
@@ -163,6 +168,7 @@ module _ (tree : Tree) (config : Config) (referrer : Referrer) (needs : List Nee
       let same = one_answered tree (path_of config referrer) specifier second target (pass_answers tree config referrer specifier need second passes) answers in
       absurd (unnamed (subst (HasName config) same (pass_has_name tree config referrer specifier need second passes)))
 
+  -- a second refusal is the first one
   refused_as : (some other : RequestRefusal) → Refuses tree config referrer needs modules specifier some → Refuses tree config referrer needs modules specifier other → other ≡ some
   refused_as some other (asks_no_file none) b = no_file_not_built other none b
   refused_as some other (no_answer name asked w asks refuses) b = node_refusal_is name asked w other asks refuses b

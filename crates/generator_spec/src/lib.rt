@@ -2,7 +2,7 @@
 #![tactic(auto)]
 
 ghost use Rattle.generator_spec.specs.Laws.{OneTrace};
-ghost use Rattle.generator_spec.specs.OneRefusal.{OneRequestRefusal};
+ghost use Rattle.generator_spec.specs.OneRefusal.{OneRequestRefusal, OneRefusal, NothingRefused, OneOutcome};
 ghost use Rattle.generator_spec.specs.Reaching.{NeedsNameFiles, ReachedTurns};
 
 use primitives::Text;
@@ -57,4 +57,19 @@ pub fn needs_name_files()
 /// A request is refused in one way at most.
 pub fn one_request_refusal()
     ensures { OneRequestRefusal }
+{}
+
+/// A tree and a config have one first refusal at most.
+pub fn one_refusal()
+    ensures { OneRefusal }
+{}
+
+/// Where something is generated, nothing is refused.
+pub fn nothing_refused()
+    ensures { NothingRefused }
+{}
+
+/// A command has one outcome at most.
+pub fn one_outcome()
+    ensures { OneOutcome }
 {}
