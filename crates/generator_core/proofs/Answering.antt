@@ -1,6 +1,7 @@
 -- From the place of a URL to Node's answer.
-use Rattle.std.proofs.Common.{◌≡◌, ◌<◌, ℕ, true, false, List, length, Option, Some, None, MatchOption, IfSome, IfOk, Result, Ok, Err, sym, ap, ◌∙◌, subst, arith}
+use Rattle.std.proofs.Common.{◌≡◌, ◌≢◌, ◌<◌, ℕ, true, false, List, length, Option, Some, None, MatchOption, IfSome, IfOk, Result, Ok, Err, sym, ap, ◌∙◌, subst, arith}
 use Rattle.std.specs.Prelude.{IfErr}
+use Rattle.std.specs.Result.{IsErrAnd}
 use Rattle.std.specs.FinMap.{get}
 use Rattle.tree_spec.specs.declared.Entry.TheVariants.{Stored}
 use Rattle.tree_spec.specs.Trees.{Tree}
@@ -18,7 +19,7 @@ use Rattle.generator_spec.specs.declared.Refusal.{Refusal}
 use Rattle.generator_spec.specs.declared.RequestRefusal.{RequestRefusal}
 use Rattle.generator_spec.specs.declared.RequestRefusal.TheVariants.{NotBuilt}
 use Rattle.generator_spec.specs.Modules.{Module}
-use Rattle.generator_spec.specs.Refusing.{LooksAbove, NodeRefuses}
+use Rattle.generator_spec.specs.Refusing.{LooksAbove, NodeRefuses, of_request}
 use Rattle.generator_spec.specs.Refusing.NodeRefuses.{too_large, nothing_there, another_cause}
 use Rattle.generator_core.specs.declared.answer.RequestFault.{RequestFault}
 use Rattle.generator_core.specs.declared.answer.RequestFault.TheVariants as fault
@@ -152,3 +153,38 @@ if_stop (Ok x) f h = h
 if_stop (Err (stop.Refused first)) f h = f first h
 if_stop (Err stop.ReadFault) f h = h
 if_stop (Err stop.Memory) f h = h
+
+-- a fault that is handed on
+pub request_passed : {A : Type 0} {P Q : RequestRefusal → Type 0} (result : Result A RequestFault) (why : RequestFault) → IsErrAnd result (λ e. e ≡ why) → ((refusal : RequestRefusal) → P refusal → Q refusal) → IfRequestRefused why P → IfErr result (λ fault. IfRequestRefused fault Q)
+request_passed (Ok x) why same f h = absurd same
+request_passed {Q = Q} (Err other) why same f h = subst (λ e. IfRequestRefused e Q) (sym same) (request_more why f h)
+  where
+    request_more : {P Q : RequestRefusal → Type 0} (why : RequestFault) → ((refusal : RequestRefusal) → P refusal → Q refusal) → IfRequestRefused why P → IfRequestRefused why Q
+    request_more (fault.Refused refusal) f h = f refusal h
+    request_more fault.Failed f h = h
+    request_more fault.Memory f h = h
+
+-- a stop that is handed on
+pub stop_passed : {A : Type 0} {P Q : Refusal → Type 0} (result : Result A Stop) (why : Stop) → IsErrAnd result (λ e. e ≡ why) → ((first : Refusal) → P first → Q first) → IfRefused why P → IfErr result (λ stop. IfRefused stop Q)
+stop_passed (Ok x) why same f h = absurd same
+stop_passed {Q = Q} (Err other) why same f h = subst (λ e. IfRefused e Q) (sym same) (stop_more why f h)
+  where
+    stop_more : {P Q : Refusal → Type 0} (why : Stop) → ((first : Refusal) → P first → Q first) → IfRefused why P → IfRefused why Q
+    stop_more (stop.Refused first) f h = f first h
+    stop_more stop.ReadFault f h = h
+    stop_more stop.Memory f h = h
+
+-- a stop that is handed on is no failed look where what is given isn't
+pub not_read : {A : Type 0} (result : Result A Stop) (why : Stop) → IsErrAnd result (λ e. e ≡ why) → result ≢ Err stop.ReadFault → why ≢ stop.ReadFault
+not_read (Ok x) why same apart = absurd same
+not_read (Err other) why same apart = λ read. apart (ap Err (same ∙ read))
+
+-- the stop of a request that is refused
+pub stop_refused : (P : RequestRefusal → Type 0) (Q : Refusal → Type 0) (result : Stop) (why : RequestFault) (shown specifier : List ℕ) → ((refusal : RequestRefusal) → P refusal → Q (of_request refusal shown specifier)) → IfRequestRefused why P → IfRefused result (λ first. (refusal : RequestRefusal) × (why ≡ fault.Refused refusal) × (first ≡ of_request refusal shown specifier)) → IfRefused result Q
+stop_refused P Q (stop.Refused first) why shown specifier f h told = subst Q (sym told.2) (f told.0 (subst (λ x. IfRequestRefused x P) told.1 h))
+stop_refused P Q stop.ReadFault why shown specifier f h told = told
+stop_refused P Q stop.Memory why shown specifier f h told = told
+
+-- what a stop is refused for
+pub stop_is : (Q : Refusal → Type 0) (result : Stop) (why : Refusal) → result ≡ stop.Refused why → Q why → IfRefused result Q
+stop_is Q result why same h = subst (λ s. IfRefused s Q) (sym same) h

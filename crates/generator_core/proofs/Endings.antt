@@ -26,7 +26,7 @@ use Rattle.generator_core.specs.declared.stop.Stop.TheVariants as stopped
 use Rattle.generator_core.specs.declared.trace.Trace.{Trace}
 use Rattle.generator_core.specs.Faults.{IfRefused}
 use Rattle.generator_core.specs.Walking.{Traced}
-use Rattle.generator_core.specs.Running.{IsRefusalStatus, BeginsOk, IsWritten, IsGenerated, Linked, IsRefused, Gives, Tells, FolderState, SinkState, Says, Ends, SaysStop, SaysWrite}
+use Rattle.generator_core.specs.Running.{IsRefusalStatus, BeginsOk, IsWritten, IsGenerated, Linked, IsRefused, Gives, Tells, FolderState, SinkState, Says, Ends, SaysStop, SaysWrite, memory_line, read_fault_line, write_fault_line}
 use Rattle.generator_core.specs.Running.IsRefused.{by_words, by_trace}
 use Rattle.generator_core.specs.Running.{Says as says, Ends as ends, SaysStop as stops, SaysWrite as writes}
 
@@ -83,9 +83,14 @@ page_path = root_file (codes "index.html") (codes "/index.html") refl refl (lit�
 linked : (tree : Tree) (words : List (List ℕ)) (bytes line : List ℕ) (told : Option Tree) → IsGenerated tree words bytes line → IsWritten tree bytes told → Linked tree words told
 linked tree words bytes line told generated written = record { bytes = bytes; line = line; generated = generated; serves = sound tree generated.config bytes generated.generates; written = written }
 
+-- the number that is there
+pub number_there : (P : ℕ → Type 0) (found : Option ℕ) (number : ℕ) → IfSome found P → found ≡ Some number → P number
+number_there P None number h e = absurd (cc)
+number_there P (Some other) number h e = let same : other ≡ number = cc in subst P same h
+
 -- a trace whose layout is printed is generation
-pub generated : (tree : Tree) (words : List (List ℕ)) (config : Config) (trace : Trace) (bytes line : List ℕ) → IsConfigOf words config → Traced tree config trace → bytes ≡ map_text (layout trace.needs) → line ≡ counts_line (length trace.modules.entries) trace.requests (mapping_count (layout trace.needs)) → IsGenerated tree words bytes line
-generated tree words config trace bytes line is_config traced text says = record {
+pub is_generated : (tree : Tree) (words : List (List ℕ)) (config : Config) (trace : Trace) (bytes line : List ℕ) → IsConfigOf words config → Traced tree config trace → bytes ≡ map_text (layout trace.needs) → line ≡ counts_line (length trace.modules.entries) trace.requests (mapping_count (layout trace.needs)) → IsGenerated tree words bytes line
+is_generated tree words config trace bytes line is_config traced text says = record {
   config = config;
   is_config = is_config;
   generates = record {
@@ -123,18 +128,22 @@ one_refusal_of_words words why other (bad_base base entries link bad) (bad_base 
 
 -- ---- lines
 
-first_byte : List ℕ → ℕ
+abbrev first_byte : List ℕ → ℕ
 first_byte [] = 0
 first_byte (b ∷ rest) = b
 
+-- a line that begins with another byte isn't that of a command that was done
+other_line : (first : ℕ) (line : List ℕ) → first_byte (take 3 line) ≡ first → first ≢ 111 → BeginsOk line → ⊥
+other_line first line e apart ok = let o : first_byte (take 3 line) ≡ 111 = ap first_byte ok in apart (sym e ∙ o)
+
 refusal_is_not_ok : (why : Refusal) → BeginsOk (line_of why) → ⊥
-refusal_is_not_ok refusal.Words e = let n = ap first_byte e in omega arith
-refusal_is_not_ok (refusal.BadBase text) e = let n = ap first_byte e in omega arith
-refusal_is_not_ok (refusal.Unservable path url) e = let n = ap first_byte e in omega arith
-refusal_is_not_ok (refusal.NotFound referrer specifier) e = let n = ap first_byte e in omega arith
-refusal_is_not_ok (refusal.RequestNotBuilt referrer specifier) e = let n = ap first_byte e in omega arith
-refusal_is_not_ok (refusal.ModuleNotBuilt asker) e = let n = ap first_byte e in omega arith
-refusal_is_not_ok (refusal.Limit which) e = let n = ap first_byte e in omega arith
+refusal_is_not_ok refusal.Words = other_line 110 (line_of refusal.Words) refl (λ e. omega arith)
+refusal_is_not_ok (refusal.BadBase text) = other_line 119 (line_of (refusal.BadBase text)) refl (λ e. omega arith)
+refusal_is_not_ok (refusal.Unservable path url) = other_line 114 (line_of (refusal.Unservable path url)) refl (λ e. omega arith)
+refusal_is_not_ok (refusal.NotFound referrer specifier) = other_line 114 (line_of (refusal.NotFound referrer specifier)) refl (λ e. omega arith)
+refusal_is_not_ok (refusal.RequestNotBuilt referrer specifier) = other_line 110 (line_of (refusal.RequestNotBuilt referrer specifier)) refl (λ e. omega arith)
+refusal_is_not_ok (refusal.ModuleNotBuilt asker) = other_line 110 (line_of (refusal.ModuleNotBuilt asker)) refl (λ e. omega arith)
+refusal_is_not_ok (refusal.Limit which) = other_line 108 (line_of (refusal.Limit which)) refl (λ e. omega arith)
 
 gives_of : (status : ℕ) (line : List ℕ) (old new : SinkState) (result : ℕ) → Ends status line old new result → Gives old.got new.got line
 gives_of status line old new result (ends.said is given quiet) = whole_given old.got new.got line given
@@ -202,8 +211,8 @@ stop_write stop status line old new result says (ends.output_fault is gives rose
 
 stop_is_not_ok : (stop : Stop) (status : ℕ) (line : List ℕ) → SaysStop stop status line → BeginsOk line → ⊥
 stop_is_not_ok stop status line (stops.refused why is e l) ok = refusal_is_not_ok why (subst BeginsOk l ok)
-stop_is_not_ok stop status line (stops.read_fault is e l) ok = let n = ap first_byte (ap (take 3) (sym l) ∙ ok) in omega arith
-stop_is_not_ok stop status line (stops.memory apart e l) ok = let n = ap first_byte (ap (take 3) (sym l) ∙ ok) in omega arith
+stop_is_not_ok stop status line (stops.read_fault is e l) ok = other_line 102 read_fault_line refl (λ e. omega arith) (subst BeginsOk l ok)
+stop_is_not_ok stop status line (stops.memory apart e l) ok = other_line 109 memory_line refl (λ e. omega arith) (subst BeginsOk l ok)
 
 pub stop_tells : {A : Type 0} (stop : Stop) (status : ℕ) (line : List ℕ) (old new : SinkState) (result : ℕ) → SaysStop stop status line → Ends status line old new result → Tells old.got new.got A
 stop_tells stop status line old new result says ended = record { line = line; gives = gives_of status line old new result ended; only_where_done = λ ok. absurd (stop_is_not_ok stop status line says ok) }
@@ -213,7 +222,7 @@ outcome_of words None after why status line refused same s l = tt
 outcome_of words (Some tree) after why status line (by_words refuses) same s l = (tree, words_refused why refuses s l refl, same)
 outcome_of words (Some tree) after why status line (by_trace config is_config refuses) same s l = (tree, trace_refused config why is_config refuses s l refl, same)
 
-same_state : (old new : FolderState) → new.told ≡ old.told → new.look_faults ≡ old.look_faults → new.write_faults ≡ old.write_faults → new ≡ old
+pub same_state : (old new : FolderState) → new.told ≡ old.told → new.look_faults ≡ old.look_faults → new.write_faults ≡ old.write_faults → new ≡ old
 same_state old new t l w = λ i. record { told = t i; look_faults = l i; write_faults = w i }
 
 pub says_stop : (words : List (List ℕ)) (old new : FolderState) (stop : Stop) (status : ℕ) (line : List ℕ) → IfRefused stop (IsRefused words old.told) → new.told ≡ old.told → (stop ≡ stopped.ReadFault → Rose old.look_faults new.look_faults) → (stop ≢ stopped.ReadFault → new.look_faults ≡ old.look_faults) → new.write_faults ≡ old.write_faults → SaysStop stop status line → Says words old new status line
@@ -274,8 +283,8 @@ write_rose old new bytes done status line before after result (writes.memory e l
 
 write_is_ok : (words : List (List ℕ)) (old new : FolderState) (bytes done : List ℕ) (status : ℕ) (line : List ℕ) → IfSome old.told (λ tree. IsGenerated tree words bytes done) → SaysWrite old new bytes done status line → BeginsOk line → IfSome old.told (λ tree. Linked tree words new.told)
 write_is_ok words old new bytes done status line generated (writes.written e l w lk wr) ok = written_links words old new bytes done generated w
-write_is_ok words old new bytes done status line generated (writes.write_fault e l t lk wr) ok = absurd (let n = ap first_byte (ap (take 3) (sym l) ∙ ok) in omega arith)
-write_is_ok words old new bytes done status line generated (writes.memory e l s) ok = absurd (let n = ap first_byte (ap (take 3) (sym l) ∙ ok) in omega arith)
+write_is_ok words old new bytes done status line generated (writes.write_fault e l t lk wr) ok = absurd (other_line 102 write_fault_line refl (λ e. omega arith) (subst BeginsOk l ok))
+write_is_ok words old new bytes done status line generated (writes.memory e l s) ok = absurd (other_line 109 memory_line refl (λ e. omega arith) (subst BeginsOk l ok))
 
 pub write_tells : (words : List (List ℕ)) (old new : FolderState) (bytes done : List ℕ) (status : ℕ) (line : List ℕ) (before after : SinkState) (result : ℕ) → IfSome old.told (λ tree. IsGenerated tree words bytes done) → SaysWrite old new bytes done status line → Ends status line before after result → Tells before.got after.got (IfSome old.told (λ tree. Linked tree words new.told))
 write_tells words old new bytes done status line before after result generated says ended = record { line = line; gives = gives_of status line before after result ended; only_where_done = write_is_ok words old new bytes done status line generated says }
@@ -288,3 +297,14 @@ says_write words old new bytes done status line generated (writes.memory e l s) 
 
 pub write_same : (old middle new : FolderState) (bytes done : List ℕ) (status : ℕ) (line : List ℕ) → middle ≡ old → SaysWrite middle new bytes done status line → SaysWrite old new bytes done status line
 write_same old middle new bytes done status line same says = subst (λ s. SaysWrite s new bytes done status line) same says
+
+-- ---- words that are refused
+
+pub words_end : (stop : Stop) (why : Refusal) (status : ℕ) (line : List ℕ) (old new : SinkState) (result : ℕ) → (stop ≡ stopped.Refused why) ⊎ (stop ≡ stopped.Memory) → SaysStop stop status line → Ends status line old new result → Ends (status_of why) (line_of why) old new result ⊎ Ends 8 memory_line old new result
+words_end stop why status line old new result (inl here) (stops.refused first is e l) ended =
+    let same : first ≡ why = cc in
+    inl (subst (λ s. Ends s (line_of why) old new result) (e ∙ ap status_of same) (subst (λ t. Ends status t old new result) (l ∙ ap line_of same) ended))
+words_end stop why status line old new result (inr here) (stops.refused first is e l) ended = absurd (cc)
+words_end stop why status line old new result (inl here) (stops.read_fault is e l) ended = absurd (cc)
+words_end stop why status line old new result (inr here) (stops.read_fault is e l) ended = absurd (cc)
+words_end stop why status line old new result either (stops.memory apart e l) ended = inr (subst (λ s. Ends s memory_line old new result) e (subst (λ t. Ends status t old new result) l ended))

@@ -1,16 +1,20 @@
 -- How refusals of requests, turns and modules come together to the first one.
-use Rattle.std.proofs.Common.{◌≡◌, ◌≢◌, ◌≤◌, ◌<◌, ℕ, Bool, true, false, List, [], ◌∷◌, ◌++◌, length, take, Option, Some, None, IfSome, sym, refl, ap, ◌∙◌, subst, append-nil, append_assoc, arith}
+use Rattle.std.proofs.Common.{◌≡◌, ◌≢◌, ◌≤◌, ◌<◌, ◌+◌, ℕ, true, false, List, [], ◌∷◌, ◌++◌, length, take, drop, codes, nat_eq, Option, Some, None, sym, refl, ap, ◌∙◌, subst, append-nil, append_assoc, arith}
 use Rattle.std.specs.Prelude.{slice_get, flat_map, unwrap_or, bytes_eq, Contains, MatchOption, ⊤}
-use Rattle.std.specs.List.{list_any}
+use Rattle.std.specs.List.{list_any, ends_with}
+use Rattle.std.specs.FinMap.{get}
+use Rattle.std.proofs.lemmas.List.{take-append-drop}
 use Rattle.std.specs.Map.{keys_of}
 use Rattle.std.proofs.lemmas.Bool.{and_parts}
 use Rattle.std.proofs.lemmas.Slice.Eq.{bytes_eq-Decides}
 use Rattle.need_table.specs.Rows.{asks_alike}
 use Rattle.need_table.proofs.Found.{Contains-slice_get}
+use Rattle.tree_spec.specs.declared.Entry.TheVariants.{Stored}
 use Rattle.tree_spec.specs.Trees.{Tree}
 use Rattle.tree_spec.specs.declared.LimitName.TheVariants.{Modules}
 use Rattle.url_spec.specs.Specifiers.{is_relative, as_url}
 use Rattle.url_spec.specs.WebNames.{web, IsServed}
+use Rattle.module_spec.specs.PlainForm.{Requests}
 use Rattle.layout_spec.specs.declared.Need.{Need}
 use Rattle.layout_spec.specs.Needs.{counted, counted_onto, NoClash}
 use Rattle.layout_spec.specs.Contained.{counted_keeps}
@@ -19,7 +23,7 @@ use Rattle.generator_spec.specs.declared.Refusal.TheVariants as refusal
 use Rattle.generator_spec.specs.declared.RequestRefusal.{RequestRefusal}
 use Rattle.generator_spec.specs.declared.RequestRefusal.TheVariants.{NotBuilt, Limit}
 use Rattle.generator_spec.specs.Modules.{Config, Module, is_module, Referrer, the_page, a_module, path_of, web_name, Asks}
-use Rattle.generator_spec.specs.Modules.Asks.{entries}
+use Rattle.generator_spec.specs.Modules.Asks.{entries, requests}
 use Rattle.generator_spec.specs.Trace.{ends_in_slash, FitsFile, IsServable, Passes, AllPass, Turn, IsTurn, TurnsOf, new_modules, targets_of, needs_of}
 use Rattle.generator_spec.specs.Closed.{new_modules-append, targets_of-append, length-TurnsOf}
 use Rattle.generator_spec.specs.Refusing.{AsksFile, NodeAnswers, NodeRefuses, HasName, Clashes, Refuses, IsFront, Comes, AllFit, Reaches, ReachesRequest, FirstRefusal, asked_for, shown, of_request}
@@ -84,6 +88,25 @@ turn_refused tree config referrer specifiers before specifier after old middle f
   few = few;
   refused = refused;
 }
+
+-- the request with a number stands between those before it and those behind it
+pub split_at : (specifiers : List (List ℕ)) (i : ℕ) (specifier : List ℕ) → take (i + 1) specifiers ≡ take i specifiers ++ specifier ∷ [] → specifiers ≡ take i specifiers ++ specifier ∷ drop (i + 1) specifiers
+split_at specifiers i specifier more = sym (take-append-drop (i + 1) specifiers) ∙ (ap (λ front. front ++ drop (i + 1) specifiers) more ∙ append_assoc (take i specifiers) (specifier ∷ []) (drop (i + 1) specifiers))
+
+-- ---- a module that asks for nothing
+
+pub no_module_name : (tree : Tree) (config : Config) (asker : Module) → ends_with nat_eq asker.path (codes ".mjs") ≡ false → (specifiers : List (List ℕ)) → Asks tree config (a_module asker) specifiers → ⊥
+no_module_name tree config asker other specifiers (requests same bytes found file reads) = let e = file.name in cc
+
+pub no_module_text : (tree : Tree) (config : Config) (asker : Module) (bytes : List ℕ) → get tree asker.path ≡ Some (Stored bytes) → ((specifiers : List (List ℕ)) → Requests bytes specifiers → ⊥) → (specifiers : List (List ℕ)) → Asks tree config (a_module asker) specifiers → ⊥
+no_module_text tree config asker bytes stored none specifiers (requests same others found file reads) =
+    let is : others ≡ bytes = (let e = file.stored in cc) in
+    none specifiers (subst (λ b. Requests b specifiers) is reads)
+
+-- a reading that finds nothing
+pub no_requests : (bytes : List ℕ) (found : Option (List (List ℕ))) → MatchOption found ((specifiers : List (List ℕ)) → Requests bytes specifiers → ⊥) (Requests bytes) → ((specifiers : List (List ℕ)) → found ≢ Some specifiers) → (specifiers : List (List ℕ)) → Requests bytes specifiers → ⊥
+no_requests bytes None none no_some = none
+no_requests bytes (Some specifiers) reads no_some = absurd (no_some specifiers refl)
 
 -- ---- needs, each once or as often as they come
 

@@ -67,7 +67,7 @@ pub fn run<F: Folder, I: Source, O: Sink, L: Ledger>(
 
 // Says why nothing is written.
 fn refuse<O: Sink>(alloc: Global, stop: &Stop, out: &mut O) -> u8
-    ensures ending { (status : ℕ) × (line : List ℕ) × SaysStop stop.now status line × Ends status line (record { got = O.got out.old; faults = O.faults out.old }) (record { got = O.got out.new; faults = O.faults out.new }) result }
+    ensures { (status : ℕ) × (line : List ℕ) × SaysStop stop.now status line × Ends status line (record { got = O.got out.old; faults = O.faults out.old }) (record { got = O.got out.new; faults = O.faults out.new }) result }
 {
     match stop {
         Stop::Refused { refusal } => match line_of(alloc, refusal) {
@@ -86,7 +86,7 @@ fn finish<F: Folder, O: Sink>(
     generated: &Generated,
     out: &mut O,
 ) -> u8
-    ensures ending { (status : ℕ) × (line : List ℕ) × SaysWrite (record { told = F.holds folder.old; look_faults = F.look_faults folder.old; write_faults = F.write_faults folder.old }) (record { told = F.holds folder.new; look_faults = F.look_faults folder.new; write_faults = F.write_faults folder.new }) generated.now.map.items (string_bytes generated.now.line) status line × Ends status line (record { got = O.got out.old; faults = O.faults out.old }) (record { got = O.got out.new; faults = O.faults out.new }) result }
+    ensures { (status : ℕ) × (line : List ℕ) × SaysWrite (record { told = F.holds folder.old; look_faults = F.look_faults folder.old; write_faults = F.write_faults folder.old }) (record { told = F.holds folder.new; look_faults = F.look_faults folder.new; write_faults = F.write_faults folder.new }) generated.now.map.items (string_bytes generated.now.line) status line × Ends status line (record { got = O.got out.old; faults = O.faults out.old }) (record { got = O.got out.new; faults = O.faults out.new }) result }
 {
     let path = match Path::parse(alloc, MAP_PATH) {
         Ok(path) => path,

@@ -1,11 +1,19 @@
 use Rattle.std.proofs.Common.{map}
 use Rattle.std.specs.Prelude.{string_bytes}
-use Rattle.generator_core.proofs.Answering.{if_some}
-use Rattle.generator_core.proofs.Endings.{generated}
+use Rattle.generator_core.specs.Running.IsRefused.{by_trace}
+use Rattle.generator_core.proofs.Answering.{if_some, stop_passed}
+use Rattle.generator_core.proofs.Endings.{is_generated, not_refused}
 use Rattle.generator_core.proofs.command.generate.Goals as goal
 
-pub returns-in-Ok-clause-generated : goal.returns-in-Ok-clause-generated
-returns-in-Ok-clause-generated g c =
+pub returns-clause-generated : goal.returns-clause-generated
+returns-clause-generated g c =
     if_some (g.F.Folder.holds c.args.folder.now)
-    (λ tree traced. generated tree (map string_bytes c.args.words.now) c.in_ok-config.config c.in-Ok.trace _ c.in_ok-config.ensures.config traced c.in_ok-generated_of-in-Ok.ensures)
-    c.in-Ok.ensures.traced
+    (λ tree traced. is_generated tree (map string_bytes c.args.words.now) c.in_ok-config.config c.in_ok-trace.trace _ _ c.in_ok-config.ensures.config traced c.in_ok-generated_of.ensures.map c.in_ok-generated_of.ensures.line)
+    c.in_ok-trace.ensures.traced
+
+pub returns-in_err-trace-clause-refused : goal.returns-in_err-trace-clause-refused
+returns-in_err-trace-clause-refused g c =
+    stop_passed c.from_residual-in_err-trace.result c.in_err-trace.field-0.0 c.from_residual-in_err-trace.ensures.1 (λ first here. by_trace c.in_ok-config.config c.in_ok-config.ensures.config here) c.in_err-trace.ensures.refused
+
+pub returns-in_err-trace-clause-words : goal.returns-in_err-trace-clause-words
+returns-in_err-trace-clause-words g c = λ why refuses. absurd (not_refused (map string_bytes c.args.words.now) c.in_ok-config.config why c.in_ok-config.ensures.config refuses)

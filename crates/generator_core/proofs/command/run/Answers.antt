@@ -1,23 +1,63 @@
-use Rattle.std.proofs.Common.{map, ◌∙◌, inl, inr, ⊎_elim}
+use Rattle.std.proofs.Common.{◌≡◌, ℕ, List, Err, ap, map, inl, inr, ⊎_elim}
 use Rattle.std.specs.Prelude.{string_bytes}
-use Rattle.generator_core.proofs.Answering.{if_both}
-use Rattle.generator_core.proofs.Endings.{linked, tells_more}
+use Rattle.generator_core.proofs.Endings.{stop_statuses, stop_is_not_done, stop_read, stop_write, stop_tells, says_stop, same_state, write_same, write_statuses, write_kept, write_done, write_five, write_is_not_read, write_rose, write_tells, says_write, words_end}
 use Rattle.generator_core.proofs.command.run.Goals as goal
+
+pub returns-in-Err-clause-statuses : goal.returns-in-Err-clause-statuses
+returns-in-Err-clause-statuses g c = let e = c.refuse.ensures in stop_statuses _ _ _ _ _ _ e.2 e.3
+
+pub returns-in-Err-clause-done : goal.returns-in-Err-clause-done
+returns-in-Err-clause-done g c = let e = c.refuse.ensures in λ zero. absurd (stop_is_not_done _ _ _ _ _ _ e.2 e.3 zero)
+
+pub returns-in-Err-clause-read : goal.returns-in-Err-clause-read
+returns-in-Err-clause-read g c = let e = c.refuse.ensures in λ four. c.in-Err.ensures.failed (ap Err (stop_read _ _ _ _ _ _ e.2 e.3 four))
+
+pub returns-in-Err-clause-write : goal.returns-in-Err-clause-write
+returns-in-Err-clause-write g c = let e = c.refuse.ensures in λ five. inr (stop_write _ _ _ _ _ _ e.2 e.3 five)
+
+pub returns-in-Err-clause-told : goal.returns-in-Err-clause-told
+returns-in-Err-clause-told g c = let e = c.refuse.ensures in stop_tells _ _ _ _ _ _ e.2 e.3
+
+pub returns-in-Err-clause-ending : goal.returns-in-Err-clause-ending
+returns-in-Err-clause-ending g c =
+    let e = c.refuse.ensures in
+    record {
+      status = e.0;
+      line = e.1;
+      says = says_stop (map string_bytes c.args.words.now) _ _ c.in-Err.stop e.0 e.1 c.in-Err.ensures.refused c.in-Err.ensures.tree (λ is. c.in-Err.ensures.failed (ap Err is)) (λ apart. c.in-Err.ensures.quiet (λ same. apart (let f = same in cc))) c.in-Err.ensures.writes e.2;
+      ends = e.3;
+    }
+
+pub returns-in-Err-clause-words : goal.returns-in-Err-clause-words
+returns-in-Err-clause-words g c =
+    let e = c.refuse.ensures in
+    λ why refuses.
+    let here = c.in-Err.ensures.words why refuses in
+    (here.0, words_end c.in-Err.stop why e.0 e.1 _ _ c.refuse.result (⊎_elim (λ same. inl (let f = same in cc)) (λ same. inr (let f = same in cc)) here.1) e.2 e.3)
+
+pub returns-in-Ok-clause-words : goal.returns-in-Ok-clause-words
+returns-in-Ok-clause-words g c = λ why refuses. absurd (⊎_elim (λ same. let f = same in cc) (λ same. let f = same in cc) (c.in-Ok.ensures.words why refuses).1)
 
 pub returns-in-Ok-clause-done : goal.returns-in-Ok-clause-done
 returns-in-Ok-clause-done g c =
-    let done = rw c.in-Ok.ensures.tree at c.finish.ensures.done in
-    λ e. if_both (g.F.Folder.holds c.args.folder.now) (λ tree is_generated written. linked tree (map string_bytes c.args.words.now) _ _ is_generated written) c.in-Ok.ensures.generated (done e)
+    let e = c.finish.ensures in
+    let wrote = write_same _ _ _ _ _ e.0 e.1 (same_state _ _ c.in-Ok.ensures.tree (c.in-Ok.ensures.quiet (λ same. cc)) c.in-Ok.ensures.writes) e.2 in
+    write_done (map string_bytes c.args.words.now) _ _ _ _ e.0 e.1 _ _ _ c.in-Ok.ensures.generated wrote e.3
 
 pub returns-in-Ok-clause-write_fault : goal.returns-in-Ok-clause-write_fault
 returns-in-Ok-clause-write_fault g c =
-    let fault = rw c.in-Ok.ensures.tree at c.finish.ensures.write_fault in
-    λ e. ⊎_elim
-    (λ same. inl same)
-    (λ wrote. inr (if_both (g.F.Folder.holds c.args.folder.now) (λ tree is_generated written. linked tree (map string_bytes c.args.words.now) _ _ is_generated written) c.in-Ok.ensures.generated wrote))
-    (fault e)
+    let e = c.finish.ensures in
+    let wrote = write_same _ _ _ _ _ e.0 e.1 (same_state _ _ c.in-Ok.ensures.tree (c.in-Ok.ensures.quiet (λ same. cc)) c.in-Ok.ensures.writes) e.2 in
+    λ five. write_five (map string_bytes c.args.words.now) _ _ _ _ e.0 e.1 c.in-Ok.ensures.generated wrote
 
 pub returns-in-Ok-clause-told : goal.returns-in-Ok-clause-told
 returns-in-Ok-clause-told g c =
-    let told = rw c.in-Ok.ensures.tree at c.finish.ensures.told in
-    tells_more _ _ (λ wrote. if_both (g.F.Folder.holds c.args.folder.now) (λ tree is_generated written. linked tree (map string_bytes c.args.words.now) _ _ is_generated written) c.in-Ok.ensures.generated wrote) told
+    let e = c.finish.ensures in
+    let wrote = write_same _ _ _ _ _ e.0 e.1 (same_state _ _ c.in-Ok.ensures.tree (c.in-Ok.ensures.quiet (λ same. cc)) c.in-Ok.ensures.writes) e.2 in
+    write_tells (map string_bytes c.args.words.now) _ _ _ _ e.0 e.1 _ _ _ c.in-Ok.ensures.generated wrote e.3
+
+pub returns-in-Ok-clause-ending : goal.returns-in-Ok-clause-ending
+returns-in-Ok-clause-ending g c =
+    let e = c.finish.ensures in
+    let wrote = write_same _ _ _ _ _ e.0 e.1 (same_state _ _ c.in-Ok.ensures.tree (c.in-Ok.ensures.quiet (λ same. cc)) c.in-Ok.ensures.writes) e.2 in
+    record { status = e.0; line = e.1; says = says_write (map string_bytes c.args.words.now) _ _ _ _ e.0 e.1 c.in-Ok.ensures.generated wrote; ends = e.3 }

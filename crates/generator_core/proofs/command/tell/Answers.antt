@@ -1,5 +1,9 @@
-use Rattle.generator_core.proofs.Endings.{whole_given}
+use Rattle.std.proofs.Common.{refl}
+use Rattle.generator_core.specs.Running.Ends.{said, output_fault}
 use Rattle.generator_core.proofs.command.tell.Goals as goal
 
-pub returns-in-Ok-clause-given : goal.returns-in-Ok-clause-given
-returns-in-Ok-clause-given g c = whole_given (g.O.Sink.got c.args.out.now) (g.O.Sink.got c.give.new.self) c.args.line.now c.in-Ok.ensures.given
+pub returns-in-Ok : goal.returns-in-Ok
+returns-in-Ok g c = said refl c.in-Ok.ensures.given c.in-Ok.ensures.quiet
+
+pub returns-in-Err : goal.returns-in-Err
+returns-in-Err g c = output_fault refl (record { count = c.in-Err.ensures.part.0; given = c.in-Err.ensures.part.1 }) c.in-Err.ensures.failed

@@ -10,6 +10,6 @@ invariant-loop-specifier g l = record {
   few : length l.fn.trace.modules.entries ≤ 20000 → length l.trace.modules.entries ≤ 20000;
   kept : AllKept l.fn.trace → AllKept l.trace;
   tree : g.F.Folder.holds l.folder ≡ g.F.Folder.holds l.fn.folder;
-  later : g.F.Folder.look_faults l.fn.folder ≤ g.F.Folder.look_faults l.folder;
+  quiet : g.F.Folder.look_faults l.folder ≡ g.F.Folder.look_faults l.fn.folder;
   writes : g.F.Folder.write_faults l.folder ≡ g.F.Folder.write_faults l.fn.folder;
 }

@@ -11,7 +11,7 @@ invariant-loop-next g l = record {
   page : IsServable l.config l.config.page [] l.page.url;
   file : l.config.page ≢ codes "/" → ends_in_slash l.page.url ≡ false;
   tree : g.F.Folder.holds l.folder ≡ g.F.Folder.holds l.fn.folder;
-  later : g.F.Folder.look_faults l.fn.folder ≤ g.F.Folder.look_faults l.folder;
+  quiet : g.F.Folder.look_faults l.folder ≡ g.F.Folder.look_faults l.fn.folder;
   writes : g.F.Folder.write_faults l.folder ≡ g.F.Folder.write_faults l.fn.folder;
 }
 
