@@ -8,3 +8,4 @@ pub mod Walks
 pub mod LinkWords
 pub mod Endings
 pub mod Refusals
+pub mod Outcomes

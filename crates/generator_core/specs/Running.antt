@@ -115,3 +115,27 @@ pub record Ending (words : List (List ℕ)) (folder folder_after : FolderState) 
   pub line : List ℕ
   pub says : Says words folder folder_after status line
   pub ends : Ends status line out out_after result
+
+-- own: a count that changed shows in the status, and 4 comes where the looks alone failed
+pub record Shows (folder folder_after : FolderState) (out out_after : SinkState) (result : ℕ) : Type 0 where
+  pub looks : folder_after.look_faults ≢ folder.look_faults → (result ≡ 4) ⊎ (result ≡ 5)
+  pub writes : folder_after.write_faults ≢ folder.write_faults → result ≡ 5
+  pub output : out_after.faults ≢ out.faults → result ≡ 5
+  pub read_alone : result ≡ 4 → (folder_after.write_faults ≡ folder.write_faults) × (out_after.faults ≡ out.faults)
+
+-- own: no count of faults rose
+pub record Quiet (folder folder_after : FolderState) (out out_after : SinkState) : Type 0 where
+  pub looks : Rose folder.look_faults folder_after.look_faults → ⊥
+  pub writes : Rose folder.write_faults folder_after.write_faults → ⊥
+  pub output : Rose out.faults out_after.faults → ⊥
+
+-- own: the command ended with this status, line and tree; or with `memory`, and the tree is as it was
+pub data Completes (status : ℕ) (line : List ℕ) (after : Tree) (folder folder_after : FolderState) (out out_after : SinkState) (result : ℕ) : Type 0 where
+  complete : result ≡ status → out_after.got ≡ option_map (λ before. before ++ line) out.got → folder_after.told ≡ Some after → Completes status line after folder folder_after out out_after result
+  memory : result ≡ 8 → out_after.got ≡ option_map (λ before. before ++ memory_line) out.got → folder_after.told ≡ folder.told → Completes status line after folder folder_after out out_after result
+
+-- own: where the words and the tree have an outcome, the answer is its status, or 8, or 4 or 5 for a fault; and where no fault was
+-- counted, the command ended so
+pub record Meets (words : List (List ℕ)) (tree : Tree) (folder folder_after : FolderState) (out out_after : SinkState) (result : ℕ) : Type 0 where
+  pub exactly : (status : ℕ) (line : List ℕ) (after : Tree) → Outcome words tree status line after → (result ≡ status) ⊎ (result ≡ 8) ⊎ (result ≡ 4) ⊎ (result ≡ 5)
+  pub complete : (status : ℕ) (line : List ℕ) (after : Tree) → Outcome words tree status line after → Quiet folder folder_after out out_after → Completes status line after folder folder_after out out_after result

@@ -9,7 +9,7 @@ ghost use Rattle.generator_spec.specs.Lines as spec;
 ghost use Rattle.generator_spec.specs.Lines.{counts_line};
 ghost use Rattle.generator_spec.specs.Words.{IsConfigOf, RefusesWords};
 ghost use Rattle.generator_core.specs.Faults.{IfRefused};
-ghost use Rattle.generator_core.specs.Running.{IsRefusalStatus, IsGenerated, Linked, IsRefused, Tells, SaysStop, SaysWrite, Ends, Ending, memory_line};
+ghost use Rattle.generator_core.specs.Running.{IsRefusalStatus, IsGenerated, Linked, IsRefused, Tells, SaysStop, SaysWrite, Ends, Ending, Shows, Meets, memory_line};
 
 use crate::config::Config;
 use crate::lines::{line_of, status_of};
@@ -57,6 +57,8 @@ pub fn run<F: Folder, I: Source, O: Sink, L: Ledger>(
     ensures write { result ≡ 5 → Rose (F.write_faults folder.old) (F.write_faults folder.new) ⊎ Rose (O.faults out.old) (O.faults out.new) }
     ensures told { Tells (O.got out.old) (O.got out.new) (IfSome (F.holds folder.old) (λ tree. Linked tree (map string_bytes words.now) (F.holds folder.new))) }
     ensures ending { Ending (map string_bytes words.now) (record { told = F.holds folder.old; look_faults = F.look_faults folder.old; write_faults = F.write_faults folder.old }) (record { told = F.holds folder.new; look_faults = F.look_faults folder.new; write_faults = F.write_faults folder.new }) (record { got = O.got out.old; faults = O.faults out.old }) (record { got = O.got out.new; faults = O.faults out.new }) result }
+    ensures meets { IfSome (F.holds folder.old) (λ tree. Meets (map string_bytes words.now) tree (record { told = F.holds folder.old; look_faults = F.look_faults folder.old; write_faults = F.write_faults folder.old }) (record { told = F.holds folder.new; look_faults = F.look_faults folder.new; write_faults = F.write_faults folder.new }) (record { got = O.got out.old; faults = O.faults out.old }) (record { got = O.got out.new; faults = O.faults out.new }) result) }
+    ensures shows { Shows (record { told = F.holds folder.old; look_faults = F.look_faults folder.old; write_faults = F.write_faults folder.old }) (record { told = F.holds folder.new; look_faults = F.look_faults folder.new; write_faults = F.write_faults folder.new }) (record { got = O.got out.old; faults = O.faults out.old }) (record { got = O.got out.new; faults = O.faults out.new }) result }
     ensures words { (why : Refusal) → RefusesWords (map string_bytes words.now) why → (folder.new ≡ folder.old) × (Ends (spec.status_of why) (spec.line_of why) (record { got = O.got out.old; faults = O.faults out.old }) (record { got = O.got out.new; faults = O.faults out.new }) result ⊎ Ends 8 memory_line (record { got = O.got out.old; faults = O.faults out.old }) (record { got = O.got out.new; faults = O.faults out.new }) result) }
 {
     match generate(alloc, words, folder) {
