@@ -16,6 +16,7 @@ use std::process::ExitCode;
 use std::rt::Runtime;
 use std::sync::ledger::{Blank, Ledger};
 use std::{env, io};
+use tree_model::Sink;
 
 /// The words after the program's name.
 fn words_of<R: Runtime + AllocGlobal>(rt: &R) -> io::Result<Vec<String>> {
@@ -44,10 +45,21 @@ fn start<R: Runtime + AllocGlobal, L: Ledger>(rt: &R, words: &[String], blank: B
     )
 }
 
+/// The status where the words find no memory.
+fn without_memory<R: Runtime>(rt: &R) -> u8 {
+    match StdSink::new(io::writer(rt)).give(b"memory\n".as_slice()) {
+        Ok(()) => 8,
+        Err(_) => 5,
+    }
+}
+
 fn main(rt: HostRuntime) -> ExitCode {
     // Words that can't be read, as those that aren't UTF-8, are none.
     let words = match words_of(&rt) {
         Ok(words) => words,
+        Err(error) if error.kind() == io::ErrorKind::OutOfMemory => {
+            return ExitCode::from(without_memory(&rt));
+        }
         Err(_) => Vec::new(rt.alloc()),
     };
     ExitCode::from(start::<HostRuntime, Brand>(&rt, words.as_slice(), Blank::new(1)))

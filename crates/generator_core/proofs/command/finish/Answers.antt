@@ -12,5 +12,5 @@ returns-in-Ok-write g c = (
   _,
   _,
   written refl c.as_bytes.ensures.value (if_some (g.F.Folder.holds c.args.folder.now) (λ tree placed. written_is tree _ _ _ _ placed c.in-Ok.ensures.path.0 c.as_slice-2.ensures.value) c.in-Ok-write.ensures.written) c.in-Ok-write.ensures.looks c.in-Ok-write.ensures.quiet,
-  c.tell-in-Ok-write.ensures
+  c.tell-in-Ok-write.ensures,
 )

@@ -19,5 +19,5 @@ pub returns-then-len-ge-MOST_MODULES-clause-refused : goal.returns-then-len-ge-M
 returns-then-len-ge-MOST_MODULES-clause-refused c = (
   refl,
   sym (found_among c.args.target c.args.modules.now.entries c.contains_key.result c.contains_key.ensures) ∙ c.if-contains_key.false,
-  omega (arith, c.len.ensures.len, c.if-len-ge-MOST_MODULES.true, length-keys_of c.args.modules.now.entries)
+  omega (arith, c.len.ensures.len, c.if-len-ge-MOST_MODULES.true, length-keys_of c.args.modules.now.entries),
 )
