@@ -7,6 +7,7 @@ pub mod Refusing
 pub mod Lines
 pub mod Outcome
 pub mod Laws
+pub mod OneGeneration
 pub mod Closed
 pub mod Reaching
 pub mod OneRefusal
@@ -14,3 +15,11 @@ pub mod RequestRefusals
 pub mod Fronts
 pub mod FirstRefusals
 pub mod Outcomes
+pub mod TraceLaws
+pub mod NeedLaws
+pub mod Written
+pub mod Computed
+pub mod WrittenTrees
+pub mod Serving
+pub mod NoText
+pub mod Examples

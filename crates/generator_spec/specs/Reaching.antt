@@ -147,7 +147,7 @@ pub record IsTurnOf (tree : Tree) (config : Config) (modules : List Module) (tur
   pub is_of : turn.referrer ≡ a_module asker
   pub is_turn : IsTurn tree config turn
 
-module_of_turn : (tree : Tree) (config : Config) (modules : List Module) (turns : List Turn) (any : Turn) → TurnsOf tree config modules turns → Contains turns any → IsTurnOf tree config modules any
+pub module_of_turn : (tree : Tree) (config : Config) (modules : List Module) (turns : List Turn) (any : Turn) → TurnsOf tree config modules turns → Contains turns any → IsTurnOf tree config modules any
 module_of_turn tree config modules turns any no_turns c = absurd (contains_none any c)
 module_of_turn tree config modules turns any (a_turn asker turn more others is is_turn are) c =
     elim (contains_cases any turn others c) [

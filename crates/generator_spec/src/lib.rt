@@ -1,9 +1,13 @@
 //! What is generated for a tree and a config, and what the map promises: definitions and their laws.
 #![tactic(auto)]
 
+ghost use Rattle.generator_spec.specs.Examples.{WorkedExamples};
 ghost use Rattle.generator_spec.specs.Laws.{OneTrace};
 ghost use Rattle.generator_spec.specs.OneRefusal.{OneRequestRefusal, OneRefusal, NothingRefused, OneOutcome};
+ghost use Rattle.generator_spec.specs.NeedLaws.{NeedsAreRequests};
+ghost use Rattle.generator_spec.specs.OneGeneration.{OneGeneration};
 ghost use Rattle.generator_spec.specs.Reaching.{NeedsNameFiles, ReachedTurns};
+ghost use Rattle.generator_spec.specs.TraceLaws.{TurnsAreReached, TurnsOnce};
 
 use primitives::Text;
 use tree_spec::LimitName;
@@ -44,9 +48,29 @@ pub fn one_trace()
     ensures { OneTrace }
 {}
 
+/// A tree and a config have one text at most.
+pub fn one_generation()
+    ensures { OneGeneration }
+{}
+
 /// Whatever the page reaches by requests has its turn in the trace.
 pub fn reached_turns()
     ensures { ReachedTurns }
+{}
+
+/// Whatever has a turn in the trace is reached by requests from the page.
+pub fn turns_are_reached()
+    ensures { TurnsAreReached }
+{}
+
+/// Nothing has two turns in a trace.
+pub fn turns_once()
+    ensures { TurnsOnce }
+{}
+
+/// The needs of a trace are those of the requests of whatever the page reaches.
+pub fn needs_are_requests()
+    ensures { NeedsAreRequests }
 {}
 
 /// No need of a trace names a folder, neither as its referrer nor as what it asks for, where the page is no folder.
@@ -72,4 +96,10 @@ pub fn nothing_refused()
 /// A command has one outcome at most.
 pub fn one_outcome()
     ensures { OneOutcome }
+{}
+
+/// Worked examples.
+#[tactic(auto, using(crate::specs::Examples::worked_examples))]
+pub fn worked_examples()
+    ensures { WorkedExamples }
 {}

@@ -17,14 +17,14 @@ TextsReadBack = (text rest : List ℕ) → ReadsText (escaped text ++ 34 ∷ res
 pub texts_read_back : TextsReadBack
 texts_read_back text rest = text_back text rest
 
--- own law: the printed text of a value has that value
+-- own law: the printed text of a printable value has that value
 abbrev pub ValuesReadBack : Type 0
 ValuesReadBack = (v : Json) → IsPrintable most_brackets v → ReadsJson (printed_text v) (Ok v)
 
 pub values_read_back : ValuesReadBack
 values_read_back v p = json_text (taken v (10 ∷ [])) (text_reads most_brackets v p)
 
--- own law: the printed text of a value is UTF-8 where the texts in the value are
+-- own law: the printed text of a printable value is UTF-8
 abbrev pub PrintsUtf8 : Type 0
 PrintsUtf8 = (depth : ℕ) (v : Json) → IsPrintable depth v → IsUtf8 (printed_text v)
 

@@ -33,13 +33,14 @@ pub fn texts_read_back()
     ensures { TextsReadBack }
 {}
 
-/// A printed value reads back, unless it holds a number.
+/// A printed value reads back where it holds no number and no name twice in one object, its texts are UTF-8, and it opens no
+/// more brackets at once than a text may.
 #[tactic(auto, using(crate::specs::JsonBack::values_read_back))]
 pub fn values_read_back()
     ensures { ValuesReadBack }
 {}
 
-/// A printed value is UTF-8.
+/// The printed text of such a value, however deep it is, is UTF-8.
 #[tactic(auto, using(crate::specs::JsonBack::prints_utf8))]
 pub fn prints_utf8()
     ensures { PrintsUtf8 }

@@ -1,6 +1,6 @@
 -- The layout of a map for needs.
 --     layout needs      the map with the mappings that the needs want
-use Rattle.std.specs.Prelude.{◌≡◌, ◌≢◌, ℕ, List, [], ◌∷◌, bytes_eq, if◌then◌else◌, Option, Some, None, unwrap_or, Contains}
+use Rattle.std.specs.Prelude.{ℕ, List, [], ◌∷◌, bytes_eq, if◌then◌else◌, Some, unwrap_or}
 use Rattle.std.specs.FinMap.{get, insert, empty}
 use Rattle.import_map_spec.specs.ParsedMap.{Texts, Addresses, ParsedMap}
 use Rattle.layout_spec.specs.declared.Need.{Need}

@@ -1,5 +1,5 @@
 -- Needs: who asks (by its URL), what for (the specifier as HTML normalizes it), and the URL that has to come of it.
-use Rattle.std.specs.Prelude.{◌≡◌, ℕ, Bool, List, [], ◌∷◌, ◌++◌, ◌&&◌, bytes_eq, if◌then◌else◌, Contains}
+use Rattle.std.specs.Prelude.{◌≡◌, Bool, List, [], ◌∷◌, ◌++◌, ◌&&◌, bytes_eq, if◌then◌else◌, Contains}
 use Rattle.std.specs.List.{list_any}
 use Rattle.layout_spec.specs.declared.Need.{Need}
 

@@ -2,7 +2,10 @@
 #![tactic(auto)]
 
 ghost use Rattle.layout_spec.specs.Contained.{CountedKeeps};
+ghost use Rattle.layout_spec.specs.Examples.{WorkedExamples};
 ghost use Rattle.layout_spec.specs.Lays.{LayoutLays};
+ghost use Rattle.layout_spec.specs.Once.{CountedOnce};
+ghost use Rattle.layout_spec.specs.OneLayout.{OneLayout};
 
 use primitives::Text;
 
@@ -22,9 +25,25 @@ pub fn counted_keeps()
     ensures { CountedKeeps }
 {}
 
+/// Needs that are counted stand once each.
+pub fn counted_once()
+    ensures { CountedOnce }
+{}
+
 /// The layout of needs of which no two clash has the mappings that they want, each in the scope of its referrer, and
 /// nothing else.
 #[tactic(auto, using(crate::specs::Lays::layout_lays))]
 pub fn layout_lays()
     ensures { LayoutLays }
+{}
+
+/// At most one map has the mappings that needs want, and nothing else.
+pub fn one_layout()
+    ensures { OneLayout }
+{}
+
+/// Worked examples.
+#[tactic(auto, using(crate::specs::Examples::worked_examples))]
+pub fn worked_examples()
+    ensures { WorkedExamples }
 {}

@@ -12,7 +12,7 @@ pub enum Cause {
     Builtin,
     /// A URL.
     ExternalUrl,
-    /// A specifier that isn't well formed, or whose URL has an escaped separator.
+    /// A specifier that isn't well formed, or whose URL names a host or has an escaped separator.
     InvalidSpecifier,
     /// A package.json that isn't well formed.
     InvalidConfig,

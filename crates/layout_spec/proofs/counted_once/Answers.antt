@@ -1,0 +1,5 @@
+use Rattle.layout_spec.specs.Once.{counted_once}
+use Rattle.layout_spec.proofs.counted_once.Goals as goal
+
+pub returns : goal.returns
+returns c = counted_once
