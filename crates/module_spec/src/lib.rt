@@ -1,6 +1,10 @@
-//! What a module text asks for: definitions and their laws. A text of the plain form consists of white space and of
-//! statements that import a module for its effects.
+//! What a module text is made of and what it asks for: definitions and their laws. The tokens of ECMA-262, and texts of
+//! the plain form, which consist of white space and of statements that import a module for its effects.
 #![tactic(auto)]
+
+mod token;
+
+pub use token::{Bracket, Kind, LexFault, LexKind, Mark, Sort, Token, Word};
 
 ghost use Rattle.module_spec.specs.Examples.{WorkedExamples};
 ghost use Rattle.module_spec.specs.PlainForm.{OneReading};

@@ -1,0 +1,128 @@
+-- How far comments, literals and punctuators reach: the bytes behind them, or none where the text ends before they do. ECMA-262, 12.4, 12.8 and 12.9.
+use Rattle.std.specs.Prelude.{ℕ, zero, suc, ◌+◌, ◌-◌, Bool, true, false, not, ◌&&◌, ◌||◌, ◌==◌, nat_lt, List, [], ◌∷◌, if◌then◌else◌, Option, Some, None, slice_index, drop, length, codes}
+use Rattle.module_spec.specs.declared.token.Mark.{Mark}
+use Rattle.module_spec.specs.declared.token.Mark.TheVariants.{OpenRound, OpenSquare, OpenCurly, CloseRound, CloseSquare, CloseCurly, Dot, Step, Stop, Operator}
+use Rattle.module_spec.specs.Characters.{begins_line_end, space_size, is_digit, begins_digit, name_size, passed, name_rest}
+
+-- ECMA-262, 12.4: a comment to the end of its line, before the line end
+abbrev pub line_rest : List ℕ → List ℕ
+line_rest [] = []
+line_rest (b ∷ rest) = if begins_line_end (b ∷ rest) then b ∷ rest else line_rest rest
+
+-- ECMA-262, 12.4: to behind the next `*/`; `star` says that a `*` stands before
+abbrev pub comment_rest : Bool → List ℕ → Option (List ℕ)
+comment_rest star [] = None
+comment_rest star (b ∷ rest) = if star && b == 47 then Some rest else comment_rest (b == 42) rest
+
+-- ECMA-262, 12.4: what stands behind the first `/`
+abbrev pub slash_rest : List ℕ → Option (List ℕ)
+slash_rest [] = None
+slash_rest (b ∷ rest) = if b == 47 then Some (line_rest rest) else if b == 42 then comment_rest false rest else None
+
+-- ECMA-262, 12.2 to 12.4: behind one character of white space, one line end or one comment
+unfoldable pub blank_rest : List ℕ → Option (List ℕ)
+blank_rest [] = None
+blank_rest (b ∷ rest) =
+    if b == 47 then slash_rest rest
+    else if space_size (b ∷ rest) == 0 then None
+    else Some (drop (space_size (b ∷ rest)) (b ∷ rest))
+
+-- ECMA-262, 12.5: a text that begins with `#!` has its first line as a comment
+abbrev pub hashbang_rest : List ℕ → List ℕ
+hashbang_rest [] = []
+hashbang_rest (b ∷ []) = b ∷ []
+hashbang_rest (b ∷ c ∷ rest) = if b == 35 && c == 33 then line_rest rest else b ∷ c ∷ rest
+
+-- ---- numbers
+
+-- ECMA-262, 12.9.3: `0` and the letter of another base
+abbrev pub has_base_letter : List ℕ → Bool
+has_base_letter [] = false
+has_base_letter (b ∷ rest) = b == 48 && (let c = slice_index rest 0 in c == 120 || c == 88 || c == 98 || c == 66 || c == 111 || c == 79)
+
+abbrev pub begins_sign : List ℕ → Bool
+begins_sign [] = false
+begins_sign (b ∷ rest) = b == 43 || b == 45
+
+-- own: of ECMA-262, 12.9.3, a number goes on over characters of names, points, and an `e` with a sign where it may have an exponent
+abbrev pub number_size : Bool → List ℕ → ℕ
+number_size exponent [] = 0
+number_size exponent (b ∷ rest) =
+    if b == 46 then 1
+    else if exponent && (b == 101 || b == 69) && begins_sign rest then 2
+    else name_size (b ∷ rest)
+
+abbrev pub number_rest : List ℕ → List ℕ
+number_rest bytes = let exponent = not (has_base_letter bytes) in passed (λ more. number_size exponent more) 0 bytes
+
+-- own: a digit, or a point and a digit
+abbrev pub begins_number : List ℕ → Bool
+begins_number [] = false
+begins_number (b ∷ rest) = is_digit b || b == 46 && begins_digit rest
+
+-- ---- literals between marks
+
+-- ECMA-262, 12.9.4, behind the opening quote. `escaped` says that a `\` stands before, and `return` that `\` and CR do.
+abbrev pub text_rest : ℕ → Bool → Bool → List ℕ → Option (List ℕ)
+text_rest quote escaped return [] = None
+text_rest quote true return (b ∷ rest) = text_rest quote false (b == 13) rest
+text_rest quote false return (b ∷ rest) =
+    if b == quote then Some rest
+    else if b == 92 then text_rest quote true false rest
+    else if b == 13 then None
+    else if b == 10 && not return then None
+    else text_rest quote false false rest
+
+-- ECMA-262, 12.9.6: the bytes behind a template's part, and whether a backquote ends it. `escaped` says that a `\` stands before, and
+-- `dollar` that a `$` does.
+abbrev pub template_rest : Bool → Bool → List ℕ → Option (Bool × List ℕ)
+template_rest escaped dollar [] = None
+template_rest true dollar (b ∷ rest) = template_rest false false rest
+template_rest false dollar (b ∷ rest) =
+    if b == 96 then Some (true, rest)
+    else if b == 123 && dollar then Some (false, rest)
+    else template_rest (b == 92) (b == 36) rest
+
+-- ECMA-262, 12.9.5, behind the opening `/` and to behind the closing one. `class` says that a `[` is open, `escaped` that a `\` stands before.
+abbrev pub regex_body_rest : Bool → Bool → List ℕ → Option (List ℕ)
+regex_body_rest class escaped [] = None
+regex_body_rest class escaped (b ∷ rest) =
+    if begins_line_end (b ∷ rest) then None
+    else if escaped then regex_body_rest class false rest
+    else if b == 47 && not class then Some rest
+    else regex_body_rest (b == 91 || class && not (b == 93)) (b == 92) rest
+
+-- ---- punctuators
+
+abbrev pub begins : List ℕ → List ℕ → Bool
+begins [] bytes = true
+begins (f ∷ front) [] = false
+begins (f ∷ front) (b ∷ bytes) = f == b && begins front bytes
+
+-- ECMA-262, 12.8: the punctuators, longer ones first
+abbrev pub punctuators : List (List ℕ × Mark)
+punctuators =
+    (codes ">>>=", Operator) ∷ (codes "...", Operator) ∷ (codes "===", Operator) ∷ (codes "!==", Operator) ∷ (codes "**=", Operator)
+    ∷ (codes "<<=", Operator) ∷ (codes ">>=", Operator) ∷ (codes ">>>", Operator) ∷ (codes "&&=", Operator) ∷ (codes "||=", Operator)
+    ∷ (codes "??=", Operator) ∷ (codes "=>", Stop) ∷ (codes "==", Operator) ∷ (codes "!=", Operator) ∷ (codes "<=", Operator)
+    ∷ (codes ">=", Operator) ∷ (codes "&&", Operator) ∷ (codes "||", Operator) ∷ (codes "??", Operator) ∷ (codes "?.", Dot)
+    ∷ (codes "++", Step) ∷ (codes "--", Step) ∷ (codes "+=", Operator) ∷ (codes "-=", Operator) ∷ (codes "*=", Operator)
+    ∷ (codes "/=", Operator) ∷ (codes "%=", Operator) ∷ (codes "&=", Operator) ∷ (codes "|=", Operator) ∷ (codes "^=", Operator)
+    ∷ (codes "<<", Operator) ∷ (codes ">>", Operator) ∷ (codes "**", Operator)
+    ∷ (codes "{", OpenCurly) ∷ (codes "}", CloseCurly) ∷ (codes "(", OpenRound) ∷ (codes ")", CloseRound) ∷ (codes "[", OpenSquare)
+    ∷ (codes "]", CloseSquare) ∷ (codes ".", Dot) ∷ (codes ";", Stop) ∷ (codes ",", Operator) ∷ (codes "<", Operator)
+    ∷ (codes ">", Operator) ∷ (codes "+", Operator) ∷ (codes "-", Operator) ∷ (codes "*", Operator) ∷ (codes "/", Operator)
+    ∷ (codes "%", Operator) ∷ (codes "&", Operator) ∷ (codes "|", Operator) ∷ (codes "^", Operator) ∷ (codes "!", Operator)
+    ∷ (codes "~", Operator) ∷ (codes "?", Operator) ∷ (codes ":", Stop) ∷ (codes "=", Operator) ∷ []
+
+-- the first text of a table that begins the bytes: its mark and length
+abbrev pub first_of : List (List ℕ × Mark) → List ℕ → Option (Mark × ℕ)
+first_of [] bytes = None
+first_of (row ∷ table) bytes = if begins row.0 bytes then Some (row.1, length row.0) else first_of table bytes
+
+-- ECMA-262, 12.8: `?.` is no punctuator before a digit
+abbrev pub is_question_before_number : List ℕ → Bool
+is_question_before_number bytes = begins (codes "?.") bytes && begins_digit (drop 2 bytes)
+
+abbrev pub punctuator : List ℕ → Option (Mark × ℕ)
+punctuator bytes = if is_question_before_number bytes then Some (Operator, 1) else first_of punctuators bytes
