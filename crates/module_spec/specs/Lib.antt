@@ -6,3 +6,4 @@ pub mod Spellings
 pub mod Sorts
 pub mod Tokens
 pub mod OneOutcome
+pub mod TokenExamples

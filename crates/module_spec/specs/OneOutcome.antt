@@ -1,12 +1,10 @@
 -- A text has one outcome.
-use Rattle.std.proofs.Common.{◌≡◌, ℕ, ◌<◌, List, [], ◌∷◌, Bool, length, Option, Some, None, Result, Ok, Err, ◌⊎◌, inl, inr, refl, sym, ◌∙◌, ap, subst, arith}
+use Rattle.std.proofs.Common.{◌≡◌, ℕ, ◌<◌, List, [], ◌∷◌, Bool, length, Option, Some, None, ◌⊎◌, inl, inr, refl, sym, ◌∙◌, ap, subst, arith}
 use Rattle.module_spec.specs.declared.token.Bracket.{Bracket}
 use Rattle.module_spec.specs.declared.token.LexKind.{LexKind}
-use Rattle.module_spec.specs.declared.token.Token.{Token}
-use Rattle.module_spec.specs.declared.token.LexFault.{LexFault}
 use Rattle.module_spec.specs.Sorts.{opens, closes}
-use Rattle.module_spec.specs.Spellings.{blank_rest, hashbang_rest}
-use Rattle.module_spec.specs.Tokens.{Lexeme, Balanced, Outside, Innermost, opener, depth, plain_word, slash_after, Slash, Next, next_at, Skips, IsNext, Reaches, ReadsTokens, OneTokens}
+use Rattle.module_spec.specs.Spellings.{hashbang_rest}
+use Rattle.module_spec.specs.Tokens.{Lexeme, Balanced, Outside, Innermost, opener, depth, plain_word, slash_after, Slash, Next, next_at, Skips, IsNext, Reaches, OneTokens}
 use Rattle.module_spec.specs.Tokens.Balanced.{same, neither, closed}
 use Rattle.module_spec.specs.Tokens.Outside.{first, later}
 use Rattle.module_spec.specs.Tokens.Innermost.{none, bracket}

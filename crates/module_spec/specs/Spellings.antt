@@ -1,8 +1,8 @@
 -- How far comments, literals and punctuators reach: the bytes behind them, or none where the text ends before they do. ECMA-262, 12.4, 12.8 and 12.9.
-use Rattle.std.specs.Prelude.{ℕ, zero, suc, ◌+◌, ◌-◌, Bool, true, false, not, ◌&&◌, ◌||◌, ◌==◌, nat_lt, List, [], ◌∷◌, if◌then◌else◌, Option, Some, None, slice_index, drop, length, codes}
+use Rattle.std.specs.Prelude.{ℕ, Bool, true, false, not, ◌&&◌, ◌||◌, ◌==◌, List, [], ◌∷◌, if◌then◌else◌, Option, Some, None, slice_index, drop, length, codes}
 use Rattle.module_spec.specs.declared.token.Mark.{Mark}
 use Rattle.module_spec.specs.declared.token.Mark.TheVariants.{OpenRound, OpenSquare, OpenCurly, CloseRound, CloseSquare, CloseCurly, Dot, Step, Stop, Operator}
-use Rattle.module_spec.specs.Characters.{begins_line_end, space_size, is_digit, begins_digit, name_size, passed, name_rest}
+use Rattle.module_spec.specs.Characters.{begins_line_end, space_size, is_digit, begins_digit, name_size, passed}
 
 -- ECMA-262, 12.4: a comment to the end of its line, before the line end
 abbrev pub line_rest : List ℕ → List ℕ

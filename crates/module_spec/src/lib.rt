@@ -2,12 +2,14 @@
 //! the plain form, which consist of white space and of statements that import a module for its effects.
 #![tactic(auto)]
 
+ghost use Rattle.module_spec.specs.Examples.{WorkedExamples};
+ghost use Rattle.module_spec.specs.PlainForm.{OneReading};
+ghost use Rattle.module_spec.specs.TokenExamples.{TokenExamples};
+ghost use Rattle.module_spec.specs.Tokens.{OneTokens};
+
 mod token;
 
 pub use token::{Bracket, Kind, LexFault, LexKind, Mark, Sort, Token, Word};
-
-ghost use Rattle.module_spec.specs.Examples.{WorkedExamples};
-ghost use Rattle.module_spec.specs.PlainForm.{OneReading};
 
 /// A text is read in one way at most.
 #[tactic(auto, using(crate::specs::Readings::one_reading))]
@@ -19,4 +21,16 @@ pub fn one_reading()
 #[tactic(auto, using(crate::specs::Examples::worked_examples))]
 pub fn worked_examples()
     ensures { WorkedExamples }
+{}
+
+/// A text has one list of tokens or one first fault, and not both.
+#[tactic(auto, using(crate::specs::OneOutcome::one_tokens))]
+pub fn one_tokens()
+    ensures { OneTokens }
+{}
+
+/// Worked examples of tokens.
+#[tactic(auto, using(crate::specs::TokenExamples::token_examples))]
+pub fn token_examples()
+    ensures { TokenExamples }
 {}
