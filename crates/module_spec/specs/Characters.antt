@@ -55,22 +55,21 @@ is_digit b = nat_le 48 b && nat_le b 57
 abbrev pub is_hex_digit : ℕ → Bool
 is_hex_digit b = is_digit b || nat_le 97 b && nat_le b 102 || nat_le 65 b && nat_le b 70
 
--- of at most n
-abbrev pub hex_digits : ℕ → List ℕ → ℕ
-hex_digits zero bytes = 0
-hex_digits (suc n) [] = 0
-hex_digits (suc n) (b ∷ rest) = if is_hex_digit b then suc (hex_digits n rest) else 0
+-- how many stand at the front
+abbrev pub hex_digits : List ℕ → ℕ
+hex_digits [] = 0
+hex_digits (b ∷ rest) = if is_hex_digit b then suc (hex_digits rest) else 0
 
 -- own: of ECMA-262, 12.9.4, `\u{` and one to six digits and `}`, by what stands behind the opening brace
 abbrev pub braced_size : List ℕ → ℕ
 braced_size rest =
-    let digits = hex_digits 6 rest in
-    if digits == 0 then 0 else if slice_index rest digits == 125 then digits + 4 else 0
+    let digits = hex_digits rest in
+    if nat_le 1 digits && nat_le digits 6 && slice_index rest digits == 125 then digits + 4 else 0
 
 -- ECMA-262, 12.9.4: `\u` and four digits, or the form with braces, by what stands behind the `u`
 abbrev pub unicode_size : List ℕ → ℕ
 unicode_size [] = 0
-unicode_size (b ∷ rest) = if b == 123 then braced_size rest else if hex_digits 4 (b ∷ rest) == 4 then 6 else 0
+unicode_size (b ∷ rest) = if b == 123 then braced_size rest else if nat_le 4 (hex_digits (b ∷ rest)) then 6 else 0
 
 -- ECMA-262, 12.7: the escapes of names, by what stands behind the `\`
 abbrev pub escape_size : List ℕ → ℕ

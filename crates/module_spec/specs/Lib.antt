@@ -5,5 +5,6 @@ pub mod Characters
 pub mod Spellings
 pub mod Sorts
 pub mod Tokens
+pub mod Suffixes
 pub mod OneOutcome
 pub mod TokenExamples

@@ -5,6 +5,7 @@ use Rattle.module_spec.specs.declared.token.LexKind.{LexKind}
 use Rattle.module_spec.specs.Sorts.{opens, closes}
 use Rattle.module_spec.specs.Spellings.{hashbang_rest}
 use Rattle.module_spec.specs.Tokens.{Lexeme, Balanced, Outside, Innermost, opener, depth, plain_word, slash_after, Slash, Next, next_at, Skips, IsNext, Reaches, OneTokens}
+use Rattle.module_spec.specs.Suffixes.{next_shorter}
 use Rattle.module_spec.specs.Tokens.Balanced.{same, neither, closed}
 use Rattle.module_spec.specs.Tokens.Outside.{first, later}
 use Rattle.module_spec.specs.Tokens.Innermost.{none, bracket}
@@ -96,7 +97,7 @@ one_next before rest some other (next {at} {bytes} {slash} s i k e) (next {at = 
 
 pub data Onward : List Lexeme → List ℕ → List Lexeme → List ℕ → Type 0 where
   here : {a : List Lexeme} {r : List ℕ} → Onward a r a r
-  on : {t : Lexeme} {a b : List Lexeme} {r s after : List ℕ} → Onward a r b s → IsNext b s (Gives t after) → length after < length s → Onward a r (t ∷ b) after
+  on : {t : Lexeme} {a b : List Lexeme} {r s after : List ℕ} → Onward a r b s → IsNext b s (Gives t after) → Onward a r (t ∷ b) after
 
 record Same (a : List Lexeme) (r : List ℕ) (b : List Lexeme) (s : List ℕ) : Type 0 where
   pub lexemes : a ≡ b
@@ -108,18 +109,18 @@ record First (a : List Lexeme) (r : List ℕ) (b : List Lexeme) (s : List ℕ) :
   pub given : IsNext a r (Gives t after)
   pub then_on : Onward (t ∷ a) after b s
 
-added : {a b : List Lexeme} {r s after : List ℕ} {t : Lexeme} → IsNext b s (Gives t after) → length after < length s → Same a r b s ⊎ First a r b s → Same a r (t ∷ b) after ⊎ First a r (t ∷ b) after
-added {a} {b} {r} {s} {after} {t} n l (inl e) =
+added : {a b : List Lexeme} {r s after : List ℕ} {t : Lexeme} → IsNext b s (Gives t after) → Same a r b s ⊎ First a r b s → Same a r (t ∷ b) after ⊎ First a r (t ∷ b) after
+added {a} {b} {r} {s} {after} {t} n (inl e) =
     inr (record { t = t; after = after; given = subst (λ z. IsNext z r (Gives t after)) (sym e.lexemes) (subst (λ z. IsNext b z (Gives t after)) (sym e.rests) n); then_on = subst (λ z. Onward (t ∷ a) after (t ∷ z) after) e.lexemes here })
-added n l (inr f) = inr (record { t = f.t; after = f.after; given = f.given; then_on = on f.then_on n l })
+added n (inr f) = inr (record { t = f.t; after = f.after; given = f.given; then_on = on f.then_on n })
 
 from_front : (a b : List Lexeme) (r s : List ℕ) → Onward a r b s → Same a r b s ⊎ First a r b s
 from_front a b r s here = inl (record { lexemes = refl; rests = refl })
-from_front a b r s (on {b = c} {s = q} o n l) = added n l (from_front a c r q o)
+from_front a b r s (on {b = c} {s = q} o n) = added n (from_front a c r q o)
 
 from_start : (text : List ℕ) (b : List Lexeme) (r s : List ℕ) → r ≡ hashbang_rest text → Reaches text b s → Onward [] r b s
 from_start text b r s e (begin f) = subst (λ z. Onward [] r [] z) (e ∙ sym f) here
-from_start text b r s e (go {before} {rest} run n l) = on (from_start text before r rest e run) n l
+from_start text b r s e (go {before} {rest} run n) = on (from_start text before r rest e run) n
 
 stepped : {t u : Lexeme} {a b : List Lexeme} {r s after behind : List ℕ} → IsNext a r (Gives t after) → IsNext a r (Gives u behind) → Onward (u ∷ a) behind b s → Onward (t ∷ a) after b s
 stepped {t} {u} {a} {b} {r} {s} {after} {behind} m n o =
@@ -128,17 +129,17 @@ stepped {t} {u} {a} {b} {r} {s} {after} {behind} m n o =
     let g : after ≡ behind = cc in
     subst (λ z. Onward (z ∷ a) after b s) (sym f) (subst (λ z. Onward (u ∷ a) z b s) (sym g) o)
 
-one_more : {t : Lexeme} {a b : List Lexeme} {r s after : List ℕ} → IsNext a r (Gives t after) → length after < length r → Onward a r b s → Same a r b s ⊎ First a r b s → Onward (t ∷ a) after b s ⊎ Onward b s (t ∷ a) after
-one_more {t} {a} {b} {r} {s} {after} n l o (inl e) = inr (on (subst (λ z. Onward z s a r) e.lexemes (subst (λ z. Onward a z a r) e.rests here)) n l)
-one_more n l o (inr f) = inl (stepped n f.given f.then_on)
+one_more : {t : Lexeme} {a b : List Lexeme} {r s after : List ℕ} → IsNext a r (Gives t after) → Onward a r b s → Same a r b s ⊎ First a r b s → Onward (t ∷ a) after b s ⊎ Onward b s (t ∷ a) after
+one_more {t} {a} {b} {r} {s} {after} n o (inl e) = inr (on (subst (λ z. Onward z s a r) e.lexemes (subst (λ z. Onward a z a r) e.rests here)) n)
+one_more n o (inr f) = inl (stepped n f.given f.then_on)
 
-further : {t : Lexeme} {a b : List Lexeme} {r s after : List ℕ} → IsNext a r (Gives t after) → length after < length r → Onward a r b s ⊎ Onward b s a r → Onward (t ∷ a) after b s ⊎ Onward b s (t ∷ a) after
-further {t} {a} {b} {r} {s} n l (inl o) = one_more n l o (from_front a b r s o)
-further n l (inr o) = inr (on o n l)
+further : {t : Lexeme} {a b : List Lexeme} {r s after : List ℕ} → IsNext a r (Gives t after) → Onward a r b s ⊎ Onward b s a r → Onward (t ∷ a) after b s ⊎ Onward b s (t ∷ a) after
+further {t} {a} {b} {r} {s} n (inl o) = one_more n o (from_front a b r s o)
+further n (inr o) = inr (on o n)
 
 linear : (text : List ℕ) (a b : List Lexeme) (r s : List ℕ) → Reaches text a r → Reaches text b s → Onward a r b s ⊎ Onward b s a r
 linear text a b r s (begin e) y = inl (from_start text b r s e y)
-linear text a b r s (go {before} {rest} x n l) y = further n l (linear text before b rest s x y)
+linear text a b r s (go {before} {rest} x n) y = further n (linear text before b rest s x y)
 
 -- ---- a run that came to an end is the only one
 
@@ -197,7 +198,7 @@ shorter l (inr m) = inr (omega arith)
 
 further_is_shorter : {a b : List Lexeme} {r s : List ℕ} → Onward a r b s → Same a r b s ⊎ (length s < length r)
 further_is_shorter here = inl (record { lexemes = refl; rests = refl })
-further_is_shorter (on {a} {b} {r} {s} o n l) = shorter l (further_is_shorter o)
+further_is_shorter (on {t} {b} {s} {after} o n) = shorter (next_shorter b s after t n) (further_is_shorter o)
 
 same_rest : {a b : List Lexeme} {r : List ℕ} → Same a r b r ⊎ (length r < length r) → a ≡ b
 same_rest (inl e) = e.lexemes

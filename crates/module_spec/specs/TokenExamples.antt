@@ -1,6 +1,6 @@
 -- Worked examples of tokens.
 use Rattle.std.specs.Prelude.{ℕ, [], ◌∷◌, Ok, Err, codes}
-use Rattle.std.proofs.Common.{refl, lit<}
+use Rattle.std.proofs.Common.{refl}
 use Rattle.module_spec.specs.declared.token.Kind.{Kind}
 use Rattle.module_spec.specs.declared.token.Kind.TheVariants as kinds
 use Rattle.module_spec.specs.declared.token.Mark.TheVariants as marks
@@ -55,15 +55,15 @@ regex_reached_0 = begin refl
 
 regex_reached_1 : Reaches (codes "x=/b/c") (regex_1 ∷ []) (codes "=/b/c")
 unfolding name_size blank_rest word piece next_at
-regex_reached_1 = go regex_reached_0 (next start (none same) (stop refl) refl) (lit< tt)
+regex_reached_1 = go regex_reached_0 (next start (none same) (stop refl) refl)
 
 regex_reached_2 : Reaches (codes "x=/b/c") (regex_2 ∷ regex_1 ∷ []) (codes "/b/c")
 unfolding name_size blank_rest word piece next_at
-regex_reached_2 = go regex_reached_1 (next (token (none same) refl) (none (neither refl refl same)) (stop refl) refl) (lit< tt)
+regex_reached_2 = go regex_reached_1 (next (token (none same) refl) (none (neither refl refl same)) (stop refl) refl)
 
 regex_reached_3 : Reaches (codes "x=/b/c") (regex_3 ∷ regex_2 ∷ regex_1 ∷ []) []
 unfolding name_size blank_rest word piece next_at
-regex_reached_3 = go regex_reached_2 (next (token (none (neither refl refl same)) refl) (none (neither refl refl (neither refl refl same))) (stop refl) refl) (lit< tt)
+regex_reached_3 = go regex_reached_2 (next (token (none (neither refl refl same)) refl) (none (neither refl refl (neither refl refl same))) (stop refl) refl)
 
 regex : ReadsTokens (codes "x=/b/c") (Ok (span kinds.Name 0 1 ∷ span kinds.Punctuator 1 2 ∷ span kinds.Regex 2 6 ∷ []))
 unfolding name_size blank_rest word piece next_at
@@ -89,23 +89,23 @@ division_reached_0 = begin refl
 
 division_reached_1 : Reaches (codes "a /b/ c") (division_1 ∷ []) (codes " /b/ c")
 unfolding name_size blank_rest word piece next_at
-division_reached_1 = go division_reached_0 (next start (none same) (stop refl) refl) (lit< tt)
+division_reached_1 = go division_reached_0 (next start (none same) (stop refl) refl)
 
 division_reached_2 : Reaches (codes "a /b/ c") (division_2 ∷ division_1 ∷ []) (codes "b/ c")
 unfolding name_size blank_rest word piece next_at
-division_reached_2 = go division_reached_1 (next (token (none same) refl) (none (neither refl refl same)) (more refl (stop refl)) refl) (lit< tt)
+division_reached_2 = go division_reached_1 (next (token (none same) refl) (none (neither refl refl same)) (more refl (stop refl)) refl)
 
 division_reached_3 : Reaches (codes "a /b/ c") (division_3 ∷ division_2 ∷ division_1 ∷ []) (codes "/ c")
 unfolding name_size blank_rest word piece next_at
-division_reached_3 = go division_reached_2 (next (token (none (neither refl refl same)) refl) (none (neither refl refl (neither refl refl same))) (stop refl) refl) (lit< tt)
+division_reached_3 = go division_reached_2 (next (token (none (neither refl refl same)) refl) (none (neither refl refl (neither refl refl same))) (stop refl) refl)
 
 division_reached_4 : Reaches (codes "a /b/ c") (division_4 ∷ division_3 ∷ division_2 ∷ division_1 ∷ []) (codes " c")
 unfolding name_size blank_rest word piece next_at
-division_reached_4 = go division_reached_3 (next (token (none (neither refl refl (neither refl refl same))) refl) (none (neither refl refl (neither refl refl (neither refl refl same)))) (stop refl) refl) (lit< tt)
+division_reached_4 = go division_reached_3 (next (token (none (neither refl refl (neither refl refl same))) refl) (none (neither refl refl (neither refl refl (neither refl refl same)))) (stop refl) refl)
 
 division_reached_5 : Reaches (codes "a /b/ c") (division_5 ∷ division_4 ∷ division_3 ∷ division_2 ∷ division_1 ∷ []) []
 unfolding name_size blank_rest word piece next_at
-division_reached_5 = go division_reached_4 (next (token (none (neither refl refl (neither refl refl (neither refl refl same)))) refl) (none (neither refl refl (neither refl refl (neither refl refl (neither refl refl same))))) (more refl (stop refl)) refl) (lit< tt)
+division_reached_5 = go division_reached_4 (next (token (none (neither refl refl (neither refl refl (neither refl refl same)))) refl) (none (neither refl refl (neither refl refl (neither refl refl (neither refl refl same))))) (more refl (stop refl)) refl)
 
 division : ReadsTokens (codes "a /b/ c") (Ok (span kinds.Name 0 1 ∷ span kinds.Punctuator 2 3 ∷ span kinds.Name 3 4 ∷ span kinds.Punctuator 4 5 ∷ span kinds.Name 6 7 ∷ []))
 unfolding name_size blank_rest word piece next_at
@@ -131,23 +131,23 @@ brackets_reached_0 = begin refl
 
 brackets_reached_1 : Reaches (codes "if(a)/b/") (brackets_1 ∷ []) (codes "(a)/b/")
 unfolding name_size blank_rest word piece next_at
-brackets_reached_1 = go brackets_reached_0 (next start (none same) (stop refl) refl) (lit< tt)
+brackets_reached_1 = go brackets_reached_0 (next start (none same) (stop refl) refl)
 
 brackets_reached_2 : Reaches (codes "if(a)/b/") (brackets_2 ∷ brackets_1 ∷ []) (codes "a)/b/")
 unfolding name_size blank_rest word piece next_at
-brackets_reached_2 = go brackets_reached_1 (next (token (none same) refl) (none (neither refl refl same)) (stop refl) refl) (lit< tt)
+brackets_reached_2 = go brackets_reached_1 (next (token (none same) refl) (none (neither refl refl same)) (stop refl) refl)
 
 brackets_reached_3 : Reaches (codes "if(a)/b/") (brackets_3 ∷ brackets_2 ∷ brackets_1 ∷ []) (codes ")/b/")
 unfolding name_size blank_rest word piece next_at
-brackets_reached_3 = go brackets_reached_2 (next (token (none (neither refl refl same)) refl) (bracket same refl) (stop refl) refl) (lit< tt)
+brackets_reached_3 = go brackets_reached_2 (next (token (none (neither refl refl same)) refl) (bracket same refl) (stop refl) refl)
 
 brackets_reached_4 : Reaches (codes "if(a)/b/") (brackets_4 ∷ brackets_3 ∷ brackets_2 ∷ brackets_1 ∷ []) (codes "/b/")
 unfolding name_size blank_rest word piece next_at
-brackets_reached_4 = go brackets_reached_3 (next (token (bracket same refl) refl) (bracket (neither refl refl same) refl) (stop refl) refl) (lit< tt)
+brackets_reached_4 = go brackets_reached_3 (next (token (bracket same refl) refl) (bracket (neither refl refl same) refl) (stop refl) refl)
 
 brackets_reached_5 : Reaches (codes "if(a)/b/") (brackets_5 ∷ brackets_4 ∷ brackets_3 ∷ brackets_2 ∷ brackets_1 ∷ []) []
 unfolding name_size blank_rest word piece next_at
-brackets_reached_5 = go brackets_reached_4 (next (token (bracket (neither refl refl same) refl) refl) (none (closed refl refl (neither refl refl same) refl (first refl) (neither refl refl same))) (stop refl) refl) (lit< tt)
+brackets_reached_5 = go brackets_reached_4 (next (token (bracket (neither refl refl same) refl) refl) (none (closed refl refl (neither refl refl same) refl (first refl) (neither refl refl same))) (stop refl) refl)
 
 brackets : ReadsTokens (codes "if(a)/b/") (Ok (span kinds.Name 0 2 ∷ span kinds.Punctuator 2 3 ∷ span kinds.Name 3 4 ∷ span kinds.Punctuator 4 5 ∷ span kinds.Regex 5 8 ∷ []))
 unfolding name_size blank_rest word piece next_at
@@ -161,7 +161,7 @@ wrong_closer_reached_0 = begin refl
 
 wrong_closer_reached_1 : Reaches (codes "(]") (wrong_closer_1 ∷ []) (codes "]")
 unfolding name_size blank_rest word piece next_at
-wrong_closer_reached_1 = go wrong_closer_reached_0 (next start (none same) (stop refl) refl) (lit< tt)
+wrong_closer_reached_1 = go wrong_closer_reached_0 (next start (none same) (stop refl) refl)
 
 wrong_closer : ReadsTokens (codes "(]") (Err (record { at = 1; kind = Unreadable }))
 unfolding name_size blank_rest word piece next_at
@@ -175,7 +175,7 @@ open_at_end_reached_0 = begin refl
 
 open_at_end_reached_1 : Reaches (codes "(") (open_at_end_1 ∷ []) []
 unfolding name_size blank_rest word piece next_at
-open_at_end_reached_1 = go open_at_end_reached_0 (next start (none same) (stop refl) refl) (lit< tt)
+open_at_end_reached_1 = go open_at_end_reached_0 (next start (none same) (stop refl) refl)
 
 open_at_end : ReadsTokens (codes "(") (Err (record { at = 1; kind = Unreadable }))
 unfolding name_size blank_rest word piece next_at
@@ -189,7 +189,7 @@ unclosed_text_reached_0 = begin refl
 
 unclosed_text_reached_1 : Reaches (codes "a'b") (unclosed_text_1 ∷ []) (codes "'b")
 unfolding name_size blank_rest word piece next_at
-unclosed_text_reached_1 = go unclosed_text_reached_0 (next start (none same) (stop refl) refl) (lit< tt)
+unclosed_text_reached_1 = go unclosed_text_reached_0 (next start (none same) (stop refl) refl)
 
 unclosed_text : ReadsTokens (codes "a'b") (Err (record { at = 1; kind = Unreadable }))
 unfolding name_size blank_rest word piece next_at

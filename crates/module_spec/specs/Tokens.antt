@@ -262,10 +262,10 @@ pub data Skips : List ℕ → List ℕ → Type 0 where
 pub data IsNext : List Lexeme → List ℕ → Next → Type 0 where
   next : {before at : List Lexeme} {rest bytes : List ℕ} {slash : Bool} {out : Next} → Slash before slash → Innermost before at → Skips rest bytes → out ≡ next_at slash (opener at) (depth before) bytes → IsNext before rest out
 
--- these tokens stand in the text from its start on, and this is the rest behind them; no token is empty
+-- these tokens stand in the text from its start on, and this is the rest behind them
 pub data Reaches (text : List ℕ) : List Lexeme → List ℕ → Type 0 where
   begin : {rest : List ℕ} → rest ≡ hashbang_rest text → Reaches text [] rest
-  go : {t : Lexeme} {before : List Lexeme} {rest after : List ℕ} → Reaches text before rest → IsNext before rest (Gives t after) → length after < length rest → Reaches text (t ∷ before) after
+  go : {t : Lexeme} {before : List Lexeme} {rest after : List ℕ} → Reaches text before rest → IsNext before rest (Gives t after) → Reaches text (t ∷ before) after
 
 -- ---- the whole text
 
