@@ -9,7 +9,7 @@ use Rattle.module_spec.specs.declared.token.Bracket.{Bracket}
 use Rattle.module_spec.specs.declared.token.LexKind.{LexKind}
 use Rattle.module_spec.specs.declared.token.LexKind.TheVariants.{Unreadable}
 use Rattle.module_spec.specs.Sorts.{opens, closes}
-use Rattle.module_spec.specs.Characters.{is_digit, is_name_byte, begins_digit, begins_name, name_size, name_rest, passed}
+use Rattle.module_spec.specs.Characters.{space_size, is_digit, is_name_byte, begins_digit, begins_name, name_size, name_rest, passed}
 use Rattle.module_spec.specs.Spellings.{line_rest, comment_rest, slash_rest, blank_rest, number_rest, number_size, begins_sign, begins_number, has_base_letter, text_rest, template_rest, regex_body_rest, begins, first_of, punctuators, punctuator, is_question_before_number}
 use Rattle.module_spec.specs.Tokens.{Piece, as_piece, first_part, later_part, regex_piece, punctuator_piece, slash_piece, private_piece, piece, Lexeme, Next, next_from, next_at, unless_refused, refusal, Skips, IsNext, is_template, opener, depth}
 use Rattle.module_spec.specs.Tokens.Next.{Ends, Faults, Gives}
@@ -97,10 +97,32 @@ slash_suffix : (bytes : List ℕ) → Rests (slash_rest bytes) bytes
 slash_suffix [] = nothing
 slash_suffix (b ∷ rest) = if_rests _ (something (behind (line_suffix rest))) (if_rests _ (later (comment_suffix false rest)) nothing)
 
-blank_suffix : (bytes : List ℕ) → Rests (blank_rest bytes) bytes
+of_some : {rest bytes : List ℕ} → Rests (Some rest) bytes → Suffix rest bytes
+of_some (something s) = s
+
+dropped_some : (n b : ℕ) (rest : List ℕ) → (n == 0) ≡ false → Suffix (drop n (b ∷ rest)) rest
+dropped_some zero b rest e = absurd (cc)
+dropped_some (suc n) b rest e = dropped n rest
+
+chosen : (c : Bool) {bytes : List ℕ} {out : List ℕ} → (c ≡ false → Suffix out bytes) → Rests (if c then None else Some out) bytes
+chosen true s = nothing
+chosen false s = something (s refl)
+
+if_no_size : (n : ℕ) {bytes : List ℕ} {out : List ℕ} → ((n == 0) ≡ false → Suffix out bytes) → Rests (if n == 0 then None else Some out) bytes
+if_no_size n s = chosen (n == 0) s
+
+blank_suffix : (b : ℕ) (rest : List ℕ) → Rests (blank_rest (b ∷ rest)) rest
 unfolding blank_rest
-blank_suffix [] = nothing
-blank_suffix (b ∷ rest) = if_rests _ (later (slash_suffix rest)) (if_rests _ nothing (something (dropped _ (b ∷ rest))))
+blank_suffix b rest = if_rests (b == 47) (slash_suffix rest) (if_no_size (space_size (b ∷ rest)) (λ e. dropped_some _ b rest e))
+
+blank_from : (bytes rest : List ℕ) → blank_rest bytes ≡ Some rest → (b : ℕ) × (tail : List ℕ) × (bytes ≡ b ∷ tail) × Suffix rest tail
+unfolding blank_rest
+blank_from [] rest e = absurd (cc)
+blank_from (b ∷ tail) rest e = (b, tail, refl, of_some (subst (λ out. Rests out tail) e (blank_suffix b tail)))
+
+-- white space takes a byte at least
+pub blank_shorter : (bytes rest : List ℕ) → blank_rest bytes ≡ Some rest → length rest < length bytes
+blank_shorter bytes rest e = let parts = blank_from bytes rest e in let l = at_most parts.3 in let f : length bytes ≡ suc (length parts.1) = ap length parts.2 in omega arith
 
 text_suffix : (quote : ℕ) (escaped return : Bool) (bytes : List ℕ) → Rests (text_rest quote escaped return bytes) bytes
 text_suffix quote escaped return [] = nothing
@@ -217,15 +239,9 @@ piece_suffix regex part b rest =
 
 -- ---- steps
 
-of_some : {rest bytes : List ℕ} → Rests (Some rest) bytes → Suffix rest bytes
-of_some (something s) = s
-
-blank_to : (bytes rest : List ℕ) → blank_rest bytes ≡ Some rest → Rests (blank_rest bytes) bytes → Suffix rest bytes
-blank_to bytes rest e r = of_some (subst (λ out. Rests out bytes) e r)
-
 skip_suffix : {bytes end : List ℕ} → Skips bytes end → Suffix end bytes
 skip_suffix (stop e) = whole
-skip_suffix (more {bytes} {rest} e s) = joined (skip_suffix s) (blank_to bytes rest e (blank_suffix bytes))
+skip_suffix (more {bytes} {rest} e s) = let parts = blank_from bytes rest e in joined (skip_suffix s) (subst (λ all. Suffix rest all) (sym parts.2) (behind parts.3))
 
 -- the bytes behind the given token
 pub data GivesBehind : Next → List ℕ → Type 0 where

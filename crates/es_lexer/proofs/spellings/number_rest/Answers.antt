@@ -1,0 +1,5 @@
+use Rattle.std.proofs.Common.{sym, ◌∙◌, refl}
+use Rattle.es_lexer.proofs.spellings.number_rest.Goals as goal
+
+pub returns : goal.returns
+returns c = sym (rw (← c.has_base_letter-exponent.ensures) (c.loop-more.invariant ∙ c.in_default.ensures))

@@ -1,0 +1,11 @@
+//! The tokens of a module text one by one, by ECMA-262's lexical grammar: [`Lexer::next`] gives them in their order, and then
+//! that the text ends, or its first fault. Each byte is read once, and no call but [`Lexer::new`] takes memory.
+#![tactic(auto)]
+
+mod characters;
+mod names;
+mod pieces;
+mod punctuators;
+mod spellings;
+
+pub use module_spec::{Kind, LexFault, LexKind, Token};

@@ -1,0 +1,153 @@
+ghost use Rattle.std.specs.Prelude.{◌≡◌, ◌==◌, ◌+◌, ◌<◌, slice_index, ◌≤◌, length, MatchOption};
+ghost use Rattle.module_spec.specs.Characters.{is_digit, is_hex_digit, hex_digits, braced_size, unicode_size, escape_size, is_name_byte, name_size, begins_digit, begins_name, name_rest};
+
+use crate::characters::{begins_wide_space, behind, character_size};
+
+pub fn is_digit(b: u8) -> bool
+    ensures { result ≡ is_digit b }
+{
+    b'0' <= b && b <= b'9'
+}
+
+fn is_hex_digit(b: u8) -> bool
+    ensures { result ≡ is_hex_digit b }
+{
+    is_digit(b) || b'a' <= b && b <= b'f' || b'A' <= b && b <= b'F'
+}
+
+// How many digits of base 16 stand at the front.
+fn hex_digits(bytes: &[u8]) -> usize
+    ensures value { result ≡ hex_digits bytes.now }
+    ensures within { result ≤ length bytes.now }
+{
+    let mut rest = bytes;
+    let mut count: usize = 0;
+    while let Some((b, more)) = rest.split_first() {
+        if !is_hex_digit(*b) {
+            return count;
+        }
+        count += 1;
+        rest = more;
+    }
+    count
+}
+
+fn stands_at(bytes: &[u8], index: usize, wanted: u8) -> bool
+    requires { 0 < wanted }
+    ensures { result ≡ (slice_index bytes.now index == wanted) }
+{
+    match bytes.get(index) {
+        None => false,
+        Some(b) => *b == wanted,
+    }
+}
+
+// The size of an escape with braces, by what stands behind the opening one.
+fn braced_size(bytes: &[u8]) -> usize
+    ensures { result ≡ braced_size bytes.now }
+{
+    let digits = hex_digits(bytes);
+    if 1 <= digits && digits <= 6 && stands_at(bytes, digits, b'}') {
+        digits + 4
+    } else {
+        0
+    }
+}
+
+fn unicode_size(bytes: &[u8]) -> usize
+    ensures { result ≡ unicode_size bytes.now }
+{
+    match bytes.split_first() {
+        None => 0,
+        Some((first, rest)) => {
+            if *first == b'{' {
+                braced_size(rest)
+            } else if hex_digits(bytes) >= 4 {
+                6
+            } else {
+                0
+            }
+        }
+    }
+}
+
+fn escape_size(bytes: &[u8]) -> usize
+    ensures { result ≡ escape_size bytes.now }
+{
+    match bytes.split_first() {
+        None => 0,
+        Some((first, rest)) => {
+            if *first == b'u' {
+                unicode_size(rest)
+            } else {
+                0
+            }
+        }
+    }
+}
+
+fn is_name_byte(b: u8) -> bool
+    ensures { result ≡ is_name_byte b }
+{
+    b'a' <= b && b <= b'z' || b'A' <= b && b <= b'Z' || is_digit(b) || b == b'_' || b == b'$'
+}
+
+/// How many bytes of a character of names, or of an escape, stand at the front.
+#[tactic(auto, unfolding(module_spec::specs::Characters::name_size))]
+pub fn name_size(bytes: &[u8]) -> usize
+    ensures { result ≡ name_size bytes.now }
+{
+    match bytes.split_first() {
+        None => 0,
+        Some((first, rest)) => {
+            if is_name_byte(*first) {
+                1
+            } else if *first == b'\\' {
+                escape_size(rest)
+            } else if *first < 128 || begins_wide_space(bytes) {
+                0
+            } else {
+                character_size(*first)
+            }
+        }
+    }
+}
+
+pub fn begins_digit(bytes: &[u8]) -> bool
+    ensures { result ≡ begins_digit bytes.now }
+{
+    match bytes.split_first() {
+        None => false,
+        Some((first, _)) => is_digit(*first),
+    }
+}
+
+/// Whether a name begins at the front.
+pub fn begins_name(bytes: &[u8]) -> bool
+    ensures { result ≡ begins_name bytes.now }
+{
+    !begins_digit(bytes) && name_size(bytes) != 0
+}
+
+// The bytes behind one character of names.
+fn name_more(bytes: &[u8]) -> Option<&[u8]>
+    ensures { MatchOption result (name_rest bytes.now ≡ bytes.now) (λ more. (name_rest bytes.now ≡ name_rest more.now) × (length more.now < length bytes.now)) }
+{
+    let size = name_size(bytes);
+    if size == 0 {
+        None
+    } else {
+        Some(behind(bytes, size))
+    }
+}
+
+/// The bytes behind the characters of names at the front.
+pub fn name_rest(bytes: &[u8]) -> &[u8]
+    ensures { result.now ≡ name_rest bytes.now }
+{
+    let mut rest = bytes;
+    while let Some(more) = name_more(rest) {
+        rest = more;
+    }
+    rest
+}
