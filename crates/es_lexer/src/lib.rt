@@ -6,6 +6,8 @@ mod characters;
 mod names;
 mod pieces;
 mod punctuators;
+mod sorts;
 mod spellings;
+mod state;
 
 pub use module_spec::{Kind, LexFault, LexKind, Token};

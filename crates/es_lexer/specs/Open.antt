@@ -1,0 +1,93 @@
+-- What is kept of the tokens so far: of the last one, and of each open bracket.
+use Rattle.std.specs.Prelude.{◌≡◌, ℕ, ◌-◌, Bool, true, false, not, ◌&&◌, ◌||◌, List, [], ◌∷◌, ◌++◌, if◌then◌else◌, Option, Some, None, length, take}
+use Rattle.module_spec.specs.declared.token.Mark.{Mark}
+use Rattle.module_spec.specs.declared.token.Mark.TheVariants.{OpenRound, OpenSquare, OpenCurly, CloseRound, CloseSquare, CloseCurly, Dot, Step, Stop, Operator}
+use Rattle.module_spec.specs.declared.token.Sort.{Sort}
+use Rattle.module_spec.specs.declared.token.Sort.TheVariants.{Name, Private, Number, Text, TemplateWhole, TemplateHead, TemplateMiddle, TemplateTail, Regex, Punctuator}
+use Rattle.module_spec.specs.declared.token.Bracket as brackets
+use Rattle.module_spec.specs.declared.token.Bracket.TheVariants as bracket
+use Rattle.module_spec.specs.declared.token.Word.{Word}
+use Rattle.module_spec.specs.declared.token.Word.TheVariants.{Condition, For, Await, Of, Value, Statement, Other}
+use Rattle.module_spec.specs.Sorts.{is_condition}
+use Rattle.es_lexer.specs.declared.state.Open.{Open}
+use Rattle.es_lexer.specs.declared.state.Open.TheVariants.{Round, Square, Curly, Template}
+use Rattle.es_lexer.specs.declared.state.Last.{Last}
+
+abbrev pub bracket_of : Open → brackets.Bracket
+bracket_of (Round control head) = bracket.Round
+bracket_of Square = bracket.Square
+bracket_of (Curly value) = bracket.Curly
+bracket_of Template = bracket.Template
+
+abbrev pub top_of : List Open → Option Open
+top_of [] = None
+top_of (x ∷ []) = Some x
+top_of (x ∷ y ∷ stack) = top_of (y ∷ stack)
+
+-- what a new bracket keeps of what stands before it
+abbrev pub opened : brackets.Bracket → Last → Open
+opened bracket.Round last = Round (is_condition last.word || last.for_head) last.for_head
+opened bracket.Square last = Square
+opened bracket.Curly last = Curly last.before_value
+opened bracket.Template last = Template
+
+abbrev pub changed : Option brackets.Bracket → Option brackets.Bracket → Last → List Open → List Open
+changed (Some k) (Some l) last stack = stack
+changed (Some k) None last stack = stack ++ opened k last ∷ []
+changed None (Some l) last stack = take (length stack - 1) stack
+changed None None last stack = stack
+
+-- whether a `/` begins a regular expression behind a bracket that is closed, or behind `of`, by the innermost bracket
+abbrev pub is_control : Option Open → Bool
+is_control None = false
+is_control (Some (Round control head)) = control
+is_control (Some Square) = false
+is_control (Some (Curly value)) = false
+is_control (Some Template) = false
+
+abbrev pub is_block : Option Open → Bool
+is_block None = false
+is_block (Some (Round control head)) = false
+is_block (Some Square) = false
+is_block (Some (Curly value)) = not value
+is_block (Some Template) = false
+
+abbrev pub is_for_head : Option Open → Bool
+is_for_head None = false
+is_for_head (Some (Round control head)) = head
+is_for_head (Some Square) = false
+is_for_head (Some (Curly value)) = false
+is_for_head (Some Template) = false
+
+abbrev pub slash_behind_word : Word → Option Open → Bool
+slash_behind_word Condition top = false
+slash_behind_word For top = false
+slash_behind_word Await top = true
+slash_behind_word Of top = is_for_head top
+slash_behind_word Value top = true
+slash_behind_word Statement top = true
+slash_behind_word Other top = false
+
+abbrev pub slash_behind_mark : Mark → Option Open → Bool
+slash_behind_mark OpenRound top = true
+slash_behind_mark OpenSquare top = true
+slash_behind_mark OpenCurly top = true
+slash_behind_mark CloseRound top = is_control top
+slash_behind_mark CloseSquare top = false
+slash_behind_mark CloseCurly top = is_block top
+slash_behind_mark Dot top = true
+slash_behind_mark Step top = false
+slash_behind_mark Stop top = true
+slash_behind_mark Operator top = true
+
+abbrev pub slash_behind : Sort → Word → Option Open → Bool
+slash_behind Name w top = slash_behind_word w top
+slash_behind Private w top = false
+slash_behind Number w top = false
+slash_behind Text w top = false
+slash_behind TemplateWhole w top = false
+slash_behind TemplateHead w top = true
+slash_behind TemplateMiddle w top = true
+slash_behind TemplateTail w top = false
+slash_behind Regex w top = false
+slash_behind (Punctuator mark) w top = slash_behind_mark mark top

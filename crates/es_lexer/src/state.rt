@@ -1,0 +1,208 @@
+ghost use Rattle.std.specs.Prelude.{◌≡◌, ◌≢◌, ◌<◌, ◌≤◌, ◌⊎◌, ◌||◌, ◌&&◌, true, false, None, length, if◌then◌else◌, option_map, vec_len, vec_capacity};
+ghost use Rattle.module_spec.specs.Sorts.{opens, closes, is_dot, sort_before_value, is_for, is_await};
+ghost use Rattle.module_spec.specs.Tokens.{name_word};
+ghost use Rattle.es_lexer.specs.Open.{bracket_of, top_of, opened, changed, is_control, is_block, is_for_head, slash_behind_word, slash_behind_mark, slash_behind};
+
+use crate::sorts::{closes, is_await, is_condition, is_dot, is_for, name_word, opens, sort_before_value};
+use module_spec::{Bracket, Mark, Sort, Word};
+
+/// What the tokens so far say of the next one.
+#[derive(Clone, Copy)]
+pub struct Last {
+    /// The last token as a word.
+    pub word: Word,
+    /// A name that comes next is the name of a property.
+    pub property: bool,
+    /// `for` or `for await` stands last.
+    pub for_head: bool,
+    /// A `{` that comes next belongs to an expression.
+    pub before_value: bool,
+    /// A `/` that comes next begins a regular expression.
+    pub slash: bool,
+}
+
+/// An open bracket, and what stands before it.
+#[derive(Clone, Copy)]
+pub enum Open {
+    /// `(`: whether it belongs to a statement such as `if` or `for`, and whether to a `for`.
+    Round(bool, bool),
+    Square,
+    /// `{`: whether it belongs to an expression.
+    Curly(bool),
+    Template,
+}
+
+impl Last {
+    /// What is said where no token stands before.
+    pub fn none() -> Last
+        ensures word { result.word ≡ Word.Other }
+        ensures property { result.property ≡ false }
+        ensures for_head { result.for_head ≡ false }
+        ensures before_value { result.before_value ≡ false }
+        ensures slash { result.slash ≡ true }
+    {
+        Last {
+            word: Word::Other,
+            property: false,
+            for_head: false,
+            before_value: false,
+            slash: true,
+        }
+    }
+
+    /// The same behind one more token. `top` is the innermost bracket that is open before it.
+    pub fn follow(self, top: Option<Open>, sort: Sort, text: &[u8]) -> Last
+        ensures word { result.word ≡ (if self.property then Word.Other else name_word sort text.now) }
+        ensures property { result.property ≡ is_dot sort }
+        ensures for_head { result.for_head ≡ (is_for result.word || is_await result.word && is_for self.word) }
+        ensures before_value { result.before_value ≡ sort_before_value sort result.word }
+        ensures slash { result.slash ≡ slash_behind sort result.word top }
+    {
+        let word = if self.property {
+            Word::Other
+        } else {
+            name_word(sort, text)
+        };
+        Last {
+            word,
+            property: is_dot(sort),
+            for_head: is_for(word) || is_await(word) && is_for(self.word),
+            before_value: sort_before_value(sort, word),
+            slash: slash_behind(sort, word, top),
+        }
+    }
+}
+
+impl Open {
+    // What a new bracket keeps of what stands before it.
+    fn behind(last: Last, bracket: Bracket) -> Open
+        ensures { result ≡ opened bracket last }
+    {
+        match bracket {
+            Bracket::Round => Open::Round(is_condition(last.word) || last.for_head, last.for_head),
+            Bracket::Square => Open::Square,
+            Bracket::Curly => Open::Curly(last.before_value),
+            Bracket::Template => Open::Template,
+        }
+    }
+
+    pub fn bracket(self) -> Bracket
+        ensures { result ≡ bracket_of self }
+    {
+        match self {
+            Open::Round(_, _) => Bracket::Round,
+            Open::Square => Bracket::Square,
+            Open::Curly(_) => Bracket::Curly,
+            Open::Template => Bracket::Template,
+        }
+    }
+}
+
+/// The innermost open bracket.
+pub fn top_of(stack: &[Open]) -> Option<Open>
+    ensures { result ≡ top_of stack.now }
+{
+    stack.last().copied()
+}
+
+fn is_control(top: Option<Open>) -> bool
+    ensures { result ≡ is_control top }
+{
+    match top {
+        None => false,
+        Some(Open::Round(control, _)) => control,
+        Some(Open::Square) => false,
+        Some(Open::Curly(_)) => false,
+        Some(Open::Template) => false,
+    }
+}
+
+fn is_block(top: Option<Open>) -> bool
+    ensures { result ≡ is_block top }
+{
+    match top {
+        None => false,
+        Some(Open::Round(_, _)) => false,
+        Some(Open::Square) => false,
+        Some(Open::Curly(before_value)) => !before_value,
+        Some(Open::Template) => false,
+    }
+}
+
+fn is_for_head(top: Option<Open>) -> bool
+    ensures { result ≡ is_for_head top }
+{
+    match top {
+        None => false,
+        Some(Open::Round(_, for_head)) => for_head,
+        Some(Open::Square) => false,
+        Some(Open::Curly(_)) => false,
+        Some(Open::Template) => false,
+    }
+}
+
+fn slash_behind_word(word: Word, top: Option<Open>) -> bool
+    ensures { result ≡ slash_behind_word word top }
+{
+    match word {
+        Word::Condition => false,
+        Word::For => false,
+        Word::Await => true,
+        Word::Of => is_for_head(top),
+        Word::Value => true,
+        Word::Statement => true,
+        Word::Other => false,
+    }
+}
+
+fn slash_behind_mark(mark: Mark, top: Option<Open>) -> bool
+    ensures { result ≡ slash_behind_mark mark top }
+{
+    match mark {
+        Mark::OpenRound => true,
+        Mark::OpenSquare => true,
+        Mark::OpenCurly => true,
+        Mark::CloseRound => is_control(top),
+        Mark::CloseSquare => false,
+        Mark::CloseCurly => is_block(top),
+        Mark::Dot => true,
+        Mark::Step => false,
+        Mark::Stop => true,
+        Mark::Operator => true,
+    }
+}
+
+fn slash_behind(sort: Sort, word: Word, top: Option<Open>) -> bool
+    ensures { result ≡ slash_behind sort word top }
+{
+    match sort {
+        Sort::Name => slash_behind_word(word, top),
+        Sort::Private => false,
+        Sort::Number => false,
+        Sort::Text => false,
+        Sort::TemplateWhole => false,
+        Sort::TemplateHead => true,
+        Sort::TemplateMiddle => true,
+        Sort::TemplateTail => false,
+        Sort::Regex => false,
+        Sort::Punctuator(mark) => slash_behind_mark(mark, top),
+    }
+}
+
+/// Opens and closes the brackets that a token does.
+pub fn change(stack: &mut Vec<Open>, last: Last, sort: Sort)
+    requires { vec_len stack.old < vec_capacity stack.old ⊎ ((opens sort ≡ None) ⊎ (closes sort ≢ None)) }
+    ensures items { stack.new.items ≡ changed (opens sort) (closes sort) last stack.old.items }
+    ensures capacity { vec_capacity stack.old ≤ vec_capacity stack.new }
+{
+    match (opens(sort), closes(sort)) {
+        (Some(_), Some(_)) => {}
+        (Some(bracket), None) => {
+            let _ = stack.push(Open::behind(last, bracket));
+        }
+        (None, Some(_)) => {
+            let _ = stack.pop();
+        }
+        (None, None) => {}
+    }
+}
