@@ -1,1 +1,3 @@
 pub mod Passed
+pub mod Tops
+pub mod Stack

@@ -24,6 +24,10 @@ top_of [] = None
 top_of (x ∷ []) = Some x
 top_of (x ∷ y ∷ stack) = top_of (y ∷ stack)
 
+abbrev pub top_bracket : Option Open → Option brackets.Bracket
+top_bracket None = None
+top_bracket (Some x) = Some (bracket_of x)
+
 -- what a new bracket keeps of what stands before it
 abbrev pub opened : brackets.Bracket → Last → Open
 opened bracket.Round last = Round (is_condition last.word || last.for_head) last.for_head

@@ -3,6 +3,8 @@
 #![tactic(auto)]
 
 mod characters;
+mod lexer;
+mod look;
 mod names;
 mod pieces;
 mod punctuators;
@@ -10,4 +12,5 @@ mod sorts;
 mod spellings;
 mod state;
 
+pub use lexer::Lexer;
 pub use module_spec::{Kind, LexFault, LexKind, Token};

@@ -1,0 +1,90 @@
+ghost use Rattle.std.specs.Prelude.{◌≡◌, ◌<◌, None, Some, length, MatchOption, MatchResult};
+ghost use Rattle.module_spec.specs.Sorts.{opens, closes};
+ghost use Rattle.module_spec.specs.Tokens.{is_closed_by, is_template, lexeme, next_at, refusal};
+ghost use Rattle.module_spec.specs.Tokens.Next.{Ends, Faults, Gives};
+
+use crate::pieces::piece;
+use crate::sorts::{closes, opens, same_bracket};
+use module_spec::{Bracket, LexKind, Sort};
+
+/// How many brackets may be open.
+pub const MOST_BRACKETS: usize = 4096;
+
+fn is_closed_by(opened: Option<Bracket>, closed: Bracket) -> bool
+    ensures { result ≡ is_closed_by opened closed }
+{
+    match opened {
+        None => false,
+        Some(bracket) => same_bracket(bracket, closed),
+    }
+}
+
+fn is_template(opened: Option<Bracket>) -> bool
+    ensures { result ≡ is_template opened }
+{
+    match opened {
+        None => false,
+        Some(Bracket::Round) => false,
+        Some(Bracket::Square) => false,
+        Some(Bracket::Curly) => false,
+        Some(Bracket::Template) => true,
+    }
+}
+
+// Why a token that can be read isn't taken.
+fn refusal(
+    opened: Option<Bracket>,
+    closed: Option<Bracket>,
+    innermost: Option<Bracket>,
+    depth: usize,
+) -> Option<LexKind>
+    ensures { result ≡ refusal opened closed innermost depth }
+{
+    match closed {
+        Some(bracket) => {
+            if is_closed_by(innermost, bracket) {
+                None
+            } else {
+                Some(LexKind::Unreadable)
+            }
+        }
+        None => match opened {
+            Some(_) => {
+                if depth == MOST_BRACKETS {
+                    Some(LexKind::TooDeep)
+                } else {
+                    None
+                }
+            }
+            None => None,
+        },
+    }
+}
+
+/// What comes at the front of bytes that begin with no white space and no comment: a token and the bytes behind it, None at
+/// the end, or a fault.
+#[tactic(auto, unfolding(module_spec::specs::Tokens::next_at))]
+pub fn look(
+    slash: bool,
+    innermost: Option<Bracket>,
+    depth: usize,
+    bytes: &[u8],
+) -> Result<Option<(Sort, &[u8])>, LexKind>
+    ensures next { MatchResult result (λ found. MatchOption found (next_at slash innermost depth bytes.now ≡ Ends) (λ p. next_at slash innermost depth bytes.now ≡ Gives (lexeme p.0 bytes.now p.1.now) p.1.now)) (λ kind. next_at slash innermost depth bytes.now ≡ Faults (length bytes.now) kind) }
+    ensures allowed { MatchResult result (λ found. MatchOption found (Unit {0}) (λ p. refusal (opens p.0) (closes p.0) innermost depth ≡ None)) (λ kind. Unit {0}) }
+{
+    if bytes.is_empty() {
+        return if depth == 0 {
+            Ok(None)
+        } else {
+            Err(LexKind::Unreadable)
+        };
+    }
+    match piece(slash, is_template(innermost), bytes) {
+        None => Err(LexKind::Unreadable),
+        Some((sort, rest)) => match refusal(opens(sort), closes(sort), innermost, depth) {
+            Some(kind) => Err(kind),
+            None => Ok(Some((sort, rest))),
+        },
+    }
+}
