@@ -1,3 +1,4 @@
 pub mod Passed
 pub mod Tops
 pub mod Stack
+pub mod Calls

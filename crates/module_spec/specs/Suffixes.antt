@@ -10,7 +10,7 @@ use Rattle.module_spec.specs.declared.token.LexKind.{LexKind}
 use Rattle.module_spec.specs.declared.token.LexKind.TheVariants.{Unreadable}
 use Rattle.module_spec.specs.Sorts.{opens, closes}
 use Rattle.module_spec.specs.Characters.{space_size, is_digit, is_name_byte, begins_digit, begins_name, name_size, name_rest, passed}
-use Rattle.module_spec.specs.Spellings.{line_rest, comment_rest, slash_rest, blank_rest, number_rest, number_size, begins_sign, begins_number, has_base_letter, text_rest, template_rest, regex_body_rest, begins, first_of, punctuators, punctuator, is_question_before_number}
+use Rattle.module_spec.specs.Spellings.{hashbang_rest, line_rest, comment_rest, slash_rest, blank_rest, number_rest, number_size, begins_sign, begins_number, has_base_letter, text_rest, template_rest, regex_body_rest, begins, first_of, punctuators, punctuator, is_question_before_number}
 use Rattle.module_spec.specs.Tokens.{Piece, as_piece, first_part, later_part, regex_piece, punctuator_piece, slash_piece, private_piece, piece, Lexeme, Next, next_from, next_at, unless_refused, refusal, Skips, IsNext, is_template, opener, depth}
 use Rattle.module_spec.specs.Tokens.Next.{Ends, Faults, Gives}
 use Rattle.module_spec.specs.Tokens.Skips.{stop, more}
@@ -88,6 +88,11 @@ passed_some size b rest e = rw e (passed_suffix size (size (b ∷ rest) - 1) res
 line_suffix : (bytes : List ℕ) → Suffix (line_rest bytes) bytes
 line_suffix [] = whole
 line_suffix (b ∷ rest) = if_suffix _ whole (behind (line_suffix rest))
+
+pub hashbang_suffix : (bytes : List ℕ) → Suffix (hashbang_rest bytes) bytes
+hashbang_suffix [] = whole
+hashbang_suffix (b ∷ []) = whole
+hashbang_suffix (b ∷ c ∷ rest) = if_suffix _ (behind (behind (line_suffix rest))) whole
 
 comment_suffix : (star : Bool) (bytes : List ℕ) → Rests (comment_rest star bytes) bytes
 comment_suffix star [] = nothing
@@ -239,7 +244,7 @@ piece_suffix regex part b rest =
 
 -- ---- steps
 
-skip_suffix : {bytes end : List ℕ} → Skips bytes end → Suffix end bytes
+pub skip_suffix : {bytes end : List ℕ} → Skips bytes end → Suffix end bytes
 skip_suffix (stop e) = whole
 skip_suffix (more {bytes} {rest} e s) = let parts = blank_from bytes rest e in joined (skip_suffix s) (subst (λ all. Suffix rest all) (sym parts.2) (behind parts.3))
 
