@@ -2,3 +2,4 @@ pub mod Passed
 pub mod Tops
 pub mod Stack
 pub mod Calls
+pub mod Lists

@@ -11,6 +11,8 @@ mod punctuators;
 mod sorts;
 mod spellings;
 mod state;
+mod whole;
 
 pub use lexer::Lexer;
 pub use module_spec::{Kind, LexFault, LexKind, Token};
+pub use whole::{TokensFault, tokens_of};

@@ -71,13 +71,7 @@ fn slash_piece<'a>(regex: bool, bytes: &'a [u8], rest: &'a [u8]) -> Option<(Sort
     ensures { MatchOption result (slash_piece regex rest.now ≡ None) (λ found. slash_piece regex rest.now ≡ Some (found.0, found.1.now)) }
 {
     match rest.split_first() {
-        None => {
-            if regex {
-                None
-            } else {
-                punctuator_piece(bytes)
-            }
-        }
+        None => { if regex { None } else { punctuator_piece(bytes) } }
         Some((second, _)) => {
             if *second == b'*' {
                 None

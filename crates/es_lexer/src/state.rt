@@ -3,7 +3,9 @@ ghost use Rattle.module_spec.specs.Sorts.{opens, closes, is_dot, sort_before_val
 ghost use Rattle.module_spec.specs.Tokens.{name_word};
 ghost use Rattle.es_lexer.specs.Open.{bracket_of, top_of, opened, changed, is_control, is_block, is_for_head, slash_behind_word, slash_behind_mark, slash_behind};
 
-use crate::sorts::{closes, is_await, is_condition, is_dot, is_for, name_word, opens, sort_before_value};
+use crate::sorts::{
+    closes, is_await, is_condition, is_dot, is_for, name_word, opens, sort_before_value,
+};
 use module_spec::{Bracket, Mark, Sort, Word};
 
 /// What the tokens so far say of the next one.

@@ -21,7 +21,7 @@ invariant_of-self c =
     let top_is : c.top_of-top.result ≡ top_of c.self.inside.stack.items = c.top_of-top.ensures ∙ ap top_of c.as_slice.ensures.value in
     let new = c.follow-last.ensures in
     let follows : Follows c.self.inside.last c.follow-last.result (top_of c.self.inside.stack.items) c.in-Ok-Some.sort (take (length c.skip-bytes.result.now - length c.in-Ok-Some.rest.now) c.skip-bytes.result.now) =
-        record { word = new.word; property = new.property; for_head = new.for_head; value = new.before_value; slash = new.slash ∙ ap (slash_behind c.in-Ok-Some.sort c.follow-last.result.word) top_is } in
+    record { word = new.word; property = new.property; for_head = new.for_head; value = new.before_value; slash = new.slash ∙ ap (slash_behind c.in-Ok-Some.sort c.follow-last.result.word) top_is } in
     rw c.change.ensures.items (behind c.self.inside.whole.now c.self.inside.rest.now c.skip-bytes.result.now c.in-Ok-Some.rest.now c.self.inside.last c.follow-last.result c.self.inside.stack.items _ (vec_capacity c.change.new.stack) c.bracket_of.result (length c.as_slice-depth.result.now) c.in-Ok-Some.sort (record { lexer = c.self.invariant; skips = c.skip-bytes.ensures; innermost = c.bracket_of.ensures ∙ ap top_bracket (c.top_of-top.ensures ∙ ap top_of c.as_slice.ensures.value); deep = ap length c.as_slice-depth.ensures.value }) (rw c.in-Ok-Some.field-0-is at c.in-Ok-Some.ensures.next) (rw c.in-Ok-Some.field-0-is at c.in-Ok-Some.ensures.allowed) c.change.ensures.capacity follows)
 
 pub returns-in-Err-clause-next : goal.returns-in-Err-clause-next
