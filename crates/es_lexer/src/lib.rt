@@ -11,6 +11,8 @@ mod punctuators;
 mod sorts;
 mod spellings;
 mod state;
+#[cfg(test)]
+mod tests;
 mod whole;
 
 pub use lexer::Lexer;
