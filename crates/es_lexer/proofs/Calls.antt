@@ -1,5 +1,5 @@
 -- What one call of the lexer says of the tokens.
-use Rattle.std.proofs.Common.{◌≡◌, ◌≤◌, ◌<◌, ◌-◌, ◌+◌, ℕ, Bool, true, false, List, [], ◌∷◌, ◌++◌, length, take, drop, Option, Some, None, refl, sym, ◌∙◌, ap, subst, arith}
+use Rattle.std.proofs.Common.{◌≡◌, ◌≤◌, ◌<◌, ◌-◌, ◌+◌, ℕ, Bool, true, false, List, [], ◌∷◌, length, take, Option, None, refl, sym, ◌∙◌, ap, subst, arith}
 use Rattle.module_spec.specs.declared.token.Bracket.{Bracket}
 use Rattle.module_spec.specs.declared.token.LexKind.{LexKind}
 use Rattle.module_spec.specs.declared.token.Sort.{Sort}
@@ -8,20 +8,20 @@ use Rattle.module_spec.specs.declared.token.Kind.{Kind}
 use Rattle.module_spec.specs.declared.token.Token.{Token}
 use Rattle.module_spec.specs.Sorts.{opens, closes, kind_of}
 use Rattle.module_spec.specs.Spellings.{hashbang_rest}
-use Rattle.module_spec.specs.Tokens.{Lexeme, Innermost, Slash, Skips, Next, next_at, lexeme, refusal, opener, depth, IsNext, Reaches, most_brackets, token_of, fault_of}
+use Rattle.module_spec.specs.Tokens.{Lexeme, Slash, Skips, Next, next_at, lexeme, refusal, opener, depth, IsNext, Reaches, most_brackets, token_of, fault_of}
 use Rattle.module_spec.specs.Tokens.Balanced.{same}
 use Rattle.module_spec.specs.Tokens.Slash.{start}
 use Rattle.module_spec.specs.Tokens.Next.{Ends, Faults, Gives}
 use Rattle.module_spec.specs.Tokens.IsNext.{next}
 use Rattle.module_spec.specs.Tokens.Reaches.{begin, go}
-use Rattle.module_spec.specs.Suffixes.{Suffix, at_most, skip_suffix, given_shorter, hashbang_suffix}
+use Rattle.module_spec.specs.Suffixes.{at_most, skip_suffix, given_shorter, hashbang_suffix}
 use Rattle.module_spec.specs.OneOutcome.{one_reach}
 use Rattle.es_lexer.specs.declared.state.Open.{Open}
 use Rattle.es_lexer.specs.declared.state.Last.{Last}
 use Rattle.es_lexer.specs.Open.{top_of, top_bracket, changed}
-use Rattle.es_lexer.specs.State.{State, IsLexer}
+use Rattle.es_lexer.specs.State.{IsLexer}
 use Rattle.es_lexer.specs.State.IsStack.{empty}
-use Rattle.es_lexer.proofs.Stack.{Top, top, top_opener, Follows, After, state_after}
+use Rattle.es_lexer.proofs.Stack.{top, top_opener, Follows, state_after}
 
 -- at the start
 pub started : (text rest : List ℕ) (last : Last) (stack : List Open) (room : ℕ) → rest ≡ hashbang_rest text → stack ≡ [] → most_brackets ≤ room → last.word ≡ Other → last.property ≡ false → last.for_head ≡ false → last.before_value ≡ false → last.slash ≡ true → IsLexer text rest last stack room

@@ -1,5 +1,5 @@
 -- All tokens of a text.
-use Rattle.std.proofs.Common.{◌≡◌, ◌<◌, ◌≤◌, ℕ, List, [], ◌∷◌, ◌++◌, length, map, reverse, Option, Some, None, Result, Ok, Err, refl, sym, ◌∙◌, ap, subst, arith}
+use Rattle.std.proofs.Common.{◌≡◌, ◌<◌, ℕ, List, [], ◌∷◌, ◌++◌, length, map, reverse, Option, Some, None, Result, Ok, Err, sym, ◌∙◌, ap, subst}
 use Rattle.std.proofs.lemmas.Grind.{reverse_onto}
 use Rattle.module_spec.specs.declared.token.Token.{Token}
 use Rattle.module_spec.specs.declared.token.LexFault.{LexFault}

@@ -1,5 +1,5 @@
 -- One more token: what is kept agrees with the tokens again.
-use Rattle.std.proofs.Common.{◌≡◌, ◌≢◌, ◌≤◌, ◌<◌, ◌+◌, ◌-◌, ◌==◌, ◌||◌, ◌&&◌, ◌⊎◌, inl, inr, ℕ, Bool, true, false, not, if◌then◌else◌, List, [], ◌∷◌, ◌++◌, length, take, Option, Some, None, refl, sym, ◌∙◌, ap, subst, arith}
+use Rattle.std.proofs.Common.{◌≡◌, ◌≢◌, ◌≤◌, ◌+◌, ◌-◌, ◌==◌, ◌||◌, ◌&&◌, ℕ, Bool, true, false, not, if◌then◌else◌, List, [], ◌∷◌, ◌++◌, length, take, Option, Some, None, refl, sym, ◌∙◌, ap, subst, arith}
 use Rattle.std.proofs.lemmas.List.{length_push, length-take-le}
 use Rattle.std.proofs.lemmas.Bool.{eqb-false}
 use Rattle.module_spec.specs.declared.token.Bracket as brackets
@@ -10,14 +10,13 @@ use Rattle.module_spec.specs.declared.token.Sort.{Sort}
 use Rattle.module_spec.specs.declared.token.Sort.TheVariants.{Name, Private, Number, Text, TemplateWhole, TemplateHead, TemplateMiddle, TemplateTail, Regex, Punctuator}
 use Rattle.module_spec.specs.declared.token.Word.{Word}
 use Rattle.module_spec.specs.declared.token.Word.TheVariants.{Condition, For, Await, Of, Value, Statement, Other}
-use Rattle.module_spec.specs.declared.token.LexKind.{LexKind}
 use Rattle.module_spec.specs.declared.token.LexKind.TheVariants.{Unreadable, TooDeep}
-use Rattle.module_spec.specs.Sorts.{opens, closes, is_dot, sort_before_value, is_condition, is_for, is_await, same_bracket}
-use Rattle.module_spec.specs.Tokens.{Lexeme, Balanced, Outside, Innermost, Slash, depth, count, opener, plain_word, name_word, is_property, after_for, after_control, before_value, refusal, is_closed_by, slash_after, slash_after_mark, slash_after_word, in_for, is_round, closed_round, closed_curly, most_brackets}
+use Rattle.module_spec.specs.Sorts.{opens, closes, is_dot, sort_before_value, is_for, is_await, same_bracket}
+use Rattle.module_spec.specs.Tokens.{Lexeme, Balanced, Innermost, depth, opener, plain_word, name_word, refusal, is_closed_by, slash_after, slash_after_mark, slash_after_word, in_for, closed_round, closed_curly, most_brackets}
 use Rattle.module_spec.specs.Tokens.Balanced.{same, neither, closed}
 use Rattle.module_spec.specs.Tokens.Outside.{first, later}
 use Rattle.module_spec.specs.Tokens.Innermost.{none, bracket as innermost}
-use Rattle.module_spec.specs.Tokens.Slash.{start, token}
+use Rattle.module_spec.specs.Tokens.Slash.{token}
 use Rattle.es_lexer.specs.declared.state.Open.{Open}
 use Rattle.es_lexer.specs.declared.state.Open.TheVariants.{Round, Square, Curly, Template}
 use Rattle.es_lexer.specs.declared.state.Last.{Last}

@@ -1,5 +1,5 @@
 -- The last item of a list of open brackets.
-use Rattle.std.proofs.Common.{◌≡◌, ◌-◌, ◌+◌, ℕ, suc, List, [], ◌∷◌, ◌++◌, length, take, Some, refl, arith, slice_get, sym, ◌∙◌, ap}
+use Rattle.std.proofs.Common.{◌≡◌, ◌-◌, suc, List, [], ◌∷◌, ◌++◌, length, take, Some, refl, arith, slice_get, ◌∙◌, ap}
 use Rattle.std.proofs.lemmas.List.{take_at, length_push}
 use Rattle.es_lexer.specs.declared.state.Open.{Open}
 use Rattle.es_lexer.specs.Open.{top_of}

@@ -1,5 +1,5 @@
 -- What is kept of the tokens so far: of the last one, and of each open bracket.
-use Rattle.std.specs.Prelude.{◌≡◌, ℕ, ◌-◌, Bool, true, false, not, ◌&&◌, ◌||◌, List, [], ◌∷◌, ◌++◌, if◌then◌else◌, Option, Some, None, length, take}
+use Rattle.std.specs.Prelude.{◌-◌, Bool, true, false, not, ◌||◌, List, [], ◌∷◌, ◌++◌, Option, Some, None, length, take}
 use Rattle.module_spec.specs.declared.token.Mark.{Mark}
 use Rattle.module_spec.specs.declared.token.Mark.TheVariants.{OpenRound, OpenSquare, OpenCurly, CloseRound, CloseSquare, CloseCurly, Dot, Step, Stop, Operator}
 use Rattle.module_spec.specs.declared.token.Sort.{Sort}

@@ -1,5 +1,5 @@
 -- What is kept of the tokens so far agrees with them.
-use Rattle.std.specs.Prelude.{◌≡◌, ℕ, ◌≤◌, List, [], ◌∷◌, ◌++◌, Option, Some, None, length}
+use Rattle.std.specs.Prelude.{◌≡◌, ℕ, ◌≤◌, List, [], ◌∷◌, ◌++◌, Some, length}
 use Rattle.module_spec.specs.Sorts.{opens}
 use Rattle.module_spec.specs.Tokens.{Lexeme, Balanced, Outside, Slash, Reaches, depth, plain_word, is_property, after_for, after_control, before_value, most_brackets}
 use Rattle.es_lexer.specs.declared.state.Open.{Open}

@@ -4,289 +4,230 @@ use std::test::Fail;
 
 /// Texts with their tokens, each as the letter of its kind and its text, or with the first fault. The letters: N a name, H a
 /// private name, D a number, S a string, W O M E a whole template and its first, middle and last parts, R a regular expression, P
-/// a punctuator; `!` and `deep` are the faults.
-static CASES: [(&str, &str); 221] = [
-    // White space, line ends and comments.
-    ("", ""),
-    (" \t\n\r\u{b}\u{c}", ""),
-    (
-        "\u{feff}a\u{a0}b\u{2003}c\u{3000}d\u{1680}e\u{202f}f\u{205f}g",
-        "N a  N b  N c  N d  N e  N f  N g",
-    ),
-    ("a\u{2028}b\u{2029}c", "N a  N b  N c"),
-    ("\u{180e}\u{200b}", "N \u{180e}\u{200b}"),
-    ("// a", ""),
-    ("//", ""),
-    ("// a\nb", "N b"),
-    ("// a\rb", "N b"),
-    ("// a\u{2028}b", "N b"),
-    ("// a\u{2029}b", "N b"),
-    ("// a\u{2027}b", ""),
-    ("/* a */b", "N b"),
-    ("/* \u{2028}\n **/b", "N b"),
-    ("/**/b", "N b"),
-    ("/* /* */ b", "N b"),
-    ("a/**/b", "N a  N b"),
-    ("/*/", "! 0"),
-    ("a /* b *", "N a  ! 2"),
-    ("#!x y\nb", "N b"),
-    ("#!x\u{2028}b", "N b"),
-    ("#!", ""),
-    (" #!x", "! 1"),
-    ("a\n#!", "N a  ! 2"),
-    ("\u{feff}#!a", "! 3"),
-    // Names.
-    ("a1$_Z", "N a1$_Z"),
-    ("éα中\u{1f600}", "N éα中\u{1f600}"),
-    ("\\u0061b\\u{63}d", "N \\u0061b\\u{63}d"),
-    ("\\u{00006a}", "N \\u{00006a}"),
-    ("\\u{0000061}", "! 0"),
-    ("\\u{}", "! 0"),
-    ("\\u006", "! 0"),
-    ("\\u00g1", "! 0"),
-    ("a\\u{61", "N a  ! 1"),
-    ("a\\x41", "N a  ! 1"),
-    ("a\\", "N a  ! 1"),
-    ("#a\\u0061", "H #a\\u0061"),
-    ("#é", "H #é"),
-    ("#1", "! 0"),
-    ("# a", "! 0"),
-    ("a#", "N a  ! 1"),
-    ("a@b", "N a  ! 1"),
-    // Numbers.
-    ("0 1.5 .5 1_000n", "D 0  D 1.5  D .5  D 1_000n"),
-    ("1e5 1e+5 1E-5 5.e-3", "D 1e5  D 1e+5  D 1E-5  D 5.e-3"),
-    ("0e+1 0xe+1", "D 0e+1  D 0xe  P +  D 1"),
-    (
-        "0Xe-1 0b1+2 0O7-0o7 0B+1",
-        "D 0Xe  P -  D 1  D 0b1  P +  D 2  D 0O7  P -  D 0o7  D 0B  P +  D 1",
-    ),
-    ("1e++2", "D 1e+  P +  D 2"),
-    ("1\\u0065+2", "D 1\\u0065  P +  D 2"),
-    ("1..a", "D 1..a"),
-    ("3in x", "D 3in  N x"),
-    ("1é", "D 1é"),
-    (".e", "P .  N e"),
-    ("..5", "P .  D .5"),
-    // String literals.
-    ("'a' \"b\" ''", "S 'a'  S \"b\"  S ''"),
-    ("'\"' \"'\"", "S '\"'  S \"'\""),
-    ("'\\'' '\\\\'a", "S '\\''  S '\\\\'  N a"),
-    (
-        "'a\\\nb' 'a\\\r\nb' 'a\\\rb'",
-        "S 'a\\\nb'  S 'a\\\r\nb'  S 'a\\\rb'",
-    ),
-    ("'\u{2028}\\\u{2029}'", "S '\u{2028}\\\u{2029}'"),
-    ("'\\x4\\u{'", "S '\\x4\\u{'"),
-    ("a 'b", "N a  ! 2"),
-    ("'a\nb'", "! 0"),
-    ("'a\rb'", "! 0"),
-    ("'a\\\r\r'", "! 0"),
-    ("'a\\\n\n'", "! 0"),
-    ("'a\\\r\n\n'", "! 0"),
-    ("'\\", "! 0"),
-    ("'\\'", "! 0"),
-    ("'\\n", "! 0"),
-    ("'\\x", "! 0"),
-    ("'\\x4", "! 0"),
-    ("'\\u", "! 0"),
-    ("'\\u{6", "! 0"),
-    ("'\\0", "! 0"),
-    ("'\\\r", "! 0"),
-    ("'\\\r\n", "! 0"),
-    // Templates.
-    ("`` `a\nb` `\\``", "W ``  W `a\nb`  W `\\``"),
-    (
-        "`$` `$a{` `\\${` `$\\{`",
-        "W `$`  W `$a{`  W `\\${`  W `$\\{`",
-    ),
-    ("`$${a}$`", "O `$${  N a  E }$`"),
-    ("`a${b}c${d}e`", "O `a${  N b  M }c${  N d  E }e`"),
-    ("`${`${a}`}`", "O `${  O `${  N a  E }`  E }`"),
-    ("`${{a:1}}`", "O `${  P {  N a  P :  D 1  P }  E }`"),
-    ("`a", "! 0"),
-    ("`\\`", "! 0"),
-    ("`${", "O `${  ! 3"),
-    ("`${a", "O `${  N a  ! 4"),
-    ("`${a}", "O `${  N a  ! 4"),
-    ("`${)", "O `${  ! 3"),
-    ("`${(}`", "O `${  P (  ! 4"),
-    // Regular expressions.
-    ("/a/ /b/gi", "R /a/  P /  N b  P /  N gi"),
-    ("/a/gi", "R /a/gi"),
-    ("/[/]/", "R /[/]/"),
-    ("/[\\]/]/", "R /[\\]/]/"),
-    ("/[[]/", "R /[[]/"),
-    ("/]/", "R /]/"),
-    ("/\\//", "R /\\//"),
-    ("/\\[/", "R /\\[/"),
-    ("/(/", "R /(/"),
-    ("/=/", "R /=/"),
-    ("/a/\\u0067", "R /a/\\u0067"),
-    ("/a", "! 0"),
-    ("/[/", "! 0"),
-    ("/\\", "! 0"),
-    ("/\\/", "! 0"),
-    ("/a\n/", "! 0"),
-    ("/a\r/", "! 0"),
-    ("/\\\n/", "! 0"),
-    ("/[\n]/", "! 0"),
-    ("/a\u{2028}/", "! 0"),
-    ("/\\\u{2029}/", "! 0"),
-    ("/=", "! 0"),
-    // A slash behind each kind of token.
-    ("x=/b/c", "N x  P =  R /b/c"),
-    ("a/b/c", "N a  P /  N b  P /  N c"),
-    ("a\n/b/c", "N a  P /  N b  P /  N c"),
-    ("a/*b*//c/d", "N a  P /  N c  P /  N d"),
-    ("a/=b", "N a  P /=  N b"),
-    ("1/b/c", "D 1  P /  N b  P /  N c"),
-    ("'a'/b/c", "S 'a'  P /  N b  P /  N c"),
-    ("`a`/b/c", "W `a`  P /  N b  P /  N c"),
-    ("/a//b/c", "R /a/  P /  N b  P /  N c"),
-    ("#a/b/c", "H #a  P /  N b  P /  N c"),
-    ("a[0]/b/c", "N a  P [  D 0  P ]  P /  N b  P /  N c"),
-    ("a++/b/c", "N a  P ++  P /  N b  P /  N c"),
-    ("a--/b/c", "N a  P --  P /  N b  P /  N c"),
-    ("`${a}`/b/c", "O `${  N a  E }`  P /  N b  P /  N c"),
-    ("`${/b/c}${/d/e}`", "O `${  R /b/c  M }${  R /d/e  E }`"),
-    ("(/a/)[/a/]", "P (  R /a/  P )  P [  R /a/  P ]"),
-    ("{/a/};/b/", "P {  R /a/  P }  P ;  R /b/"),
-    ("!/a/,/b/", "P !  R /a/  P ,  R /b/"),
-    ("a=>/b/", "N a  P =>  R /b/"),
-    ("a?/b/:/c/", "N a  P ?  R /b/  P :  R /c/"),
-    ("a./b/", "N a  P .  R /b/"),
-    ("a?./b/", "N a  P ?.  R /b/"),
-    // A slash behind words.
-    ("await/a/", "N await  R /a/"),
-    ("break/a/", "N break  R /a/"),
-    ("case/a/", "N case  R /a/"),
-    ("continue/a/", "N continue  R /a/"),
-    ("debugger/a/", "N debugger  R /a/"),
-    ("default/a/", "N default  R /a/"),
-    ("delete/a/", "N delete  R /a/"),
-    ("do/a/", "N do  R /a/"),
-    ("else/a/", "N else  R /a/"),
-    ("extends/a/", "N extends  R /a/"),
-    ("in/a/", "N in  R /a/"),
-    ("instanceof/a/", "N instanceof  R /a/"),
-    ("new/a/", "N new  R /a/"),
-    ("return/a/", "N return  R /a/"),
-    ("throw/a/", "N throw  R /a/"),
-    ("typeof/a/", "N typeof  R /a/"),
-    ("void/a/", "N void  R /a/"),
-    ("yield/a/", "N yield  R /a/"),
-    ("if/a/b", "N if  P /  N a  P /  N b"),
-    ("for/a/b", "N for  P /  N a  P /  N b"),
-    ("this/a/b", "N this  P /  N a  P /  N b"),
-    ("a.return/b/c", "N a  P .  N return  P /  N b  P /  N c"),
-    ("a?.typeof/b/c", "N a  P ?.  N typeof  P /  N b  P /  N c"),
-    ("\\u0072eturn/a/b", "N \\u0072eturn  P /  N a  P /  N b"),
-    ("of/a/b", "N of  P /  N a  P /  N b"),
-    ("for(a of/b/)", "N for  P (  N a  N of  R /b/  P )"),
-    (
-        "for await(a of/b/)",
-        "N for  N await  P (  N a  N of  R /b/  P )",
-    ),
-    (
-        "f(a of/b/c)",
-        "N f  P (  N a  N of  P /  N b  P /  N c  P )",
-    ),
-    (
-        "for([a of/b/c])",
-        "N for  P (  P [  N a  N of  P /  N b  P /  N c  P ]  P )",
-    ),
-    (
-        "for(a.of/b/c)",
-        "N for  P (  N a  P .  N of  P /  N b  P /  N c  P )",
-    ),
-    (
-        "a.for(b of/c/d)",
-        "N a  P .  N for  P (  N b  N of  P /  N c  P /  N d  P )",
-    ),
-    (
-        "if(a of/b/c)",
-        "N if  P (  N a  N of  P /  N b  P /  N c  P )",
-    ),
-    // A slash behind a closed bracket.
-    ("f(a)/b/c", "N f  P (  N a  P )  P /  N b  P /  N c"),
-    ("if(a)/b/", "N if  P (  N a  P )  R /b/"),
-    ("while(a)/b/", "N while  P (  N a  P )  R /b/"),
-    ("with(a)/b/", "N with  P (  N a  P )  R /b/"),
-    ("for(a)/b/", "N for  P (  N a  P )  R /b/"),
-    ("for await(a)/b/", "N for  N await  P (  N a  P )  R /b/"),
-    ("await(a)/b/c", "N await  P (  N a  P )  P /  N b  P /  N c"),
-    (
-        "a.if(b)/c/d",
-        "N a  P .  N if  P (  N b  P )  P /  N c  P /  N d",
-    ),
-    (
-        "a?.while(b)/c/d",
-        "N a  P ?.  N while  P (  N b  P )  P /  N c  P /  N d",
-    ),
-    (
-        "a.for await(b)/c/d",
-        "N a  P .  N for  N await  P (  N b  P )  P /  N c  P /  N d",
-    ),
-    ("if((a))/b/", "N if  P (  P (  N a  P )  P )  R /b/"),
-    (
-        "if(f(a)/b/c)/d/",
-        "N if  P (  N f  P (  N a  P )  P /  N b  P /  N c  P )  R /d/",
-    ),
-    ("{}/a/", "P {  P }  R /a/"),
-    ("x={}/a/b", "N x  P =  P {  P }  P /  N a  P /  N b"),
-    ("({})/a/b", "P (  P {  P }  P )  P /  N a  P /  N b"),
-    ("({}/a/b)", "P (  P {  P }  P /  N a  P /  N b  P )"),
-    ("[{}/a/b]", "P [  P {  P }  P /  N a  P /  N b  P ]"),
-    ("()=>{}/a/", "P (  P )  P =>  P {  P }  R /a/"),
-    ("a:{}/b/", "N a  P :  P {  P }  R /b/"),
-    (";{}/a/", "P ;  P {  P }  R /a/"),
-    ("a++{}/b/", "N a  P ++  P {  P }  R /b/"),
-    ("a]{}", "N a  ! 1"),
-    ("return{}/a/b", "N return  P {  P }  P /  N a  P /  N b"),
-    ("else{}/a/", "N else  P {  P }  R /a/"),
-    ("a.return{}/b/", "N a  P .  N return  P {  P }  R /b/"),
-    ("a.{}/b/c", "N a  P .  P {  P }  P /  N b  P /  N c"),
-    ("f(){}/a/", "N f  P (  P )  P {  P }  R /a/"),
-    ("{{}/a/}", "P {  P {  P }  R /a/  P }"),
-    ("`${{}/a/b}`", "O `${  P {  P }  P /  N a  P /  N b  E }`"),
-    (
-        "`${a}${{}/b/c}`",
-        "O `${  N a  M }${  P {  P }  P /  N b  P /  N c  E }`",
-    ),
-    // Brackets.
-    ("([{}])", "P (  P [  P {  P }  P ]  P )"),
-    ("(]", "P (  ! 1"),
-    ("(})", "P (  ! 1"),
-    ("{)", "P {  ! 1"),
-    ("[}", "P [  ! 1"),
-    (")", "! 0"),
-    ("a}", "N a  ! 1"),
-    ("(  ", "P (  ! 3"),
-    ("(/*", "P (  ! 1"),
-    ("${", "N $  P {  ! 2"),
-    // Punctuators.
-    (
-        ">>>= >>> >>= >> >= >",
-        "P >>>=  P >>>  P >>=  P >>  P >=  P >",
-    ),
-    (">>>>=>>=>=", "P >>>  P >=  P >>=  P >="),
-    ("=== == => =", "P ===  P ==  P =>  P ="),
-    ("=====>=", "P ===  P ==  P >="),
-    ("!== != ! !===", "P !==  P !=  P !  P !==  P ="),
-    ("**= ** *= * ***", "P **=  P **  P *=  P *  P **  P *"),
-    ("<<= << <= < <<<", "P <<=  P <<  P <=  P <  P <<  P <"),
-    ("&&= && &= & &&&", "P &&=  P &&  P &=  P &  P &&  P &"),
-    ("||= || |= | |||", "P ||=  P ||  P |=  P |  P ||  P |"),
-    ("??= ?? ? ???", "P ??=  P ??  P ?  P ??  P ?"),
-    ("a?.5:b?.c", "N a  P ?  D .5  P :  N b  P ?.  N c"),
-    ("??.5?..", "P ??  D .5  P ?.  P ."),
-    ("... .. .... .", "P ...  P .  P .  P ...  P .  P ."),
-    ("++ += + +++", "P ++  P +=  P +  P ++  P +"),
-    ("-- -= - -->", "P --  P -=  P -  P --  P >"),
-    ("%= % ^= ^ ~,;:", "P %=  P %  P ^=  P ^  P ~  P ,  P ;  P :"),
-    ("<!--a", "P <  P !  P --  N a"),
-];
+/// a punctuator; `!` and `deep` are the faults. `¶` begins a row, and `⇒` stands behind its text.
+static CASES: &str = "\
+¶⇒\
+¶ \t\n\r\u{b}\u{c}⇒\
+¶\u{feff}a\u{a0}b\u{2003}c\u{3000}d\u{1680}e\u{202f}f\u{205f}g⇒N a  N b  N c  N d  N e  N f  N g\
+¶a\u{2028}b\u{2029}c⇒N a  N b  N c\
+¶\u{180e}\u{200b}⇒N \u{180e}\u{200b}\
+¶// a⇒\
+¶//⇒\
+¶// a\nb⇒N b\
+¶// a\rb⇒N b\
+¶// a\u{2028}b⇒N b\
+¶// a\u{2029}b⇒N b\
+¶// a\u{2027}b⇒\
+¶/* a */b⇒N b\
+¶/* \u{2028}\n **/b⇒N b\
+¶/**/b⇒N b\
+¶/* /* */ b⇒N b\
+¶a/**/b⇒N a  N b\
+¶/*/⇒! 0\
+¶a /* b *⇒N a  ! 2\
+¶#!x y\nb⇒N b\
+¶#!x\u{2028}b⇒N b\
+¶#!⇒\
+¶ #!x⇒! 1\
+¶a\n#!⇒N a  ! 2\
+¶\u{feff}#!a⇒! 3\
+¶a1$_Z⇒N a1$_Z\
+¶éα中\u{1f600}⇒N éα中\u{1f600}\
+¶\\u0061b\\u{63}d⇒N \\u0061b\\u{63}d\
+¶\\u{00006a}⇒N \\u{00006a}\
+¶\\u{0000061}⇒! 0\
+¶\\u{}⇒! 0\
+¶\\u006⇒! 0\
+¶\\u00g1⇒! 0\
+¶a\\u{61⇒N a  ! 1\
+¶a\\x41⇒N a  ! 1\
+¶a\\⇒N a  ! 1\
+¶#a\\u0061⇒H #a\\u0061\
+¶#é⇒H #é\
+¶#1⇒! 0\
+¶# a⇒! 0\
+¶a#⇒N a  ! 1\
+¶a@b⇒N a  ! 1\
+¶0 1.5 .5 1_000n⇒D 0  D 1.5  D .5  D 1_000n\
+¶1e5 1e+5 1E-5 5.e-3⇒D 1e5  D 1e+5  D 1E-5  D 5.e-3\
+¶0e+1 0xe+1⇒D 0e+1  D 0xe  P +  D 1\
+¶0Xe-1 0b1+2 0O7-0o7 0B+1⇒D 0Xe  P -  D 1  D 0b1  P +  D 2  D 0O7  P -  D 0o7  D 0B  P +  D 1\
+¶1e++2⇒D 1e+  P +  D 2\
+¶1\\u0065+2⇒D 1\\u0065  P +  D 2\
+¶1..a⇒D 1..a\
+¶3in x⇒D 3in  N x\
+¶1é⇒D 1é\
+¶.e⇒P .  N e\
+¶..5⇒P .  D .5\
+¶'a' \"b\" ''⇒S 'a'  S \"b\"  S ''\
+¶'\"' \"'\"⇒S '\"'  S \"'\"\
+¶'\\'' '\\\\'a⇒S '\\''  S '\\\\'  N a\
+¶'a\\\nb' 'a\\\r\nb' 'a\\\rb'⇒S 'a\\\nb'  S 'a\\\r\nb'  S 'a\\\rb'\
+¶'\u{2028}\\\u{2029}'⇒S '\u{2028}\\\u{2029}'\
+¶'\\x4\\u{'⇒S '\\x4\\u{'\
+¶a 'b⇒N a  ! 2\
+¶'a\nb'⇒! 0\
+¶'a\rb'⇒! 0\
+¶'a\\\r\r'⇒! 0\
+¶'a\\\n\n'⇒! 0\
+¶'a\\\r\n\n'⇒! 0\
+¶'\\⇒! 0\
+¶'\\'⇒! 0\
+¶'\\n⇒! 0\
+¶'\\x⇒! 0\
+¶'\\x4⇒! 0\
+¶'\\u⇒! 0\
+¶'\\u{6⇒! 0\
+¶'\\0⇒! 0\
+¶'\\\r⇒! 0\
+¶'\\\r\n⇒! 0\
+¶`` `a\nb` `\\``⇒W ``  W `a\nb`  W `\\``\
+¶`$` `$a{` `\\${` `$\\{`⇒W `$`  W `$a{`  W `\\${`  W `$\\{`\
+¶`$${a}$`⇒O `$${  N a  E }$`\
+¶`a${b}c${d}e`⇒O `a${  N b  M }c${  N d  E }e`\
+¶`${`${a}`}`⇒O `${  O `${  N a  E }`  E }`\
+¶`${{a:1}}`⇒O `${  P {  N a  P :  D 1  P }  E }`\
+¶`a⇒! 0\
+¶`\\`⇒! 0\
+¶`${⇒O `${  ! 3\
+¶`${a⇒O `${  N a  ! 4\
+¶`${a}⇒O `${  N a  ! 4\
+¶`${)⇒O `${  ! 3\
+¶`${(}`⇒O `${  P (  ! 4\
+¶/a/ /b/gi⇒R /a/  P /  N b  P /  N gi\
+¶/a/gi⇒R /a/gi\
+¶/[/]/⇒R /[/]/\
+¶/[\\]/]/⇒R /[\\]/]/\
+¶/[[]/⇒R /[[]/\
+¶/]/⇒R /]/\
+¶/\\//⇒R /\\//\
+¶/\\[/⇒R /\\[/\
+¶/(/⇒R /(/\
+¶/=/⇒R /=/\
+¶/a/\\u0067⇒R /a/\\u0067\
+¶/a⇒! 0\
+¶/[/⇒! 0\
+¶/\\⇒! 0\
+¶/\\/⇒! 0\
+¶/a\n/⇒! 0\
+¶/a\r/⇒! 0\
+¶/\\\n/⇒! 0\
+¶/[\n]/⇒! 0\
+¶/a\u{2028}/⇒! 0\
+¶/\\\u{2029}/⇒! 0\
+¶/=⇒! 0\
+¶x=/b/c⇒N x  P =  R /b/c\
+¶a/b/c⇒N a  P /  N b  P /  N c\
+¶a\n/b/c⇒N a  P /  N b  P /  N c\
+¶a/*b*//c/d⇒N a  P /  N c  P /  N d\
+¶a/=b⇒N a  P /=  N b\
+¶1/b/c⇒D 1  P /  N b  P /  N c\
+¶'a'/b/c⇒S 'a'  P /  N b  P /  N c\
+¶`a`/b/c⇒W `a`  P /  N b  P /  N c\
+¶/a//b/c⇒R /a/  P /  N b  P /  N c\
+¶#a/b/c⇒H #a  P /  N b  P /  N c\
+¶a[0]/b/c⇒N a  P [  D 0  P ]  P /  N b  P /  N c\
+¶a++/b/c⇒N a  P ++  P /  N b  P /  N c\
+¶a--/b/c⇒N a  P --  P /  N b  P /  N c\
+¶`${a}`/b/c⇒O `${  N a  E }`  P /  N b  P /  N c\
+¶`${/b/c}${/d/e}`⇒O `${  R /b/c  M }${  R /d/e  E }`\
+¶(/a/)[/a/]⇒P (  R /a/  P )  P [  R /a/  P ]\
+¶{/a/};/b/⇒P {  R /a/  P }  P ;  R /b/\
+¶!/a/,/b/⇒P !  R /a/  P ,  R /b/\
+¶a=>/b/⇒N a  P =>  R /b/\
+¶a?/b/:/c/⇒N a  P ?  R /b/  P :  R /c/\
+¶a./b/⇒N a  P .  R /b/\
+¶a?./b/⇒N a  P ?.  R /b/\
+¶await/a/⇒N await  R /a/\
+¶break/a/⇒N break  R /a/\
+¶case/a/⇒N case  R /a/\
+¶continue/a/⇒N continue  R /a/\
+¶debugger/a/⇒N debugger  R /a/\
+¶default/a/⇒N default  R /a/\
+¶delete/a/⇒N delete  R /a/\
+¶do/a/⇒N do  R /a/\
+¶else/a/⇒N else  R /a/\
+¶extends/a/⇒N extends  R /a/\
+¶in/a/⇒N in  R /a/\
+¶instanceof/a/⇒N instanceof  R /a/\
+¶new/a/⇒N new  R /a/\
+¶return/a/⇒N return  R /a/\
+¶throw/a/⇒N throw  R /a/\
+¶typeof/a/⇒N typeof  R /a/\
+¶void/a/⇒N void  R /a/\
+¶yield/a/⇒N yield  R /a/\
+¶if/a/b⇒N if  P /  N a  P /  N b\
+¶for/a/b⇒N for  P /  N a  P /  N b\
+¶this/a/b⇒N this  P /  N a  P /  N b\
+¶a.return/b/c⇒N a  P .  N return  P /  N b  P /  N c\
+¶a?.typeof/b/c⇒N a  P ?.  N typeof  P /  N b  P /  N c\
+¶\\u0072eturn/a/b⇒N \\u0072eturn  P /  N a  P /  N b\
+¶of/a/b⇒N of  P /  N a  P /  N b\
+¶for(a of/b/)⇒N for  P (  N a  N of  R /b/  P )\
+¶for await(a of/b/)⇒N for  N await  P (  N a  N of  R /b/  P )\
+¶f(a of/b/c)⇒N f  P (  N a  N of  P /  N b  P /  N c  P )\
+¶for([a of/b/c])⇒N for  P (  P [  N a  N of  P /  N b  P /  N c  P ]  P )\
+¶for(a.of/b/c)⇒N for  P (  N a  P .  N of  P /  N b  P /  N c  P )\
+¶a.for(b of/c/d)⇒N a  P .  N for  P (  N b  N of  P /  N c  P /  N d  P )\
+¶if(a of/b/c)⇒N if  P (  N a  N of  P /  N b  P /  N c  P )\
+¶f(a)/b/c⇒N f  P (  N a  P )  P /  N b  P /  N c\
+¶if(a)/b/⇒N if  P (  N a  P )  R /b/\
+¶while(a)/b/⇒N while  P (  N a  P )  R /b/\
+¶with(a)/b/⇒N with  P (  N a  P )  R /b/\
+¶for(a)/b/⇒N for  P (  N a  P )  R /b/\
+¶for await(a)/b/⇒N for  N await  P (  N a  P )  R /b/\
+¶await(a)/b/c⇒N await  P (  N a  P )  P /  N b  P /  N c\
+¶a.if(b)/c/d⇒N a  P .  N if  P (  N b  P )  P /  N c  P /  N d\
+¶a?.while(b)/c/d⇒N a  P ?.  N while  P (  N b  P )  P /  N c  P /  N d\
+¶a.for await(b)/c/d⇒N a  P .  N for  N await  P (  N b  P )  P /  N c  P /  N d\
+¶if((a))/b/⇒N if  P (  P (  N a  P )  P )  R /b/\
+¶if(f(a)/b/c)/d/⇒N if  P (  N f  P (  N a  P )  P /  N b  P /  N c  P )  R /d/\
+¶{}/a/⇒P {  P }  R /a/\
+¶x={}/a/b⇒N x  P =  P {  P }  P /  N a  P /  N b\
+¶({})/a/b⇒P (  P {  P }  P )  P /  N a  P /  N b\
+¶({}/a/b)⇒P (  P {  P }  P /  N a  P /  N b  P )\
+¶[{}/a/b]⇒P [  P {  P }  P /  N a  P /  N b  P ]\
+¶()=>{}/a/⇒P (  P )  P =>  P {  P }  R /a/\
+¶a:{}/b/⇒N a  P :  P {  P }  R /b/\
+¶;{}/a/⇒P ;  P {  P }  R /a/\
+¶a++{}/b/⇒N a  P ++  P {  P }  R /b/\
+¶a]{}⇒N a  ! 1\
+¶return{}/a/b⇒N return  P {  P }  P /  N a  P /  N b\
+¶else{}/a/⇒N else  P {  P }  R /a/\
+¶a.return{}/b/⇒N a  P .  N return  P {  P }  R /b/\
+¶a.{}/b/c⇒N a  P .  P {  P }  P /  N b  P /  N c\
+¶f(){}/a/⇒N f  P (  P )  P {  P }  R /a/\
+¶{{}/a/}⇒P {  P {  P }  R /a/  P }\
+¶`${{}/a/b}`⇒O `${  P {  P }  P /  N a  P /  N b  E }`\
+¶`${a}${{}/b/c}`⇒O `${  N a  M }${  P {  P }  P /  N b  P /  N c  E }`\
+¶([{}])⇒P (  P [  P {  P }  P ]  P )\
+¶(]⇒P (  ! 1\
+¶(})⇒P (  ! 1\
+¶{)⇒P {  ! 1\
+¶[}⇒P [  ! 1\
+¶)⇒! 0\
+¶a}⇒N a  ! 1\
+¶(  ⇒P (  ! 3\
+¶(/*⇒P (  ! 1\
+¶${⇒N $  P {  ! 2\
+¶>>>= >>> >>= >> >= >⇒P >>>=  P >>>  P >>=  P >>  P >=  P >\
+¶>>>>=>>=>=⇒P >>>  P >=  P >>=  P >=\
+¶=== == => =⇒P ===  P ==  P =>  P =\
+¶=====>=⇒P ===  P ==  P >=\
+¶!== != ! !===⇒P !==  P !=  P !  P !==  P =\
+¶**= ** *= * ***⇒P **=  P **  P *=  P *  P **  P *\
+¶<<= << <= < <<<⇒P <<=  P <<  P <=  P <  P <<  P <\
+¶&&= && &= & &&&⇒P &&=  P &&  P &=  P &  P &&  P &\
+¶||= || |= | |||⇒P ||=  P ||  P |=  P |  P ||  P |\
+¶??= ?? ? ???⇒P ??=  P ??  P ?  P ??  P ?\
+¶a?.5:b?.c⇒N a  P ?  D .5  P :  N b  P ?.  N c\
+¶??.5?..⇒P ??  D .5  P ?.  P .\
+¶... .. .... .⇒P ...  P .  P .  P ...  P .  P .\
+¶++ += + +++⇒P ++  P +=  P +  P ++  P +\
+¶-- -= - -->⇒P --  P -=  P -  P --  P >\
+¶%= % ^= ^ ~,;:⇒P %=  P %  P ^=  P ^  P ~  P ,  P ;  P :\
+¶<!--a⇒P <  P !  P --  N a\
+";
 
 fn letter(kind: Kind) -> &'static str {
     match kind {
@@ -345,12 +286,24 @@ fn shown(alloc: Global, text: &str) -> Result<String, Fail> {
     Ok(out)
 }
 
+// The first row whose tokens aren't those that stand there, or the number of rows.
+fn first_wrong(alloc: Global, rows: &str) -> Result<usize, Fail> {
+    let mut count = 0;
+    for row in rows.split('¶').skip(1) {
+        let (text, expected) = row.split_once('⇒').unwrap_or((row, "no row"));
+        if shown(alloc, text)?.as_str() != expected {
+            return Ok(count);
+        }
+        if count < usize::MAX {
+            count += 1;
+        }
+    }
+    Ok(count)
+}
+
 #[test]
 fn cases(rt: HostRuntime) -> Result<(), Fail> {
-    for (text, expected) in CASES {
-        let out = shown(rt.alloc(), text)?;
-        assert_eq!(rt; out.as_str(), expected);
-    }
+    assert_eq!(rt; first_wrong(rt.alloc(), CASES)?, 221);
     Ok(())
 }
 

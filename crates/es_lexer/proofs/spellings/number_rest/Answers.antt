@@ -1,4 +1,4 @@
-use Rattle.std.proofs.Common.{sym, ◌∙◌, refl}
+use Rattle.std.proofs.Common.{sym, ◌∙◌}
 use Rattle.es_lexer.proofs.spellings.number_rest.Goals as goal
 
 pub returns : goal.returns

@@ -1,4 +1,4 @@
-use Rattle.std.proofs.Common.{◌≡◌, ℕ, List, length}
+use Rattle.std.proofs.Common.{ℕ, List, length}
 use Rattle.module_spec.specs.Tokens.{Skips}
 use Rattle.es_lexer.proofs.spellings.skip.Given as goal
 

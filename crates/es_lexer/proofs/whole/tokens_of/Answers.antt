@@ -1,6 +1,6 @@
 use Rattle.std.proofs.Common.{◌≡◌, subst, Ok, Err, Some, None}
 use Rattle.module_spec.specs.Tokens.{ReadsTokens}
-use Rattle.es_lexer.proofs.Lists.{Listing, nothing_listed, said, all_listed, fault_found, one_more_listed, listing_shorter}
+use Rattle.es_lexer.proofs.Lists.{nothing_listed, said, all_listed, fault_found, one_more_listed, listing_shorter}
 use Rattle.es_lexer.proofs.whole.tokens_of.Goals as goal
 
 pub read-init : goal.read-init

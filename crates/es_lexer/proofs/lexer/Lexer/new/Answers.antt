@@ -1,4 +1,3 @@
-use Rattle.std.proofs.Common.{arith}
 use Rattle.es_lexer.proofs.Calls.{started}
 use Rattle.es_lexer.proofs.lexer.Lexer.new.Goals as goal
 

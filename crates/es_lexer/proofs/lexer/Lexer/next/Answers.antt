@@ -1,7 +1,7 @@
 -- A look at the bytes behind all space says what comes; the lemmas on calls put it into words of tokens.
 use Rattle.std.proofs.Common.{◌≡◌, ◌-◌, ◌∙◌, ap, length, take, arith, vec_capacity}
 use Rattle.es_lexer.specs.Open.{top_of, top_bracket, slash_behind}
-use Rattle.es_lexer.proofs.Calls.{Look, faulted, ended, given, skip_at_most, rest_at_most, behind}
+use Rattle.es_lexer.proofs.Calls.{faulted, ended, given, skip_at_most, rest_at_most, behind}
 use Rattle.es_lexer.proofs.Stack.{Follows}
 use Rattle.es_lexer.proofs.lexer.Lexer.next.Goals as goal
 
