@@ -11,7 +11,7 @@ use Rattle.url_spec.specs.WebNames.{suffix_of}
 use Rattle.url_spec.specs.FileUrls.{file_text, names_host, url_path, NamesPath, IsPlace}
 use Rattle.web_url.specs.declared.file.Place.{Place}
 use Rattle.node_spec.specs.declared.Cause.TheVariants.{NotFound, InvalidSpecifier, DirectoryImport}
-use Rattle.node_spec.specs.Resolution.{Answer, Resolved, Refused, Judges, joined_onto, joined_url, Joins, Resolves}
+use Rattle.node_spec.specs.Resolution.{Answer, Resolved, Refused, Judges, joined_onto, joined_url}
 use Rattle.node_spec.specs.Resolution.{Judges as judges}
 use Rattle.node_spec.specs.Resolution.Joins.{no_url, other_host, joined}
 use Rattle.node_spec.specs.Resolution.Resolves.{relative}

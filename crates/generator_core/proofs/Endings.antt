@@ -7,7 +7,7 @@ use Rattle.std.proofs.lemmas.List.Elements.{All-nil, All-cons}
 use Rattle.tree_spec.specs.declared.Entry.TheVariants.{Stored}
 use Rattle.tree_spec.specs.Counts.{Rose}
 use Rattle.tree_spec.specs.Trees.{Tree, Places}
-use Rattle.tree_spec.specs.Paths.{IsSegment, IsPath, HasDepth, root, child}
+use Rattle.tree_spec.specs.Paths.{IsPath, root, child}
 use Rattle.layout_spec.specs.Needs.{NoClash}
 use Rattle.layout_spec.specs.Layout.{layout}
 use Rattle.import_map_spec.specs.Printing.{map_text}

@@ -1,5 +1,5 @@
 -- Files that were looked at.
-use Rattle.std.proofs.Common.{◌≡◌, ℕ, Bool, true, false, List, Option, Some, None, sym, refl, ap, ◌∙◌, subst, ⊎_elim, if◌then◌else◌}
+use Rattle.std.proofs.Common.{◌≡◌, ℕ, true, List, Option, Some, None, sym, refl, ap, ◌∙◌, subst, ⊎_elim}
 use Rattle.std.specs.Prelude.{bytes_eq, cond, is_some}
 use Rattle.std.specs.HashMap as map
 use Rattle.std.proofs.lemmas.Bool.{cases_Bool, cond-true, cond-false}

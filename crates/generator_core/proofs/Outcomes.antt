@@ -5,7 +5,7 @@ use Rattle.tree_spec.specs.Trees.{Tree}
 use Rattle.generator_spec.specs.Outcome.{Outcome}
 use Rattle.generator_spec.specs.OneRefusal.{SameOutcome}
 use Rattle.generator_spec.specs.Outcomes.{one_outcome}
-use Rattle.generator_core.specs.Running.{FolderState, SinkState, Says, Ends, Ending, Shows, Quiet, Completes, Meets, memory_line}
+use Rattle.generator_core.specs.Running.{FolderState, SinkState, Says, Ends, Ending, Shows, Quiet, Completes, Meets}
 use Rattle.generator_core.specs.Running.Completes.{complete, memory}
 use Rattle.generator_core.specs.Running.{Says as says, Ends as ends}
 

@@ -1,6 +1,6 @@
 -- How refusals of requests, turns and modules come together to the first one.
-use Rattle.std.proofs.Common.{◌≡◌, ◌≢◌, ◌≤◌, ◌<◌, ◌+◌, ℕ, true, false, List, [], ◌∷◌, ◌++◌, length, take, drop, codes, nat_eq, Option, Some, None, sym, refl, ap, ◌∙◌, subst, append-nil, append_assoc, arith}
-use Rattle.std.specs.Prelude.{slice_get, flat_map, unwrap_or, bytes_eq, Contains, MatchOption, ⊤}
+use Rattle.std.proofs.Common.{◌≡◌, ◌≢◌, ◌≤◌, ◌<◌, ◌+◌, ℕ, true, false, List, [], ◌∷◌, ◌++◌, length, take, drop, codes, nat_eq, Option, Some, None, sym, refl, ap, ◌∙◌, subst, append_assoc, arith}
+use Rattle.std.specs.Prelude.{slice_get, flat_map, bytes_eq, Contains, MatchOption}
 use Rattle.std.specs.List.{list_any, ends_with}
 use Rattle.std.specs.FinMap.{get}
 use Rattle.std.proofs.lemmas.List.{take-append-drop}
@@ -11,28 +11,24 @@ use Rattle.need_table.specs.Rows.{asks_alike}
 use Rattle.need_table.proofs.Found.{Contains-slice_get}
 use Rattle.tree_spec.specs.declared.Entry.TheVariants.{Stored}
 use Rattle.tree_spec.specs.Trees.{Tree}
-use Rattle.tree_spec.specs.declared.LimitName.TheVariants.{Modules}
 use Rattle.url_spec.specs.Specifiers.{is_relative, as_url}
-use Rattle.url_spec.specs.WebNames.{web, IsServed}
 use Rattle.module_spec.specs.PlainForm.{Requests}
 use Rattle.layout_spec.specs.declared.Need.{Need}
 use Rattle.layout_spec.specs.Needs.{counted, counted_onto, NoClash}
 use Rattle.layout_spec.specs.Contained.{counted_keeps}
 use Rattle.generator_spec.specs.declared.Refusal.{Refusal}
-use Rattle.generator_spec.specs.declared.Refusal.TheVariants as refusal
 use Rattle.generator_spec.specs.declared.RequestRefusal.{RequestRefusal}
-use Rattle.generator_spec.specs.declared.RequestRefusal.TheVariants.{NotBuilt, Limit}
-use Rattle.generator_spec.specs.Modules.{Config, Module, is_module, Referrer, the_page, a_module, path_of, web_name, Asks}
+use Rattle.generator_spec.specs.Modules.{Config, Module, Referrer, the_page, a_module, path_of, Asks}
 use Rattle.generator_spec.specs.Modules.Asks.{entries, requests}
-use Rattle.generator_spec.specs.Trace.{ends_in_slash, FitsFile, IsServable, Passes, AllPass, Turn, IsTurn, TurnsOf, new_modules, targets_of, needs_of}
-use Rattle.generator_spec.specs.Closed.{new_modules-append, targets_of-append, length-TurnsOf}
-use Rattle.generator_spec.specs.Refusing.{AsksFile, NodeAnswers, NodeRefuses, HasName, Clashes, Refuses, IsFront, Comes, AllFit, Reaches, ReachesRequest, FirstRefusal, asked_for, shown, of_request}
+use Rattle.generator_spec.specs.Trace.{ends_in_slash, IsServable, Turn, TurnsOf, new_modules, targets_of, needs_of}
+use Rattle.generator_spec.specs.Closed.{new_modules-append, length-TurnsOf}
+use Rattle.generator_spec.specs.Refusing.{AsksFile, Clashes, Refuses, Reaches, FirstRefusal, asked_for}
 use Rattle.generator_spec.specs.Refusing.Comes.{page_first, module_next}
 use Rattle.generator_spec.specs.Refusing.{Refuses as refuses, FirstRefusal as first_refusal}
 use Rattle.generator_core.specs.declared.trace.Trace.{Trace}
 use Rattle.generator_core.specs.declared.trace.Asker.{Asker}
-use Rattle.generator_core.specs.Answering.{Answers, IsRefusedBy}
-use Rattle.generator_core.specs.Walking.{IsAsker, Turned, Takes, RequestRefused, TurnRefused, ModuleRefused, IsPageRefused, Walked}
+use Rattle.generator_core.specs.Answering.{IsRefusedBy}
+use Rattle.generator_core.specs.Walking.{IsAsker, Turned, RequestRefused, TurnRefused, ModuleRefused, IsPageRefused, Walked}
 use Rattle.generator_core.specs.Walking.{ModuleRefused as module_refused}
 use Rattle.generator_core.proofs.Needs.{none_passes, alike}
 use Rattle.generator_core.proofs.Turns.{counted_onto-append}

@@ -1,11 +1,11 @@
 -- Reading one statement, part by part.
-use Rattle.std.proofs.Common.{◌≡◌, ◌≢◌, ◌<◌, ◌≤◌, ℕ, List, [], ◌∷◌, ◌++◌, codes, All, Option, Some, None, MatchOption, length, get_or, sym, refl, ap, ◌∙◌, subst, arith, append_assoc}
+use Rattle.std.proofs.Common.{◌≡◌, ◌≢◌, ◌<◌, ℕ, List, [], ◌∷◌, ◌++◌, codes, All, Option, Some, None, MatchOption, length, get_or, sym, refl, ap, ◌∙◌, subst, arith, append_assoc}
 use Rattle.std.proofs.lemmas.List.{append-nil, append_cancel_left}
-use Rattle.std.proofs.lemmas.List.Elements.{All-nil, All-cons, All-push, All-append, All-head, All-tail, All-same, All-weaker, All-from_get_or}
+use Rattle.std.proofs.lemmas.List.Elements.{All-nil, All-push, All-head, All-tail, All-same, All-weaker, All-from_get_or}
 use denote.Ref.{Bor}
 use Rattle.module_spec.specs.PlainForm.{IsSpace, IsPlainByte, IsStatement, IsPlain, Requests}
 use Rattle.module_spec.specs.PlainForm.IsPlain.{nothing, space, statement}
-use Rattle.module_spec.specs.Readings.{one_cut, SameCut, quote_no_space, end_no_space, word_no_space, quote_not_plain, starts, one_statement}
+use Rattle.module_spec.specs.Readings.{one_cut, quote_no_space, end_no_space, word_no_space, starts, one_statement}
 use Rattle.std.specs.Str.{IsUtf8}
 use Rattle.generator_core.specs.Reading.{SkipsTo, BeginsUnspaced, Skips, Completes}
 

@@ -1,12 +1,12 @@
 -- Turns, request by request.
-use Rattle.std.proofs.Common.{◌≡◌, ◌≤◌, ℕ, Bool, true, false, List, [], ◌∷◌, ◌++◌, length, Some, sym, refl, ap, ◌∙◌, subst, append-nil, append_assoc, add-zero, arith, length-append, ◌+◌, if◌then◌else◌}
+use Rattle.std.proofs.Common.{◌≡◌, ℕ, true, false, List, [], ◌∷◌, ◌++◌, Some, sym, refl, ap, ◌∙◌, append-nil, append_assoc, add-zero, arith, length-append, if◌then◌else◌}
 use Rattle.std.specs.List.{list_any}
 use Rattle.tree_spec.specs.Trees.{Tree}
 use Rattle.url_spec.specs.Specifiers.{is_relative, as_url}
 use Rattle.node_spec.specs.Resolution.{Resolved}
 use Rattle.layout_spec.specs.declared.Need.{Need}
-use Rattle.layout_spec.specs.Needs.{is_need, counted_onto, NoClash}
-use Rattle.generator_spec.specs.Modules.{Config, Module, Referrer, path_of, web_name}
+use Rattle.layout_spec.specs.Needs.{is_need, counted_onto}
+use Rattle.generator_spec.specs.Modules.{Config, Module, Referrer, path_of}
 use Rattle.generator_spec.specs.Trace.{FitsFile, IsServable, ends_in_slash, Passes, AllPass, new_modules}
 use Rattle.generator_spec.specs.Trace.AllPass.{no_requests, a_request}
 use Rattle.generator_spec.specs.Closed.{new_modules-append}
@@ -14,7 +14,7 @@ use Rattle.generator_core.specs.declared.trace.Trace.{Trace}
 use Rattle.generator_core.specs.declared.trace.Asker.{Asker}
 use Rattle.generator_core.specs.Files.{KnowsFiles}
 use Rattle.generator_core.specs.Answering.{Answers}
-use Rattle.generator_core.specs.Walking.{AllNamed, IsAsker, Turned}
+use Rattle.generator_core.specs.Walking.{IsAsker, Turned}
 use Rattle.indexmap.specs.IndexMap.{keys}
 
 pub passes : (tree : Tree) (config : Config) (referrer : Referrer) (asker : Asker) (specifier : List ℕ) (need : Need) (target : Module) → IsAsker config referrer asker → is_relative specifier ≡ true → need.referrer ≡ asker.url → as_url asker.url specifier ≡ Some need.asked → ends_in_slash need.asked ≡ false

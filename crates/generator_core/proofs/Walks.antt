@@ -1,11 +1,9 @@
 -- The walk over the table of modules, turn by turn.
-use Rattle.std.proofs.Common.{◌≡◌, ◌≢◌, codes, ◌≤◌, ◌<◌, ◌+◌, ℕ, zero, suc, Bool, true, false, List, [], ◌∷◌, ◌++◌, length, take, get_or, Option, Some, None, IfSome, IsSome, sym, refl, ap, ◌∙◌, subst, append-nil, append_assoc, arith, length-append, ◌⊎◌, ⊎_elim, take_all, All, add-one, rules}
+use Rattle.std.proofs.Common.{◌≡◌, ◌≢◌, codes, ◌≤◌, ◌<◌, ◌+◌, ℕ, zero, suc, true, false, List, [], ◌∷◌, ◌++◌, length, take, Option, Some, None, IfSome, IsSome, sym, refl, ap, ◌∙◌, subst, append-nil, arith, length-append, ◌⊎◌, ⊎_elim, take_all, All, add-one, rules}
 use Rattle.std.specs.Prelude.{slice_get, is_some, option_copied, flat_map, bytes_eq}
 use Rattle.std.specs.HashMap as map
 use Rattle.std.specs.Map.{keys_of}
-use Rattle.std.proofs.lemmas.Option.{slice_get_cases}
 use Rattle.std.proofs.lemmas.List.{take-append-le}
-use Rattle.std.proofs.Math.Seq.{take-suc}
 use Rattle.std.proofs.lemmas.List.Elements.{All-contains, All-nil}
 use Rattle.std.proofs.lemmas.Grind.{flat_map-append}
 use denote.Ref.{Bor}
@@ -15,16 +13,15 @@ use Rattle.tree_spec.specs.Trees.{Tree}
 use Rattle.url_spec.specs.Parsing.{parse_alone}
 use Rattle.url_spec.specs.FileUrls.{file_text}
 use Rattle.module_spec.specs.PlainForm.{Requests}
-use Rattle.layout_spec.specs.declared.Need.{Need}
 use Rattle.layout_spec.specs.Needs.{counted_onto, NoClash}
-use Rattle.generator_spec.specs.Modules.{Config, Module, Referrer, the_page, a_module, IsModuleFile, Asks}
+use Rattle.generator_spec.specs.Modules.{Config, Module, Referrer, the_page, a_module, IsModuleFile}
 use Rattle.generator_spec.specs.Modules.Asks.{entries, requests}
-use Rattle.generator_spec.specs.Trace.{ends_in_slash, IsServable, new_modules, Turn, IsTurn, TurnsOf, targets_of, Levels, IsTrace, needs_of}
+use Rattle.generator_spec.specs.Trace.{ends_in_slash, IsServable, new_modules, Turn, IsTurn, TurnsOf, targets_of}
 use Rattle.generator_spec.specs.Trace.TurnsOf.{no_turns, a_turn}
 use Rattle.generator_spec.specs.Closed.{IsClosed, new_modules-append, targets_of-append, length-TurnsOf, levels_of_closed}
 use Rattle.generator_core.specs.declared.trace.Trace.{Trace}
 use Rattle.generator_core.specs.declared.trace.Asker.{Asker}
-use Rattle.generator_core.specs.Files.{KnowsFiles, Has}
+use Rattle.generator_core.specs.Files.{Has}
 use Rattle.generator_core.specs.Walking.{AllNamed, AllKept, IsAsker, Turned, ModuleTurned, Walked, Traced}
 use Rattle.generator_core.proofs.Turns.{counted_onto-append}
 

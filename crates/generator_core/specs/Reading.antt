@@ -1,5 +1,5 @@
 -- How far the reading of a module text has come.
-use Rattle.std.specs.Prelude.{◌≡◌, ◌++◌, ◌∷◌, [], ℕ, List, All}
+use Rattle.std.specs.Prelude.{◌≡◌, ◌++◌, ◌∷◌, ℕ, List, All}
 use Rattle.module_spec.specs.PlainForm.{IsSpace, IsPlain}
 
 -- the text is white space and then the rest

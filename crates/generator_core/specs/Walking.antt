@@ -1,5 +1,5 @@
 -- What the walk over the requests keeps true.
-use Rattle.std.specs.Prelude.{◌≡◌, ◌≢◌, ◌⊎◌, codes, false, ◌≤◌, ◌<◌, ◌+◌, ◌++◌, ◌∷◌, [], ℕ, Bool, List, length, Option, Some, unwrap_or, All, slice_get, take, flat_map}
+use Rattle.std.specs.Prelude.{◌≡◌, ◌≢◌, ◌⊎◌, codes, false, ◌≤◌, ◌<◌, ◌+◌, ◌++◌, ◌∷◌, [], ℕ, List, length, Option, Some, unwrap_or, All, slice_get, take, flat_map}
 use Rattle.tree_spec.specs.Trees.{Tree}
 use Rattle.url_spec.specs.Parsing.{parse_alone}
 use Rattle.url_spec.specs.FileUrls.{file_text}

@@ -31,7 +31,8 @@ fn a_target_that_is_asked_for_needs_no_mapping(rt: HostRuntime) -> Result<(), Fa
     }
     let layout = layout(alloc, &needs)?;
     assert_eq!(rt; mappings(&layout), Some(1));
-    assert_eq!(rt; layout.imports.len() + layout.scopes.len(), 1);
+    assert!(rt; layout.imports.is_empty());
+    assert_eq!(rt; layout.scopes.len(), 1);
     let (referrer, scope) = layout.scopes.at(0).ok_or("no scope")?;
     let (asked, target) = scope.at(0).ok_or("no mapping")?;
     assert_eq!(rt; referrer.as_str(), "https://app.test/app.mjs");

@@ -1,6 +1,6 @@
-use Rattle.std.proofs.Common.{◌≡◌, ℕ, List, Err, ap, map, inl, inr, ⊎_elim}
+use Rattle.std.proofs.Common.{Err, ap, map, inl, inr, ⊎_elim}
 use Rattle.std.specs.Prelude.{string_bytes}
-use Rattle.generator_core.proofs.Endings.{stop_statuses, stop_is_not_done, stop_read, stop_write, stop_tells, says_stop, same_state, write_same, write_statuses, write_kept, write_done, write_five, write_is_not_read, write_rose, write_tells, says_write, words_end}
+use Rattle.generator_core.proofs.Endings.{stop_statuses, stop_is_not_done, stop_read, stop_write, stop_tells, says_stop, same_state, write_same, write_done, write_five, write_tells, says_write, words_end}
 use Rattle.generator_core.proofs.Outcomes.{meets, shows}
 use Rattle.generator_core.proofs.command.run.Goals as goal
 

@@ -1,4 +1,4 @@
-use Rattle.std.proofs.Common.{◌≡◌, length, sym, true, eqb-true, eq-eqb}
+use Rattle.std.proofs.Common.{length, sym, eqb-true, eq-eqb}
 use Rattle.generator_core.proofs.Statements.{begins_complete, none_reads, next_complete, all_read}
 use Rattle.generator_core.proofs.module_text.requests_of.Goals as goal
 

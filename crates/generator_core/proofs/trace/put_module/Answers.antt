@@ -1,4 +1,4 @@
-use Rattle.std.proofs.Common.{◌≡◌, sym, ◌∙◌, Option, None}
+use Rattle.std.proofs.Common.{◌∙◌}
 use Rattle.indexmap.proofs.CallerLemmas.{insert_entry-new}
 use Rattle.generator_core.proofs.Modules.{none_found}
 use Rattle.generator_core.proofs.trace.put_module.Goals as goal

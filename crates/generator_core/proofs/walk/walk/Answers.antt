@@ -1,4 +1,4 @@
-use Rattle.std.proofs.Common.{◌≡◌, length, refl, sym, ap, ◌∙◌, subst, arith}
+use Rattle.std.proofs.Common.{◌≡◌, length, sym, ap, ◌∙◌, subst, arith}
 use Rattle.layout_spec.specs.Needs.{NoClash}
 use Rattle.generator_spec.specs.Modules.{the_page}
 use Rattle.generator_core.specs.Walking.{Turned}

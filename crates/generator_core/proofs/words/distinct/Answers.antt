@@ -1,4 +1,4 @@
-use Rattle.std.proofs.Common.{◌≡◌, ap, ◌∙◌, arith}
+use Rattle.std.proofs.Common.{◌∙◌, arith}
 use Rattle.std.specs.Prelude.{string_bytes}
 use Rattle.generator_core.proofs.LinkWords.{one_more}
 use Rattle.generator_core.proofs.words.distinct.Goals as goal

@@ -1,4 +1,4 @@
-use Rattle.std.proofs.Common.{◌≡◌, ◌∷◌, List, ℕ, codes, map, IsTrue, ap, ◌∙◌}
+use Rattle.std.proofs.Common.{◌∷◌, List, ℕ, codes, map, IsTrue, ap, ◌∙◌}
 use Rattle.std.specs.Prelude.{string_bytes}
 use Rattle.std.proofs.lemmas.List.Elements.{All-map}
 use Rattle.generator_spec.specs.Words.{IsEntry}

@@ -1,4 +1,4 @@
-use Rattle.std.proofs.Common.{◌≡◌, ◌∷◌, [], Some, refl, sym, ap, ◌∙◌, subst}
+use Rattle.std.proofs.Common.{◌≡◌, ◌∷◌, [], Some, sym, ap, ◌∙◌, subst}
 use Rattle.layout_spec.specs.declared.Need.{Need}
 use Rattle.generator_spec.specs.Trace.{ends_in_slash, IsServable}
 use Rattle.generator_spec.specs.Trace.AllPass.{no_requests, a_request}
