@@ -141,11 +141,11 @@ asked config files (a_module asker) specifiers e =
 abbrev rest_of : Config → List ℕ → List ℕ
 rest_of config url = drop (length config.base) (before_suffix url)
 
-abbrev leads_back : Config → List ℕ → List ℕ → Bool
+abbrev pub leads_back : Config → List ℕ → List ℕ → Bool
 leads_back config path url =
     bytes_eq (before_suffix url) (config.base ++ rest_of config url) && not (holds_escape (codes "%2f") (rest_of config url)) && bytes_eq path (flat_map read_segment (segments (rest_of config url))) && is_utf8 path && is_path path
 
-is_servable : (config : Config) (path suffix url : List ℕ) → web config.base path suffix ≡ Some url → leads_back config path url ≡ true → IsServable config path suffix url
+pub is_servable : (config : Config) (path suffix url : List ℕ) → web config.base path suffix ≡ Some url → leads_back config path url ≡ true → IsServable config path suffix url
 is_servable config path suffix url name e =
     let rest = rest_of config url in
     let last = and_parts _ (is_path path) e in
@@ -217,7 +217,7 @@ answers_of config files referrer (specifier ∷ more) =
     further (answer_of config files referrer specifier) (λ answer. further (answers_of config files referrer more)
     (λ answers. Some (record { needs = answer.need ∷ answers.needs; targets = answer.target ∷ answers.targets })))
 
-all_answered : (config : Config) (files : List (List ℕ × Entry)) (referrer : Referrer) (specifiers : List (List ℕ)) (answers : AllAnswered) → answers_of config files referrer specifiers ≡ Some answers → AllPass (tree_of files) config referrer specifiers answers.needs answers.targets
+pub all_answered : (config : Config) (files : List (List ℕ × Entry)) (referrer : Referrer) (specifiers : List (List ℕ)) (answers : AllAnswered) → answers_of config files referrer specifiers ≡ Some answers → AllPass (tree_of files) config referrer specifiers answers.needs answers.targets
 all_answered config files referrer [] answers e =
     let same : ◌≡◌ {A = AllAnswered} (record { needs = []; targets = [] }) answers = cc in
     subst (λ (a : AllAnswered). AllPass (tree_of files) config referrer [] a.needs a.targets) same no_requests
@@ -236,11 +236,11 @@ turn_of config files referrer =
     further (asks_of config files referrer) (λ specifiers. further (answers_of config files referrer specifiers)
     (λ answers. Some (record { referrer = referrer; specifiers = specifiers; needs = answers.needs; targets = answers.targets })))
 
-record IsTurnFor (config : Config) (files : List (List ℕ × Entry)) (referrer : Referrer) (turn : Turn) : Type 0 where
-  is_of : turn.referrer ≡ referrer
-  is_turn : IsTurn (tree_of files) config turn
+pub record IsTurnFor (config : Config) (files : List (List ℕ × Entry)) (referrer : Referrer) (turn : Turn) : Type 0 where
+  pub is_of : turn.referrer ≡ referrer
+  pub is_turn : IsTurn (tree_of files) config turn
 
-turned : (config : Config) (files : List (List ℕ × Entry)) (referrer : Referrer) (turn : Turn) → turn_of config files referrer ≡ Some turn → IsTurnFor config files referrer turn
+pub turned : (config : Config) (files : List (List ℕ × Entry)) (referrer : Referrer) (turn : Turn) → turn_of config files referrer ≡ Some turn → IsTurnFor config files referrer turn
 turned config files referrer turn e =
     let asks = stepped (asks_of config files referrer) _ turn e in
     let answers = stepped (answers_of config files referrer asks.x) _ turn asks.second in

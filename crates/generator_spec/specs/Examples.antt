@@ -37,19 +37,19 @@ use Rattle.generator_spec.specs.Serving.{all_served, serves_by_test}
 
 -- ---- how an example is written
 
-abbrev Files : Type 0
+abbrev pub Files : Type 0
 Files = List (List ℕ × Entry)
 
-abbrev folder : String → List ℕ × Entry
+abbrev pub folder : String → List ℕ × Entry
 folder path = (codes path, Directory)
 
-abbrev file : String → String → List ℕ × Entry
+abbrev pub file : String → String → List ℕ × Entry
 file path text = (codes path, Stored (codes text))
 
-abbrev based : String → List String → Config
+abbrev pub based : String → List String → Config
 based base asked = record { base = codes base; page = codes "/index.html"; entries = map (λ (entry : String). codes entry) asked }
 
-abbrev asking : List String → Config
+abbrev pub asking : List String → Config
 asking asked = based "https://app.test/" asked
 
 abbrev at : String → String → Referrer
@@ -75,7 +75,7 @@ pub record IsExample (files : Files) (config : Config) (order : List Referrer) (
   pub generates : Generates (tree_of files) config text
   pub serves : Serves (tree_of files) config text
 
-abbrev found_trace : Config → Files → List Turn
+abbrev pub found_trace : Config → Files → List Turn
 found_trace config files = unwrap_or (trace_of 8 config files) []
 
 worked : (files : Files) (config : Config) (order : List Referrer) (text name : List ℕ) (lists : Lists) → makes_tree files ≡ true → trace_of 8 config files ≡ Some (found_trace config files) → referrers (found_trace config files) ≡ order → generated 8 config files ≡ Some text → web_name config the_page ≡ Some name → Ok (map_of_lists lists) ≡ map_from name (read_json text) → all_served config lists (found_trace config files) ≡ true → IsExample files config order text
@@ -90,7 +90,7 @@ worked files config order text name lists is_tree found is_order gives named par
       serves = serves_by_test (tree_of files) config (found_trace config files) name text lists is_trace named (record { json = read_json text; reads = json_sound text; is = parses }) served;
     }
 
-abbrev page_name : List ℕ
+abbrev pub page_name : List ℕ
 page_name = codes "https://app.test/index.html"
 
 abbrev pub no_mappings : List ℕ
@@ -99,11 +99,11 @@ no_mappings = codes "{\n  \"imports\": {}\n}\n"
 -- ---- what has a text
 
 -- one file under two spellings: `%62` is `b`
-abbrev spelling : Files
+abbrev pub spelling : Files
 spelling = folder "/" ∷ file "/app.mjs" "import \"./a%62.mjs\";" ∷ file "/ab.mjs" "" ∷ []
 
 -- a site with a file whose name a URL escapes
-abbrev site : Files
+abbrev pub site : Files
 site =
     folder "/"
     ∷ file "/app.mjs" "import \"./lib/greet.mjs\";\nimport \"./pages/home.mjs\";\nimport \"./pages/[id].mjs\";\n"
@@ -169,13 +169,13 @@ generation_examples = record {
 -- ---- what has no text
 
 -- two spellings of one URL that Node leads to two files
-abbrev clashing : Files
+abbrev pub clashing : Files
 clashing = folder "/" ∷ file "/m.mjs" "import \"../app/x.mjs\";\nimport \"./x.mjs\";\n" ∷ file "/x.mjs" "" ∷ folder "/app" ∷ file "/app/x.mjs" "" ∷ []
 
-abbrev asks_missing : Files
+abbrev pub asks_missing : Files
 asks_missing = folder "/" ∷ file "/app.mjs" "import \"./q.mjs\";" ∷ []
 
-abbrev other_form : Files
+abbrev pub other_form : Files
 other_form = folder "/" ∷ file "/app.mjs" "  import './b.mjs';" ∷ []
 
 -- the files are a tree that has no text for the config
@@ -196,10 +196,10 @@ pub record RefusalExamples : Type 0 where
   pub clash : IsRefused clashing (based "https://app.test/app/" ("./m.mjs" ∷ []))
 
 -- the page asks for a module by its URL
-abbrev entry_answer : String → String → Answered
+abbrev pub entry_answer : String → String → Answered
 entry_answer url path = record { need = record { referrer = page_name; asked = codes url; target = codes url }; target = record { path = codes path; suffix = [] } }
 
-only_entry : (specifier : List ℕ) → Contains (specifier ∷ []) specifier
+pub only_entry : (specifier : List ℕ) → Contains (specifier ∷ []) specifier
 only_entry specifier = contains_here specifier []
 
 entry_missing : HasNoText (tree_of spelling) (asking ("./app.mjs" ∷ "./b.mjs" ∷ []))
@@ -237,7 +237,7 @@ no_name =
     let files : Files = folder "/" ∷ file "/app.js" "" ∷ [] in
     without_requests _ _ _ (reaches config files (codes "./app.js") (entry_answer "https://app.test/app.js" "/app.js") (only_entry _) refl) (λ specifiers. other_name (tree_of files) config (record { path = codes "/app.js"; suffix = [] }) specifiers refl)
 
-two_spaces : (specifiers : List (List ℕ)) → IsPlain (codes "  import './b.mjs';") specifiers → ⊥
+pub two_spaces : (specifiers : List (List ℕ)) → IsPlain (codes "  import './b.mjs';") specifiers → ⊥
 two_spaces specifiers plain =
     let at_first = behind_space _ (codes " import './b.mjs';") 32 specifiers (inl refl) refl plain in
     module_examples.1.single_quotes specifiers (behind_space _ (codes "import './b.mjs';") 32 specifiers (inl refl) refl at_first)
@@ -249,16 +249,16 @@ no_plain =
     without_requests _ _ _ (reaches config other_form (codes "./app.mjs") (entry_answer "https://app.test/app.mjs" "/app.mjs") (only_entry _) refl)
     (other_text (tree_of other_form) config (record { path = codes "/app.mjs"; suffix = [] }) (codes "  import './b.mjs';") (stands other_form _ _ refl) two_spaces)
 
-abbrev page_m : Need
+abbrev pub page_m : Need
 page_m = record { referrer = codes "https://app.test/app/index.html"; asked = codes "https://app.test/app/m.mjs"; target = codes "https://app.test/app/m.mjs" }
 
-abbrev m_app : Need
+abbrev pub m_app : Need
 m_app = record { referrer = codes "https://app.test/app/m.mjs"; asked = codes "https://app.test/app/x.mjs"; target = codes "https://app.test/app/app/x.mjs" }
 
-abbrev m_x : Need
+abbrev pub m_x : Need
 m_x = record { referrer = codes "https://app.test/app/m.mjs"; asked = codes "https://app.test/app/x.mjs"; target = codes "https://app.test/app/x.mjs" }
 
-differ : (some other : List ℕ) → bytes_eq some other ≡ false → some ≢ other
+pub differ : (some other : List ℕ) → bytes_eq some other ≡ false → some ≢ other
 differ some other f e = let t : bytes_eq some other ≡ true = (bytes_eq-Decides some other).1 e in cc
 
 clash_found : HasNoText (tree_of clashing) (based "https://app.test/app/" ("./m.mjs" ∷ []))

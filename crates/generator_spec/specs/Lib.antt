@@ -22,4 +22,6 @@ pub mod Computed
 pub mod WrittenTrees
 pub mod Serving
 pub mod NoText
+pub mod RefusedTrees
 pub mod Examples
+pub mod OutcomeExamples

@@ -40,7 +40,7 @@ looked_at_file tree parent specifier answer path suffix (relative a is_relative 
     record { url = url; joins = e; no_host = host; names = subst (NamesPath (url_path url)) paths n }
 
 -- one path is looked at
-one_looked_at : (parent specifier path other : List ℕ) → LooksAt parent specifier path → LooksAt parent specifier other → path ≡ other
+pub one_looked_at : (parent specifier path other : List ℕ) → LooksAt parent specifier path → LooksAt parent specifier other → path ≡ other
 one_looked_at parent specifier path other a b =
     let urls : a.url ≡ b.url = (let e = a.joins in let f = b.joins in cc) in
     let paths = ap url_path urls in

@@ -4,6 +4,7 @@
 ghost use Rattle.generator_spec.specs.Examples.{WorkedExamples};
 ghost use Rattle.generator_spec.specs.Laws.{OneTrace};
 ghost use Rattle.generator_spec.specs.OneRefusal.{OneRequestRefusal, OneRefusal, NothingRefused, OneOutcome};
+ghost use Rattle.generator_spec.specs.OutcomeExamples.{WorkedOutcomes};
 ghost use Rattle.generator_spec.specs.NeedLaws.{NeedsAreRequests};
 ghost use Rattle.generator_spec.specs.OneGeneration.{OneGeneration};
 ghost use Rattle.generator_spec.specs.Reaching.{NeedsNameFiles, ReachedTurns};
@@ -102,4 +103,10 @@ pub fn one_outcome()
 #[tactic(auto, using(crate::specs::Examples::worked_examples))]
 pub fn worked_examples()
     ensures { WorkedExamples }
+{}
+
+/// Worked examples of what a command ends with.
+#[tactic(auto, using(crate::specs::OutcomeExamples::worked_outcomes))]
+pub fn worked_outcomes()
+    ensures { WorkedOutcomes }
 {}
