@@ -1,39 +1,55 @@
 -- Worked examples of what a command ends with. Unless said, the words are `link --base https://app.test/ ./app.mjs`.
-use Rattle.std.specs.Prelude.{◌≡◌, ◌==◌, not, ℕ, Bool, true, false, List, [], ◌∷◌, map, codes, All, Some, unwrap_or}
+use Rattle.std.specs.Prelude.{◌≡◌, ◌==◌, ◌+◌, ◌-◌, not, ℕ, Bool, true, false, List, [], ◌∷◌, length, map, flat_map, codes, All, Option, Some, None, unwrap_or}
 use Prim.Native.String.{String}
 use Rattle.std.specs.Char.{encode_utf8}
 use Rattle.std.specs.Str.{is_utf8, chars}
-use Rattle.std.specs.List.{list_all}
-use Rattle.std.proofs.Common.{refl, sym}
+use Rattle.std.specs.List.{list_all, sum_by}
+use Rattle.std.specs.Ordering.{nat_cmp}
+use Rattle.std.specs.Cmp.Lexicographic.{slice_cmp, nat_list_cmp_total}
+use Rattle.std.specs.FinMap.{entries as entries_of, insert, empty, len, put, entries-insert, len-entries, len-empty}
+use Rattle.std.proofs.Common.{refl, sym, ap, ◌∙◌, arith}
 use Rattle.std.proofs.lemmas.Bool.{and_parts, eqb-false, not-true, true≢false}
 use Rattle.std.proofs.lemmas.List.Elements.{All-nil, All-cons}
+use Rattle.std.proofs.lemmas.List.Sums.{sum_by-cons}
 use Rattle.percent_encoding.specs.Percent.{percent_encode_byte, percent_decode}
 use Rattle.url.proofs.OnLiterals.{url_on_literals}
-use Rattle.tree_spec.specs.Trees.{Tree, IsTree}
+use Rattle.tree_spec.specs.declared.Entry.TheVariants.{Stored}
+use Rattle.tree_spec.specs.Paths.{IsParent}
+use Rattle.tree_spec.specs.Trees.{Tree, IsTree, Places}
+use Rattle.tree_spec.specs.TreeLaws.{in_root}
 use Rattle.url_spec.specs.Parsing.{text_of, parse_alone, parse_against, base_of}
 use Rattle.url_spec.specs.Specifiers.{as_url}
 use Rattle.url_spec.specs.WebNames.{escaped, web, holds_escape}
 use Rattle.url_spec.specs.FileUrls.{file_text, names_host, url_path, spelled_path}
+use Rattle.import_map_spec.specs.ParsedMap.{Texts, Addresses}
+use Rattle.import_map_spec.specs.Literals.{Lists, map_of_lists}
+use Rattle.layout_spec.specs.Contained.{contains_here, contains_there}
+use Rattle.layout_spec.specs.Layout.{layout}
+use Rattle.layout_spec.specs.Counting.{mapping_count}
+use Rattle.layout_spec.specs.LaidLists.{listed_layout, layout_listed}
 use Rattle.generator_spec.specs.declared.Refusal.{Refusal}
 use Rattle.generator_spec.specs.declared.Refusal.TheVariants as refusal
 use Rattle.generator_spec.specs.declared.RequestRefusal.TheVariants.{NotFound, NotBuilt}
 use Rattle.generator_spec.specs.Modules.{Config, Module, the_page, a_module}
 use Rattle.generator_spec.specs.Modules.Asks.{entries}
-use Rattle.generator_spec.specs.Trace.{Turn}
+use Rattle.generator_spec.specs.Trace.{Turn, IsTrace, needs_of}
+use Rattle.generator_spec.specs.Generation.{Generates}
+use Rattle.generator_spec.specs.Laws.{one_trace}
 use Rattle.generator_spec.specs.Trace.AllPass.{no_requests}
 use Rattle.generator_spec.specs.Words.{IsEntry, IsLink, once_onto, IsConfigOf}
+use Rattle.generator_spec.specs.Words.RefusesWords.{no_link, bad_base}
 use Rattle.generator_spec.specs.Refusing.{FirstRefusal}
-use Rattle.generator_spec.specs.Refusing.Refuses.{asks_no_file}
+use Rattle.generator_spec.specs.Refusing.Refuses.{asks_no_file, clash}
 use Rattle.generator_spec.specs.Refusing.FirstRefusal.{no_module, request}
-use Rattle.generator_spec.specs.Lines.{status_of, line_of}
+use Rattle.generator_spec.specs.Lines.{status_of, line_of, counts_line, done_line}
 use Rattle.generator_spec.specs.Outcome.{Outcome}
-use Rattle.generator_spec.specs.Outcome.Outcome.{trace_refused}
-use Rattle.generator_spec.specs.Written.{tree_of, stands, written_path, names_path}
-use Rattle.generator_spec.specs.Computed.{AllAnswered, answers_of, turn_of}
-use Rattle.generator_spec.specs.NoText.{other_text}
+use Rattle.generator_spec.specs.Outcome.Outcome.{words_refused, trace_refused, done}
+use Rattle.generator_spec.specs.Written.{tree_of, stands, segment, written_path, names_path}
+use Rattle.generator_spec.specs.Computed.{answered, AllAnswered, answers_of, turn_of, traced, generation}
+use Rattle.generator_spec.specs.NoText.{other_name, other_text}
 use Rattle.generator_spec.specs.WrittenTrees.{tree_by_test}
 use Rattle.generator_spec.specs.RefusedTrees.{page_reached, first_reached, fits, request_reached, nothing_found, folder_found}
-use Rattle.generator_spec.specs.Examples.{Files, based, asking, page_name, asks_missing, other_form, two_spaces, site}
+use Rattle.generator_spec.specs.Examples.{Files, folder, file, based, asking, found_trace, page_name, spelling, site, clashing, asks_missing, other_form, two_spaces, page_m, m_app, m_x, differ}
 
 -- ---- words
 
@@ -168,12 +184,49 @@ bare_first tree =
     (asks_no_file (λ name asked asks. true≢false (sym asks.relative)))
     refl
 
+-- two needs clash, where the base has a path
+clash_gives : IsConfigOf (linking "https://app.test/app/" ("./m.mjs" ∷ [])) (based "https://app.test/app/" ("./m.mjs" ∷ []))
+unfolding base_of parse_alone text_of url_on_literals
+clash_gives = words_give "https://app.test/app/" ("./m.mjs" ∷ []) refl refl refl
+
+clash_first : FirstRefusal (tree_of clashing) (based "https://app.test/app/" ("./m.mjs" ∷ [])) (refusal.RequestNotBuilt (codes "/m.mjs") (codes "./x.mjs"))
+unfolding as_url web file_text escaped holds_escape percent_encode_byte percent_decode names_host url_path spelled_path parse_alone parse_against text_of url_on_literals is_utf8 chars encode_utf8
+clash_first =
+    let config = based "https://app.test/app/" ("./m.mjs" ∷ []) in
+    let asker : Module = record { path = codes "/m.mjs"; suffix = [] } in
+    let x : Module = record { path = codes "/x.mjs"; suffix = [] } in
+    let app_x : Module = record { path = codes "/app/x.mjs"; suffix = [] } in
+    let reaches = first_reached config clashing (codes "https://app.test/app/index.html") (page_turn config clashing) asker refl refl refl refl in
+    request (a_module asker) (codes "./x.mjs") _ _ NotBuilt
+    (request_reached config clashing (a_module asker) (page_turn config clashing ∷ []) (codes "../app/x.mjs" ∷ []) (codes "./x.mjs") [] (record { needs = m_app ∷ []; targets = app_x ∷ [] }) reaches refl refl refl refl)
+    (clash m_x x (answered config clashing (a_module asker) (codes "./x.mjs") (record { need = m_x; target = x }) refl)
+    (record { other = m_app; earlier = contains_there m_app page_m (m_app ∷ []) (contains_here m_app []); one_referrer = refl; one_question = refl; two_targets = differ m_app.target m_x.target refl }))
+    refl
+
+-- a module's file has another name
+script_gives : IsConfigOf (linking "https://app.test/" ("./app.js" ∷ [])) (asking ("./app.js" ∷ []))
+unfolding base_of parse_alone text_of url_on_literals
+script_gives = words_give "https://app.test/" ("./app.js" ∷ []) refl refl refl
+
+abbrev script : Files
+script = folder "/" ∷ file "/app.js" "" ∷ []
+
+script_first : FirstRefusal (tree_of script) (asking ("./app.js" ∷ [])) (refusal.ModuleNotBuilt (codes "/app.js"))
+unfolding as_url web file_text escaped holds_escape percent_encode_byte percent_decode names_host url_path spelled_path parse_alone parse_against text_of url_on_literals is_utf8 chars encode_utf8
+script_first =
+    let config = asking ("./app.js" ∷ []) in
+    let asker : Module = record { path = codes "/app.js"; suffix = [] } in
+    let reaches = first_reached config script page_name (page_turn config script) asker refl refl refl refl in
+    no_module (page_turn config script ∷ []) asker reaches (fits _ _ refl refl) (λ specifiers. other_name (tree_of script) config asker specifiers refl) refl
+
 pub record StoppedExamples : Type 0 where
   pub missing : IsStopped asks_missing "https://app.test/" ("./app.mjs" ∷ []) (refusal.NotFound (codes "/app.mjs") (codes "./q.mjs")) 1 "refused: NotFound from \"/app.mjs\" for \"./q.mjs\"\n"
   pub with_a_query : IsStopped asks_missing "https://app.test/" ("./app.mjs?v=1" ∷ []) (refusal.NotFound (codes "/app.mjs?v=1") (codes "./q.mjs")) 1 "refused: NotFound from \"/app.mjs?v=1\" for \"./q.mjs\"\n"
   pub another_form : IsStopped other_form "https://app.test/" ("./app.mjs" ∷ []) (refusal.ModuleNotBuilt (codes "/app.mjs")) 9 "not built: \"/app.mjs\"\n"
   pub second_entry : IsStopped other_form "https://app.test/" ("./app.mjs" ∷ "./b.mjs" ∷ []) (refusal.NotFound (codes "/index.html") (codes "./b.mjs")) 1 "refused: NotFound from \"/index.html\" for \"./b.mjs\"\n"
   pub a_folder : IsStopped site "https://app.test/" ("./lib" ∷ []) (refusal.RequestNotBuilt (codes "/index.html") (codes "./lib")) 9 "not built: from \"/index.html\" for \"./lib\"\n"
+  pub two_targets : IsStopped clashing "https://app.test/app/" ("./m.mjs" ∷ []) (refusal.RequestNotBuilt (codes "/m.mjs") (codes "./x.mjs")) 9 "not built: from \"/m.mjs\" for \"./x.mjs\"\n"
+  pub another_name : IsStopped script "https://app.test/" ("./app.js" ∷ []) (refusal.ModuleNotBuilt (codes "/app.js")) 9 "not built: \"/app.js\"\n"
   pub bare_first_refusal : (tree : Tree) → FirstRefusal tree (asking ("ui" ∷ [])) (refusal.RequestNotBuilt (codes "/index.html") (codes "ui"))
   pub bare : (tree : Tree) → Outcome (linking "https://app.test/" ("ui" ∷ [])) tree 9 (codes "not built: from \"/index.html\" for \"ui\"\n") tree
 
@@ -184,12 +237,115 @@ stopped_examples = record {
   another_form = stopped _ _ _ _ _ _ (tree_by_test other_form refl) app_gives other_form_first refl refl;
   second_entry = stopped _ _ _ _ _ _ (tree_by_test other_form refl) second_gives second_first refl refl;
   a_folder = stopped _ _ _ _ _ _ (tree_by_test site refl) folder_gives folder_first refl refl;
+  two_targets = stopped _ _ _ _ _ _ (tree_by_test clashing refl) clash_gives clash_first refl refl;
+  another_name = stopped _ _ _ _ _ _ (tree_by_test script refl) script_gives script_first refl refl;
   bare_first_refusal = bare_first;
   bare = λ tree. trace_refused _ _ bare_gives (bare_first tree) refl refl refl;
 }
 
+-- ---- words that are refused, whatever the tree
+
+-- words that give no link
+abbrev Unread : List String → Type 0
+Unread words = (tree : Tree) → Outcome (words_of words) tree 9 (codes "not built: words\n") tree
+
+unread : (words : List String) → ((base : List ℕ) (asked : List (List ℕ)) → IsLink (words_of words) base asked → ⊥) → Unread words
+unread words none tree = words_refused refusal.Words (no_link none) refl refl refl
+
+ftp_base : base_of (codes "ftp://h/") ≡ None
+unfolding base_of parse_alone text_of url_on_literals
+ftp_base = refl
+
+pub record WordExamples : Type 0 where
+  pub another_command : Unread ("check" ∷ [])
+  pub no_words : Unread []
+  pub no_base : Unread ("link" ∷ "./app.mjs" ∷ [])
+  pub no_folder_of_the_web : (tree : Tree) → Outcome (linking "ftp://h/" ("./app.mjs" ∷ [])) tree 2 (codes "words: BadBase \"ftp://h/\"\n") tree
+
+word_examples : WordExamples
+word_examples = record {
+  another_command = unread ("check" ∷ []) (λ base asked link. let e = link.split in cc);
+  no_words = unread [] (λ base asked link. let e = link.split in cc);
+  no_base = unread ("link" ∷ "./app.mjs" ∷ []) (λ base asked link. let e = link.split in cc);
+  no_folder_of_the_web = λ tree. words_refused (refusal.BadBase (codes "ftp://h/")) (bad_base (codes "ftp://h/") _ (is_linking "ftp://h/" ("./app.mjs" ∷ []) refl) ftp_base) refl refl refl;
+}
+
+-- ---- what is done
+
+-- an entry that is put into nothing is the only one
+no_entries : {X : Type 0} (es : List (List ℕ × X)) → length es ≡ 0 → es ≡ []
+no_entries [] e = refl
+no_entries (x ∷ es) e = absurd (omega arith)
+
+one_entry : {X : Type 0} (key : List ℕ) (x : X) → entries_of {R = slice_cmp nat_cmp} (insert empty key x) ≡ (key, x) ∷ []
+one_entry {X} key x =
+    let nothing : Texts X = empty in
+    let none : entries_of nothing ≡ [] = no_entries (entries_of nothing) (sym (len-entries nothing) ∙ len-empty (slice_cmp nat_cmp) X) in
+    entries-insert nat_list_cmp_total nothing key x ∙ ap (put (slice_cmp nat_cmp) key x) none
+
+-- the map with one mapping, in a scope
+abbrev one_mapping : List ℕ → List ℕ → List ℕ → Lists
+one_mapping scope asked target = record { imports = []; scopes = (scope, (asked, Some target) ∷ []) ∷ []; integrity = [] }
+
+counts_one : (scope asked target : List ℕ) → mapping_count (map_of_lists (one_mapping scope asked target)) ≡ 1
+counts_one scope asked target =
+    let inner : Addresses = insert empty asked (Some target) in
+    let first : len inner ≡ 1 = len-entries inner ∙ ap length (one_entry asked (Some target)) in
+    let imports : len (empty {X = Option (List ℕ)} {R = slice_cmp nat_cmp}) ≡ 0 = len-empty (slice_cmp nat_cmp) (Option (List ℕ)) in
+    let f : List ℕ × Addresses → ℕ = λ e. len e.1 in
+    let outer : sum_by f (entries_of (insert empty scope inner)) ≡ len inner + 0 = ap (sum_by f) (one_entry scope inner) ∙ sum_by-cons f (scope, inner) [] in
+    omega arith
+
+abbrev spelling_map : List ℕ
+spelling_map = codes "{\n  \"imports\": {},\n  \"scopes\": {\n    \"https://app.test/app.mjs\": {\n      \"https://app.test/a%62.mjs\": \"https://app.test/ab.mjs\"\n    }\n  }\n}\n"
+
+abbrev spelling_done : Files
+spelling_done = folder "/" ∷ file "/app.mjs" "import \"./a%62.mjs\";" ∷ file "/ab.mjs" "" ∷ (codes "/importmap.json", Stored spelling_map) ∷ []
+
+spelling_generates : Generates (tree_of spelling) (asking ("./app.mjs" ∷ [])) spelling_map
+unfolding as_url web file_text escaped holds_escape percent_encode_byte percent_decode names_host url_path spelled_path parse_alone parse_against text_of url_on_literals is_utf8 chars encode_utf8
+spelling_generates = generation 8 (asking ("./app.mjs" ∷ [])) spelling spelling_map refl
+
+spelling_trace : IsTrace (tree_of spelling) (asking ("./app.mjs" ∷ [])) (found_trace (asking ("./app.mjs" ∷ [])) spelling)
+unfolding as_url web file_text escaped holds_escape percent_encode_byte percent_decode names_host url_path spelled_path parse_alone parse_against text_of url_on_literals is_utf8 chars encode_utf8
+spelling_trace = traced 8 (asking ("./app.mjs" ∷ [])) spelling (found_trace (asking ("./app.mjs" ∷ [])) spelling) refl
+
+spelling_layout : listed_layout (needs_of (found_trace (asking ("./app.mjs" ∷ [])) spelling)) ≡ one_mapping (codes "https://app.test/app.mjs") (codes "https://app.test/a%62.mjs") (codes "https://app.test/ab.mjs")
+unfolding as_url web file_text escaped holds_escape percent_encode_byte percent_decode names_host url_path spelled_path parse_alone parse_against text_of url_on_literals is_utf8 chars encode_utf8
+spelling_layout = refl
+
+spelling_mappings : mapping_count (layout (needs_of (found_trace (asking ("./app.mjs" ∷ [])) spelling))) ≡ 1
+spelling_mappings =
+    ap mapping_count (layout_listed (needs_of (found_trace (asking ("./app.mjs" ∷ [])) spelling))) ∙ (ap (λ lists. mapping_count (map_of_lists lists)) spelling_layout ∙ counts_one (codes "https://app.test/app.mjs") (codes "https://app.test/a%62.mjs") (codes "https://app.test/ab.mjs"))
+
+spelling_counts : counts_line (length (found_trace (asking ("./app.mjs" ∷ [])) spelling) - 1) (length (flat_map (λ turn. turn.specifiers) (found_trace (asking ("./app.mjs" ∷ [])) spelling))) 1 ≡ codes "ok: 2 modules, 2 requests, 1 mappings\n"
+unfolding as_url web file_text escaped holds_escape percent_encode_byte percent_decode names_host url_path spelled_path parse_alone parse_against text_of url_on_literals is_utf8 chars encode_utf8
+spelling_counts = refl
+
+spelling_line : codes "ok: 2 modules, 2 requests, 1 mappings\n" ≡ done_line spelling_generates.trace
+spelling_line =
+    let config = asking ("./app.mjs" ∷ []) in
+    let trace = found_trace config spelling in
+    let same : spelling_generates.trace ≡ trace = one_trace (tree_of spelling) config spelling_generates.trace trace spelling_generates.is_trace spelling_trace in
+    let count : done_line trace ≡ counts_line (length trace - 1) (length (flat_map (λ turn. turn.specifiers) trace)) 1 = ap (counts_line (length trace - 1) (length (flat_map (λ turn. turn.specifiers) trace))) spelling_mappings in
+    sym (ap done_line same ∙ (count ∙ spelling_counts))
+
+map_in_root : IsParent (codes "/") (codes "/importmap.json")
+map_in_root = record { name = codes "importmap.json"; segment = segment (codes "importmap.json") refl; is_path = written_path [] refl; text = refl }
+
+spelling_placed : Places (tree_of spelling) (codes "/importmap.json") (Stored spelling_map) (tree_of spelling_done)
+spelling_placed = (in_root (tree_of spelling) (codes "/importmap.json") (Stored spelling_map) (tree_of spelling_done) (tree_by_test spelling refl) map_in_root).1 refl
+
+-- a map is written
+pub record DoneExamples : Type 0 where
+  pub is_tree : IsTree (tree_of spelling)
+  pub outcome : Outcome (linking "https://app.test/" ("./app.mjs" ∷ [])) (tree_of spelling) 0 (codes "ok: 2 modules, 2 requests, 1 mappings\n") (tree_of spelling_done)
+
+done_examples : DoneExamples
+done_examples = record { is_tree = tree_by_test spelling refl; outcome = done (asking ("./app.mjs" ∷ [])) spelling_map app_gives spelling_generates refl spelling_line spelling_placed }
+
 abbrev pub WorkedOutcomes : Type 0
-WorkedOutcomes = StoppedExamples
+WorkedOutcomes = StoppedExamples × WordExamples × DoneExamples
 
 pub worked_outcomes : WorkedOutcomes
-worked_outcomes = stopped_examples
+worked_outcomes = (stopped_examples, word_examples, done_examples)
