@@ -253,7 +253,7 @@ abbrev pub turns_of : Config → List (List ℕ × Entry) → List Module → Op
 turns_of config files [] = Some []
 turns_of config files (asker ∷ more) = further (turn_of config files (a_module asker)) (λ turn. further (turns_of config files more) (λ turns. Some (turn ∷ turns)))
 
-all_turned : (config : Config) (files : List (List ℕ × Entry)) (modules : List Module) (turns : List Turn) → turns_of config files modules ≡ Some turns → TurnsOf (tree_of files) config modules turns
+pub all_turned : (config : Config) (files : List (List ℕ × Entry)) (modules : List Module) (turns : List Turn) → turns_of config files modules ≡ Some turns → TurnsOf (tree_of files) config modules turns
 all_turned config files [] turns e = let same : [] ≡ turns = cc in subst (TurnsOf (tree_of files) config []) same no_turns
 all_turned config files (asker ∷ more) turns e =
     let first = stepped (turn_of config files (a_module asker)) _ turns e in

@@ -1,19 +1,21 @@
 -- Worked examples of what a command ends with. Unless said, the words are `link --base https://app.test/ ./app.mjs`.
-use Rattle.std.specs.Prelude.{◌≡◌, ◌==◌, ◌+◌, ◌-◌, not, ℕ, Bool, true, false, List, [], ◌∷◌, length, map, flat_map, codes, All, Option, Some, None, unwrap_or}
+use Rattle.std.specs.Prelude.{◌≡◌, ◌<◌, ◌==◌, ◌+◌, ◌-◌, not, ℕ, Bool, true, false, List, [], ◌∷◌, length, map, flat_map, codes, All, Option, Some, None, unwrap_or}
 use Prim.Native.String.{String}
 use Rattle.std.specs.Char.{encode_utf8}
 use Rattle.std.specs.Str.{is_utf8, chars}
+use Rattle.std.specs.Fmt.{digits}
 use Rattle.std.specs.List.{list_all, sum_by}
 use Rattle.std.specs.Ordering.{nat_cmp}
 use Rattle.std.specs.Cmp.Lexicographic.{slice_cmp, nat_list_cmp_total}
 use Rattle.std.specs.FinMap.{entries as entries_of, insert, empty, len, put, entries-insert, len-entries, len-empty}
-use Rattle.std.proofs.Common.{refl, sym, ap, ◌∙◌, arith}
+use Rattle.std.proofs.Common.{refl, sym, ap, ◌∙◌, subst, arith}
 use Rattle.std.proofs.lemmas.Bool.{and_parts, eqb-false, not-true, true≢false}
-use Rattle.std.proofs.lemmas.List.Elements.{All-nil, All-cons}
+use Rattle.std.proofs.lemmas.List.Elements.{All-nil, All-cons, All-head}
 use Rattle.std.proofs.lemmas.List.Sums.{sum_by-cons}
 use Rattle.percent_encoding.specs.Percent.{percent_encode_byte, percent_decode}
 use Rattle.url.proofs.OnLiterals.{url_on_literals}
 use Rattle.tree_spec.specs.declared.Entry.TheVariants.{Stored}
+use Rattle.tree_spec.specs.declared.LimitName.TheVariants.{File}
 use Rattle.tree_spec.specs.Paths.{IsParent}
 use Rattle.tree_spec.specs.Trees.{Tree, IsTree, Places}
 use Rattle.tree_spec.specs.TreeLaws.{in_root}
@@ -29,16 +31,14 @@ use Rattle.layout_spec.specs.Counting.{mapping_count}
 use Rattle.layout_spec.specs.LaidLists.{listed_layout, layout_listed}
 use Rattle.generator_spec.specs.declared.Refusal.{Refusal}
 use Rattle.generator_spec.specs.declared.Refusal.TheVariants as refusal
-use Rattle.generator_spec.specs.declared.RequestRefusal.TheVariants.{NotFound, NotBuilt}
+use Rattle.generator_spec.specs.declared.RequestRefusal.TheVariants.{NotFound, NotBuilt, Limit}
 use Rattle.generator_spec.specs.Modules.{Config, Module, the_page, a_module}
-use Rattle.generator_spec.specs.Modules.Asks.{entries}
-use Rattle.generator_spec.specs.Trace.{Turn, IsTrace, needs_of}
+use Rattle.generator_spec.specs.Trace.{ends_in_slash, Turn, IsTrace, needs_of}
 use Rattle.generator_spec.specs.Generation.{Generates}
 use Rattle.generator_spec.specs.Laws.{one_trace}
-use Rattle.generator_spec.specs.Trace.AllPass.{no_requests}
 use Rattle.generator_spec.specs.Words.{IsEntry, IsLink, once_onto, IsConfigOf}
 use Rattle.generator_spec.specs.Words.RefusesWords.{no_link, bad_base}
-use Rattle.generator_spec.specs.Refusing.{FirstRefusal}
+use Rattle.generator_spec.specs.Refusing.{AsksFile, FirstRefusal}
 use Rattle.generator_spec.specs.Refusing.Refuses.{asks_no_file, clash}
 use Rattle.generator_spec.specs.Refusing.FirstRefusal.{no_module, request}
 use Rattle.generator_spec.specs.Lines.{status_of, line_of, counts_line, done_line}
@@ -48,7 +48,7 @@ use Rattle.generator_spec.specs.Written.{tree_of, stands, segment, written_path,
 use Rattle.generator_spec.specs.Computed.{answered, AllAnswered, answers_of, turn_of, traced, generation}
 use Rattle.generator_spec.specs.NoText.{other_name, other_text}
 use Rattle.generator_spec.specs.WrittenTrees.{tree_by_test}
-use Rattle.generator_spec.specs.RefusedTrees.{page_reached, first_reached, fits, request_reached, nothing_found, folder_found}
+use Rattle.generator_spec.specs.RefusedTrees.{page_reached, first_reached, later_reached, fits, request_reached, nothing_found, folder_found, large_found, page_refused}
 use Rattle.generator_spec.specs.Examples.{Files, folder, file, based, asking, found_trace, page_name, spelling, site, clashing, asks_missing, other_form, two_spaces, page_m, m_app, m_x, differ}
 
 -- ---- words
@@ -177,11 +177,61 @@ bare_gives = words_give "https://app.test/" ("ui" ∷ []) refl refl refl
 
 bare_first : (tree : Tree) → FirstRefusal tree (asking ("ui" ∷ [])) (refusal.RequestNotBuilt (codes "/index.html") (codes "ui"))
 unfolding web escaped holds_escape percent_encode_byte percent_decode parse_alone parse_against text_of url_on_literals is_utf8 chars encode_utf8
-bare_first tree =
-    let config = asking ("ui" ∷ []) in
-    request the_page (codes "ui") [] [] NotBuilt
-    (record { turns = []; reaches = page_reached tree config page_name refl refl; before = []; after = []; asks = entries _ refl; before_needs = []; before_targets = []; pass = no_requests; are_needs = refl; are_modules = refl; fit = fits [] [] refl refl })
-    (asks_no_file (λ name asked asks. true≢false (sym asks.relative)))
+bare_first tree = page_refused tree (asking ("ui" ∷ [])) page_name (codes "ui") [] NotBuilt refl refl refl (asks_no_file (λ name asked asks. true≢false (sym asks.relative)))
+
+-- a URL of a folder isn't asked for, whatever the tree
+slash_gives : IsConfigOf (linking "https://app.test/" ("./lib/" ∷ [])) (asking ("./lib/" ∷ []))
+unfolding base_of parse_alone text_of url_on_literals
+slash_gives = words_give "https://app.test/" ("./lib/" ∷ []) refl refl refl
+
+slash_asks : (name asked : List ℕ) → AsksFile (asking ("./lib/" ∷ [])) the_page (codes "./lib/") name asked → ⊥
+unfolding as_url web escaped percent_encode_byte parse_alone parse_against text_of url_on_literals
+slash_asks name asked asks =
+    let named : Some page_name ≡ Some name = asks.named in
+    let same : name ≡ page_name = cc in
+    let url : as_url page_name (codes "./lib/") ≡ Some (codes "https://app.test/lib/") = refl in
+    let folder_url : Some asked ≡ Some (codes "https://app.test/lib/") = sym asks.asks ∙ (ap (λ n. as_url n (codes "./lib/")) same ∙ url) in
+    let same_url : asked ≡ codes "https://app.test/lib/" = cc in
+    let slash : ends_in_slash (codes "https://app.test/lib/") ≡ true = refl in
+    true≢false (sym slash ∙ (ap ends_in_slash (sym same_url) ∙ asks.asks_file))
+
+slash_first : (tree : Tree) → FirstRefusal tree (asking ("./lib/" ∷ [])) (refusal.RequestNotBuilt (codes "/index.html") (codes "./lib/"))
+unfolding web escaped holds_escape percent_encode_byte percent_decode parse_alone parse_against text_of url_on_literals is_utf8 chars encode_utf8
+slash_first tree = page_refused tree (asking ("./lib/" ∷ [])) page_name (codes "./lib/") [] NotBuilt refl refl refl (asks_no_file slash_asks)
+
+-- a file of more than 16 MiB, whatever it holds
+abbrev pub with_app : List ℕ → Files
+with_app bytes = folder "/" ∷ (codes "/app.mjs", Stored bytes) ∷ []
+
+large_first : (bytes : List ℕ) → 16777216 < length bytes → FirstRefusal (tree_of (with_app bytes)) (asking ("./app.mjs" ∷ [])) (refusal.Limit File)
+unfolding as_url web file_text escaped holds_escape percent_encode_byte percent_decode names_host url_path spelled_path parse_alone parse_against text_of url_on_literals is_utf8 chars encode_utf8
+large_first bytes above =
+    let config = asking ("./app.mjs" ∷ []) in
+    page_refused (tree_of (with_app bytes)) config page_name (codes "./app.mjs") [] (Limit File) refl refl refl
+    (large_found _ config _ _ _ (codes "./app.mjs") page_name (codes "https://app.test/app.mjs") (codes "file:///app.mjs") (codes "/app.mjs") (record { named = refl; relative = refl; asks = refl; asks_file = refl })
+    refl refl (names_path _ _ refl refl refl (written_path (codes "app.mjs" ∷ []) refl)) bytes (stands (with_app bytes) _ _ refl) above)
+
+large_line : codes "limit: file above 16777216\n" ≡ line_of (refusal.Limit File)
+unfolding digits
+large_line = refl
+
+-- a module that a module asks for asks for what is missing
+abbrev asks_later : Files
+asks_later = folder "/" ∷ file "/app.mjs" "import \"./b.mjs\";" ∷ file "/b.mjs" "import \"./q.mjs\";" ∷ []
+
+abbrev app_turn : Turn
+app_turn = record { referrer = a_module app; specifiers = codes "./b.mjs" ∷ []; needs = record { referrer = codes "https://app.test/app.mjs"; asked = codes "https://app.test/b.mjs"; target = codes "https://app.test/b.mjs" } ∷ []; targets = record { path = codes "/b.mjs"; suffix = [] } ∷ [] }
+
+later_first : FirstRefusal (tree_of asks_later) (asking ("./app.mjs" ∷ [])) (refusal.NotFound (codes "/b.mjs") (codes "./q.mjs"))
+unfolding as_url web file_text escaped holds_escape percent_encode_byte percent_decode names_host url_path spelled_path parse_alone parse_against text_of url_on_literals is_utf8 chars encode_utf8
+later_first =
+    let config = asking ("./app.mjs" ∷ []) in
+    let asker : Module = record { path = codes "/b.mjs"; suffix = [] } in
+    let reaches = later_reached config asks_later page_name (page_turn config asks_later) (app_turn ∷ []) asker refl refl refl refl refl refl in
+    request (a_module asker) (codes "./q.mjs") _ _ NotFound
+    (request_reached config asks_later _ (page_turn config asks_later ∷ app_turn ∷ []) [] (codes "./q.mjs") [] (record { needs = []; targets = [] }) reaches refl refl refl refl)
+    (nothing_found _ config _ _ _ (codes "./q.mjs") (codes "https://app.test/b.mjs") (codes "https://app.test/q.mjs") (codes "file:///q.mjs") (codes "/q.mjs") (record { named = refl; relative = refl; asks = refl; asks_file = refl })
+    refl refl (names_path _ _ refl refl refl (written_path (codes "q.mjs" ∷ []) refl)) (stands asks_later _ _ refl))
     refl
 
 -- two needs clash, where the base has a path
@@ -229,6 +279,10 @@ pub record StoppedExamples : Type 0 where
   pub another_name : IsStopped script "https://app.test/" ("./app.js" ∷ []) (refusal.ModuleNotBuilt (codes "/app.js")) 9 "not built: \"/app.js\"\n"
   pub bare_first_refusal : (tree : Tree) → FirstRefusal tree (asking ("ui" ∷ [])) (refusal.RequestNotBuilt (codes "/index.html") (codes "ui"))
   pub bare : (tree : Tree) → Outcome (linking "https://app.test/" ("ui" ∷ [])) tree 9 (codes "not built: from \"/index.html\" for \"ui\"\n") tree
+  pub slash_first_refusal : (tree : Tree) → FirstRefusal tree (asking ("./lib/" ∷ [])) (refusal.RequestNotBuilt (codes "/index.html") (codes "./lib/"))
+  pub slash : (tree : Tree) → Outcome (linking "https://app.test/" ("./lib/" ∷ [])) tree 9 (codes "not built: from \"/index.html\" for \"./lib/\"\n") tree
+  pub behind_a_module : IsStopped asks_later "https://app.test/" ("./app.mjs" ∷ []) (refusal.NotFound (codes "/b.mjs") (codes "./q.mjs")) 1 "refused: NotFound from \"/b.mjs\" for \"./q.mjs\"\n"
+  pub too_large : (bytes : List ℕ) → 16777216 < length bytes → IsStopped (with_app bytes) "https://app.test/" ("./app.mjs" ∷ []) (refusal.Limit File) 3 "limit: file above 16777216\n"
 
 stopped_examples : StoppedExamples
 stopped_examples = record {
@@ -241,6 +295,10 @@ stopped_examples = record {
   another_name = stopped _ _ _ _ _ _ (tree_by_test script refl) script_gives script_first refl refl;
   bare_first_refusal = bare_first;
   bare = λ tree. trace_refused _ _ bare_gives (bare_first tree) refl refl refl;
+  slash_first_refusal = slash_first;
+  slash = λ tree. trace_refused _ _ slash_gives (slash_first tree) refl refl refl;
+  behind_a_module = stopped _ _ _ _ _ _ (tree_by_test asks_later refl) app_gives later_first refl refl;
+  too_large = λ bytes above. stopped _ _ _ _ _ _ (tree_by_test (with_app bytes) refl) app_gives (large_first bytes above) refl large_line;
 }
 
 -- ---- words that are refused, whatever the tree
@@ -256,7 +314,21 @@ ftp_base : base_of (codes "ftp://h/") ≡ None
 unfolding base_of parse_alone text_of url_on_literals
 ftp_base = refl
 
+-- each entry is one that may stand among them
+unread_entry : (entry : String) → (IsEntry (codes entry) → ⊥) → Unread ("link" ∷ "--base" ∷ "https://app.test/" ∷ entry ∷ [])
+unread_entry entry none =
+    unread ("link" ∷ "--base" ∷ "https://app.test/" ∷ entry ∷ [])
+    (λ base asked link. let e = link.split in let same : asked ≡ codes entry ∷ [] = cc in none (All-head IsEntry (codes entry) [] (subst (All IsEntry) same link.are_entries)))
+
+-- the base as its URL has it, and an entry that is given twice
+twice : IsConfigOf (linking "https://app.test" ("./app.mjs" ∷ "./b.mjs" ∷ "./app.mjs" ∷ [])) (asking ("./app.mjs" ∷ "./b.mjs" ∷ []))
+unfolding base_of parse_alone text_of url_on_literals
+twice = record { base = codes "https://app.test"; entries = words_of ("./app.mjs" ∷ "./b.mjs" ∷ "./app.mjs" ∷ []); link = is_linking "https://app.test" ("./app.mjs" ∷ "./b.mjs" ∷ "./app.mjs" ∷ []) refl; is_base = refl; page = refl; distinct = refl }
+
 pub record WordExamples : Type 0 where
+  pub without_slash_and_twice : IsConfigOf (linking "https://app.test" ("./app.mjs" ∷ "./b.mjs" ∷ "./app.mjs" ∷ [])) (asking ("./app.mjs" ∷ "./b.mjs" ∷ []))
+  pub empty_entry : Unread ("link" ∷ "--base" ∷ "https://app.test/" ∷ "" ∷ [])
+  pub option : Unread ("link" ∷ "--base" ∷ "https://app.test/" ∷ "--page" ∷ [])
   pub another_command : Unread ("check" ∷ [])
   pub no_words : Unread []
   pub no_base : Unread ("link" ∷ "./app.mjs" ∷ [])
@@ -264,6 +336,9 @@ pub record WordExamples : Type 0 where
 
 word_examples : WordExamples
 word_examples = record {
+  without_slash_and_twice = twice;
+  empty_entry = unread_entry "" (λ is. is.nonempty refl);
+  option = unread_entry "--page" (λ is. is.no_option (codes "-page") refl);
   another_command = unread ("check" ∷ []) (λ base asked link. let e = link.split in cc);
   no_words = unread [] (λ base asked link. let e = link.split in cc);
   no_base = unread ("link" ∷ "./app.mjs" ∷ []) (λ base asked link. let e = link.split in cc);
