@@ -196,10 +196,10 @@ pub record RefusalExamples : Type 0 where
   pub clash : IsRefused clashing (based "https://app.test/app/" ("./m.mjs" ∷ []))
 
 -- the page asks for a module by its URL
-abbrev pub entry_answer : String → String → Answered
+abbrev entry_answer : String → String → Answered
 entry_answer url path = record { need = record { referrer = page_name; asked = codes url; target = codes url }; target = record { path = codes path; suffix = [] } }
 
-pub only_entry : (specifier : List ℕ) → Contains (specifier ∷ []) specifier
+only_entry : (specifier : List ℕ) → Contains (specifier ∷ []) specifier
 only_entry specifier = contains_here specifier []
 
 entry_missing : HasNoText (tree_of spelling) (asking ("./app.mjs" ∷ "./b.mjs" ∷ []))

@@ -1,4 +1,4 @@
--- Worked examples of what a command ends with. Unless said, the words are `link --base https://app.test/ ./app.mjs`.
+-- Worked examples of first refusals, and of what a command ends with: its status, its line and the tree that it leaves.
 use Rattle.std.specs.Prelude.{◌≡◌, ◌<◌, ◌==◌, ◌+◌, ◌-◌, not, ℕ, Bool, true, false, List, [], ◌∷◌, length, map, flat_map, codes, All, Option, Some, None, unwrap_or}
 use Prim.Native.String.{String}
 use Rattle.std.specs.Char.{encode_utf8}

@@ -45,7 +45,7 @@ first_reached config files name page asker named back turn first =
       comes = module_next page [] asker is.is_of is.is_turn (record { are_turns = no_turns; grounded = λ i below. absurd (omega arith) }) first;
     }
 
--- a module, where these turns come between the page's and its own
+-- the test holds of each number below this one
 abbrev pub holds_below : ℕ → (ℕ → Bool) → Bool
 holds_below zero test = true
 holds_below (suc n) test = holds_below n test && test n
@@ -59,9 +59,11 @@ each_below (suc n) test e i below =
       | inr earlier ↦ (let less : i < n = leb-false n i earlier in each_below n test parts.0 i less)
     ]
 
+-- each of these modules is asked for before its turn
 abbrev pub are_grounded : Turn → List Turn → Bool
 are_grounded page turns = holds_below (length turns) (λ i. nat_le (i + 1) (length (asked_for (page ∷ take i turns))))
 
+-- a module, where these turns come between the page's and its own
 pub later_reached : (config : Config) (files : List (List ℕ × Entry)) (name : List ℕ) (page : Turn) (turns : List Turn) (asker : Module) → web config.base config.page [] ≡ Some name → leads_back config config.page name ≡ true → turn_of config files the_page ≡ Some page → turns_of config files (take (length turns) (asked_for (page ∷ turns))) ≡ Some turns → are_grounded page turns ≡ true → slice_get (asked_for (page ∷ turns)) (length turns) ≡ Some asker → Reaches (tree_of files) config (page ∷ turns) (a_module asker)
 later_reached config files name page turns asker named back turn between grounded found =
     let is = turned config files the_page page turn in
