@@ -1,67 +1,10 @@
-//! The rows.
+//! Runs in which every call of the outside succeeds.
 
-/// One run: what it is given, and what must come of it.
-pub struct Case {
-    /// The words, a space between each two.
-    pub words: &'static str,
-    /// Paths of files, with their texts.
-    pub files: &'static [(&'static str, &'static str)],
-    pub fails: Fails,
-    pub status: u8,
-    pub line: &'static str,
-    /// The text of the map, where one is written.
-    pub map: Option<&'static str>,
-}
+use crate::case::{Case, LINK, NO_MAPPINGS, PAIR};
 
-/// The looks that fail, by their numbers from 1, the writes, and the gives to the output.
-pub struct Fails {
-    pub looks: &'static [u64],
-    pub writes: &'static [u64],
-    pub gives: &'static [u64],
-}
-
-const NONE: Fails = Fails {
-    looks: &[],
-    writes: &[],
-    gives: &[],
-};
-
-const FIRST_LOOK: Fails = Fails {
-    looks: &[1],
-    writes: &[],
-    gives: &[],
-};
-
-const SECOND_LOOK: Fails = Fails {
-    looks: &[2],
-    writes: &[],
-    gives: &[],
-};
-
-const FIRST_WRITE: Fails = Fails {
-    looks: &[],
-    writes: &[1],
-    gives: &[],
-};
-
-const FIRST_GIVE: Fails = Fails {
-    looks: &[],
-    writes: &[],
-    gives: &[1],
-};
-
-const LINK: &str = "link --base https://app.test/ ./app.mjs";
+pub const MISSING: &[(&str, &str)] = &[("/app.mjs", "import \"./q.mjs\";")];
 
 const ALONE: &[(&str, &str)] = &[("/app.mjs", "")];
-
-const PAIR: &[(&str, &str)] = &[("/app.mjs", "import \"./b.mjs\";"), ("/b.mjs", "")];
-
-const MISSING: &[(&str, &str)] = &[("/app.mjs", "import \"./q.mjs\";")];
-
-const NO_MAPPINGS: &str = "{
-  \"imports\": {}
-}
-";
 
 const ESCAPED: &str = "{
   \"imports\": {},
@@ -83,12 +26,11 @@ const BELOW_BASE: &str = "{
 }
 ";
 
-/// The rows: maps, refusals, what isn't built, and faults.
-pub static CASES: [Case; 36] = [
+/// The rows: maps, refusals, and what isn't built.
+pub static CASES: [Case; 34] = [
     Case {
         words: LINK,
         files: ALONE,
-        fails: NONE,
         status: 0,
         line: "ok: 1 modules, 1 requests, 0 mappings\n",
         map: Some(NO_MAPPINGS),
@@ -96,7 +38,6 @@ pub static CASES: [Case; 36] = [
     Case {
         words: LINK,
         files: PAIR,
-        fails: NONE,
         status: 0,
         line: "ok: 2 modules, 2 requests, 0 mappings\n",
         map: Some(NO_MAPPINGS),
@@ -104,7 +45,6 @@ pub static CASES: [Case; 36] = [
     Case {
         words: LINK,
         files: &[("/app.mjs", "import \"./a%62.mjs\";"), ("/ab.mjs", "")],
-        fails: NONE,
         status: 0,
         line: "ok: 2 modules, 2 requests, 1 mappings\n",
         map: Some(ESCAPED),
@@ -112,7 +52,6 @@ pub static CASES: [Case; 36] = [
     Case {
         words: "link --base https://app.test/",
         files: &[],
-        fails: NONE,
         status: 0,
         line: "ok: 0 modules, 0 requests, 0 mappings\n",
         map: Some(NO_MAPPINGS),
@@ -120,7 +59,6 @@ pub static CASES: [Case; 36] = [
     Case {
         words: "link --base https://app.test/ ./app.mjs ./app.mjs",
         files: ALONE,
-        fails: NONE,
         status: 0,
         line: "ok: 1 modules, 1 requests, 0 mappings\n",
         map: Some(NO_MAPPINGS),
@@ -128,7 +66,6 @@ pub static CASES: [Case; 36] = [
     Case {
         words: "link --base https://app.test/ ./m.mjs?a ./m.mjs?b",
         files: &[("/m.mjs", "")],
-        fails: NONE,
         status: 0,
         line: "ok: 2 modules, 2 requests, 0 mappings\n",
         map: Some(NO_MAPPINGS),
@@ -136,7 +73,6 @@ pub static CASES: [Case; 36] = [
     Case {
         words: LINK,
         files: &[("/app.mjs", ""), ("/importmap.json", "old")],
-        fails: NONE,
         status: 0,
         line: "ok: 1 modules, 1 requests, 0 mappings\n",
         map: Some(NO_MAPPINGS),
@@ -144,7 +80,6 @@ pub static CASES: [Case; 36] = [
     Case {
         words: LINK,
         files: &[("/app.mjs", ""), ("/importmap.json", NO_MAPPINGS)],
-        fails: NONE,
         status: 0,
         line: "ok: 1 modules, 1 requests, 0 mappings\n",
         map: Some(NO_MAPPINGS),
@@ -156,7 +91,6 @@ pub static CASES: [Case; 36] = [
             ("/b.mjs", "import \"./c.mjs\";"),
             ("/c.mjs", "import \"./app.mjs\";"),
         ],
-        fails: NONE,
         status: 0,
         line: "ok: 3 modules, 5 requests, 0 mappings\n",
         map: Some(NO_MAPPINGS),
@@ -169,7 +103,6 @@ pub static CASES: [Case; 36] = [
             ("/x.mjs", ""),
             ("/app/x.mjs", ""),
         ],
-        fails: NONE,
         status: 0,
         line: "ok: 4 modules, 4 requests, 1 mappings\n",
         map: Some(BELOW_BASE),
@@ -177,7 +110,6 @@ pub static CASES: [Case; 36] = [
     Case {
         words: LINK,
         files: MISSING,
-        fails: NONE,
         status: 1,
         line: "refused: NotFound from \"/app.mjs\" for \"./q.mjs\"\n",
         map: None,
@@ -185,7 +117,6 @@ pub static CASES: [Case; 36] = [
     Case {
         words: "link --base https://app.test/ ./a.cjs ./q.mjs",
         files: &[("/a.cjs", "")],
-        fails: NONE,
         status: 1,
         line: "refused: NotFound from \"/index.html\" for \"./q.mjs\"\n",
         map: None,
@@ -193,15 +124,37 @@ pub static CASES: [Case; 36] = [
     Case {
         words: LINK,
         files: &[("/app.mjs", "import \"./<.mjs\";")],
-        fails: NONE,
         status: 1,
         line: "refused: NotFound from \"/app.mjs\" for \"./\\u003c.mjs\"\n",
         map: None,
     },
     Case {
         words: LINK,
+        files: &[
+            ("/app.mjs", "import \"./q.mjs\";"),
+            ("/importmap.json", "old"),
+        ],
+        status: 1,
+        line: "refused: NotFound from \"/app.mjs\" for \"./q.mjs\"\n",
+        map: Some("old"),
+    },
+    Case {
+        words: LINK,
+        files: &[("/app.mjs", "import \"ui\";import \"./q.mjs\";")],
+        status: 9,
+        line: "not built: from \"/app.mjs\" for \"ui\"\n",
+        map: None,
+    },
+    Case {
+        words: "link --base https://app.test/ ./app.mjs ./b.mjs",
+        files: &[("/app.mjs", "x"), ("/b.mjs", "import \"./q.mjs\";")],
+        status: 9,
+        line: "not built: \"/app.mjs\"\n",
+        map: None,
+    },
+    Case {
+        words: LINK,
         files: &[("/app.mjs", "import \"./b.mjs/\";"), ("/b.mjs", "")],
-        fails: NONE,
         status: 9,
         line: "not built: from \"/app.mjs\" for \"./b.mjs/\"\n",
         map: None,
@@ -209,7 +162,6 @@ pub static CASES: [Case; 36] = [
     Case {
         words: "link --base ftp://h/ x",
         files: &[],
-        fails: NONE,
         status: 2,
         line: "words: BadBase \"ftp://h/\"\n",
         map: None,
@@ -217,7 +169,6 @@ pub static CASES: [Case; 36] = [
     Case {
         words: LINK,
         files: &[("/app.mjs", "  import './b.mjs';"), ("/b.mjs", "")],
-        fails: NONE,
         status: 9,
         line: "not built: \"/app.mjs\"\n",
         map: None,
@@ -225,7 +176,6 @@ pub static CASES: [Case; 36] = [
     Case {
         words: "link --base https://app.test/ ui",
         files: &[],
-        fails: NONE,
         status: 9,
         line: "not built: from \"/index.html\" for \"ui\"\n",
         map: None,
@@ -233,7 +183,6 @@ pub static CASES: [Case; 36] = [
     Case {
         words: "link --base https://app.test/ ./app.js",
         files: &[("/app.js", "")],
-        fails: NONE,
         status: 9,
         line: "not built: \"/app.js\"\n",
         map: None,
@@ -241,7 +190,6 @@ pub static CASES: [Case; 36] = [
     Case {
         words: "link --base https://app.test/ ./m.mjs?a",
         files: &[("/m.mjs", "x")],
-        fails: NONE,
         status: 9,
         line: "not built: \"/m.mjs?a\"\n",
         map: None,
@@ -253,7 +201,6 @@ pub static CASES: [Case; 36] = [
             ("/x.mjs", ""),
             ("/app/x.mjs", ""),
         ],
-        fails: NONE,
         status: 9,
         line: "not built: from \"/m.mjs\" for \"./x.mjs\"\n",
         map: None,
@@ -261,7 +208,6 @@ pub static CASES: [Case; 36] = [
     Case {
         words: LINK,
         files: &[("/app.mjs", "import \"./d\";"), ("/d/x.mjs", "")],
-        fails: NONE,
         status: 9,
         line: "not built: from \"/app.mjs\" for \"./d\"\n",
         map: None,
@@ -269,7 +215,6 @@ pub static CASES: [Case; 36] = [
     Case {
         words: LINK,
         files: &[("/app.mjs", "import \"//[\";")],
-        fails: NONE,
         status: 9,
         line: "not built: from \"/app.mjs\" for \"//[\"\n",
         map: None,
@@ -277,7 +222,6 @@ pub static CASES: [Case; 36] = [
     Case {
         words: LINK,
         files: &[("/app.mjs", "import \"./a%2fb.mjs\";"), ("/a/b.mjs", "")],
-        fails: NONE,
         status: 9,
         line: "not built: from \"/app.mjs\" for \"./a%2fb.mjs\"\n",
         map: None,
@@ -285,7 +229,6 @@ pub static CASES: [Case; 36] = [
     Case {
         words: LINK,
         files: &[("/app.mjs", "import \"https://cdn.test/x.js\";")],
-        fails: NONE,
         status: 9,
         line: "not built: from \"/app.mjs\" for \"https://cdn.test/x.js\"\n",
         map: None,
@@ -293,7 +236,6 @@ pub static CASES: [Case; 36] = [
     Case {
         words: "",
         files: ALONE,
-        fails: NONE,
         status: 9,
         line: "not built: words\n",
         map: None,
@@ -301,7 +243,6 @@ pub static CASES: [Case; 36] = [
     Case {
         words: "list",
         files: ALONE,
-        fails: NONE,
         status: 9,
         line: "not built: words\n",
         map: None,
@@ -309,7 +250,6 @@ pub static CASES: [Case; 36] = [
     Case {
         words: "link ./app.mjs",
         files: ALONE,
-        fails: NONE,
         status: 9,
         line: "not built: words\n",
         map: None,
@@ -317,7 +257,6 @@ pub static CASES: [Case; 36] = [
     Case {
         words: "link --base",
         files: ALONE,
-        fails: NONE,
         status: 9,
         line: "not built: words\n",
         map: None,
@@ -325,7 +264,6 @@ pub static CASES: [Case; 36] = [
     Case {
         words: "link --base=https://app.test/ ./app.mjs",
         files: ALONE,
-        fails: NONE,
         status: 9,
         line: "not built: words\n",
         map: None,
@@ -333,7 +271,6 @@ pub static CASES: [Case; 36] = [
     Case {
         words: "link --base https://app.test/ -x",
         files: ALONE,
-        fails: NONE,
         status: 9,
         line: "not built: words\n",
         map: None,
@@ -341,49 +278,8 @@ pub static CASES: [Case; 36] = [
     Case {
         words: "link --base https://app.test/  ./app.mjs",
         files: ALONE,
-        fails: NONE,
         status: 9,
         line: "not built: words\n",
-        map: None,
-    },
-    Case {
-        words: LINK,
-        files: PAIR,
-        fails: FIRST_LOOK,
-        status: 4,
-        line: "fault: read\n",
-        map: None,
-    },
-    Case {
-        words: LINK,
-        files: PAIR,
-        fails: SECOND_LOOK,
-        status: 4,
-        line: "fault: read\n",
-        map: None,
-    },
-    Case {
-        words: LINK,
-        files: PAIR,
-        fails: FIRST_WRITE,
-        status: 5,
-        line: "fault: write\n",
-        map: None,
-    },
-    Case {
-        words: LINK,
-        files: PAIR,
-        fails: FIRST_GIVE,
-        status: 5,
-        line: "",
-        map: Some(NO_MAPPINGS),
-    },
-    Case {
-        words: LINK,
-        files: MISSING,
-        fails: FIRST_GIVE,
-        status: 5,
-        line: "",
         map: None,
     },
 ];

@@ -1,101 +1,20 @@
-ghost use Rattle.std.specs.Prelude.{◌≡◌, ◌<◌};
-
-use crate::cases::{CASES, Case};
-use generator_core::run;
-use primitives::{Memory, Steps};
+use crate::case::{Case, Fails, LINK, NONE, ended, ends, fits, outcome_of, put};
+use crate::cases::CASES;
+use crate::faults::FAULTS;
 use std::alloc::Global;
-use std::marker::Brand;
-use std::sync::ledger::{Blank, Ledger};
 use std::test::Fail;
-use tree_model::{MemFolder, MemSink, MemSource, Path, PathFault};
+use tree_model::{MemFolder, PathFault};
 
-/// How a run ended, with what it left.
-#[derive(Drop)]
-struct Outcome {
-    status: u8,
-    folder: MemFolder,
-    out: MemSink,
-}
-
-fn words_of(alloc: Global, text: &str) -> Result<Vec<String>, Memory> {
-    let mut words = Vec::new(alloc);
-    for word in text.split(' ') {
-        words.push(String::from_str(alloc, word)?)?;
-    }
-    Ok(words)
-}
-
-fn put(alloc: Global, folder: &mut MemFolder, path: &str, bytes: &[u8]) -> Result<bool, PathFault> {
-    let path = Path::parse(alloc, path)?;
-    Ok(folder.put(&path, Some(bytes))?)
-}
-
-fn folder_of(alloc: Global, case: &Case) -> Result<MemFolder, PathFault> {
-    let mut folder = MemFolder::new(alloc, case.fails.looks, case.fails.writes)?;
-    for (path, text) in case.files {
-        put(alloc, &mut folder, path, text.as_bytes())?;
-    }
-    Ok(folder)
-}
-
-fn status_of<L: Ledger>(
-    alloc: Global,
-    words: &[String],
-    folder: &mut MemFolder,
-    out: &mut MemSink,
-    blank: Blank,
-) -> Result<u8, Memory>
-    requires name { blank.name ≡ L.name }
-    requires parts { blank.parts ≡ L.parts }
-    requires some { 0 < blank.parts }
-{
-    let mut input = MemSource::new(alloc, &[], &[])?;
-    let mut steps = Steps::<L>::start(blank);
-    Ok(run(alloc, words, folder, &mut input, out, &mut steps))
-}
-
-fn ended(alloc: Global, words: &str, folder: MemFolder, gives: &[u64]) -> Result<Outcome, Memory> {
-    let mut folder = folder;
-    let mut out = MemSink::new(alloc, gives)?;
-    let words = words_of(alloc, words)?;
-    let status = status_of::<Brand>(
-        alloc,
-        words.as_slice(),
-        &mut folder,
-        &mut out,
-        Blank::new(1),
-    )?;
-    Ok(Outcome {
-        status,
-        folder,
-        out,
-    })
-}
-
-fn ends(outcome: &Outcome, status: u8, line: &str) -> bool {
-    outcome.status == status && outcome.out.got() == line.as_bytes()
-}
-
-fn has_map(alloc: Global, folder: &MemFolder, map: Option<&str>) -> Result<bool, PathFault> {
-    let path = Path::parse(alloc, "/importmap.json")?;
-    match (folder.file(&path), map) {
-        (None, None) => Ok(true),
-        (Some(bytes), Some(text)) => Ok(bytes == text.as_bytes()),
-        _ => Ok(false),
-    }
-}
-
-fn passes(alloc: Global, case: &Case) -> Result<bool, PathFault> {
-    let folder = folder_of(alloc, case)?;
-    let outcome = ended(alloc, case.words, folder, case.fails.gives)?;
-    Ok(ends(&outcome, case.status, case.line) && has_map(alloc, &outcome.folder, case.map)?)
+fn passes(alloc: Global, case: &Case, fails: &Fails) -> Result<bool, PathFault> {
+    let outcome = outcome_of(alloc, case, fails)?;
+    fits(alloc, &outcome, case)
 }
 
 #[test]
 fn each_row_ends_as_it_must(rt: HostRuntime) -> Result<(), Fail> {
     for (number, case) in CASES.iter().enumerate() {
         assert!(rt;
-            passes(rt.alloc(), case)?,
+            passes(rt.alloc(), case, &NONE)?,
             "row {number}: {} must end with {} {}",
             case.words,
             case.status,
@@ -105,7 +24,18 @@ fn each_row_ends_as_it_must(rt: HostRuntime) -> Result<(), Fail> {
     Ok(())
 }
 
-const LINK: &str = "link --base https://app.test/ ./app.mjs";
+#[test]
+fn each_fault_ends_as_it_must(rt: HostRuntime) -> Result<(), Fail> {
+    for (number, fault) in FAULTS.iter().enumerate() {
+        assert!(rt;
+            passes(rt.alloc(), &fault.case, &fault.fails)?,
+            "fault {number} must end with {} {}",
+            fault.case.status,
+            fault.case.line
+        );
+    }
+    Ok(())
+}
 
 /// The byte of which `/app.mjs` is full, how often it stands there, and how the run ends.
 static FULL: [(u8, usize, u8, &str); 3] = [

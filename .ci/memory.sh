@@ -1,0 +1,22 @@
+#!/bin/sh
+# Lets each allocation of a run over two modules fail in turn, outside the gate. The program of crates/worked_rows is
+# that run. It first makes as many allocations as its input says, so one build serves for them all: allocation LAST
+# fails, and a smaller input moves the failure further back in the run. Prints how often the run ended in which way.
+LAST=${1:-200}
+kept=$(mktemp -d) || exit 1
+trap 'rm -rf "$kept"' EXIT
+mkdir "$kept/inputs"
+for number in $(seq 0 $((LAST - 1))); do
+    echo "$number" >"$kept/inputs/$number"
+done
+cd "$(dirname "$0")/../crates/worked_rows" || exit 1
+rt try --cases "$kept/inputs" --fail-alloc "$LAST" >"$kept/out" 2>"$kept/log" || {
+    tail -n 20 "$kept/log" >&2
+    exit 1
+}
+grep -v '^== ' "$kept/out" | sort | uniq -c
+
+# The failure lies behind the run where nothing goes before it, and within it somewhere.
+sed -n '/^== 0$/{n;p;}' "$kept/out" | grep -qx done &&
+    grep -qx memory "$kept/out" &&
+    ! grep -qx wrong "$kept/out"

@@ -1,0 +1,62 @@
+//! How a run may end of which one allocation fails.
+
+use crate::case::{Case, LINK, NO_MAPPINGS, NONE, PAIR, fits, outcome_of};
+use std::alloc::Global;
+use tree_model::PathFault;
+
+/// The names of the endings, each with what comes of the run.
+static ENDINGS: [(&str, Case); 4] = [
+    (
+        "done",
+        Case {
+            words: LINK,
+            files: PAIR,
+            status: 0,
+            line: "ok: 2 modules, 2 requests, 0 mappings\n",
+            map: Some(NO_MAPPINGS),
+        },
+    ),
+    (
+        "memory",
+        Case {
+            words: LINK,
+            files: PAIR,
+            status: 8,
+            line: "memory\n",
+            map: None,
+        },
+    ),
+    // A write for which the folder in memory finds no room fails.
+    (
+        "not written",
+        Case {
+            words: LINK,
+            files: PAIR,
+            status: 5,
+            line: "fault: write\n",
+            map: None,
+        },
+    ),
+    // So does a give for which the output in memory finds none.
+    (
+        "not said",
+        Case {
+            words: LINK,
+            files: PAIR,
+            status: 5,
+            line: "",
+            map: Some(NO_MAPPINGS),
+        },
+    ),
+];
+
+/// Runs the pair, and names the ending; "wrong" where it is none of them.
+pub fn ending(alloc: Global) -> Result<&'static str, PathFault> {
+    let outcome = outcome_of(alloc, &ENDINGS[0].1, &NONE)?;
+    for (name, case) in &ENDINGS {
+        if fits(alloc, &outcome, case)? {
+            return Ok(name);
+        }
+    }
+    Ok("wrong")
+}

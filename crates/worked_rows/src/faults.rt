@@ -1,0 +1,217 @@
+//! Runs in which calls of the outside fail.
+
+use crate::case::{Case, Fails, LINK, NO_MAPPINGS, PAIR};
+use crate::cases::MISSING;
+
+/// One run in which calls fail.
+pub struct Fault {
+    pub fails: Fails,
+    pub case: Case,
+}
+
+const OLD_MAP: &[(&str, &str)] = &[
+    ("/app.mjs", "import \"./b.mjs\";"),
+    ("/b.mjs", ""),
+    ("/importmap.json", "old"),
+];
+
+/// A run over a module that asks for another one looks at each of the two, writes the map, and gives one line: two
+/// looks, one write and one give. Each of them fails in turn, and so does the one that would come next.
+pub static FAULTS: [Fault; 14] = [
+    Fault {
+        fails: Fails {
+            looks: &[1],
+            writes: &[],
+            gives: &[],
+        },
+        case: Case {
+            words: LINK,
+            files: PAIR,
+            status: 4,
+            line: "fault: read\n",
+            map: None,
+        },
+    },
+    Fault {
+        fails: Fails {
+            looks: &[2],
+            writes: &[],
+            gives: &[],
+        },
+        case: Case {
+            words: LINK,
+            files: PAIR,
+            status: 4,
+            line: "fault: read\n",
+            map: None,
+        },
+    },
+    Fault {
+        fails: Fails {
+            looks: &[3],
+            writes: &[],
+            gives: &[],
+        },
+        case: Case {
+            words: LINK,
+            files: PAIR,
+            status: 0,
+            line: "ok: 2 modules, 2 requests, 0 mappings\n",
+            map: Some(NO_MAPPINGS),
+        },
+    },
+    Fault {
+        fails: Fails {
+            looks: &[],
+            writes: &[1],
+            gives: &[],
+        },
+        case: Case {
+            words: LINK,
+            files: PAIR,
+            status: 5,
+            line: "fault: write\n",
+            map: None,
+        },
+    },
+    Fault {
+        fails: Fails {
+            looks: &[],
+            writes: &[2],
+            gives: &[],
+        },
+        case: Case {
+            words: LINK,
+            files: PAIR,
+            status: 0,
+            line: "ok: 2 modules, 2 requests, 0 mappings\n",
+            map: Some(NO_MAPPINGS),
+        },
+    },
+    Fault {
+        fails: Fails {
+            looks: &[],
+            writes: &[],
+            gives: &[1],
+        },
+        case: Case {
+            words: LINK,
+            files: PAIR,
+            status: 5,
+            line: "",
+            map: Some(NO_MAPPINGS),
+        },
+    },
+    Fault {
+        fails: Fails {
+            looks: &[],
+            writes: &[],
+            gives: &[2],
+        },
+        case: Case {
+            words: LINK,
+            files: PAIR,
+            status: 0,
+            line: "ok: 2 modules, 2 requests, 0 mappings\n",
+            map: Some(NO_MAPPINGS),
+        },
+    },
+    Fault {
+        fails: Fails {
+            looks: &[2],
+            writes: &[1],
+            gives: &[],
+        },
+        case: Case {
+            words: LINK,
+            files: PAIR,
+            status: 4,
+            line: "fault: read\n",
+            map: None,
+        },
+    },
+    Fault {
+        fails: Fails {
+            looks: &[2],
+            writes: &[],
+            gives: &[1],
+        },
+        case: Case {
+            words: LINK,
+            files: PAIR,
+            status: 5,
+            line: "",
+            map: None,
+        },
+    },
+    Fault {
+        fails: Fails {
+            looks: &[],
+            writes: &[1],
+            gives: &[1],
+        },
+        case: Case {
+            words: LINK,
+            files: PAIR,
+            status: 5,
+            line: "",
+            map: None,
+        },
+    },
+    Fault {
+        fails: Fails {
+            looks: &[2],
+            writes: &[],
+            gives: &[],
+        },
+        case: Case {
+            words: LINK,
+            files: OLD_MAP,
+            status: 4,
+            line: "fault: read\n",
+            map: Some("old"),
+        },
+    },
+    Fault {
+        fails: Fails {
+            looks: &[],
+            writes: &[1],
+            gives: &[],
+        },
+        case: Case {
+            words: LINK,
+            files: OLD_MAP,
+            status: 5,
+            line: "fault: write\n",
+            map: Some("old"),
+        },
+    },
+    Fault {
+        fails: Fails {
+            looks: &[],
+            writes: &[],
+            gives: &[1],
+        },
+        case: Case {
+            words: LINK,
+            files: OLD_MAP,
+            status: 5,
+            line: "",
+            map: Some(NO_MAPPINGS),
+        },
+    },
+    Fault {
+        fails: Fails {
+            looks: &[],
+            writes: &[],
+            gives: &[1],
+        },
+        case: Case {
+            words: LINK,
+            files: MISSING,
+            status: 5,
+            line: "",
+            map: None,
+        },
+    },
+];

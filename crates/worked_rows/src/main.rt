@@ -1,0 +1,36 @@
+//! Runs over folders in memory: tables of words, files and failing calls, with the status, the line and the map that
+//! must come of them.
+//!
+//! The program is one such run, and says how it ended. Its input is the number of allocations that it makes before, so
+//! that the one that fails by its number can be any of the run: `rt try --cases INPUTS --fail-alloc 200` in this folder,
+//! for which `.ci/memory.sh` makes the inputs.
+#![tactic(auto)]
+
+mod case;
+#[cfg(test)]
+mod cases;
+mod endings;
+#[cfg(test)]
+mod faults;
+#[cfg(test)]
+mod rows;
+
+use crate::endings::ending;
+use std::io;
+
+// The number on the first line of the input; 0 without one.
+fn number_of(rt: &(impl Input + AllocGlobal)) -> io::Result<u32> {
+    let mut line = String::new(rt.alloc());
+    rt.read_line(&mut line)?;
+    Ok(line.trim().parse::<u32>().unwrap_or(0))
+}
+
+fn main(rt: HostRuntime) -> io::Result<()> {
+    for number in 0..number_of(&rt)? {
+        let _ = Box::new(rt.alloc(), number);
+    }
+    match ending(rt.alloc()) {
+        Ok(name) => println!(rt; "{name}"),
+        Err(_) => println!(rt; "no memory for the row itself"),
+    }
+}
