@@ -1,8 +1,11 @@
-//! What Node's resolver answers for a specifier in a file of a tree: definitions and their laws.
+//! What Node's resolver answers for a specifier in a file of a tree, and the record of a package.json: definitions and
+//! their laws.
 #![tactic(auto)]
 
 ghost use Rattle.node_spec.specs.Examples.{WorkedExamples};
 ghost use Rattle.node_spec.specs.Laws.{OneAnswer};
+ghost use Rattle.node_spec.specs.RecordExamples.{RecordExamples};
+ghost use Rattle.node_spec.specs.RecordLaws.{OneRecord, RecordNamesAreDistinct, SomeRecord};
 ghost use Rattle.node_spec.specs.Some.{SomeAnswer};
 
 /// Why a specifier is refused.
@@ -28,6 +31,17 @@ pub enum Cause {
     DirectoryImport,
 }
 
+/// What the `type` of a package.json says of the package's `.js` files.
+#[derive(Clone, Copy, Debug, PartialEq, Eq)]
+pub enum PackageKind {
+    /// `module`: they are ECMAScript modules.
+    Module,
+    /// `commonjs`: they are CommonJS modules.
+    CommonJs,
+    /// No type, or another one, which says nothing.
+    Unstated,
+}
+
 /// A specifier in a file of a tree has one answer at most.
 #[tactic(auto, using(crate::specs::Laws::one_answer))]
 pub fn one_answer()
@@ -38,6 +52,30 @@ pub fn one_answer()
 #[tactic(auto, using(crate::specs::Some::some_answer))]
 pub fn some_answer()
     ensures { SomeAnswer }
+{}
+
+/// The bytes of a package.json have one record, or one reason for having none.
+#[tactic(auto, using(crate::specs::RecordLaws::one_record))]
+pub fn one_record()
+    ensures { OneRecord }
+{}
+
+/// The bytes of a package.json have a record, or a reason for having none.
+#[tactic(auto, using(crate::specs::RecordLaws::some_record))]
+pub fn some_record()
+    ensures { SomeRecord }
+{}
+
+/// No object in a record holds a name twice, at any level.
+#[tactic(auto, using(crate::specs::RecordLaws::record_names_are_distinct))]
+pub fn record_names_are_distinct()
+    ensures { RecordNamesAreDistinct }
+{}
+
+/// Worked examples of records.
+#[tactic(auto, using(crate::specs::RecordExamples::record_examples))]
+pub fn record_examples()
+    ensures { RecordExamples }
 {}
 
 /// Worked examples.
