@@ -1,0 +1,5 @@
+pub mod EscapesLemmas
+pub mod GrammarLemmas
+pub mod NumbersLemmas
+pub mod ShownLemmas
+pub mod StringsLemmas

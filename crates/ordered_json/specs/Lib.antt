@@ -1,0 +1,4 @@
+pub mod Lists
+pub mod Shown
+pub mod Scanned
+pub mod Outcomes

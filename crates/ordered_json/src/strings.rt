@@ -1,0 +1,87 @@
+ghost use Rattle.std.specs.Prelude.{◌≡◌, ◌<◌, length, MatchOption, IfOk, OnOk, ◌++◌, encode_utf8, IsUtf8};
+ghost use Rattle.json_spec.specs.Taken.{taken, refused};
+ghost use Rattle.json_spec.specs.Strings.{ReadsText, ReadsString};
+ghost use Rattle.ordered_json.specs.Scanned.{after_plain, is_plain};
+
+use crate::escapes::read_escape;
+use crate::scan::{cut_first, piece_before};
+use primitives::{Memory, Text};
+use std::alloc::Global;
+
+const QUOTE: u8 = 34;
+
+const BACKSLASH: u8 = 92;
+
+/// The text of the string whose opening quote stands before the bytes, and the bytes behind the closing one (RFC 8259, 7).
+/// None where the string can't be read.
+pub fn read_string(alloc: Global, bytes: &[u8]) -> Result<Option<(Text, &[u8])>, Memory>
+    ensures { IfOk result (λ found. MatchOption found (ReadsString bytes.now (refused tt)) (λ x. ReadsString bytes.now (taken x.0 x.1.now) × (length x.1.now < length bytes.now))) }
+{
+    match read_characters(alloc, bytes)? {
+        None => Ok(None),
+        Some((text, rest)) => match utf8_text(text) {
+            None => Ok(None),
+            Some(text) => Ok(Some((text, rest))),
+        },
+    }
+}
+
+fn utf8_text(bytes: Vec<u8>) -> Option<Text>
+    ensures { MatchOption result (IsUtf8 bytes.items → ⊥) (λ text. IsUtf8 bytes.items × (text ≡ bytes.items)) }
+{
+    match String::from_utf8(bytes) {
+        Ok(text) => Some(Text::from_string(text)),
+        Err(_) => None,
+    }
+}
+
+// The same, whether the text is UTF-8 or not.
+fn read_characters(alloc: Global, bytes: &[u8]) -> Result<Option<(Vec<u8>, &[u8])>, Memory>
+    ensures { IfOk result (λ found. MatchOption found (ReadsText bytes.now (refused tt)) (λ x. ReadsText bytes.now (taken x.0.items x.1.now) × (length x.1.now < length bytes.now))) }
+{
+    let mut text = Vec::new(alloc);
+    let mut rest = bytes;
+    loop {
+        let after = skip_plain(rest);
+        text.extend_from_slice(piece_before(rest, after))?;
+        let Some((first, more)) = cut_first(after) else {
+            return Ok(None);
+        };
+        if first == QUOTE {
+            return Ok(Some((text, more)));
+        }
+        if first != BACKSLASH {
+            return Ok(None);
+        }
+        let Some((character, more)) = read_escape(more) else {
+            return Ok(None);
+        };
+        push_character(&mut text, character)?;
+        rest = more;
+    }
+}
+
+fn push_character(text: &mut Vec<u8>, character: char) -> Result<(), Memory>
+    ensures { OnOk result (text.new.items ≡ text.old.items ++ encode_utf8 character) }
+{
+    text.extend_from_slice(character.encode_utf8(&mut [0; 4]).as_bytes())
+}
+
+fn skip_plain(bytes: &[u8]) -> &[u8]
+    ensures { result.now ≡ after_plain bytes.now }
+{
+    let mut rest = bytes;
+    while let Some((first, more)) = cut_first(rest) {
+        if !stands_for_itself(first) {
+            return rest;
+        }
+        rest = more;
+    }
+    rest
+}
+
+fn stands_for_itself(byte: u8) -> bool
+    ensures { result ≡ is_plain byte }
+{
+    byte != QUOTE && byte != BACKSLASH && byte >= 32
+}
