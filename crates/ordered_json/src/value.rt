@@ -82,6 +82,14 @@ impl Members {
         })
     }
 
+    /// The pairs of these members, which are moved out.
+    pub fn into_pairs(self) -> Vec<(Text, Value)>
+        ensures { result.items ≡ pairs_of self }
+    {
+        let Members { pairs } = self;
+        pairs
+    }
+
     /// The empty list.
     pub fn new(alloc: Global) -> Members
         ensures { pairs_of result ≡ [] }

@@ -1,0 +1,21 @@
+use Rattle.node_spec.specs.RecordLaws.{record_names_are_distinct}
+use Rattle.package_record.proofs.RecordLemmas.{record_from, object_record, no_object}
+use Rattle.package_record.proofs.package_json.read_package.Goals as goal
+
+pub returns-in-Some-clause-reads : goal.returns-in-Some-clause-reads
+returns-in-Some-clause-reads c = object_record _ _ _ _ _ c.behind_mark.ensures c.in-Ok.ensures.reads c.in-Some.ensures (c.package_of.ensures _ c.fields_of.ensures)
+
+pub returns-in-Some-clause-distinct : goal.returns-in-Some-clause-distinct
+returns-in-Some-clause-distinct c = (record_names_are_distinct c.args.bytes.now _ (object_record _ _ _ _ _ c.behind_mark.ensures c.in-Ok.ensures.reads c.in-Some.ensures (c.package_of.ensures _ c.fields_of.ensures))).0
+
+pub returns-in-Some-clause-distinct_imports : goal.returns-in-Some-clause-distinct_imports
+returns-in-Some-clause-distinct_imports c = (record_names_are_distinct c.args.bytes.now _ (object_record _ _ _ _ _ c.behind_mark.ensures c.in-Ok.ensures.reads c.in-Some.ensures (c.package_of.ensures _ c.fields_of.ensures))).1
+
+pub returns-in-None-clause-reads : goal.returns-in-None-clause-reads
+returns-in-None-clause-reads c = no_object _ _ _ c.behind_mark.ensures c.in-Ok.ensures.reads c.in-None.ensures
+
+pub returns-in-Err-NotJson-clause-reads : goal.returns-in-Err-NotJson-clause-reads
+returns-in-Err-NotJson-clause-reads c = record_from _ _ _ c.behind_mark.ensures (rw c.in-Err-NotJson.field-0-is at c.in-Err-NotJson.ensures.reads)
+
+pub returns-in-Err-TooDeep-clause-reads : goal.returns-in-Err-TooDeep-clause-reads
+returns-in-Err-TooDeep-clause-reads c = record_from _ _ _ c.behind_mark.ensures (rw c.in-Err-TooDeep.field-0-is at c.in-Err-TooDeep.ensures.reads)
