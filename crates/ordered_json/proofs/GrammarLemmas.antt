@@ -1,5 +1,5 @@
 -- The grammar's rules at the bytes that a reader holds.
-use Rattle.std.specs.Prelude.{◌≡◌, ◌≢◌, ℕ, zero, suc, ◌-◌, ◌<◌, ◌≤◌, Bool, ◌==◌, List, [], ◌∷◌, ◌++◌, length, Result, Ok, Err, MatchResult, IfOk}
+use Rattle.std.specs.Prelude.{◌≡◌, ◌≢◌, ℕ, zero, suc, ◌-◌, ◌<◌, ◌==◌, List, [], ◌∷◌, ◌++◌, length, Result, Ok, Err, MatchResult, IfOk}
 use Rattle.std.specs.Borrow.{Bor}
 use Rattle.std.proofs.Common.{refl, ap, sym, subst, ◌∙◌, arith}
 use Rattle.std.proofs.lemmas.Bool.{cond-false, false_from_ne_true, eqb-true}

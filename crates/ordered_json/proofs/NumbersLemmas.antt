@@ -1,9 +1,8 @@
 -- Numbers, part by part.
-use Rattle.std.specs.Prelude.{◌≡◌, ◌≢◌, ℕ, ◌+◌, ◌<◌, ◌≤◌, nat_le, Bool, true, false, cond, ◌==◌, ◌||◌, List, [], ◌∷◌, ◌++◌, length, IsUtf8, Option, Some, None, MatchOption}
+use Rattle.std.specs.Prelude.{◌≡◌, ◌≢◌, ℕ, ◌<◌, ◌≤◌, nat_le, Bool, true, false, cond, ◌==◌, ◌||◌, List, [], ◌∷◌, ◌++◌, length, IsUtf8, Option, Some, None, MatchOption}
 use Rattle.std.specs.Borrow.{Bor}
 use Rattle.std.proofs.Common.{refl, ap, sym, ◌∙◌, arith, append_assoc, length-append}
-use Rattle.std.proofs.lemmas.Bool.{cond-true, cond-false, leb-true, and_parts, or_cases, false_from_ne_true, eqb-true}
-use mathlib.Core.Logic.{inl, inr}
+use Rattle.std.proofs.lemmas.Bool.{cond-true, cond-false, leb-true, and_parts, false_from_ne_true, eqb-true}
 use Rattle.std.proofs.lemmas.Str.{IsUtf8-append, IsUtf8-nil}
 use Rattle.json_spec.specs.Utf8.{ascii_first}
 use Rattle.json_spec.specs.Taken.{taken, refused, Read, and_then, or_else, behind_piece}

@@ -2,7 +2,7 @@
 use Rattle.std.specs.Prelude.{◌≡◌, ℕ, Bool, true, false, cond, List, [], ◌∷◌, bytes_eq}
 use Rattle.std.proofs.Common.{rules, refl, ap}
 use Rattle.indexmap.specs.IndexMap.{insert_entry}
-use Rattle.json_spec.specs.Value.{Json, a_text, a_list, an_object, Members, a_member, put}
+use Rattle.json_spec.specs.Value.{a_text, a_list, an_object, a_member, put}
 use Rattle.ordered_json.specs.declared.value.Value as value
 use Rattle.ordered_json.specs.declared.value.Value.{Value, the_lemmas}
 use Rattle.ordered_json.specs.declared.value.Items.{Items}

@@ -1,7 +1,7 @@
 -- A string, piece by piece: a run of bytes that stand for themselves, or an escape.
-use Rattle.std.specs.Prelude.{◌≡◌, ◌≢◌, ℕ, suc, ◌<◌, ◌≤◌, Bool, true, false, cond, ◌==◌, not, nat_le, ◌&&◌, List, [], ◌∷◌, ◌++◌, length}
+use Rattle.std.specs.Prelude.{◌≡◌, ◌≢◌, ℕ, ◌<◌, ◌≤◌, Bool, true, false, cond, ◌==◌, not, nat_le, ◌&&◌, List, [], ◌∷◌, ◌++◌, length}
 use Rattle.std.proofs.Common.{refl, ap, sym, ◌∙◌, arith, append_assoc, append-nil, length-append}
-use Rattle.std.proofs.lemmas.Bool.{and_parts, and_from, not-true, eqb-false, eqb-true, leb-true, le-leb, false_from_ne_true, cases_lt, true≢false}
+use Rattle.std.proofs.lemmas.Bool.{and_parts, not-true, eqb-false, eqb-true, leb-true, le-leb, false_from_ne_true, cases_lt, true≢false}
 use mathlib.Core.Logic.{inl, inr}
 use Rattle.json_spec.specs.Taken.{taken, refused, Read, behind_piece}
 use Rattle.json_spec.specs.Strings.{escape_at, ReadsText, close, plain, escape, no_escape, control, text_ends}

@@ -1,6 +1,6 @@
 -- What the code's readers answer, in the words of the grammar.
 --     Fails Is stop      where the reader found no memory, nothing; else the grammar has that fault
-use Rattle.std.specs.Prelude.{◌≡◌, ℕ, List, ⊤, Result, Ok, Err}
+use Rattle.std.specs.Prelude.{◌≡◌, ℕ, List, ⊤, Result, Err}
 use Rattle.json_spec.specs.Value.{Json, Members, settled}
 use Rattle.json_spec.specs.Taken.{taken, refused, and_then}
 use Rattle.json_spec.specs.Grammar as grammar

@@ -1,7 +1,7 @@
 -- What the scanners inside one token answer.
 --     Cut out bytes rest      the reader's answer out is that it took the bytes up to rest, and what it took is UTF-8
 --     after_plain bytes      the bytes from the first on that ends the plain part of a string
-use Rattle.std.specs.Prelude.{◌≡◌, ◌≢◌, ℕ, suc, ◌+◌, ◌*◌, Bool, ◌&&◌, ◌==◌, nat_le, not, List, [], ◌∷◌, ◌++◌, Option, Some, None, IsUtf8, if◌then◌else◌}
+use Rattle.std.specs.Prelude.{◌≡◌, ℕ, suc, ◌+◌, ◌*◌, Bool, ◌&&◌, ◌==◌, nat_le, not, List, [], ◌∷◌, ◌++◌, IsUtf8, if◌then◌else◌}
 use Rattle.json_spec.specs.Taken.{taken, refused, Read}
 use Rattle.json_spec.specs.Strings.{hex_digits}
 

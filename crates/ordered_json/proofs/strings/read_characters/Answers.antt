@@ -1,5 +1,5 @@
-use Rattle.std.proofs.Common.{◌≡◌, ◌<◌, ◌++◌, length, encode_utf8, arith}
-use Rattle.ordered_json.proofs.StringsLemmas.{Completes, begins, plain_at_most, Turned, turned, fails, ends_open, closes_turn, has_control, has_no_escape, escapes_turn}
+use Rattle.std.proofs.Common.{◌<◌, ◌++◌, length, encode_utf8, arith}
+use Rattle.ordered_json.proofs.StringsLemmas.{Completes, begins, plain_at_most, turned, fails, ends_open, closes_turn, has_control, has_no_escape, escapes_turn}
 use Rattle.ordered_json.proofs.strings.read_characters.Goals as goal
 
 pub piece_before-requires : goal.piece_before-requires
