@@ -3,7 +3,7 @@ use Rattle.std.specs.Prelude.{◌≡◌, List, ℕ, Result, Ok, Err}
 use Rattle.std.proofs.Common.{subst}
 use Rattle.json_spec.specs.Value.{Json, an_object, Members}
 use Rattle.json_spec.specs.Grammar.{Fault, ReadsJson}
-use Rattle.node_spec.specs.Records.{Record, RecordFault, InvalidRecord, record_of, record_in, record_outcome, after_mark, ReadsRecord, reads_record}
+use Rattle.node_spec.specs.Records.{Record, InvalidRecord, record_of, record_in, record_outcome, after_mark, ReadsRecord, reads_record}
 
 pub record_from : (bytes text : List ℕ) (out : Result Json Fault) → text ≡ after_mark bytes → ReadsJson text out → ReadsRecord bytes (record_outcome out)
 record_from bytes text out e r = reads_record out (subst (λ xs. ReadsJson xs out) e r)
