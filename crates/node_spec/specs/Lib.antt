@@ -3,6 +3,8 @@ pub mod Looking
 pub mod Records
 pub mod Laws
 pub mod Some
+pub mod PatternKeys
+pub mod PatternLaws
 pub mod RecordLaws
 pub mod Examples
 pub mod RecordExamples

@@ -4,6 +4,7 @@
 
 ghost use Rattle.node_spec.specs.Examples.{WorkedExamples};
 ghost use Rattle.node_spec.specs.Laws.{OneAnswer};
+ghost use Rattle.node_spec.specs.PatternLaws.{KeysAreInOrder, OneChoice};
 ghost use Rattle.node_spec.specs.RecordExamples.{RecordExamples};
 ghost use Rattle.node_spec.specs.RecordLaws.{OneRecord, RecordNamesAreDistinct, SomeRecord};
 ghost use Rattle.node_spec.specs.Some.{SomeAnswer};
@@ -82,4 +83,16 @@ pub fn record_examples()
 #[tactic(auto, using(crate::specs::Examples::worked_examples))]
 pub fn worked_examples()
     ensures { WorkedExamples }
+{}
+
+/// The order among the keys that match one text is total.
+#[tactic(auto, using(crate::specs::PatternLaws::keys_are_in_order))]
+pub fn keys_are_in_order()
+    ensures { KeysAreInOrder }
+{}
+
+/// Among a set of keys one is chosen at most, and it matches in one way.
+#[tactic(auto, using(crate::specs::PatternLaws::one_choice))]
+pub fn one_choice()
+    ensures { OneChoice }
 {}

@@ -1,0 +1,129 @@
+ghost use Rattle.std.specs.Prelude.{◌≡◌, ◌≢◌, ◌<◌, ◌≤◌, ◌↔◌, ◌++◌, ◌∷◌, [], List, ℕ, length, slice_get, Some, MatchOption, IsTrue};
+ghost use Rattle.json_spec.specs.Value.{AreDistinct};
+ghost use Rattle.ordered_json.specs.Lists.{pairs_of};
+ghost use Rattle.ordered_json.specs.Shown.{members_of};
+ghost use Rattle.node_spec.specs.PatternKeys.{HasNoStar, KeyMatch, Matches};
+ghost use Rattle.node_spec.specs.PatternLaws.{GoesBefore};
+ghost use Rattle.exports_patterns.specs.Found.{keys_of, match_shown, Finds, IsMatch};
+
+use ordered_json::Members;
+
+/// How a key matches.
+#[derive(Clone, Copy, Debug, PartialEq, Eq)]
+pub struct Match {
+    /// The place of the key's member, counted from 0.
+    pub index: usize,
+    /// Whether the key is the asked text itself, and no pattern.
+    pub exact: bool,
+    /// Where the pattern match begins in the asked text, in bytes, and 0 for an exact key.
+    pub from: usize,
+    /// Where it ends, and 0 for an exact key.
+    pub to: usize,
+}
+
+/// The key that matches a text and that no other matching key precedes (Node.js, ECMAScript modules:
+/// PACKAGE_IMPORTS_EXPORTS_RESOLVE). None where no key matches.
+pub fn best_match(keys: &Members, key: &str) -> Option<Match>
+    requires { AreDistinct (members_of (pairs_of keys.now)) }
+    ensures { Finds (keys_of keys.now) key.now result }
+{
+    let mut best = None;
+    for index in 0..keys.len() {
+        let Some(name) = key_at(keys, index) else {
+            break;
+        };
+        best = with_key(best, index, name, key);
+    }
+    best
+}
+
+fn key_at(keys: &Members, index: usize) -> Option<&str>
+    ensures { MatchOption result (length (keys_of keys.now) ≤ index) (λ name. slice_get (keys_of keys.now) index ≡ Some name.now) }
+{
+    match keys.at(index) {
+        None => None,
+        Some((name, _)) => Some(name.as_str()),
+    }
+}
+
+// What is found, where one more key stands behind those that were looked at.
+fn with_key(best: Option<Match>, index: usize, name: &str, asked: &str) -> Option<Match>
+    ensures { (done : List (List ℕ)) → length done ≡ index → Finds done asked.now best → Finds (done ++ name.now ∷ []) asked.now result }
+{
+    match matched(index, name, asked) {
+        None => best,
+        Some(found) => match best {
+            None => Some(found),
+            Some(held) => {
+                if precedes(found, held) {
+                    Some(found)
+                } else {
+                    Some(held)
+                }
+            }
+        },
+    }
+}
+
+// Of two keys that match one text, whether the first goes before the second: of two patterns the one with the longer
+// base, and of two with one base the longer key, whose pattern match ends earlier.
+fn precedes(found: Match, other: Match) -> bool
+    ensures { IsTrue result ↔ GoesBefore (match_shown found) (match_shown other) }
+{
+    if found.exact || other.exact {
+        return found.exact && !other.exact;
+    }
+    other.from < found.from || other.from == found.from && found.to < other.to
+}
+
+fn matched(index: usize, name: &str, asked: &str) -> Option<Match>
+    ensures { MatchOption result ((found : KeyMatch) → Matches asked.now name.now found → ⊥) (λ found. (found.index ≡ index) × IsMatch asked.now name.now found) }
+{
+    let Some((base, trailer)) = at_star(name) else {
+        return exact_match(index, name, asked);
+    };
+    if at_star(trailer).is_some() {
+        return None;
+    }
+    let to = pattern_end(asked, base, trailer)?;
+    Some(Match {
+        index,
+        exact: false,
+        from: base.len(),
+        to,
+    })
+}
+
+fn exact_match(index: usize, name: &str, asked: &str) -> Option<Match>
+    requires { HasNoStar name.now }
+    ensures { MatchOption result ((found : KeyMatch) → Matches asked.now name.now found → ⊥) (λ found. (found.index ≡ index) × IsMatch asked.now name.now found) }
+{
+    if name != asked {
+        return None;
+    }
+    Some(Match {
+        index,
+        exact: true,
+        from: 0,
+        to: 0,
+    })
+}
+
+// What stands before the first star and after it.
+fn at_star(text: &str) -> Option<(&str, &str)>
+    ensures { MatchOption result (HasNoStar text.now) (λ parts. (text.now ≡ parts.0.now ++ 42 ∷ parts.1.now) × HasNoStar parts.0.now) }
+{
+    text.split_once('*')
+}
+
+// Where the pattern match ends, which stands between the base and the trailer and isn't empty.
+fn pattern_end(asked: &str, base: &str, trailer: &str) -> Option<usize>
+    ensures { MatchOption result ((part : List ℕ) → asked.now ≡ base.now ++ (part ++ trailer.now) → part ≡ []) (λ to. (part : List ℕ) × (asked.now ≡ base.now ++ (part ++ trailer.now)) × (part ≢ []) × (to ≡ length base.now + length part)) }
+{
+    let rest = asked.as_bytes().strip_prefix(base.as_bytes())?;
+    let part = rest.strip_suffix(trailer.as_bytes())?;
+    if part.is_empty() {
+        return None;
+    }
+    Some(base.len() + part.len())
+}

@@ -1,0 +1,5 @@
+use Rattle.node_spec.specs.PatternLaws.{one_choice}
+use Rattle.node_spec.proofs.one_choice.Goals as goal
+
+pub returns : goal.returns
+returns c = one_choice
