@@ -1,8 +1,8 @@
-ghost use Rattle.std.specs.Prelude.{◌≡◌, ◌≢◌, ◌<◌, ◌≤◌, ◌↔◌, ◌++◌, ◌∷◌, [], List, ℕ, length, slice_get, Some, MatchOption, IsTrue};
+ghost use Rattle.std.specs.Prelude.{◌≡◌, ◌≢◌, ◌<◌, ◌≤◌, ◌↔◌, ◌+◌, ◌++◌, ◌∷◌, [], List, ℕ, length, slice_get, Some, MatchOption, IsTrue};
 ghost use Rattle.json_spec.specs.Value.{AreDistinct};
 ghost use Rattle.ordered_json.specs.Lists.{pairs_of};
 ghost use Rattle.ordered_json.specs.Shown.{members_of};
-ghost use Rattle.node_spec.specs.PatternKeys.{HasNoStar, KeyMatch, Matches};
+ghost use Rattle.node_spec.specs.PatternKeys.{HasNoStar, IsPattern, KeyMatch, Matches};
 ghost use Rattle.node_spec.specs.PatternLaws.{GoesBefore};
 ghost use Rattle.exports_patterns.specs.Found.{keys_of, match_shown, Finds, IsMatch};
 
@@ -79,19 +79,13 @@ fn precedes(found: Match, other: Match) -> bool
 fn matched(index: usize, name: &str, asked: &str) -> Option<Match>
     ensures { MatchOption result ((found : KeyMatch) → Matches asked.now name.now found → ⊥) (λ found. (found.index ≡ index) × IsMatch asked.now name.now found) }
 {
-    let Some((base, trailer)) = at_star(name) else {
-        return exact_match(index, name, asked);
-    };
-    if at_star(trailer).is_some() {
-        return None;
+    match at_star(name) {
+        None => exact_match(index, name, asked),
+        Some((base, trailer)) => match at_star(trailer) {
+            None => pattern_match(index, base, trailer, asked),
+            Some(_) => None,
+        },
     }
-    let to = pattern_end(asked, base, trailer)?;
-    Some(Match {
-        index,
-        exact: false,
-        from: base.len(),
-        to,
-    })
 }
 
 fn exact_match(index: usize, name: &str, asked: &str) -> Option<Match>
@@ -109,6 +103,20 @@ fn exact_match(index: usize, name: &str, asked: &str) -> Option<Match>
     })
 }
 
+fn pattern_match(index: usize, base: &str, trailer: &str, asked: &str) -> Option<Match>
+    ensures { (name : List ℕ) → IsPattern name base.now trailer.now → MatchOption result ((found : KeyMatch) → Matches asked.now name found → ⊥) (λ found. (found.index ≡ index) × IsMatch asked.now name found) }
+{
+    match pattern_end(asked, base, trailer) {
+        None => None,
+        Some(to) => Some(Match {
+            index,
+            exact: false,
+            from: base.len(),
+            to,
+        }),
+    }
+}
+
 // What stands before the first star and after it.
 fn at_star(text: &str) -> Option<(&str, &str)>
     ensures { MatchOption result (HasNoStar text.now) (λ parts. (text.now ≡ parts.0.now ++ 42 ∷ parts.1.now) × HasNoStar parts.0.now) }
@@ -120,10 +128,26 @@ fn at_star(text: &str) -> Option<(&str, &str)>
 fn pattern_end(asked: &str, base: &str, trailer: &str) -> Option<usize>
     ensures { MatchOption result ((part : List ℕ) → asked.now ≡ base.now ++ (part ++ trailer.now) → part ≡ []) (λ to. (part : List ℕ) × (asked.now ≡ base.now ++ (part ++ trailer.now)) × (part ≢ []) × (to ≡ length base.now + length part)) }
 {
-    let rest = asked.as_bytes().strip_prefix(base.as_bytes())?;
-    let part = rest.strip_suffix(trailer.as_bytes())?;
+    let Some(rest) = behind(asked.as_bytes(), base.as_bytes()) else {
+        return None;
+    };
+    let Some(part) = ahead_of(rest, trailer.as_bytes()) else {
+        return None;
+    };
     if part.is_empty() {
         return None;
     }
     Some(base.len() + part.len())
+}
+
+fn behind<'a>(text: &'a [u8], front: &[u8]) -> Option<&'a [u8]>
+    ensures { MatchOption result ((rest : List ℕ) → text.now ≢ front.now ++ rest) (λ rest. text.now ≡ front.now ++ rest.now) }
+{
+    text.strip_prefix(front)
+}
+
+fn ahead_of<'a>(text: &'a [u8], end: &[u8]) -> Option<&'a [u8]>
+    ensures { MatchOption result ((front : List ℕ) → text.now ≢ front ++ end.now) (λ front. text.now ≡ front.now ++ end.now) }
+{
+    text.strip_suffix(end)
 }

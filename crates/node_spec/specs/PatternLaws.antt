@@ -35,7 +35,7 @@ same_fronts (c ∷ a) x (d ∷ b) y e l =
     (s, r.1)
 
 -- the first star of a text stands at one place
-same_parts : (a x b y : List ℕ) → a ++ 42 ∷ x ≡ b ++ 42 ∷ y → HasNoStar a → HasNoStar b → (a ≡ b) × (x ≡ y)
+pub same_parts : (a x b y : List ℕ) → a ++ 42 ∷ x ≡ b ++ 42 ∷ y → HasNoStar a → HasNoStar b → (a ≡ b) × (x ≡ y)
 same_parts [] x [] y e n o = let t : x ≡ y = cc in (refl, t)
 same_parts [] x (d ∷ b) y e n o = let h : d ≡ 42 = cc in absurd (All-head (λ c. c ≢ 42) d b o h)
 same_parts (c ∷ a) x [] y e n o = let h : c ≡ 42 = cc in absurd (All-head (λ c. c ≢ 42) c a n h)
@@ -46,7 +46,7 @@ same_parts (c ∷ a) x (d ∷ b) y e n o =
     let s : c ∷ a ≡ d ∷ b = (let u : a ≡ b = r.0 in cc) in
     (s, r.1)
 
-no_star_inside : (a x : List ℕ) → HasNoStar (a ++ 42 ∷ x) → ⊥
+pub no_star_inside : (a x : List ℕ) → HasNoStar (a ++ 42 ∷ x) → ⊥
 no_star_inside [] x n = All-head (λ c. c ≢ 42) 42 x n refl
 no_star_inside (c ∷ a) x n = no_star_inside a x (All-tail (λ c. c ≢ 42) c (a ++ 42 ∷ x) n)
 
@@ -72,7 +72,7 @@ nonempty text [] front e n = absurd (n (e ∙ append-nil front))
 nonempty text (c ∷ rest) front e n = omega arith
 
 pub part_of_match : (asked key base trailer : List ℕ) → IsPattern key base trailer → FitsPattern asked key base trailer → PartStands asked base trailer
-part_of_match asked key base trailer p f = elim f.ends [ | inl none ↦ without none | inr ends ↦ with_end ends.0.0 ends.0.1 ends.1 ]
+part_of_match asked key base trailer p f = elim f.ends [ inl none ↦ without none | inr ends ↦ with_end ends.0.0 ends.0.1 ends.1 ]
   where
     without : trailer ≡ [] → PartStands asked base trailer
     without none = record {
@@ -80,6 +80,7 @@ part_of_match asked key base trailer p f = elim f.ends [ | inl none ↦ without 
       stands = f.starts.1 ∙ ap (λ t. base ++ t) (sym (append-nil f.starts.0) ∙ ap (λ t. f.starts.0 ++ t) (sym none));
       some = nonempty asked f.starts.0 base f.starts.1 f.is_longer;
     }
+
     with_end : (front : List ℕ) → asked ≡ front ++ trailer → length key ≤ length asked → PartStands asked base trailer
     with_end front e l =
         let k = pattern_length key base trailer p in
@@ -88,7 +89,7 @@ part_of_match asked key base trailer p f = elim f.ends [ | inl none ↦ without 
         let s : length front ≡ length base + length m.0 = ap length m.1 ∙ length-append base m.0 in
         record { part = m.0; stands = f.starts.1 ∙ ap (λ t. base ++ t) m.2; some = omega arith }
 
-part_length : (asked base trailer : List ℕ) → (s : PartStands asked base trailer) → length asked ≡ length base + (length s.part + length trailer)
+pub part_length : (asked base trailer : List ℕ) → (s : PartStands asked base trailer) → length asked ≡ length base + (length s.part + length trailer)
 part_length asked base trailer s = let e : length asked ≡ length (base ++ (s.part ++ trailer)) = ap length s.stands in omega (arith, length-append base (s.part ++ trailer), length-append s.part trailer)
 
 -- ---- the order among keys that match
@@ -169,6 +170,7 @@ before_or_same (PatternMatch from to) (PatternMatch other_from other_to) = by_fr
     by_to e (inl s) = inl cc
     by_to e (inr (inl l)) = inr (inl (inr (e, l)))
     by_to e (inr (inr l)) = inr (inr (inr (sym e, l)))
+
     by_from : ((from ≡ other_from) ⊎ ((from < other_from) ⊎ (other_from < from))) → (PatternMatch from to ≡ PatternMatch other_from other_to) ⊎ (GoesBefore (PatternMatch from to) (PatternMatch other_from other_to) ⊎ GoesBefore (PatternMatch other_from other_to) (PatternMatch from to))
     by_from (inl e) = by_to e (cases_order to other_to)
     by_from (inr (inl l)) = inr (inr (inl l))
@@ -205,8 +207,8 @@ pub keys_are_in_order : KeysAreInOrder
 keys_are_in_order = record {
   total = λ asked key other found also m n. total_order asked key other found also m n (before_or_same found also);
   through = λ asked key middle other found between also m b n p q.
-    before_precedes asked key other found also m n
-    (before_through found between also (precedes_before asked key middle found between m b p) (precedes_before asked middle other between also b n q));
+      before_precedes asked key other found also m n
+      (before_through found between also (precedes_before asked key middle found between m b p) (precedes_before asked middle other between also b n q));
   never_itself = λ asked key found m p. never_before_itself found (precedes_before asked key key found found m m p);
 }
 

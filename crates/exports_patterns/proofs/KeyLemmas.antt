@@ -1,0 +1,123 @@
+-- How a key matches, and what is found when one more key is looked at.
+use Rattle.std.proofs.Common.{◌≡◌, ◌≢◌, ◌<◌, ◌≤◌, ◌+◌, ◌-◌, ℕ, zero, suc, Bool, true, false, List, [], ◌∷◌, ◌++◌, length, take, drop, get_or, refl, sym, ap, ◌∙◌, subst, arith, add-one, length-append, append_assoc, Option, Some, None, Bor}
+use Rattle.std.specs.Prelude.{MatchOption, slice_get}
+use Rattle.std.proofs.lemmas.List.{append_cancel_left, append_cancel_right}
+use Rattle.std.proofs.lemmas.List.Elements.{All-from_get_or}
+use Rattle.node_spec.specs.PatternKeys.{HasNoStar, IsPattern, FitsPattern, KeyMatch, Itself, PatternMatch, Matches, IsChoice, MatchesNone}
+use Rattle.node_spec.specs.PatternKeys.Matches.{by_itself, by_pattern}
+use Rattle.node_spec.specs.PatternLaws.{PartStands, GoesBefore, no_star_inside, same_parts, no_pattern, same_pattern, part_of_match, part_length, fits_from_part, precedes_before, before_precedes, none_more, first_choice, same_choice, better_choice}
+use Rattle.exports_patterns.specs.declared.pattern_keys.Match.{Match}
+use Rattle.exports_patterns.specs.Found.{match_shown, IsMatch, IsFound, Finds}
+
+-- ---- one key
+
+pub star_parts : (text : List ℕ) (r : Option (Bor (List ℕ) × Bor (List ℕ))) → MatchOption r ((i : ℕ) → i < length text → get_or text i 0 ≢ 42) (λ x. (text ≡ x.0.now ++ (42 ∷ x.1.now)) × ((i : ℕ) → i < length x.0.now → get_or x.0.now i 0 ≢ 42)) → MatchOption r (HasNoStar text) (λ x. (text ≡ x.0.now ++ (42 ∷ x.1.now)) × HasNoStar x.0.now)
+star_parts text None none = All-from_get_or (λ b. b ≢ 42) text 0 none
+star_parts text (Some x) found = (found.0, All-from_get_or (λ b. b ≢ 42) x.0.now 0 found.1)
+
+pub no_exact_match : (asked key : List ℕ) → HasNoStar key → key ≢ asked → (found : KeyMatch) → Matches asked key found → ⊥
+no_exact_match asked key n d found (by_itself e m) = d e
+no_exact_match asked key n d found (by_pattern base trailer p f) = no_pattern key base trailer p n
+
+pub is_exact_match : (asked key : List ℕ) (index : ℕ) → HasNoStar key → key ≡ asked → IsMatch asked key (record { index = index; exact = true; from = 0; to = 0 })
+is_exact_match asked key index n e = record { matches = by_itself e n; no_span = λ t. (refl, refl) }
+
+pub many_stars : (asked key base trailer more end : List ℕ) → key ≡ base ++ 42 ∷ trailer → HasNoStar base → trailer ≡ more ++ 42 ∷ end → (found : KeyMatch) → Matches asked key found → ⊥
+many_stars asked key base trailer more end e n t found (by_itself same m) = no_star_inside base trailer (subst HasNoStar e m)
+many_stars asked key base trailer more end e n t found (by_pattern b u q f) =
+    let same = same_parts b u base trailer (sym q.parts ∙ e) q.before_star n in
+    no_star_inside more end (subst HasNoStar (same.1 ∙ t) q.after_star)
+
+pub no_pattern_match : (asked key base trailer : List ℕ) → IsPattern key base trailer → ((part : List ℕ) → asked ≡ base ++ (part ++ trailer) → part ≡ []) → (found : KeyMatch) → Matches asked key found → ⊥
+no_pattern_match asked key base trailer p none found (by_itself e n) = no_pattern key base trailer p n
+no_pattern_match asked key base trailer p none found (by_pattern b t q f) =
+    let s = part_of_match asked key b t q f in
+    let same = same_pattern key b t base trailer q p in
+    let e : asked ≡ base ++ (s.part ++ trailer) = s.stands ∙ (ap (λ front. front ++ (s.part ++ t)) same.0 ∙ ap (λ end. base ++ (s.part ++ end)) same.1) in
+    let l : length s.part ≡ 0 = ap length (none s.part e) in
+    let some : 0 < length s.part = s.some in
+    absurd (omega arith)
+
+pub is_pattern_match : (asked key base trailer part : List ℕ) (index to : ℕ) → IsPattern key base trailer → asked ≡ base ++ (part ++ trailer) → part ≢ [] → to ≡ length base + length part → IsMatch asked key (record { index = index; exact = false; from = length base; to = to })
+is_pattern_match asked key base trailer part index to p e n t =
+    let s : PartStands asked base trailer = record { part = part; stands = e; some = nonempty part n } in
+    let l = part_length asked base trailer s in
+    let u : length asked - length trailer ≡ to = omega arith in
+    let m : Matches asked key (PatternMatch (length base) (length asked - length trailer)) = by_pattern base trailer p (fits_from_part asked key base trailer p s) in
+    record { matches = subst (λ end. Matches asked key (PatternMatch (length base) end)) u m; no_span = λ e. (cc, cc) }
+  where
+    nonempty : (xs : List ℕ) → xs ≢ [] → 0 < length xs
+    nonempty [] d = absurd (d refl)
+    nonempty (x ∷ xs) d = omega arith
+
+-- where what is behind the base doesn't end with the trailer
+pub no_part : (asked text base front rest trailer end : List ℕ) → text ≡ asked → front ≡ base → end ≡ trailer → text ≡ front ++ rest → ((x : List ℕ) → rest ≢ x ++ end) → (part : List ℕ) → asked ≡ base ++ (part ++ trailer) → part ≡ []
+no_part asked text base front rest trailer end t f l e none part s =
+    let u : base ++ (part ++ trailer) ≡ base ++ rest = sym s ∙ (sym t ∙ (e ∙ ap (λ x. x ++ rest) f)) in
+    absurd (none part (append_cancel_left base rest (part ++ trailer) (sym u) ∙ ap (λ x. part ++ x) (sym l)))
+
+-- ---- one more key
+
+get_before : (xs ys : List (List ℕ)) (i : ℕ) (x : List ℕ) → slice_get xs i ≡ Some x → slice_get (xs ++ ys) i ≡ Some x
+get_before [] ys i x e = cc
+get_before (y ∷ xs) ys zero x e = e
+get_before (y ∷ xs) ys (suc i) x e = get_before xs ys i x e
+
+get_pushed : (xs : List (List ℕ)) (x : List ℕ) → slice_get (xs ++ x ∷ []) (length xs) ≡ Some x
+get_pushed [] x = refl
+get_pushed (y ∷ xs) x = get_pushed xs x
+
+module _ (keys : List (List ℕ)) (asked key : List ℕ) where
+  pub kept_found : (best : Option Match) → ((found : KeyMatch) → Matches asked key found → ⊥) → Finds keys asked best → Finds (keys ++ key ∷ []) asked best
+  kept_found None not none = none_more keys asked key none not
+  kept_found (Some held) not f = record {
+    key = f.key;
+    stands = get_before keys (key ∷ []) held.index f.key f.stands;
+    chosen = same_choice keys asked key f.key (match_shown held) f.chosen (λ found m p. not found m);
+    no_span = f.no_span;
+  }
+
+  new_found : (found : Match) → length keys ≡ found.index → IsMatch asked key found → IsChoice (keys ++ key ∷ []) asked key (match_shown found) → IsFound (keys ++ key ∷ []) asked found
+  new_found found i m c = record { key = key; stands = subst (λ n. slice_get (keys ++ key ∷ []) n ≡ Some key) i (get_pushed keys key); chosen = c; no_span = m.no_span }
+
+  pub first_found : (best : Option Match) (found : Match) → best ≡ None → length keys ≡ found.index → IsMatch asked key found → Finds keys asked best → IsFound (keys ++ key ∷ []) asked found
+  first_found best found e i m f = new_found found i m (first_choice keys asked key (subst (Finds keys asked) e f) (match_shown found) m.matches)
+
+  pub better_found : (best : Option Match) (found held : Match) → best ≡ Some held → length keys ≡ found.index → IsMatch asked key found → GoesBefore (match_shown found) (match_shown held) → Finds keys asked best → IsFound (keys ++ key ∷ []) asked found
+  better_found best found held e i m b f =
+      let h : IsFound keys asked held = subst (Finds keys asked) e f in
+      new_found found i m
+      (better_choice keys asked key h.key (match_shown held) h.chosen (match_shown found) m.matches
+      (before_precedes asked key h.key (match_shown found) (match_shown held) m.matches h.chosen.matches b))
+
+  pub worse_found : (best : Option Match) (found held : Match) → best ≡ Some held → IsMatch asked key found → (GoesBefore (match_shown found) (match_shown held) → ⊥) → Finds keys asked best → IsFound (keys ++ key ∷ []) asked held
+  worse_found best found held e m b f =
+      let h : IsFound keys asked held = subst (Finds keys asked) e f in
+      record {
+        key = h.key;
+        stands = get_before keys (key ∷ []) held.index h.key h.stands;
+        chosen = same_choice keys asked key h.key (match_shown held) h.chosen
+            (λ also n p. b (precedes_before asked key h.key (match_shown found) (match_shown held) m.matches h.chosen.matches p));
+        no_span = h.no_span;
+      }
+
+-- ---- all keys
+
+pub none_found : (asked : List ℕ) → MatchesNone [] asked
+none_found asked key found c m = absurd (let l : c.0 < 0 = c.1 in omega arith)
+
+pub next_key : (keys : List (List ℕ)) (i : ℕ) (key : List ℕ) → slice_get keys i ≡ Some key → take (i + 1) keys ≡ take i keys ++ key ∷ []
+next_key [] i key e = cc
+next_key (k ∷ keys) zero key e = let s : k ≡ key = cc in ap (λ x. x ∷ []) s
+next_key (k ∷ keys) (suc i) key e = rw add-one (ap (λ xs. k ∷ xs) (rw add-one at (next_key keys i key e)))
+
+pub length_before : (keys : List (List ℕ)) (i : ℕ) (key : List ℕ) → slice_get keys i ≡ Some key → length (take i keys) ≡ i
+length_before [] i key e = cc
+length_before (k ∷ keys) zero key e = refl
+length_before (k ∷ keys) (suc i) key e = ap suc (length_before keys i key e)
+
+pub all_keys : (keys : List (List ℕ)) (i : ℕ) → length keys ≤ i → take i keys ≡ keys
+all_keys [] zero l = refl
+all_keys [] (suc i) l = refl
+all_keys (k ∷ keys) zero l = absurd (omega arith)
+all_keys (k ∷ keys) (suc i) l = ap (λ xs. k ∷ xs) (all_keys keys i (omega arith))
