@@ -3,6 +3,7 @@ use Rattle.std.specs.Prelude.{◌≡◌, ◌++◌, ◌∷◌, true, false, codes
 use Rattle.url.proofs.OnLiterals.{url_on_literals}
 use Rattle.percent_encoding.specs.Percent.{percent_encode_byte, percent_decode}
 use Rattle.url_spec.specs.Parsing.{text_of, parse_alone, parse_against, has_special_scheme, base_of}
+use Rattle.url_spec.specs.Schemes.{url_scheme, scheme_of}
 use Rattle.url_spec.specs.Specifiers.{as_url, normalized}
 use Rattle.url_spec.specs.WebNames.{escaped, web, before_suffix, suffix_of, holds_escape, read_segment, segments}
 use Rattle.url_spec.specs.FileUrls.{file_text, names_host, url_path, escapes_separator, spelled_path}
@@ -15,6 +16,13 @@ pub record BaseExamples : Type 0 where
   pub with_query : base_of (codes "https://h/a/?q") ≡ None
   pub with_fragment : base_of (codes "https://h/a/#") ≡ None
   pub with_user : base_of (codes "https://u@h/a/") ≡ None
+
+pub record SchemeExamples : Type 0 where
+  pub node : scheme_of (codes "node:fs") ≡ Some (codes "node")
+  pub upper_case : scheme_of (codes "NODE:fs") ≡ Some (codes "node")
+  pub other : scheme_of (codes "https://h/a") ≡ Some (codes "https")
+  pub no_url : scheme_of (codes "node") ≡ None
+  pub relative : scheme_of (codes "./node:fs") ≡ None
 
 pub record SpecifierExamples : Type 0 where
   pub relative : as_url (codes "https://h/a/b.mjs") (codes "./x") ≡ Some (codes "https://h/a/x")
@@ -49,11 +57,15 @@ pub record FileExamples : Type 0 where
   pub suffix : suffix_of (codes "file:///x?q#f") ≡ codes "?q#f"
 
 abbrev pub WorkedExamples : Type 0
-WorkedExamples = BaseExamples × SpecifierExamples × WebExamples × FileExamples
+WorkedExamples = BaseExamples × SchemeExamples × SpecifierExamples × WebExamples × FileExamples
 
 base_examples : BaseExamples
 unfolding base_of parse_alone text_of url_on_literals
 base_examples = record { lower_case = refl; no_folder = refl; no_scheme = refl; other_scheme = refl; with_query = refl; with_fragment = refl; with_user = refl }
+
+scheme_examples : SchemeExamples
+unfolding scheme_of url_scheme parse_alone text_of url_on_literals
+scheme_examples = record { node = refl; upper_case = refl; other = refl; no_url = refl; relative = refl }
 
 specifier_examples : SpecifierExamples
 unfolding as_url normalized parse_alone parse_against has_special_scheme text_of url_on_literals
@@ -81,4 +93,4 @@ file_examples = record {
 }
 
 pub worked_examples : WorkedExamples
-worked_examples = (base_examples, specifier_examples, web_examples, file_examples)
+worked_examples = (base_examples, scheme_examples, specifier_examples, web_examples, file_examples)

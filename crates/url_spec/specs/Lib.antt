@@ -1,4 +1,5 @@
 pub mod Parsing
+pub mod Schemes
 pub mod Specifiers
 pub mod WebNames
 pub mod FileUrls

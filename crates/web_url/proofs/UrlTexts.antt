@@ -9,6 +9,7 @@ use Rattle.url.specs.Canonical.{IsCanonical}
 use Rattle.url.proofs.Theorems.{parse_url-serialize}
 use Rattle.url.proofs.ParsedCanonical.{parse_url_canonical}
 use Rattle.url_spec.specs.Parsing.{text_of, url_text, kept, parse_alone, parse_onto, parse_against, IsUrl, parts_of, has_special, has_special_scheme}
+use Rattle.url_spec.specs.Schemes.{scheme_or_empty, url_scheme}
 use Rattle.url.specs.Scheme.{is_special}
 use Rattle.std.specs.Result.{result_ok}
 use Rattle.url_spec.specs.OwnTexts.{text_of_ascii, kept_from_parse}
@@ -74,6 +75,10 @@ pub special_written : (url : Parts) → IsWritten url → has_special_scheme (te
 unfolding has_special_scheme
 special_written url own = ap has_special (parts_written url own)
 
+pub scheme_written : (url : Parts) → IsWritten url → url_scheme (text_of url) ≡ url.scheme
+unfolding url_scheme
+scheme_written url own = ap scheme_or_empty (parts_written url own)
+
 pub host_written : (url : Parts) → IsWritten url → names_host (text_of url) ≡ has_host url
 unfolding names_host
 host_written url own = ap with_host (parts_written url own)
@@ -82,6 +87,6 @@ pub path_written : (url : Parts) → IsWritten url → url_path (text_of url) �
 unfolding url_path
 path_written url own = ap path_or_empty (parts_written url own)
 
-pub ruleset texts = (own_text, text_value, text_ascii, special_written, host_written, path_written)
+pub ruleset texts = (own_text, text_value, text_ascii, special_written, scheme_written, host_written, path_written)
 
 pub ruleset parsing = (parsed_written, joined_written, alone_ok, alone_err, against_ok, against_err)

@@ -1,7 +1,8 @@
 //! Specifiers as URLs.
 ghost use Rattle.std.specs.Prelude.{◌≡◌, IfOk, IfErr, true};
+ghost use Rattle.url_spec.specs.Schemes.{scheme_of};
 ghost use Rattle.url_spec.specs.Specifiers.{is_relative, as_url, normalized};
-ghost use Rattle.web_url.specs.Asking.{IsAsked, IsAskFault};
+ghost use Rattle.web_url.specs.Asking.{IsAsked, IsAskFault, scheme_named};
 
 use crate::web_url::WebUrl;
 use primitives::{Memory, Text};
@@ -27,6 +28,17 @@ pub enum AskFault {
     Memory,
 }
 
+/// What a specifier is by its scheme.
+#[derive(Clone, Copy, Debug, PartialEq, Eq)]
+pub enum Scheme {
+    /// It is no URL without a base.
+    NotUrl,
+    /// A URL of scheme `node`.
+    Node,
+    /// A URL of another scheme.
+    Other,
+}
+
 impl From<AllocError> for AskFault {
     ghost use Rattle.std.specs.Prelude.{◌≡◌};
     ghost use Rattle.web_url.specs.declared.specifier.AskFault.TheVariants.{Memory};
@@ -44,6 +56,23 @@ pub fn is_relative(text: &str) -> bool
     ensures { result ≡ is_relative text.now }
 {
     text.starts_with("/") || text.starts_with("./") || text.starts_with("../")
+}
+
+/// What a specifier is by its scheme, parsed without a base.
+#[tactic(auto, unfolding(url_spec::specs::Schemes::scheme_of))]
+pub fn scheme_of(alloc: Global, specifier: &str) -> Result<Scheme, Memory>
+    ensures { IfOk result (λ scheme. scheme ≡ scheme_named (scheme_of specifier.now)) }
+{
+    match WebUrl::parse(alloc, specifier)? {
+        None => Ok(Scheme::NotUrl),
+        Some(url) => {
+            if url.scheme() == "node" {
+                Ok(Scheme::Node)
+            } else {
+                Ok(Scheme::Other)
+            }
+        }
+    }
 }
 
 /// The URL of a specifier: a relative one against the base, any other without one.

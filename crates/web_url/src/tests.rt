@@ -1,6 +1,6 @@
 use crate::{
-    AskFault, Asked, Base, BaseFault, FileFault, FileUrl, Place, Suffix, WebUrl, ask, file_join,
-    file_of, file_url, is_relative, normalized, served, web_of,
+    AskFault, Asked, Base, BaseFault, FileFault, FileUrl, Place, Scheme, Suffix, WebUrl, ask,
+    file_join, file_of, file_url, is_relative, normalized, scheme_of, served, web_of,
 };
 use std::alloc::Global;
 use std::process::Abort;
@@ -114,6 +114,26 @@ fn asked(rt: HostRuntime) -> Result<(), Fail> {
     for (specifier, expected) in ASKED {
         let asked = ask(rt.alloc(), specifier, &referrer);
         assert_eq!(rt; asked_text(&asked), expected);
+    }
+    Ok(())
+}
+
+static SCHEMES: [(&str, Scheme); 8] = [
+    ("node:fs", Scheme::Node),
+    (" NODE:\tfs", Scheme::Node),
+    ("node:", Scheme::Node),
+    ("nodes:fs", Scheme::Other),
+    ("https://h/node:fs", Scheme::Other),
+    ("node", Scheme::NotUrl),
+    ("./node:fs", Scheme::NotUrl),
+    ("", Scheme::NotUrl),
+];
+
+#[test]
+fn schemes(rt: HostRuntime) -> Result<(), Fail> {
+    for (specifier, expected) in SCHEMES {
+        let scheme = scheme_of(rt.alloc(), specifier)?;
+        assert!(rt; scheme == expected);
     }
     Ok(())
 }

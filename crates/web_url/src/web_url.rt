@@ -1,5 +1,6 @@
 ghost use Rattle.std.specs.Prelude.{◌≡◌, IfOk, IfSome, IsAscii};
 ghost use Rattle.url_spec.specs.Parsing.{parse_alone, parse_against, has_special_scheme, IsUrl};
+ghost use Rattle.url_spec.specs.Schemes.{url_scheme};
 ghost use Rattle.web_url.specs.Written.{IsParsedAs};
 
 use crate::url_text;
@@ -66,6 +67,14 @@ impl WebUrl {
         ensures { result ≡ has_special_scheme self.now }
     {
         self.url.is_special()
+    }
+
+    /// Lends the scheme (URL Standard, URL representation).
+    #[tactic(auto, using(crate::proofs::UrlTexts::texts))]
+    pub fn scheme(&self) -> &str
+        ensures { result.now ≡ url_scheme self.now }
+    {
+        self.url.scheme()
     }
 
     /// An equal URL.
