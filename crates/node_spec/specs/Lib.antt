@@ -1,6 +1,10 @@
 pub mod Resolution
 pub mod Looking
 pub mod Records
+pub mod PackageTargets
+pub mod TargetLaws
+pub mod TargetsUnder
+pub mod TargetExamples
 pub mod Laws
 pub mod Some
 pub mod PatternKeys

@@ -1,5 +1,5 @@
-//! What Node's resolver answers for a specifier in a file of a tree, and the record of a package.json: definitions and
-//! their laws.
+//! What Node's resolver answers for a specifier in a file of a tree, the record of a package.json, and what a target in it
+//! comes to: definitions and their laws.
 #![tactic(auto)]
 
 ghost use Rattle.node_spec.specs.Examples.{WorkedExamples};
@@ -8,6 +8,11 @@ ghost use Rattle.node_spec.specs.PatternLaws.{KeysAreInOrder, OneChoice};
 ghost use Rattle.node_spec.specs.RecordExamples.{RecordExamples};
 ghost use Rattle.node_spec.specs.RecordLaws.{OneRecord, RecordNamesAreDistinct, SomeRecord};
 ghost use Rattle.node_spec.specs.Some.{SomeAnswer};
+ghost use Rattle.node_spec.specs.TargetExamples.{TargetExamples};
+ghost use Rattle.node_spec.specs.TargetLaws.{AnswersDetermine, OneOutcome, OneUnder};
+ghost use Rattle.node_spec.specs.TargetsUnder.{SomeOutcome};
+
+use primitives::Text;
 
 /// Why a specifier is refused.
 #[derive(Clone, Copy, Debug, PartialEq, Eq)]
@@ -43,6 +48,38 @@ pub enum PackageKind {
     Unstated,
 }
 
+/// What a bare text that a target names comes to.
+#[derive(Clone, Copy, Debug, PartialEq, Eq)]
+pub enum BareAnswer {
+    /// A module.
+    Found,
+    /// The target isn't well formed, or leaves its package.
+    InvalidTarget,
+    /// It is refused for another reason, or isn't found.
+    Stop,
+}
+
+/// What a target comes to.
+#[derive(Debug, Drop)]
+pub enum Outcome {
+    /// No condition of it holds.
+    Undefined,
+    /// Null, by which a package keeps a subpath to itself.
+    Null,
+    /// A place in the package, as a text that begins with `./`.
+    Place(Text),
+    /// What a bare text names.
+    Bare,
+    /// A bare text stopped.
+    Stopped,
+    /// It isn't well formed, or leaves the package.
+    InvalidTarget,
+    /// What stands for `*` has a segment that isn't allowed.
+    InvalidSpecifier,
+    /// An object has a key that is an array index.
+    InvalidConfig,
+}
+
 /// A specifier in a file of a tree has one answer at most.
 #[tactic(auto, using(crate::specs::Laws::one_answer))]
 pub fn one_answer()
@@ -71,6 +108,32 @@ pub fn some_record()
 #[tactic(auto, using(crate::specs::RecordLaws::record_names_are_distinct))]
 pub fn record_names_are_distinct()
     ensures { RecordNamesAreDistinct }
+{}
+
+/// A target asks for one list of texts and comes to one outcome, if the same texts in turn get the same answers.
+pub fn one_outcome()
+    ensures { OneOutcome }
+{}
+
+/// The answers in their order determine the texts that a target asks for, and its outcome.
+pub fn answers_determine()
+    ensures { AnswersDetermine }
+{}
+
+/// Under a map from texts to answers a target comes to one outcome.
+pub fn one_under()
+    ensures { OneUnder }
+{}
+
+/// Whatever answers bare texts, each target comes to an outcome.
+pub fn some_outcome()
+    ensures { SomeOutcome }
+{}
+
+/// Worked examples of targets.
+#[tactic(auto, using(crate::specs::TargetExamples::target_examples))]
+pub fn target_examples()
+    ensures { TargetExamples }
 {}
 
 /// Worked examples of records.
