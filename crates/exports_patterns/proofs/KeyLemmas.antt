@@ -1,9 +1,9 @@
 -- How a key matches, and what is found when one more key is looked at.
-use Rattle.std.proofs.Common.{◌≡◌, ◌≢◌, ◌<◌, ◌≤◌, ◌+◌, ◌-◌, ℕ, zero, suc, Bool, true, false, List, [], ◌∷◌, ◌++◌, length, take, drop, get_or, refl, sym, ap, ◌∙◌, subst, arith, add-one, length-append, append_assoc, Option, Some, None, Bor}
+use Rattle.std.proofs.Common.{◌≡◌, ◌≢◌, ◌<◌, ◌≤◌, ◌+◌, ◌-◌, ℕ, zero, suc, true, false, List, [], ◌∷◌, ◌++◌, length, take, get_or, refl, sym, ap, ◌∙◌, subst, arith, add-one, Option, Some, None, Bor}
 use Rattle.std.specs.Prelude.{MatchOption, slice_get}
-use Rattle.std.proofs.lemmas.List.{append_cancel_left, append_cancel_right}
+use Rattle.std.proofs.lemmas.List.{append_cancel_left}
 use Rattle.std.proofs.lemmas.List.Elements.{All-from_get_or}
-use Rattle.node_spec.specs.PatternKeys.{HasNoStar, IsPattern, FitsPattern, KeyMatch, Itself, PatternMatch, Matches, IsChoice, MatchesNone}
+use Rattle.node_spec.specs.PatternKeys.{HasNoStar, IsPattern, KeyMatch, PatternMatch, Matches, IsChoice, MatchesNone}
 use Rattle.node_spec.specs.PatternKeys.Matches.{by_itself, by_pattern}
 use Rattle.node_spec.specs.PatternLaws.{PartStands, GoesBefore, no_star_inside, same_parts, no_pattern, same_pattern, part_of_match, part_length, fits_from_part, precedes_before, before_precedes, none_more, first_choice, same_choice, better_choice}
 use Rattle.exports_patterns.specs.declared.pattern_keys.Match.{Match}

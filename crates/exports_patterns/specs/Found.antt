@@ -1,7 +1,7 @@
 -- The key that is found, in the words of the choice among keys.
 --     keys_of members      the keys of an object's members, in order
 --     IsFound keys asked found      the match stands for the choice among these keys, at a place where that key is
-use Rattle.std.specs.Prelude.{◌≡◌, ℕ, Bool, List, map, slice_get, Option, Some, MatchOption, if◌then◌else◌, true}
+use Rattle.std.specs.Prelude.{◌≡◌, ℕ, List, map, slice_get, Option, Some, MatchOption, if◌then◌else◌, true}
 use Rattle.ordered_json.specs.declared.value.Value.{Value}
 use Rattle.ordered_json.specs.declared.value.Members.{Members}
 use Rattle.ordered_json.specs.Lists.{pairs_of}

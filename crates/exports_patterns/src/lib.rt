@@ -2,5 +2,7 @@
 #![tactic(auto)]
 
 mod pattern_keys;
+#[cfg(test)]
+mod tests;
 
 pub use pattern_keys::{Match, best_match};

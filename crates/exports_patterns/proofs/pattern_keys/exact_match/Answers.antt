@@ -1,4 +1,4 @@
-use Rattle.std.proofs.Common.{refl, rules, ◌≡◌, ◌≢◌}
+use Rattle.std.proofs.Common.{refl, rules}
 use Rattle.exports_patterns.proofs.KeyLemmas.{no_exact_match, is_exact_match}
 use Rattle.exports_patterns.proofs.pattern_keys.exact_match.Goals as goal
 
