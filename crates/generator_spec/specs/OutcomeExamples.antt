@@ -40,7 +40,7 @@ use Rattle.generator_spec.specs.Words.{IsEntry, IsLink, once_onto, IsConfigOf}
 use Rattle.generator_spec.specs.Words.RefusesWords.{no_link, bad_base}
 use Rattle.generator_spec.specs.Refusing.{AsksFile, FirstRefusal}
 use Rattle.generator_spec.specs.Refusing.Refuses.{asks_no_file, clash}
-use Rattle.generator_spec.specs.Refusing.FirstRefusal.{no_module, request}
+use Rattle.generator_spec.specs.Refusing.FirstRefusal.{unservable, no_module, request}
 use Rattle.generator_spec.specs.Lines.{status_of, line_of, counts_line, done_line}
 use Rattle.generator_spec.specs.Outcome.{Outcome}
 use Rattle.generator_spec.specs.Outcome.Outcome.{words_refused, trace_refused, done}
@@ -269,6 +269,14 @@ script_first =
     let reaches = first_reached config script page_name (page_turn config script) asker refl refl refl refl in
     no_module (page_turn config script ∷ []) asker reaches (fits _ _ refl refl) (λ specifiers. other_name (tree_of script) config asker specifiers refl) refl
 
+-- a page without a URL, since the base, which no words give, is none
+no_page : web (codes "/") (codes "/index.html") [] ≡ None
+unfolding web escaped percent_encode_byte parse_alone text_of url_on_literals
+no_page = refl
+
+no_page_first : (tree : Tree) → FirstRefusal tree (based "/" []) (refusal.Unservable (codes "/index.html") [])
+no_page_first tree = unservable None no_page (λ name is. let wrong : None ≡ Some name = sym no_page ∙ is.name in cc) refl
+
 pub record StoppedExamples : Type 0 where
   pub missing : IsStopped asks_missing "https://app.test/" ("./app.mjs" ∷ []) (refusal.NotFound (codes "/app.mjs") (codes "./q.mjs")) 1 "refused: NotFound from \"/app.mjs\" for \"./q.mjs\"\n"
   pub with_a_query : IsStopped asks_missing "https://app.test/" ("./app.mjs?v=1" ∷ []) (refusal.NotFound (codes "/app.mjs?v=1") (codes "./q.mjs")) 1 "refused: NotFound from \"/app.mjs?v=1\" for \"./q.mjs\"\n"
@@ -281,6 +289,8 @@ pub record StoppedExamples : Type 0 where
   pub bare : (tree : Tree) → Outcome (linking "https://app.test/" ("ui" ∷ [])) tree 9 (codes "not built: from \"/index.html\" for \"ui\"\n") tree
   pub slash_first_refusal : (tree : Tree) → FirstRefusal tree (asking ("./lib/" ∷ [])) (refusal.RequestNotBuilt (codes "/index.html") (codes "./lib/"))
   pub slash : (tree : Tree) → Outcome (linking "https://app.test/" ("./lib/" ∷ [])) tree 9 (codes "not built: from \"/index.html\" for \"./lib/\"\n") tree
+  pub no_page_first_refusal : (tree : Tree) → FirstRefusal tree (based "/" []) (refusal.Unservable (codes "/index.html") [])
+  pub no_page_line : codes "refused: Unservable \"/index.html\" as \"\"\n" ≡ line_of (refusal.Unservable (codes "/index.html") [])
   pub behind_a_module : IsStopped asks_later "https://app.test/" ("./app.mjs" ∷ []) (refusal.NotFound (codes "/b.mjs") (codes "./q.mjs")) 1 "refused: NotFound from \"/b.mjs\" for \"./q.mjs\"\n"
   pub too_large : (bytes : List ℕ) → 16777216 < length bytes → IsStopped (with_app bytes) "https://app.test/" ("./app.mjs" ∷ []) (refusal.Limit File) 3 "limit: file above 16777216\n"
 
@@ -297,6 +307,8 @@ stopped_examples = record {
   bare = λ tree. trace_refused _ _ bare_gives (bare_first tree) refl refl refl;
   slash_first_refusal = slash_first;
   slash = λ tree. trace_refused _ _ slash_gives (slash_first tree) refl refl refl;
+  no_page_first_refusal = no_page_first;
+  no_page_line = refl;
   behind_a_module = stopped _ _ _ _ _ _ (tree_by_test asks_later refl) app_gives later_first refl refl;
   too_large = λ bytes above. stopped _ _ _ _ _ _ (tree_by_test (with_app bytes) refl) app_gives (large_first bytes above) refl large_line;
 }
