@@ -1,5 +1,5 @@
 -- What a written map promises.
-use Rattle.std.specs.Prelude.{◌≡◌, ℕ, List, Option, Some, Contains, Ok}
+use Rattle.std.specs.Prelude.{◌≡◌, ℕ, List, Some, Contains, Ok}
 use Rattle.tree_spec.specs.Trees.{Tree}
 use Rattle.url_spec.specs.WebNames.{web, IsServed}
 use Rattle.node_spec.specs.Resolution.{Resolves}

@@ -1,13 +1,12 @@
 -- One trace.
-use Rattle.std.proofs.Common.{◌≡◌, ℕ, List, [], ◌∷◌, ◌++◌, Option, Some, None, refl, sym, ap, ◌∙◌, subst}
+use Rattle.std.proofs.Common.{◌≡◌, ℕ, List, [], ◌∷◌, ◌++◌, refl, sym, ◌∙◌, subst}
 use Rattle.tree_spec.specs.Trees.{Tree}
-use Rattle.url_spec.specs.WebNames.{IsServed}
-use Rattle.module_spec.specs.PlainForm.{IsPlain, Requests}
+use Rattle.module_spec.specs.PlainForm.{IsPlain}
 use Rattle.module_spec.specs.Readings.{one_reading}
-use Rattle.node_spec.specs.Resolution.{Answer, Resolved, Resolves}
+use Rattle.node_spec.specs.Resolution.{Resolved}
 use Rattle.node_spec.specs.Laws.{one_answer}
 use Rattle.layout_spec.specs.declared.Need.{Need}
-use Rattle.generator_spec.specs.Modules.{Config, Module, Referrer, the_page, a_module, path_of, web_name, Asks}
+use Rattle.generator_spec.specs.Modules.{Config, Module, Referrer, path_of, Asks}
 use Rattle.generator_spec.specs.Modules.Asks.{entries, requests}
 use Rattle.generator_spec.specs.Trace.{Passes, AllPass, Turn, IsTurn, TurnsOf, new_modules, targets_of, Levels, IsTrace}
 use Rattle.generator_spec.specs.Trace.AllPass.{no_requests, a_request}

@@ -1,5 +1,5 @@
 -- Configs, modules and referrers.
-use Rattle.std.specs.Prelude.{◌≡◌, ◌≤◌, ◌&&◌, ℕ, Bool, true, List, [], codes, nat_eq, bytes_eq, Option, Some}
+use Rattle.std.specs.Prelude.{◌≡◌, ◌&&◌, ℕ, Bool, true, List, [], codes, nat_eq, bytes_eq, Option, Some}
 use Rattle.std.specs.List.{ends_with}
 use Rattle.std.specs.FinMap.{get}
 use Rattle.tree_spec.specs.declared.Entry.TheVariants.{Stored}
