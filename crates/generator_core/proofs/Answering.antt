@@ -188,3 +188,9 @@ stop_refused P Q stop.Memory why shown specifier f h told = told
 -- what a stop is refused for
 pub stop_is : (Q : Refusal → Type 0) (result : Stop) (why : Refusal) → result ≡ stop.Refused why → Q why → IfRefused result Q
 stop_is Q result why same h = subst (λ s. IfRefused s Q) (sym same) h
+
+-- two things that hold of a refusal
+pub if_refused_both : (P Q : Refusal → Type 0) (why : Stop) → IfRefused why P → IfRefused why Q → IfRefused why (λ first. P first × Q first)
+if_refused_both P Q (stop.Refused first) p q = (p, q)
+if_refused_both P Q stop.ReadFault p q = p
+if_refused_both P Q stop.Memory p q = p

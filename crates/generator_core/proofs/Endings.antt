@@ -24,11 +24,11 @@ use Rattle.soundness.proofs.Sound.{sound}
 use Rattle.generator_core.specs.declared.stop.Stop.{Stop}
 use Rattle.generator_core.specs.declared.stop.Stop.TheVariants as stopped
 use Rattle.generator_core.specs.declared.trace.Trace.{Trace}
-use Rattle.generator_core.specs.Faults.{IfRefused}
+use Rattle.generator_core.specs.Faults.{IfRefused, IsOfTrace}
 use Rattle.generator_core.specs.Walking.{Traced}
-use Rattle.generator_core.specs.Running.{IsRefusalStatus, BeginsOk, IsWritten, IsGenerated, Linked, IsRefused, Gives, Tells, FolderState, SinkState, Says, Ends, SaysStop, SaysWrite, memory_line, read_fault_line, write_fault_line}
+use Rattle.generator_core.specs.Running.{IsRefusalStatus, BeginsOk, IsWritten, IsGenerated, IsCounted, Linked, IsRefused, Shaped, Ending, Gives, Tells, FolderState, SinkState, Says, Ends, SaysStop, SaysWrite, memory_line, read_fault_line, write_fault_line}
 use Rattle.generator_core.specs.Running.IsRefused.{by_words, by_trace}
-use Rattle.generator_core.specs.Running.{Says as says, Ends as ends, SaysStop as stops, SaysWrite as writes}
+use Rattle.generator_core.specs.Running.{Shaped as shaped, Says as says, Ends as ends, SaysStop as stops, SaysWrite as writes}
 
 -- the whole line went out
 whole_given : (old new : Option (List ℕ)) (line : List ℕ) → new ≡ option_map (λ before. before ++ line) old → Gives old new line
@@ -220,7 +220,11 @@ stop_tells stop status line old new result says ended = record { line = line; gi
 outcome_of : (words : List (List ℕ)) (told after : Option Tree) (why : Refusal) (status : ℕ) (line : List ℕ) → IsRefused words told why → after ≡ told → status ≡ status_of why → line ≡ line_of why → IfSome told (λ tree. (rest : Tree) × Outcome words tree status line rest × (after ≡ Some rest))
 outcome_of words None after why status line refused same s l = tt
 outcome_of words (Some tree) after why status line (by_words refuses) same s l = (tree, words_refused why refuses s l refl, same)
-outcome_of words (Some tree) after why status line (by_trace config is_config refuses) same s l = (tree, trace_refused config why is_config refuses s l refl, same)
+outcome_of words (Some tree) after why status line (by_trace config is_config kind refuses) same s l = (tree, trace_refused config why is_config refuses s l refl, same)
+
+shaped_of : (words : List (List ℕ)) (told : Option Tree) (why : Refusal) (status : ℕ) (line : List ℕ) → IsRefused words told why → status ≡ status_of why → line ≡ line_of why → Shaped words status line
+shaped_of words told why status line (by_words refuses) s l = shaped.words_refused why refuses s l
+shaped_of words told why status line (by_trace config is_config kind refuses) s l = shaped.trace_refused config why is_config kind s l
 
 pub same_state : (old new : FolderState) → new.told ≡ old.told → new.look_faults ≡ old.look_faults → new.write_faults ≡ old.write_faults → new ≡ old
 same_state old new t l w = λ i. record { told = t i; look_faults = l i; write_faults = w i }
@@ -228,7 +232,7 @@ same_state old new t l w = λ i. record { told = t i; look_faults = l i; write_f
 pub says_stop : (words : List (List ℕ)) (old new : FolderState) (stop : Stop) (status : ℕ) (line : List ℕ) → IfRefused stop (IsRefused words old.told) → new.told ≡ old.told → (stop ≡ stopped.ReadFault → Rose old.look_faults new.look_faults) → (stop ≢ stopped.ReadFault → new.look_faults ≡ old.look_faults) → new.write_faults ≡ old.write_faults → SaysStop stop status line → Says words old new status line
 says_stop words old new stop status line refused told rose quiet writes (stops.refused why is e l) =
     let here : IsRefused words old.told why = subst (λ s. IfRefused s (IsRefused words old.told)) is refused in
-    says.outcome (outcome_of words old.told new.told why status line here told e l) (quiet (λ fault. cc)) writes
+    says.outcome (shaped_of words old.told why status line here e l) (outcome_of words old.told new.told why status line here told e l) (quiet (λ fault. cc)) writes
 says_stop words old new stop status line refused told rose quiet writes (stops.read_fault is e l) = says.read_fault e l told (rose is) writes
 says_stop words old new stop status line refused told rose quiet writes (stops.memory apart e l) = says.memory e l (same_state old new told (quiet apart) writes)
 
@@ -289,11 +293,11 @@ write_is_ok words old new bytes done status line generated (writes.memory e l s)
 pub write_tells : (words : List (List ℕ)) (old new : FolderState) (bytes done : List ℕ) (status : ℕ) (line : List ℕ) (before after : SinkState) (result : ℕ) → IfSome old.told (λ tree. IsGenerated tree words bytes done) → SaysWrite old new bytes done status line → Ends status line before after result → Tells before.got after.got (IfSome old.told (λ tree. Linked tree words new.told))
 write_tells words old new bytes done status line before after result generated says ended = record { line = line; gives = gives_of status line before after result ended; only_where_done = write_is_ok words old new bytes done status line generated says }
 
-pub says_write : (words : List (List ℕ)) (old new : FolderState) (bytes done : List ℕ) (status : ℕ) (line : List ℕ) → IfSome old.told (λ tree. IsGenerated tree words bytes done) → SaysWrite old new bytes done status line → Says words old new status line
-says_write words old new bytes done status line generated (writes.written e l w lk wr) =
-    says.outcome (if_two old.told (λ tree is g written. (written.after, Outcome.done g.config bytes g.is_config g.generates e (l ∙ g.says) written.placed, written.is_told)) generated w) lk wr
-says_write words old new bytes done status line generated (writes.write_fault e l t lk wr) = says.write_fault e l t lk wr
-says_write words old new bytes done status line generated (writes.memory e l s) = says.memory e l s
+pub says_write : (words : List (List ℕ)) (old new : FolderState) (bytes done : List ℕ) (status : ℕ) (line : List ℕ) → IsCounted words done → IfSome old.told (λ tree. IsGenerated tree words bytes done) → SaysWrite old new bytes done status line → Says words old new status line
+says_write words old new bytes done status line counted generated (writes.written e l w lk wr) =
+    says.outcome (shaped.done counted.config counted.modules counted.requests counted.mappings counted.is_config e (l ∙ counted.says)) (if_two old.told (λ tree is g written. (written.after, Outcome.done g.config bytes g.is_config g.generates e (l ∙ g.says) written.placed, written.is_told)) generated w) lk wr
+says_write words old new bytes done status line counted generated (writes.write_fault e l t lk wr) = says.write_fault e l t lk wr
+says_write words old new bytes done status line counted generated (writes.memory e l s) = says.memory e l s
 
 pub write_same : (old middle new : FolderState) (bytes done : List ℕ) (status : ℕ) (line : List ℕ) → middle ≡ old → SaysWrite middle new bytes done status line → SaysWrite old new bytes done status line
 write_same old middle new bytes done status line same says = subst (λ s. SaysWrite s new bytes done status line) same says
@@ -308,3 +312,36 @@ words_end stop why status line old new result (inr here) (stops.refused first is
 words_end stop why status line old new result (inl here) (stops.read_fault is e l) ended = absurd (cc)
 words_end stop why status line old new result (inr here) (stops.read_fault is e l) ended = absurd (cc)
 words_end stop why status line old new result either (stops.memory apart e l) ended = inr (subst (λ s. Ends s memory_line old new result) e (subst (λ t. Ends status t old new result) l ended))
+
+-- ---- the base
+
+bad_base_of : (words : List (List ℕ)) (why : Refusal) → RefusesWords words why → status_of why ≡ 2 → (base : List ℕ) × RefusesWords words (refusal.BadBase base)
+bad_base_of words why (no_link none) is_two = absurd (omega arith)
+bad_base_of words why (bad_base base entries link none) is_two = (base, bad_base base entries link none)
+
+trace_is_not_two : (why : Refusal) → IsOfTrace why → status_of why ≢ 2
+trace_is_not_two refusal.Words kind is_two = kind
+trace_is_not_two (refusal.BadBase text) kind is_two = kind
+trace_is_not_two (refusal.Unservable path url) kind is_two = omega arith
+trace_is_not_two (refusal.NotFound referrer specifier) kind is_two = omega arith
+trace_is_not_two (refusal.RequestNotBuilt referrer specifier) kind is_two = omega arith
+trace_is_not_two (refusal.ModuleNotBuilt asker) kind is_two = omega arith
+trace_is_not_two (refusal.Limit which) kind is_two = omega arith
+
+shaped_two : (words : List (List ℕ)) (status : ℕ) (line : List ℕ) → Shaped words status line → status ≡ 2 → (base : List ℕ) × RefusesWords words (refusal.BadBase base)
+shaped_two words status line (shaped.words_refused why refuses s l) is_two = bad_base_of words why refuses (sym s ∙ is_two)
+shaped_two words status line (shaped.trace_refused config why is_config kind s l) is_two = absurd (trace_is_not_two why kind (sym s ∙ is_two))
+shaped_two words status line (shaped.done config modules requests mappings is_config s l) is_two = absurd (omega arith)
+
+said_two : (words : List (List ℕ)) (old new : FolderState) (status : ℕ) (line : List ℕ) → Says words old new status line → status ≡ 2 → (base : List ℕ) × RefusesWords words (refusal.BadBase base)
+said_two words old new status line (says.outcome shape o l w) is_two = shaped_two words status line shape is_two
+said_two words old new status line (says.memory s t same) is_two = absurd (omega arith)
+said_two words old new status line (says.read_fault s t told rose w) is_two = absurd (omega arith)
+said_two words old new status line (says.write_fault s t told l rose) is_two = absurd (omega arith)
+
+ended_two : (words : List (List ℕ)) (old new : FolderState) (out out_after : SinkState) (result : ℕ) (status : ℕ) (line : List ℕ) → Says words old new status line → Ends status line out out_after result → result ≡ 2 → (base : List ℕ) × RefusesWords words (refusal.BadBase base)
+ended_two words old new out out_after result status line s (ends.said is given quiet) is_two = said_two words old new status line s (sym is ∙ is_two)
+ended_two words old new out out_after result status line s (ends.output_fault is gives rose) is_two = absurd (omega arith)
+
+pub base_is_bad : (words : List (List ℕ)) (old new : FolderState) (out out_after : SinkState) (result : ℕ) → Ending words old new out out_after result → result ≡ 2 → (base : List ℕ) × RefusesWords words (refusal.BadBase base)
+base_is_bad words old new out out_after result e is_two = ended_two words old new out out_after result e.status e.line e.says e.ends is_two

@@ -12,19 +12,19 @@ use Rattle.generator_core.specs.Running.{Says as says, Ends as ends}
 -- ---- counts
 
 said_looks : (words : List (List ℕ)) (old new : FolderState) (status : ℕ) (line : List ℕ) → Says words old new status line → new.look_faults ≢ old.look_faults → status ≡ 4
-said_looks words old new status line (says.outcome o l w) changed = absurd (changed l)
+said_looks words old new status line (says.outcome shape o l w) changed = absurd (changed l)
 said_looks words old new status line (says.memory s t same) changed = absurd (changed (ap (λ f. f.look_faults) same))
 said_looks words old new status line (says.read_fault s t told rose w) changed = s
 said_looks words old new status line (says.write_fault s t told l rose) changed = absurd (changed l)
 
 said_writes : (words : List (List ℕ)) (old new : FolderState) (status : ℕ) (line : List ℕ) → Says words old new status line → new.write_faults ≢ old.write_faults → status ≡ 5
-said_writes words old new status line (says.outcome o l w) changed = absurd (changed w)
+said_writes words old new status line (says.outcome shape o l w) changed = absurd (changed w)
 said_writes words old new status line (says.memory s t same) changed = absurd (changed (ap (λ f. f.write_faults) same))
 said_writes words old new status line (says.read_fault s t told rose w) changed = absurd (changed w)
 said_writes words old new status line (says.write_fault s t told l rose) changed = s
 
 writes_unless : (words : List (List ℕ)) (old new : FolderState) (status : ℕ) (line : List ℕ) → Says words old new status line → status ≢ 5 → new.write_faults ≡ old.write_faults
-writes_unless words old new status line (says.outcome o l w) other = w
+writes_unless words old new status line (says.outcome shape o l w) other = w
 writes_unless words old new status line (says.memory s t same) other = ap (λ f. f.write_faults) same
 writes_unless words old new status line (says.read_fault s t told rose w) other = w
 writes_unless words old new status line (says.write_fault s t told l rose) other = absurd (other s)
@@ -62,7 +62,7 @@ told_outcome words tree (Some other) status line new e o =
     subst (λ t. (after : Tree) × Outcome words t status line after × (new ≡ Some after)) same o
 
 status_is : (words : List (List ℕ)) (tree : Tree) (old new : FolderState) (status : ℕ) (line : List ℕ) (expected : ℕ) (text : List ℕ) (after : Tree) → old.told ≡ Some tree → Outcome words tree expected text after → Says words old new status line → (status ≡ expected) ⊎ (status ≡ 8) ⊎ (status ≡ 4) ⊎ (status ≡ 5)
-status_is words tree old new status line expected text after told outcome (says.outcome o l w) =
+status_is words tree old new status line expected text after told outcome (says.outcome shape o l w) =
     let here = told_outcome words tree old.told status line new.told told o in
     inl (one_outcome words tree status expected line text here.0 after here.1 outcome).one_status
 status_is words tree old new status line expected text after told outcome (says.memory s t same) = inr (inl s)
@@ -75,7 +75,7 @@ exactly words tree old new out out_after result status line expected text after 
 exactly words tree old new out out_after result status line expected text after told outcome s (ends.output_fault is gives rose) = inr (inr (inr is))
 
 completes : (words : List (List ℕ)) (tree : Tree) (old new : FolderState) (out out_after : SinkState) (result : ℕ) (status : ℕ) (line : List ℕ) (expected : ℕ) (text : List ℕ) (after : Tree) → old.told ≡ Some tree → Outcome words tree expected text after → Quiet old new out out_after → Says words old new status line → Ends status line out out_after result → Completes expected text after old new out out_after result
-completes words tree old new out out_after result status line expected text after told outcome none (says.outcome o l w) (ends.said is given quiet) =
+completes words tree old new out out_after result status line expected text after told outcome none (says.outcome shape o l w) (ends.said is given quiet) =
     let here = told_outcome words tree old.told status line new.told told o in
     let same : SameOutcome status expected line text here.0 after = one_outcome words tree status expected line text here.0 after here.1 outcome in
     complete (is ∙ same.one_status) (given ∙ ap (λ t. option_map (λ before. before ++ t) out.got) same.one_line) (here.2 ∙ ap Some same.one_tree)
@@ -83,7 +83,7 @@ completes words tree old new out out_after result status line expected text afte
     memory (is ∙ s) (given ∙ ap (λ l. option_map (λ before. before ++ l) out.got) t) (ap (λ f. f.told) same)
 completes words tree old new out out_after result status line expected text after told outcome none (says.read_fault s t same rose w) ended = absurd (none.looks rose)
 completes words tree old new out out_after result status line expected text after told outcome none (says.write_fault s t same l rose) ended = absurd (none.writes rose)
-completes words tree old new out out_after result status line expected text after told outcome none (says.outcome o l w) (ends.output_fault is gives rose) = absurd (none.output rose)
+completes words tree old new out out_after result status line expected text after told outcome none (says.outcome shape o l w) (ends.output_fault is gives rose) = absurd (none.output rose)
 completes words tree old new out out_after result status line expected text after told outcome none (says.memory s t same) (ends.output_fault is gives rose) = absurd (none.output rose)
 
 told_meets : (words : List (List ℕ)) (tree : Tree) (old new : FolderState) (out out_after : SinkState) (result : ℕ) → old.told ≡ Some tree → Ending words old new out out_after result → Meets words tree old new out out_after result

@@ -9,8 +9,9 @@ use Rattle.generator_spec.specs.Generation.{Generates}
 use Rattle.generator_spec.specs.Headline.{Serves}
 use Rattle.generator_spec.specs.Words.{IsConfigOf, RefusesWords}
 use Rattle.generator_spec.specs.Refusing.{FirstRefusal}
-use Rattle.generator_spec.specs.Lines.{end_of_line, status_of, line_of, done_line}
+use Rattle.generator_spec.specs.Lines.{end_of_line, status_of, line_of, counts_line, done_line}
 use Rattle.generator_spec.specs.Outcome.{Outcome}
+use Rattle.generator_core.specs.Faults.{IsOfTrace}
 use Rattle.generator_core.specs.declared.stop.Stop.{Stop}
 use Rattle.generator_core.specs.declared.stop.Stop.TheVariants as Stopped
 
@@ -44,10 +45,19 @@ pub record Linked (tree : Tree) (words : List (List ℕ)) (told : Option Tree) :
   pub serves : Serves tree generated.config bytes
   pub written : IsWritten tree bytes told
 
+-- own: the words give a config, and the line has the counts of a map that is written
+pub record IsCounted (words : List (List ℕ)) (line : List ℕ) : Type 0 where
+  pub config : Config
+  pub is_config : IsConfigOf words config
+  pub modules : ℕ
+  pub requests : ℕ
+  pub mappings : ℕ
+  pub says : line ≡ counts_line modules requests mappings
+
 -- own: the words are refused, or the first refusal of their config in the told tree is this one
 pub data IsRefused (words : List (List ℕ)) (told : Option Tree) (first : Refusal) : Type 0 where
   by_words : RefusesWords words first → IsRefused words told first
-  by_trace : (config : Config) → IsConfigOf words config → IfSome told (λ tree. FirstRefusal tree config first) → IsRefused words told first
+  by_trace : (config : Config) → IsConfigOf words config → IsOfTrace first → IfSome told (λ tree. FirstRefusal tree config first) → IsRefused words told first
 
 -- ---- what goes out
 
@@ -84,10 +94,17 @@ read_fault_line = codes "fault: read" ++ end_of_line
 abbrev pub write_fault_line : List ℕ
 write_fault_line = codes "fault: write" ++ end_of_line
 
+-- own: what the words alone say of a status and its line: they are those of refused words; or the words give a config, and these are
+-- of a refusal of its trace, or of a map that is written
+pub data Shaped (words : List (List ℕ)) (status : ℕ) (line : List ℕ) : Type 0 where
+  words_refused : (why : Refusal) → RefusesWords words why → status ≡ status_of why → line ≡ line_of why → Shaped words status line
+  trace_refused : (config : Config) (why : Refusal) → IsConfigOf words config → IsOfTrace why → status ≡ status_of why → line ≡ line_of why → Shaped words status line
+  done : (config : Config) (modules requests mappings : ℕ) → IsConfigOf words config → status ≡ 0 → line ≡ counts_line modules requests mappings → Shaped words status line
+
 -- own: why a command ends with this status and this line. It has the outcome that is defined, where no fault was counted; or there is
 -- want of memory, or a fault that was counted, and then the tree is as it was
 pub data Says (words : List (List ℕ)) (old new : FolderState) (status : ℕ) (line : List ℕ) : Type 0 where
-  outcome : IfSome old.told (λ tree. (after : Tree) × Outcome words tree status line after × (new.told ≡ Some after)) → new.look_faults ≡ old.look_faults → new.write_faults ≡ old.write_faults → Says words old new status line
+  outcome : Shaped words status line → IfSome old.told (λ tree. (after : Tree) × Outcome words tree status line after × (new.told ≡ Some after)) → new.look_faults ≡ old.look_faults → new.write_faults ≡ old.write_faults → Says words old new status line
   memory : status ≡ 8 → line ≡ memory_line → new ≡ old → Says words old new status line
   read_fault : status ≡ 4 → line ≡ read_fault_line → new.told ≡ old.told → Rose old.look_faults new.look_faults → new.write_faults ≡ old.write_faults → Says words old new status line
   write_fault : status ≡ 5 → line ≡ write_fault_line → new.told ≡ old.told → new.look_faults ≡ old.look_faults → Rose old.write_faults new.write_faults → Says words old new status line

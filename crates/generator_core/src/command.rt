@@ -9,7 +9,7 @@ ghost use Rattle.generator_spec.specs.Lines as spec;
 ghost use Rattle.generator_spec.specs.Lines.{counts_line};
 ghost use Rattle.generator_spec.specs.Words.{IsConfigOf, RefusesWords};
 ghost use Rattle.generator_core.specs.Faults.{IfRefused};
-ghost use Rattle.generator_core.specs.Running.{IsRefusalStatus, IsGenerated, Linked, IsRefused, Tells, SaysStop, SaysWrite, Ends, Ending, Shows, Meets, memory_line};
+ghost use Rattle.generator_core.specs.Running.{IsRefusalStatus, IsGenerated, IsCounted, Linked, IsRefused, Tells, SaysStop, SaysWrite, Ends, Ending, Shows, Meets, memory_line};
 
 use crate::config::Config;
 use crate::lines::{line_of, status_of};
@@ -60,6 +60,7 @@ pub fn run<F: Folder, I: Source, O: Sink, L: Ledger>(
     ensures meets { IfSome (F.holds folder.old) (λ tree. Meets (map string_bytes words.now) tree (record { told = F.holds folder.old; look_faults = F.look_faults folder.old; write_faults = F.write_faults folder.old }) (record { told = F.holds folder.new; look_faults = F.look_faults folder.new; write_faults = F.write_faults folder.new }) (record { got = O.got out.old; faults = O.faults out.old }) (record { got = O.got out.new; faults = O.faults out.new }) result) }
     ensures shows { Shows (record { told = F.holds folder.old; look_faults = F.look_faults folder.old; write_faults = F.write_faults folder.old }) (record { told = F.holds folder.new; look_faults = F.look_faults folder.new; write_faults = F.write_faults folder.new }) (record { got = O.got out.old; faults = O.faults out.old }) (record { got = O.got out.new; faults = O.faults out.new }) result }
     ensures input { _input.new ≡ _input.old }
+    ensures bad_base { result ≡ 2 → (base : List ℕ) × RefusesWords (map string_bytes words.now) (refusal.BadBase base) }
     ensures words { (why : Refusal) → RefusesWords (map string_bytes words.now) why → (folder.new ≡ folder.old) × (Ends (spec.status_of why) (spec.line_of why) (record { got = O.got out.old; faults = O.faults out.old }) (record { got = O.got out.new; faults = O.faults out.new }) result ⊎ Ends 8 memory_line (record { got = O.got out.old; faults = O.faults out.old }) (record { got = O.got out.new; faults = O.faults out.new }) result) }
 {
     match generate(alloc, words, folder) {
@@ -115,6 +116,7 @@ fn tell<O: Sink>(out: &mut O, line: &[u8], status: u8) -> u8
 // What the words want of the folder.
 fn generate<F: Folder>(alloc: Global, words: &[String], folder: &mut F) -> Result<Generated, Stop>
     ensures generated { IfOk result (λ generated. IfSome (F.holds folder.old) (λ tree. IsGenerated tree (map string_bytes words.now) generated.map.items (string_bytes generated.line))) }
+    ensures counted { IfOk result (λ generated. IsCounted (map string_bytes words.now) (string_bytes generated.line)) }
     ensures refused { IfErr result (λ stop. IfRefused stop (IsRefused (map string_bytes words.now) (F.holds folder.old))) }
     ensures words { (why : Refusal) → RefusesWords (map string_bytes words.now) why → (folder.new ≡ folder.old) × ((result ≡ Err (Stop.Refused why)) ⊎ (result ≡ Err Stop.Memory)) }
     ensures tree { F.holds folder.new ≡ F.holds folder.old }

@@ -1,6 +1,6 @@
 use Rattle.std.proofs.Common.{Err, ap, map, inl, inr, ⊎_elim}
 use Rattle.std.specs.Prelude.{string_bytes}
-use Rattle.generator_core.proofs.Endings.{stop_statuses, stop_is_not_done, stop_read, stop_write, stop_tells, says_stop, same_state, write_same, write_done, write_five, write_tells, says_write, words_end}
+use Rattle.generator_core.proofs.Endings.{stop_statuses, stop_is_not_done, stop_read, stop_write, stop_tells, says_stop, same_state, write_same, write_done, write_five, write_tells, says_write, words_end, base_is_bad}
 use Rattle.generator_core.proofs.Outcomes.{meets, shows}
 use Rattle.generator_core.proofs.command.run.Goals as goal
 
@@ -61,7 +61,7 @@ pub returns-in-Ok-clause-ending : goal.returns-in-Ok-clause-ending
 returns-in-Ok-clause-ending g c =
     let e = c.finish.ensures in
     let wrote = write_same _ _ _ _ _ e.0 e.1 (same_state _ _ c.in-Ok.ensures.tree (c.in-Ok.ensures.quiet (λ same. cc)) c.in-Ok.ensures.writes) e.2 in
-    record { status = e.0; line = e.1; says = says_write (map string_bytes c.args.words.now) _ _ _ _ e.0 e.1 c.in-Ok.ensures.generated wrote; ends = e.3 }
+    record { status = e.0; line = e.1; says = says_write (map string_bytes c.args.words.now) _ _ _ _ e.0 e.1 c.in-Ok.ensures.counted c.in-Ok.ensures.generated wrote; ends = e.3 }
 
 pub returns-in-Err-clause-meets : goal.returns-in-Err-clause-meets
 returns-in-Err-clause-meets g c = meets (map string_bytes c.args.words.now) _ _ _ _ _ (returns-in-Err-clause-ending g c)
@@ -74,3 +74,9 @@ returns-in-Ok-clause-meets g c = meets (map string_bytes c.args.words.now) _ _ _
 
 pub returns-in-Ok-clause-shows : goal.returns-in-Ok-clause-shows
 returns-in-Ok-clause-shows g c = shows (map string_bytes c.args.words.now) _ _ _ _ _ (returns-in-Ok-clause-ending g c)
+
+pub returns-in-Err-clause-bad_base : goal.returns-in-Err-clause-bad_base
+returns-in-Err-clause-bad_base g c = base_is_bad (map string_bytes c.args.words.now) _ _ _ _ _ (returns-in-Err-clause-ending g c)
+
+pub returns-in-Ok-clause-bad_base : goal.returns-in-Ok-clause-bad_base
+returns-in-Ok-clause-bad_base g c = base_is_bad (map string_bytes c.args.words.now) _ _ _ _ _ (returns-in-Ok-clause-ending g c)
