@@ -3,3 +3,4 @@ pub mod Tops
 pub mod Stack
 pub mod Calls
 pub mod Lists
+pub mod Again

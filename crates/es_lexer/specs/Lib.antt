@@ -1,3 +1,4 @@
 pub mod Open
 pub mod State
 pub mod Steps
+pub mod Again

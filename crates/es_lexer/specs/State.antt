@@ -1,5 +1,6 @@
 -- What is kept of the tokens so far agrees with them.
 use Rattle.std.specs.Prelude.{◌≡◌, ℕ, ◌≤◌, List, [], ◌∷◌, ◌++◌, Some, length}
+use Rattle.std.specs.Str.{IsUtf8}
 use Rattle.module_spec.specs.Sorts.{opens}
 use Rattle.module_spec.specs.Tokens.{Lexeme, Balanced, Outside, Slash, Reaches, depth, plain_word, is_property, after_for, after_control, before_value, most_brackets}
 use Rattle.es_lexer.specs.declared.state.Open.{Open}
@@ -30,6 +31,7 @@ pub record State (before : List Lexeme) (last : Last) (stack : List Open) : Type
 
 -- some tokens stand in the text up to the rest, and this is kept of them
 pub record IsLexer (text rest : List ℕ) (last : Last) (stack : List Open) (room : ℕ) : Type 0 where
+  pub utf8 : IsUtf8 text
   pub before : List Lexeme
   pub reached : Reaches text before rest
   pub state : State before last stack

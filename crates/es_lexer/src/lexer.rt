@@ -1,4 +1,5 @@
-ghost use Rattle.std.specs.Prelude.{◌≡◌, ℕ, List, IfOk, length};
+ghost use Rattle.std.specs.Prelude.{◌≡◌, ℕ, List, IfOk, IfSome, length};
+ghost use Rattle.module_spec.specs.Spans.{IsSpan};
 ghost use Rattle.module_spec.specs.Spellings.{hashbang_rest};
 ghost use Rattle.module_spec.specs.Tokens.{Lexeme, Reaches, depth};
 ghost use Rattle.es_lexer.specs.Open.{top_bracket};
@@ -61,6 +62,7 @@ impl<'a> Lexer<'a> {
     /// it is, so that each later call answers the same.
     pub fn next(&mut self) -> Result<Option<Token>, LexFault>
         ensures text { self.new.0 ≡ self.old.0 }
+        ensures span { IfOk result (λ token. IfSome token (λ t. IsSpan self.old.0 t)) }
         ensures reached { (before : List Lexeme) × Reaches self.old.0 before self.old.1 }
         ensures next { (before : List Lexeme) → Reaches self.old.0 before self.old.1 → NextIs self.old.0 before self.old.1 result self.new.1 }
     {

@@ -2,6 +2,8 @@
 //! that the text ends, or its first fault. Each byte is read once, and no call but [`Lexer::new`] takes memory.
 #![tactic(auto)]
 
+ghost use Rattle.es_lexer.specs.Again.{SameFaultAgain};
+
 mod characters;
 mod lexer;
 mod look;
@@ -18,3 +20,8 @@ mod whole;
 pub use lexer::Lexer;
 pub use module_spec::{Kind, LexFault, LexKind, Token};
 pub use whole::{TokensFault, tokens_of};
+
+/// A reader that answered a fault answers it again at each later call.
+pub fn same_fault_again()
+    ensures { SameFaultAgain }
+{}

@@ -8,3 +8,6 @@ pub mod Tokens
 pub mod Suffixes
 pub mod OneOutcome
 pub mod TokenExamples
+pub mod Tails
+pub mod Spans
+pub mod SpanLaws

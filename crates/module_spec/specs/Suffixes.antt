@@ -292,6 +292,13 @@ unfolding next_at
 given_shorter slash innermost depth [] after t e = absurd (no_token (depth == 0) e)
 given_shorter slash innermost depth (b ∷ rest) after t e = let l = at_most (given_suffix slash innermost depth (b ∷ rest) after t e) in omega arith
 
+tail_suffix : (bytes : List ℕ) → Suffix (tail_of bytes) bytes
+tail_suffix [] = whole
+tail_suffix (b ∷ rest) = behind whole
+
+pub after_suffix : (slash : Bool) (innermost : Option Bracket) (depth : ℕ) (bytes after : List ℕ) (t : Lexeme) → Gives t after ≡ next_at slash innermost depth bytes → Suffix after bytes
+after_suffix slash innermost depth bytes after t e = joined (given_suffix slash innermost depth bytes after t e) (tail_suffix bytes)
+
 pub next_shorter : (before : List Lexeme) (rest after : List ℕ) (t : Lexeme) → IsNext before rest (Gives t after) → length after < length rest
 next_shorter before rest after t (next {at} {bytes} {slash} s i k e) =
     let l = at_most (skip_suffix k) in

@@ -4,6 +4,7 @@
 
 ghost use Rattle.module_spec.specs.Examples.{WorkedExamples};
 ghost use Rattle.module_spec.specs.PlainForm.{OneReading};
+ghost use Rattle.module_spec.specs.Spans.{TokensStand};
 ghost use Rattle.module_spec.specs.TokenExamples.{TokenExamples};
 ghost use Rattle.module_spec.specs.Tokens.{OneTokens};
 
@@ -27,6 +28,12 @@ pub fn worked_examples()
 #[tactic(auto, using(crate::specs::OneOutcome::one_tokens))]
 pub fn one_tokens()
     ensures { OneTokens }
+{}
+
+/// Each token of a text is a slice of it, and begins and ends between characters.
+#[tactic(auto, using(crate::specs::SpanLaws::tokens_stand))]
+pub fn tokens_stand()
+    ensures { TokensStand }
 {}
 
 /// Worked examples of tokens.
