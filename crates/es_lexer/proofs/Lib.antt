@@ -4,3 +4,4 @@ pub mod Stack
 pub mod Calls
 pub mod Lists
 pub mod Again
+pub mod Outcomes

@@ -3,6 +3,7 @@
 #![tactic(auto)]
 
 ghost use Rattle.es_lexer.specs.Again.{SameFaultAgain};
+ghost use Rattle.es_lexer.specs.Outcomes.{SomeTokens};
 
 mod characters;
 mod lexer;
@@ -24,4 +25,9 @@ pub use whole::{TokensFault, tokens_of};
 /// A reader that answered a fault answers it again at each later call.
 pub fn same_fault_again()
     ensures { SameFaultAgain }
+{}
+
+/// A text has a list of tokens or a first fault.
+pub fn some_tokens()
+    ensures { SomeTokens }
 {}
