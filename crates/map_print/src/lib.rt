@@ -5,8 +5,7 @@ mod keyed;
 mod print;
 #[cfg(test)]
 mod tests;
-mod text;
 
 pub use keyed::{Keyed, Layout, Mappings, Scopes};
+pub use ordered_json::print_text;
 pub use print::{PrintFault, print_map};
-pub use text::print_text;

@@ -1,4 +1,4 @@
-use crate::{Layout, Mappings, Scopes, print_map, print_text};
+use crate::{Layout, Mappings, Scopes, print_map};
 use primitives::Text;
 use std::alloc::Global;
 use std::collections::BTreeMap;
@@ -51,13 +51,5 @@ fn maps(rt: HostRuntime) -> Result<(), Fail> {
         let map = print_map(alloc, &layout, &mappings(alloc, digests)?)?;
         assert_eq!(rt; map.as_slice(), expected.as_bytes());
     }
-    Ok(())
-}
-
-#[test]
-fn text(rt: HostRuntime) -> Result<(), Fail> {
-    let mut out = Vec::new(rt.alloc());
-    print_text(&mut out, "a\"<\n")?;
-    assert_eq!(rt; out.as_slice(), b"\"a\\\"\\u003c\\u000a\"".as_slice());
     Ok(())
 }

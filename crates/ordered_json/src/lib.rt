@@ -1,9 +1,11 @@
-//! JSON texts as ordered values.
+//! JSON texts as values whose objects keep the order of their members: `read` gives a text's value, or its first fault with
+//! its place, and `print_text` the printed form of a string.
 #![tactic(auto)]
 
 mod escapes;
 mod fault;
 mod numbers;
+mod quoting;
 mod reader;
 mod scan;
 mod strings;
@@ -13,5 +15,6 @@ mod value;
 
 pub use fault::JsonFault;
 pub use primitives::Text;
+pub use quoting::print_text;
 pub use reader::read;
 pub use value::{Items, Members, Value};

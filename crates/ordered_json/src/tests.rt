@@ -1,4 +1,4 @@
-use crate::{Items, JsonFault, Members, Value, read};
+use crate::{Items, JsonFault, Members, Value, print_text, read};
 use std::alloc::{AllocError, Global};
 use std::test::Fail;
 
@@ -243,5 +243,13 @@ fn truncations(rt: HostRuntime) -> Result<(), Fail> {
         assert_eq!(rt; found, Some(JsonFault::NotJson { at: *place }), "{length}");
     }
     assert!(rt; read(rt.alloc(), whole).is_ok());
+    Ok(())
+}
+
+#[test]
+fn printed(rt: HostRuntime) -> Result<(), Fail> {
+    let mut out = Vec::new(rt.alloc());
+    print_text(&mut out, "a\"<\n")?;
+    assert_eq!(rt; out.as_slice(), b"\"a\\\"\\u003c\\u000a\"".as_slice());
     Ok(())
 }

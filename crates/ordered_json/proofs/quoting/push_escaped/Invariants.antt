@@ -1,6 +1,6 @@
 use Rattle.std.proofs.Common.{◌≡◌, ◌++◌, take}
 use Rattle.json_spec.specs.Printed.{escaped}
-use Rattle.map_print.proofs.text.push_escaped.Given as goal
+use Rattle.ordered_json.proofs.quoting.push_escaped.Given as goal
 
 abbrev pub invariant-loop-byte : goal.invariant-loop-byte
 invariant-loop-byte l = l.into.items ≡ l.fn.into.items ++ escaped (take l.byte-index l.bytes)
