@@ -1,0 +1,2 @@
+import a from "b";
+export const c = /d/.test(`${a}`);
