@@ -5,7 +5,9 @@ use Rattle.std.proofs.lemmas.List.{append_cancel_left}
 use Rattle.std.proofs.lemmas.List.Elements.{All-from_get_or}
 use Rattle.node_spec.specs.PatternKeys.{HasNoStar, IsPattern, KeyMatch, PatternMatch, Matches, IsChoice, MatchesNone}
 use Rattle.node_spec.specs.PatternKeys.Matches.{by_itself, by_pattern}
-use Rattle.node_spec.specs.PatternLaws.{PartStands, GoesBefore, no_star_inside, same_parts, no_pattern, same_pattern, part_of_match, part_length, fits_from_part, precedes_before, before_precedes, none_more, first_choice, same_choice, better_choice}
+use Rattle.node_spec.specs.PatternParts.{PartStands, part_length, fits_from_part}
+use Rattle.node_spec.specs.PatternOrder.{GoesBefore, precedes_before, before_precedes}
+use Rattle.node_spec.specs.PatternChoice.{none_more, first_choice, same_choice, better_choice}
 use Rattle.exports_patterns.specs.declared.pattern_keys.Match.{Match}
 use Rattle.exports_patterns.specs.Found.{match_shown, IsMatch, IsFound, Finds}
 
@@ -15,28 +17,8 @@ pub star_parts : (text : List ℕ) (r : Option (Bor (List ℕ) × Bor (List ℕ)
 star_parts text None none = All-from_get_or (λ b. b ≢ 42) text 0 none
 star_parts text (Some x) found = (found.0, All-from_get_or (λ b. b ≢ 42) x.0.now 0 found.1)
 
-pub no_exact_match : (asked key : List ℕ) → HasNoStar key → key ≢ asked → (found : KeyMatch) → Matches asked key found → ⊥
-no_exact_match asked key n d found (by_itself e m) = d e
-no_exact_match asked key n d found (by_pattern base trailer p f) = no_pattern key base trailer p n
-
 pub is_exact_match : (asked key : List ℕ) (index : ℕ) → HasNoStar key → key ≡ asked → IsMatch asked key (record { index = index; exact = true; from = 0; to = 0 })
 is_exact_match asked key index n e = record { matches = by_itself e n; no_span = λ t. (refl, refl) }
-
-pub many_stars : (asked key base trailer more end : List ℕ) → key ≡ base ++ 42 ∷ trailer → HasNoStar base → trailer ≡ more ++ 42 ∷ end → (found : KeyMatch) → Matches asked key found → ⊥
-many_stars asked key base trailer more end e n t found (by_itself same m) = no_star_inside base trailer (subst HasNoStar e m)
-many_stars asked key base trailer more end e n t found (by_pattern b u q f) =
-    let same = same_parts b u base trailer (sym q.parts ∙ e) q.before_star n in
-    no_star_inside more end (subst HasNoStar (same.1 ∙ t) q.after_star)
-
-pub no_pattern_match : (asked key base trailer : List ℕ) → IsPattern key base trailer → ((part : List ℕ) → asked ≡ base ++ (part ++ trailer) → part ≡ []) → (found : KeyMatch) → Matches asked key found → ⊥
-no_pattern_match asked key base trailer p none found (by_itself e n) = no_pattern key base trailer p n
-no_pattern_match asked key base trailer p none found (by_pattern b t q f) =
-    let s = part_of_match asked key b t q f in
-    let same = same_pattern key b t base trailer q p in
-    let e : asked ≡ base ++ (s.part ++ trailer) = s.stands ∙ (ap (λ front. front ++ (s.part ++ t)) same.0 ∙ ap (λ end. base ++ (s.part ++ end)) same.1) in
-    let l : length s.part ≡ 0 = ap length (none s.part e) in
-    let some : 0 < length s.part = s.some in
-    absurd (omega arith)
 
 pub is_pattern_match : (asked key base trailer part : List ℕ) (index to : ℕ) → IsPattern key base trailer → asked ≡ base ++ (part ++ trailer) → part ≢ [] → to ≡ length base + length part → IsMatch asked key (record { index = index; exact = false; from = length base; to = to })
 is_pattern_match asked key base trailer part index to p e n t =
@@ -102,9 +84,6 @@ module _ (keys : List (List ℕ)) (asked key : List ℕ) where
       }
 
 -- ---- all keys
-
-pub none_found : (asked : List ℕ) → MatchesNone [] asked
-none_found asked key found c m = absurd (let l : c.0 < 0 = c.1 in omega arith)
 
 pub next_key : (keys : List (List ℕ)) (i : ℕ) (key : List ℕ) → slice_get keys i ≡ Some key → take (i + 1) keys ≡ take i keys ++ key ∷ []
 next_key [] i key e = cc

@@ -1,8 +1,15 @@
 //! The choice among the keys of an object of subpaths, as `exports` and `imports` have it.
 #![tactic(auto)]
 
+ghost use Rattle.exports_patterns.specs.OneFound.{OneFound};
+
 mod pattern_keys;
 #[cfg(test)]
 mod tests;
 
 pub use pattern_keys::{Match, best_match};
+
+/// Among the keys of an object, which are distinct, one match is found at most.
+pub fn one_found()
+    ensures { OneFound }
+{}

@@ -8,7 +8,9 @@ pub mod TargetExamples
 pub mod Laws
 pub mod Some
 pub mod PatternKeys
-pub mod PatternLaws
+pub mod PatternParts
+pub mod PatternOrder
+pub mod PatternChoice
 pub mod RecordLaws
 pub mod Examples
 pub mod RecordExamples

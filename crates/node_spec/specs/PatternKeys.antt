@@ -1,6 +1,6 @@
 -- The choice among the keys of an object of subpaths, as `exports` and `imports` have it (Node.js, ECMAScript modules:
 -- PACKAGE_IMPORTS_EXPORTS_RESOLVE). Lengths are in bytes: of two fronts of one text, or of two of its ends, the longer one has more bytes,
--- as it has more code units.
+-- as it has more code units. Whether a text that ends in `/` may be asked for isn't judged here.
 --     Matches asked key found      the key matches the text that is asked for
 --     Precedes key other      of two keys that match, this one goes first
 --     IsChoice keys asked key found      among these keys the one that matches and that no other one that matches precedes

@@ -4,7 +4,9 @@
 
 ghost use Rattle.node_spec.specs.Examples.{WorkedExamples};
 ghost use Rattle.node_spec.specs.Laws.{OneAnswer};
-ghost use Rattle.node_spec.specs.PatternLaws.{KeysAreInOrder, OneChoice};
+ghost use Rattle.node_spec.specs.PatternChoice.{OneChoice, SomeChoice};
+ghost use Rattle.node_spec.specs.PatternOrder.{KeysAreInOrder};
+ghost use Rattle.node_spec.specs.PatternParts.{PatternMatchStands};
 ghost use Rattle.node_spec.specs.RecordExamples.{RecordExamples};
 ghost use Rattle.node_spec.specs.RecordLaws.{OneRecord, RecordNamesAreDistinct, SomeRecord};
 ghost use Rattle.node_spec.specs.Some.{SomeAnswer};
@@ -148,14 +150,23 @@ pub fn worked_examples()
     ensures { WorkedExamples }
 {}
 
+/// A pattern key fits a text exactly where a part that isn't empty stands between its base and its trailer.
+pub fn pattern_match_stands()
+    ensures { PatternMatchStands }
+{}
+
 /// The order among the keys that match one text is total.
-#[tactic(auto, using(crate::specs::PatternLaws::keys_are_in_order))]
+#[tactic(auto, using(crate::specs::PatternOrder::keys_are_in_order))]
 pub fn keys_are_in_order()
     ensures { KeysAreInOrder }
 {}
 
 /// Among a set of keys one is chosen at most, and it matches in one way.
-#[tactic(auto, using(crate::specs::PatternLaws::one_choice))]
 pub fn one_choice()
     ensures { OneChoice }
+{}
+
+/// Among a set of keys there is a choice, unless none of them matches.
+pub fn some_choice()
+    ensures { SomeChoice }
 {}

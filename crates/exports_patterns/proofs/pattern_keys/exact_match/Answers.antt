@@ -1,5 +1,6 @@
+use Rattle.node_spec.specs.PatternParts.{no_exact_match}
 use Rattle.std.proofs.Common.{refl, rules}
-use Rattle.exports_patterns.proofs.KeyLemmas.{no_exact_match, is_exact_match}
+use Rattle.exports_patterns.proofs.KeyLemmas.{is_exact_match}
 use Rattle.exports_patterns.proofs.pattern_keys.exact_match.Goals as goal
 
 pub returns-then-ne : goal.returns-then-ne

@@ -1,5 +1,6 @@
+use Rattle.node_spec.specs.PatternParts.{no_pattern_match}
 use Rattle.std.proofs.Common.{refl}
-use Rattle.exports_patterns.proofs.KeyLemmas.{no_pattern_match, is_pattern_match}
+use Rattle.exports_patterns.proofs.KeyLemmas.{is_pattern_match}
 use Rattle.exports_patterns.proofs.pattern_keys.pattern_match.Goals as goal
 
 pub returns-in-None : goal.returns-in-None

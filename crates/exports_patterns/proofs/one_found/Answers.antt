@@ -1,0 +1,5 @@
+use Rattle.exports_patterns.specs.OneFound.{one_found}
+use Rattle.exports_patterns.proofs.one_found.Goals as goal
+
+pub returns : goal.returns
+returns c = one_found

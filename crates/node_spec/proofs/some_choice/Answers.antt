@@ -1,0 +1,5 @@
+use Rattle.node_spec.specs.PatternChoice.{some_choice}
+use Rattle.node_spec.proofs.some_choice.Goals as goal
+
+pub returns : goal.returns
+returns c = some_choice
