@@ -1,15 +1,18 @@
 -- How a key matches, and what is found when one more key is looked at.
-use Rattle.std.proofs.Common.{◌≡◌, ◌≢◌, ◌<◌, ◌≤◌, ◌+◌, ◌-◌, ℕ, zero, suc, true, false, List, [], ◌∷◌, ◌++◌, length, take, get_or, refl, sym, ap, ◌∙◌, subst, arith, add-one, Option, Some, None, Bor}
-use Rattle.std.specs.Prelude.{MatchOption, slice_get}
+use Rattle.std.proofs.Common.{◌≡◌, ◌≢◌, ◌<◌, ◌≤◌, ◌+◌, ◌-◌, ℕ, zero, suc, true, false, List, [], ◌∷◌, ◌++◌, length, take, get_or, refl, sym, ap, ◌∙◌, subst, arith, add-one, append_assoc, length-append, Option, Some, None, Bor}
+use Rattle.std.specs.Prelude.{MatchOption, slice_get, IsUtf8}
 use Rattle.std.proofs.lemmas.List.{append_cancel_left}
+use Rattle.std.proofs.Math.Seq.{take-append_seam}
+use Rattle.std.proofs.lemmas.Str.{IsCharBoundary-start, IsCharBoundary-from_take, IsCharBoundary-at_seam}
+use Rattle.std.specs.Str.{IsCharBoundary}
 use Rattle.std.proofs.lemmas.List.Elements.{All-from_get_or}
-use Rattle.node_spec.specs.PatternKeys.{HasNoStar, IsPattern, KeyMatch, PatternMatch, Matches, IsChoice, MatchesNone}
+use Rattle.node_spec.specs.PatternKeys.{HasNoStar, IsPattern, KeyMatch, PatternMatch, Matches, IsChoice}
 use Rattle.node_spec.specs.PatternKeys.Matches.{by_itself, by_pattern}
 use Rattle.node_spec.specs.PatternParts.{PartStands, part_length, fits_from_part}
 use Rattle.node_spec.specs.PatternOrder.{GoesBefore, precedes_before, before_precedes}
 use Rattle.node_spec.specs.PatternChoice.{none_more, first_choice, same_choice, better_choice}
 use Rattle.exports_patterns.specs.declared.pattern_keys.Match.{Match}
-use Rattle.exports_patterns.specs.Found.{match_shown, IsMatch, IsFound, Finds}
+use Rattle.exports_patterns.specs.Found.{match_shown, HasSpan, IsMatch, IsFound, Finds}
 
 -- ---- one key
 
@@ -31,6 +34,20 @@ is_pattern_match asked key base trailer part index to p e n t =
     nonempty : (xs : List ℕ) → xs ≢ [] → 0 < length xs
     nonempty [] d = absurd (d refl)
     nonempty (x ∷ xs) d = omega arith
+
+pub span_of_key : (asked : List ℕ) (index : ℕ) → IsUtf8 asked → HasSpan asked (record { index = index; exact = true; from = 0; to = 0 })
+span_of_key asked index u = record { ordered = omega arith; begins = IsCharBoundary-start asked u; ends = IsCharBoundary-start asked u }
+
+pub span_of_pattern : (asked base trailer part : List ℕ) (index to : ℕ) → IsUtf8 asked → IsUtf8 base → IsUtf8 trailer → asked ≡ base ++ (part ++ trailer) → to ≡ length base + length part → HasSpan asked (record { index = index; exact = false; from = length base; to = to })
+span_of_pattern asked base trailer part index to u v w e t =
+    let l : length asked ≡ length base + length (part ++ trailer) = ap length e ∙ length-append base (part ++ trailer) in
+    let front : base ≡ take (length base) asked = sym (ap (take (length base)) e ∙ take-append_seam base (part ++ trailer)) in
+    let place : length (base ++ part) ≡ to = length-append base part ∙ sym t in
+    record {
+      ordered = omega arith;
+      begins = IsCharBoundary-from_take asked (length base) u (omega arith) (subst IsUtf8 front v);
+      ends = subst (IsCharBoundary asked) place (IsCharBoundary-at_seam asked (base ++ part) trailer (e ∙ sym (append_assoc base part trailer)) w);
+    }
 
 -- where what is behind the base doesn't end with the trailer
 pub no_part : (asked text base front rest trailer end : List ℕ) → text ≡ asked → front ≡ base → end ≡ trailer → text ≡ front ++ rest → ((x : List ℕ) → rest ≢ x ++ end) → (part : List ℕ) → asked ≡ base ++ (part ++ trailer) → part ≡ []

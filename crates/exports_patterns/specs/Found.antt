@@ -1,7 +1,9 @@
 -- The key that is found, in the words of the choice among keys.
 --     keys_of members      the keys of an object's members, in order
 --     IsFound keys asked found      the match stands for the choice among these keys, at a place where that key is
-use Rattle.std.specs.Prelude.{◌≡◌, ℕ, List, map, slice_get, Option, Some, MatchOption, if◌then◌else◌, true}
+--     HasSpan asked found      the span of the match may be cut out of the text
+use Rattle.std.specs.Prelude.{◌≡◌, ◌≤◌, ℕ, List, map, slice_get, Option, Some, MatchOption, if◌then◌else◌, true}
+use Rattle.std.specs.Str.{IsCharBoundary}
 use Rattle.ordered_json.specs.declared.value.Value.{Value}
 use Rattle.ordered_json.specs.declared.value.Members.{Members}
 use Rattle.ordered_json.specs.Lists.{pairs_of}
@@ -28,3 +30,8 @@ pub record IsFound (keys : List (List ℕ)) (asked : List ℕ) (found : Match) :
 -- what is found among these keys
 abbrev pub Finds : List (List ℕ) → List ℕ → Option Match → Type 0
 Finds keys asked result = MatchOption result (MatchesNone keys asked) (IsFound keys asked)
+
+pub record HasSpan (asked : List ℕ) (found : Match) : Type 0 where
+  pub ordered : found.from ≤ found.to
+  pub begins : IsCharBoundary asked found.from
+  pub ends : IsCharBoundary asked found.to

@@ -1,12 +1,12 @@
 -- One match is found.
-use Rattle.std.specs.Prelude.{◌≡◌, ◌≢◌, ℕ, Bool, true, false, List, [], ◌∷◌, map, slice_get, Some, if◌then◌else◌}
+use Rattle.std.specs.Prelude.{◌≡◌, ℕ, Bool, true, false, List, [], ◌∷◌, map, slice_get, Some, if◌then◌else◌}
 use Rattle.std.proofs.Common.{zero, suc, refl, sym, ap, ◌∙◌, subst}
 use Rattle.json_spec.specs.Value.{IsNewName, AreDistinct}
 use Rattle.ordered_json.specs.declared.value.Value.{Value}
 use Rattle.ordered_json.specs.declared.value.Members.{Members}
 use Rattle.ordered_json.specs.Lists.{pairs_of}
 use Rattle.ordered_json.specs.Shown.{members_of}
-use Rattle.node_spec.specs.PatternKeys.{KeyMatch, Itself, PatternMatch, IsChoice}
+use Rattle.node_spec.specs.PatternKeys.{KeyMatch, Itself, PatternMatch}
 use Rattle.node_spec.specs.PatternChoice.{one_choice}
 use Rattle.exports_patterns.specs.declared.pattern_keys.Match.{Match}
 use Rattle.exports_patterns.specs.Found.{keys_of, match_shown, IsFound}

@@ -1,10 +1,10 @@
-ghost use Rattle.std.specs.Prelude.{◌≡◌, ◌≢◌, ◌<◌, ◌≤◌, ◌↔◌, ◌+◌, ◌++◌, ◌∷◌, [], List, ℕ, length, slice_get, Some, MatchOption, IsTrue};
+ghost use Rattle.std.specs.Prelude.{◌≡◌, ◌≢◌, ◌<◌, ◌≤◌, ◌↔◌, ◌+◌, ◌++◌, ◌∷◌, [], List, ℕ, length, slice_get, Some, MatchOption, IfSome, IsTrue};
 ghost use Rattle.json_spec.specs.Value.{AreDistinct};
 ghost use Rattle.ordered_json.specs.Lists.{pairs_of};
 ghost use Rattle.ordered_json.specs.Shown.{members_of};
-ghost use Rattle.node_spec.specs.PatternKeys.{HasNoStar, IsPattern, KeyMatch, Matches};
+ghost use Rattle.node_spec.specs.PatternKeys.{HasNoStar, IsPattern, KeyMatch, Matches, MatchesNone};
 ghost use Rattle.node_spec.specs.PatternOrder.{GoesBefore};
-ghost use Rattle.exports_patterns.specs.Found.{keys_of, match_shown, Finds, IsMatch};
+ghost use Rattle.exports_patterns.specs.Found.{keys_of, match_shown, Finds, HasSpan, IsFound, IsMatch};
 
 use ordered_json::Members;
 
@@ -25,7 +25,8 @@ pub struct Match {
 /// PACKAGE_IMPORTS_EXPORTS_RESOLVE). None where no key matches.
 pub fn best_match(keys: &Members, key: &str) -> Option<Match>
     requires { AreDistinct (members_of (pairs_of keys.now)) }
-    ensures { Finds (keys_of keys.now) key.now result }
+    ensures choice { MatchOption result (MatchesNone (keys_of keys.now) key.now) (IsFound (keys_of keys.now) key.now) }
+    ensures span { IfSome result (HasSpan key.now) }
 {
     let mut best = None;
     for index in 0..keys.len() {
@@ -48,7 +49,8 @@ fn key_at(keys: &Members, index: usize) -> Option<&str>
 
 // What is found, where one more key stands behind those that were looked at.
 fn with_key(best: Option<Match>, index: usize, name: &str, asked: &str) -> Option<Match>
-    ensures { (done : List (List ℕ)) → length done ≡ index → Finds done asked.now best → Finds (done ++ name.now ∷ []) asked.now result }
+    ensures span { IfSome best (HasSpan asked.now) → IfSome result (HasSpan asked.now) }
+    ensures found { (done : List (List ℕ)) → length done ≡ index → Finds done asked.now best → Finds (done ++ name.now ∷ []) asked.now result }
 {
     match matched(index, name, asked) {
         None => best,
@@ -77,7 +79,8 @@ fn precedes(found: Match, other: Match) -> bool
 }
 
 fn matched(index: usize, name: &str, asked: &str) -> Option<Match>
-    ensures { MatchOption result ((found : KeyMatch) → Matches asked.now name.now found → ⊥) (λ found. (found.index ≡ index) × IsMatch asked.now name.now found) }
+    ensures matches { MatchOption result ((found : KeyMatch) → Matches asked.now name.now found → ⊥) (λ found. (found.index ≡ index) × IsMatch asked.now name.now found) }
+    ensures span { IfSome result (HasSpan asked.now) }
 {
     match at_star(name) {
         None => exact_match(index, name, asked),
@@ -90,7 +93,8 @@ fn matched(index: usize, name: &str, asked: &str) -> Option<Match>
 
 fn exact_match(index: usize, name: &str, asked: &str) -> Option<Match>
     requires { HasNoStar name.now }
-    ensures { MatchOption result ((found : KeyMatch) → Matches asked.now name.now found → ⊥) (λ found. (found.index ≡ index) × IsMatch asked.now name.now found) }
+    ensures matches { MatchOption result ((found : KeyMatch) → Matches asked.now name.now found → ⊥) (λ found. (found.index ≡ index) × IsMatch asked.now name.now found) }
+    ensures span { IfSome result (HasSpan asked.now) }
 {
     if name != asked {
         return None;
@@ -104,7 +108,8 @@ fn exact_match(index: usize, name: &str, asked: &str) -> Option<Match>
 }
 
 fn pattern_match(index: usize, base: &str, trailer: &str, asked: &str) -> Option<Match>
-    ensures { (name : List ℕ) → IsPattern name base.now trailer.now → MatchOption result ((found : KeyMatch) → Matches asked.now name found → ⊥) (λ found. (found.index ≡ index) × IsMatch asked.now name found) }
+    ensures span { IfSome result (HasSpan asked.now) }
+    ensures matches { (name : List ℕ) → IsPattern name base.now trailer.now → MatchOption result ((found : KeyMatch) → Matches asked.now name found → ⊥) (λ found. (found.index ≡ index) × IsMatch asked.now name found) }
 {
     match pattern_end(asked, base, trailer) {
         None => None,

@@ -5,5 +5,11 @@ use Rattle.exports_patterns.proofs.pattern_keys.best_match.Goals as goal
 
 pub loop-index-preserved : goal.loop-index-preserved
 loop-index-preserved c =
-    subst (λ done. Finds done c.args.key.now c.with_key-best.result) (sym (next_key (keys_of c.args.keys.now) c.loop-index.index c.in-Some.name.now c.in-Some.ensures))
-    (c.with_key-best.ensures (take c.loop-index.index (keys_of c.args.keys.now)) (length_before (keys_of c.args.keys.now) c.loop-index.index c.in-Some.name.now c.in-Some.ensures) c.loop-index.invariant)
+    let keys = keys_of c.args.keys.now in
+    let index = c.loop-index.index in
+    let name = c.in-Some.name.now in
+    record {
+      found = subst (λ done. Finds done c.args.key.now c.with_key-best.result) (sym (next_key keys index name c.in-Some.ensures))
+          (c.with_key-best.ensures.found (take index keys) (length_before keys index name c.in-Some.ensures) c.loop-index.invariant.found);
+      span = c.with_key-best.ensures.span c.loop-index.invariant.span;
+    }
