@@ -1,0 +1,7 @@
+pub mod ListSteps
+pub mod IndexKeys
+pub mod SegmentLemmas
+pub mod Replacing
+pub mod Sizes
+pub mod ConditionLemmas
+pub mod AskLemmas

@@ -1,0 +1,18 @@
+//! Conditions, and what a target in `exports` or `imports` of a package comes to under them. `choose` comes to the outcome
+//! of the definition, and asks for the bare texts that it names, in its order.
+#![tactic(auto)]
+
+mod array_index;
+mod bare_target;
+mod choice;
+mod conditions;
+mod cuts;
+mod segments;
+mod strings;
+#[cfg(test)]
+mod tests;
+
+pub use bare_target::BareTarget;
+pub use choice::choose;
+pub use conditions::{Conditions, ConditionsFault};
+pub use node_spec::{BareAnswer, Outcome};
