@@ -112,7 +112,7 @@ pub fn record_names_are_distinct()
     ensures { RecordNamesAreDistinct }
 {}
 
-/// A target asks for one list of texts and comes to one outcome, if the same texts in turn get the same answers.
+/// A target asks for one list of texts and comes to one outcome at most, if the same texts in turn get the same answers.
 pub fn one_outcome()
     ensures { OneOutcome }
 {}
@@ -122,12 +122,12 @@ pub fn answers_determine()
     ensures { AnswersDetermine }
 {}
 
-/// Under a map from texts to answers a target comes to one outcome.
+/// Under a map from texts to answers a target comes to one outcome at most.
 pub fn one_under()
     ensures { OneUnder }
 {}
 
-/// Whatever answers bare texts, each target comes to an outcome.
+/// Where every bare text has an answer, each target comes to an outcome.
 pub fn some_outcome()
     ensures { SomeOutcome }
 {}
