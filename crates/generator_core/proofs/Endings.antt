@@ -1,8 +1,10 @@
 -- How a run ends.
-use Rattle.std.proofs.Common.{◌≡◌, ◌≢◌, ◌≤◌, ◌<◌, ◌==◌, ◌-◌, ◌⊎◌, ℕ, Bool, true, false, List, [], ◌∷◌, ◌++◌, length, take, codes, Option, Some, None, IfSome, All, inl, inr, refl, sym, ap, ◌∙◌, subst, arith, lit≤, eq-eqb}
-use Rattle.std.specs.Prelude.{option_map, ◌||◌}
+use Rattle.std.proofs.Common.{◌≡◌, ◌≢◌, ◌≤◌, ◌<◌, ◌==◌, ◌-◌, ◌⊎◌, ⊎_elim, ℕ, zero, suc, Bool, true, false, List, [], ◌∷◌, ◌++◌, length, take, codes, Option, Some, None, IfSome, All, inl, inr, refl, sym, ap, ◌∙◌, subst, arith, lit≤, eq-eqb}
+use Rattle.std.specs.Prelude.{option_map}
 use Rattle.std.specs.List.{list_any}
 use Rattle.std.proofs.Math.Seq.{take-length}
+use Rattle.std.proofs.lemmas.List.{append_cancel_left}
+use Rattle.std.proofs.lemmas.Bool.{or_parts}
 use Rattle.std.proofs.lemmas.List.Elements.{All-nil, All-cons}
 use Rattle.tree_spec.specs.declared.Entry.TheVariants.{Stored}
 use Rattle.tree_spec.specs.Counts.{Rose}
@@ -15,7 +17,7 @@ use Rattle.layout_spec.specs.Counting.{mapping_count}
 use Rattle.generator_spec.specs.declared.Refusal.{Refusal}
 use Rattle.generator_spec.specs.declared.Refusal.TheVariants as refusal
 use Rattle.generator_spec.specs.Modules.{Config}
-use Rattle.generator_spec.specs.Words.{IsLink, IsConfigOf, RefusesWords}
+use Rattle.generator_spec.specs.Words.{IsConfigOf, RefusesWords}
 use Rattle.generator_spec.specs.Words.RefusesWords.{no_link, bad_base}
 use Rattle.generator_spec.specs.Lines.{status_of, line_of, counts_line}
 use Rattle.generator_spec.specs.Outcome.{Outcome}
@@ -26,7 +28,7 @@ use Rattle.generator_core.specs.declared.stop.Stop.TheVariants as stopped
 use Rattle.generator_core.specs.declared.trace.Trace.{Trace}
 use Rattle.generator_core.specs.Faults.{IfRefused, IsOfTrace}
 use Rattle.generator_core.specs.Walking.{Traced}
-use Rattle.generator_core.specs.Running.{IsRefusalStatus, BeginsOk, IsWritten, IsGenerated, IsCounted, Linked, IsRefused, Shaped, Ending, Gives, Tells, FolderState, SinkState, Says, Ends, SaysStop, SaysWrite, memory_line, read_fault_line, write_fault_line}
+use Rattle.generator_core.specs.Running.{IsRefusalStatus, IsWritten, IsGenerated, IsCounted, Linked, IsRefused, Shaped, Ending, Gives, Tells, FolderState, SinkState, Says, Ends, SaysStop, SaysWrite, memory_line, read_fault_line, write_fault_line}
 use Rattle.generator_core.specs.Running.IsRefused.{by_words, by_trace}
 use Rattle.generator_core.specs.Running.{Shaped as shaped, Says as says, Ends as ends, SaysStop as stops, SaysWrite as writes}
 
@@ -41,20 +43,12 @@ written_is tree bytes slice path told written p s = record {
   placed = subst (λ b. Places tree (codes "/importmap.json") (Stored b) written.0) s (subst (λ q. Places tree q (Stored slice) written.0) p written.2);
 }
 
-or_first : (a b : Bool) → (a || b) ≡ false → a ≡ false
-or_first true b e = absurd (cc)
-or_first false b e = refl
-
-or_second : (a b : Bool) → (a || b) ≡ false → b ≡ false
-or_second true b e = absurd (cc)
-or_second false b e = e
-
 none_is : (x : ℕ) (bytes : List ℕ) → list_any (λ b. b == x) bytes ≡ false → All (λ b. b ≢ x) bytes
 none_is x [] e = All-nil (λ b. b ≢ x)
 none_is x (b ∷ bytes) e =
     All-cons (λ c. c ≢ x) b bytes
-    (λ same. let t = eq-eqb b x same in let f = or_first (b == x) (list_any (λ c. c == x) bytes) e in cc)
-    (none_is x bytes (or_second (b == x) (list_any (λ c. c == x) bytes) e))
+    (λ same. let t = eq-eqb b x same in let f = (or_parts (b == x) (list_any (λ c. c == x) bytes) e).0 in cc)
+    (none_is x bytes (or_parts (b == x) (list_any (λ c. c == x) bytes) e).1)
 
 -- a file of the root with a long name
 root_file : (name text : List ℕ) → list_any (λ b. b == 47) name ≡ false → list_any (λ b. b == 0) name ≡ false → 2 < length name → length text ≤ 1024 → text ≡ 47 ∷ name → IsPath text
@@ -72,9 +66,6 @@ root_file name text no_slash no_nul long short is = record {
   few = lit≤ tt;
   short = short;
 }
-
-pub map_path : IsPath (codes "/importmap.json")
-map_path = root_file (codes "importmap.json") (codes "/importmap.json") refl refl (lit≤ tt) (lit≤ tt) refl
 
 pub page_path : IsPath (codes "/index.html")
 page_path = root_file (codes "index.html") (codes "/index.html") refl refl (lit≤ tt) (lit≤ tt) refl
@@ -109,41 +100,46 @@ is_generated tree words config trace bytes line is_config traced text says = rec
       λ i. counts_line (modules i) (traced.requests i) (mapping_count (layout (traced.counted i))));
 }
 
--- ---- words
-
-same_base : (words : List (List ℕ)) (base other : List ℕ) (entries more : List (List ℕ)) → IsLink words base entries → IsLink words other more → base ≡ other
-same_base words base other entries more a b = let e = a.split in let f = b.split in cc
-
--- words that give a config aren't refused
-pub not_refused : (words : List (List ℕ)) (config : Config) (why : Refusal) → IsConfigOf words config → RefusesWords words why → ⊥
-not_refused words config why is (no_link none) = none is.base is.entries is.link
-not_refused words config why is (bad_base base entries link none) = let same = same_base words base is.base entries is.entries link is.link in let e = is.is_base in cc
-
--- words are refused in one way
-pub one_refusal_of_words : (words : List (List ℕ)) (why other : Refusal) → RefusesWords words why → RefusesWords words other → why ≡ other
-one_refusal_of_words words why other (no_link none) (no_link more) = refl
-one_refusal_of_words words why other (no_link none) (bad_base base entries link bad) = absurd (none base entries link)
-one_refusal_of_words words why other (bad_base base entries link bad) (no_link none) = absurd (none base entries link)
-one_refusal_of_words words why other (bad_base base entries link bad) (bad_base second more link_too bad_too) = ap refusal.BadBase (same_base words base second entries more link link_too)
-
 -- ---- lines
 
 abbrev first_byte : List ℕ → ℕ
 first_byte [] = 0
 first_byte (b ∷ rest) = b
 
--- a line that begins with another byte isn't that of a command that was done
-other_line : (first : ℕ) (line : List ℕ) → first_byte (take 3 line) ≡ first → first ≢ 111 → BeginsOk line → ⊥
-other_line first line e apart ok = let o : first_byte (take 3 line) ≡ 111 = ap first_byte ok in apart (sym e ∙ o)
+-- a line that isn't that of a command that was done
+abbrev IsAnother : List ℕ → Type 0
+IsAnother line = first_byte line ≢ 111
 
-refusal_is_not_ok : (why : Refusal) → BeginsOk (line_of why) → ⊥
-refusal_is_not_ok refusal.Words = other_line 110 (line_of refusal.Words) refl (λ e. omega arith)
-refusal_is_not_ok (refusal.BadBase text) = other_line 119 (line_of (refusal.BadBase text)) refl (λ e. omega arith)
-refusal_is_not_ok (refusal.Unservable path url) = other_line 114 (line_of (refusal.Unservable path url)) refl (λ e. omega arith)
-refusal_is_not_ok (refusal.NotFound referrer specifier) = other_line 114 (line_of (refusal.NotFound referrer specifier)) refl (λ e. omega arith)
-refusal_is_not_ok (refusal.RequestNotBuilt referrer specifier) = other_line 110 (line_of (refusal.RequestNotBuilt referrer specifier)) refl (λ e. omega arith)
-refusal_is_not_ok (refusal.ModuleNotBuilt asker) = other_line 110 (line_of (refusal.ModuleNotBuilt asker)) refl (λ e. omega arith)
-refusal_is_not_ok (refusal.Limit which) = other_line 108 (line_of (refusal.Limit which)) refl (λ e. omega arith)
+-- a line that begins with another byte is another one
+other_line : (first : ℕ) (line : List ℕ) → first_byte line ≡ first → first ≢ 111 → IsAnother line
+other_line first line e apart same = apart (sym e ∙ same)
+
+refusal_is_another : (why : Refusal) → IsAnother (line_of why)
+refusal_is_another refusal.Words = other_line 110 (line_of refusal.Words) refl (λ e. omega arith)
+refusal_is_another (refusal.BadBase text) = other_line 119 (line_of (refusal.BadBase text)) refl (λ e. omega arith)
+refusal_is_another (refusal.Unservable path url) = other_line 114 (line_of (refusal.Unservable path url)) refl (λ e. omega arith)
+refusal_is_another (refusal.NotFound referrer specifier) = other_line 114 (line_of (refusal.NotFound referrer specifier)) refl (λ e. omega arith)
+refusal_is_another (refusal.RequestNotBuilt referrer specifier) = other_line 110 (line_of (refusal.RequestNotBuilt referrer specifier)) refl (λ e. omega arith)
+refusal_is_another (refusal.ModuleNotBuilt asker) = other_line 110 (line_of (refusal.ModuleNotBuilt asker)) refl (λ e. omega arith)
+refusal_is_another (refusal.Limit which) = other_line 108 (line_of (refusal.Limit which)) refl (λ e. omega arith)
+
+-- a front that begins so is of a line that does
+first_of_front : (count : ℕ) (line : List ℕ) → first_byte (take count line) ≡ 111 → first_byte line ≡ 111
+first_of_front zero line e = absurd (omega arith)
+first_of_front (suc count) [] e = e
+first_of_front (suc count) (b ∷ line) e = e
+
+first_of_counts : (modules requests mappings count : ℕ) → 1 ≤ count → first_byte (take count (counts_line modules requests mappings)) ≡ 111
+first_of_counts modules requests mappings zero some = absurd (omega arith)
+first_of_counts modules requests mappings (suc count) some = refl
+
+-- a front of another line, and a byte of that of a command that was done, don't both go out
+no_byte : (line : List ℕ) (old new : Option (List ℕ)) (before : List ℕ) (modules requests mappings count : ℕ) → IsAnother line → Gives old new line → old ≡ Some before → 1 ≤ count → new ≡ Some (before ++ take count (counts_line modules requests mappings)) → ⊥
+no_byte line old new before modules requests mappings count another gives told some given =
+    let out : new ≡ Some (before ++ take gives.count line) = gives.given ∙ ap (option_map (λ front. front ++ take gives.count line)) told in
+    let same : before ++ take gives.count line ≡ before ++ take count (counts_line modules requests mappings) = cc in
+    let fronts = append_cancel_left before (take gives.count line) (take count (counts_line modules requests mappings)) same in
+    another (first_of_front gives.count line (ap first_byte fronts ∙ first_of_counts modules requests mappings count some))
 
 gives_of : (status : ℕ) (line : List ℕ) (old new : SinkState) (result : ℕ) → Ends status line old new result → Gives old.got new.got line
 gives_of status line old new result (ends.said is given quiet) = whole_given old.got new.got line given
@@ -192,10 +188,10 @@ stop_statuses stop status line old new result says (ends.said is given quiet) = 
 stop_statuses stop status line old new result says (ends.output_fault is gives rose) = inr (inl is)
 
 pub stop_is_not_done : (stop : Stop) (status : ℕ) (line : List ℕ) (old new : SinkState) (result : ℕ) → SaysStop stop status line → Ends status line old new result → result ≢ 0
-stop_is_not_done stop status line old new result (stops.refused why is e l) (ends.said same given quiet) = λ zero. (no_refusing (status_of why) (refusing why)).0 (sym e ∙ (sym same ∙ zero))
-stop_is_not_done stop status line old new result (stops.read_fault is e l) (ends.said same given quiet) = λ zero. omega arith
-stop_is_not_done stop status line old new result (stops.memory apart e l) (ends.said same given quiet) = λ zero. omega arith
-stop_is_not_done stop status line old new result says (ends.output_fault is gives rose) = λ zero. omega arith
+stop_is_not_done stop status line old new result (stops.refused why is e l) (ends.said same given quiet) = λ is_zero. (no_refusing (status_of why) (refusing why)).0 (sym e ∙ (sym same ∙ is_zero))
+stop_is_not_done stop status line old new result (stops.read_fault is e l) (ends.said same given quiet) = λ is_zero. omega arith
+stop_is_not_done stop status line old new result (stops.memory apart e l) (ends.said same given quiet) = λ is_zero. omega arith
+stop_is_not_done stop status line old new result says (ends.output_fault is gives rose) = λ is_zero. omega arith
 
 pub stop_read : (stop : Stop) (status : ℕ) (line : List ℕ) (old new : SinkState) (result : ℕ) → SaysStop stop status line → Ends status line old new result → result ≡ 4 → stop ≡ stopped.ReadFault
 stop_read stop status line old new result (stops.refused why is e l) (ends.said same given quiet) four = absurd ((no_refusing (status_of why) (refusing why)).1 (sym e ∙ (sym same ∙ four)))
@@ -209,13 +205,15 @@ stop_write stop status line old new result (stops.read_fault is e l) (ends.said 
 stop_write stop status line old new result (stops.memory apart e l) (ends.said same given quiet) five = absurd (omega arith)
 stop_write stop status line old new result says (ends.output_fault is gives rose) five = rose
 
-stop_is_not_ok : (stop : Stop) (status : ℕ) (line : List ℕ) → SaysStop stop status line → BeginsOk line → ⊥
-stop_is_not_ok stop status line (stops.refused why is e l) ok = refusal_is_not_ok why (subst BeginsOk l ok)
-stop_is_not_ok stop status line (stops.read_fault is e l) ok = other_line 102 read_fault_line refl (λ e. omega arith) (subst BeginsOk l ok)
-stop_is_not_ok stop status line (stops.memory apart e l) ok = other_line 109 memory_line refl (λ e. omega arith) (subst BeginsOk l ok)
+stop_is_another : (stop : Stop) (status : ℕ) (line : List ℕ) → SaysStop stop status line → IsAnother line
+stop_is_another stop status line (stops.refused why is e l) = subst IsAnother (sym l) (refusal_is_another why)
+stop_is_another stop status line (stops.read_fault is e l) = subst IsAnother (sym l) (other_line 102 read_fault_line refl (λ e. omega arith))
+stop_is_another stop status line (stops.memory apart e l) = subst IsAnother (sym l) (other_line 109 memory_line refl (λ e. omega arith))
 
 pub stop_tells : {A : Type 0} (stop : Stop) (status : ℕ) (line : List ℕ) (old new : SinkState) (result : ℕ) → SaysStop stop status line → Ends status line old new result → Tells old.got new.got A
-stop_tells stop status line old new result says ended = record { line = line; gives = gives_of status line old new result ended; only_where_done = λ ok. absurd (stop_is_not_ok stop status line says ok) }
+stop_tells stop status line old new result says ended =
+    let gives = gives_of status line old new result ended in
+    record { line = line; gives = gives; only_where_done = λ before modules requests mappings count told some given. absurd (no_byte line old.got new.got before modules requests mappings count (stop_is_another stop status line says) gives told some given) }
 
 outcome_of : (words : List (List ℕ)) (told after : Option Tree) (why : Refusal) (status : ℕ) (line : List ℕ) → IsRefused words told why → after ≡ told → status ≡ status_of why → line ≡ line_of why → IfSome told (λ tree. (rest : Tree) × Outcome words tree status line rest × (after ≡ Some rest))
 outcome_of words None after why status line refused same s l = tt
@@ -261,11 +259,11 @@ written_links : (words : List (List ℕ)) (old new : FolderState) (bytes done : 
 written_links words old new bytes done generated written = if_two old.told (λ tree is g w. linked tree words bytes done new.told g w) generated written
 
 pub write_done : (words : List (List ℕ)) (old new : FolderState) (bytes done : List ℕ) (status : ℕ) (line : List ℕ) (before after : SinkState) (result : ℕ) → IfSome old.told (λ tree. IsGenerated tree words bytes done) → SaysWrite old new bytes done status line → Ends status line before after result → result ≡ 0 → IfSome old.told (λ tree. Linked tree words new.told)
-write_done words old new bytes done status line before after result generated (writes.written e l w lk wr) ended zero = written_links words old new bytes done generated w
-write_done words old new bytes done status line before after result generated (writes.write_fault e l t lk wr) (ends.said same given quiet) zero = absurd (omega arith)
-write_done words old new bytes done status line before after result generated (writes.memory e l s) (ends.said same given quiet) zero = absurd (omega arith)
-write_done words old new bytes done status line before after result generated (writes.write_fault e l t lk wr) (ends.output_fault is gives rose) zero = absurd (omega arith)
-write_done words old new bytes done status line before after result generated (writes.memory e l s) (ends.output_fault is gives rose) zero = absurd (omega arith)
+write_done words old new bytes done status line before after result generated (writes.written e l w lk wr) ended is_zero = written_links words old new bytes done generated w
+write_done words old new bytes done status line before after result generated (writes.write_fault e l t lk wr) (ends.said same given quiet) is_zero = absurd (omega arith)
+write_done words old new bytes done status line before after result generated (writes.memory e l s) (ends.said same given quiet) is_zero = absurd (omega arith)
+write_done words old new bytes done status line before after result generated (writes.write_fault e l t lk wr) (ends.output_fault is gives rose) is_zero = absurd (omega arith)
+write_done words old new bytes done status line before after result generated (writes.memory e l s) (ends.output_fault is gives rose) is_zero = absurd (omega arith)
 
 pub write_five : (words : List (List ℕ)) (old new : FolderState) (bytes done : List ℕ) (status : ℕ) (line : List ℕ) → IfSome old.told (λ tree. IsGenerated tree words bytes done) → SaysWrite old new bytes done status line → (new.told ≡ old.told) ⊎ IfSome old.told (λ tree. Linked tree words new.told)
 write_five words old new bytes done status line generated (writes.written e l w lk wr) = inr (written_links words old new bytes done generated w)
@@ -285,18 +283,25 @@ write_rose old new bytes done status line before after result (writes.memory e l
 write_rose old new bytes done status line before after result (writes.written e l w lk wr) (ends.output_fault is gives rose) five = inr rose
 write_rose old new bytes done status line before after result (writes.memory e l s) (ends.output_fault is gives rose) five = inr rose
 
-write_is_ok : (words : List (List ℕ)) (old new : FolderState) (bytes done : List ℕ) (status : ℕ) (line : List ℕ) → IfSome old.told (λ tree. IsGenerated tree words bytes done) → SaysWrite old new bytes done status line → BeginsOk line → IfSome old.told (λ tree. Linked tree words new.told)
-write_is_ok words old new bytes done status line generated (writes.written e l w lk wr) ok = written_links words old new bytes done generated w
-write_is_ok words old new bytes done status line generated (writes.write_fault e l t lk wr) ok = absurd (other_line 102 write_fault_line refl (λ e. omega arith) (subst BeginsOk l ok))
-write_is_ok words old new bytes done status line generated (writes.memory e l s) ok = absurd (other_line 109 memory_line refl (λ e. omega arith) (subst BeginsOk l ok))
+write_is_ok : (words : List (List ℕ)) (old new : FolderState) (bytes done : List ℕ) (status : ℕ) (line : List ℕ) → IfSome old.told (λ tree. IsGenerated tree words bytes done) → SaysWrite old new bytes done status line → IsAnother line ⊎ IfSome old.told (λ tree. Linked tree words new.told)
+write_is_ok words old new bytes done status line generated (writes.written e l w lk wr) = inr (written_links words old new bytes done generated w)
+write_is_ok words old new bytes done status line generated (writes.write_fault e l t lk wr) = inl (subst IsAnother (sym l) (other_line 102 write_fault_line refl (λ e. omega arith)))
+write_is_ok words old new bytes done status line generated (writes.memory e l s) = inl (subst IsAnother (sym l) (other_line 109 memory_line refl (λ e. omega arith)))
 
 pub write_tells : (words : List (List ℕ)) (old new : FolderState) (bytes done : List ℕ) (status : ℕ) (line : List ℕ) (before after : SinkState) (result : ℕ) → IfSome old.told (λ tree. IsGenerated tree words bytes done) → SaysWrite old new bytes done status line → Ends status line before after result → Tells before.got after.got (IfSome old.told (λ tree. Linked tree words new.told))
-write_tells words old new bytes done status line before after result generated says ended = record { line = line; gives = gives_of status line before after result ended; only_where_done = write_is_ok words old new bytes done status line generated says }
+write_tells words old new bytes done status line before after result generated says ended =
+    let gives = gives_of status line before after result ended in
+    record {
+      line = line;
+      gives = gives;
+      only_where_done = λ front modules requests mappings count told some given.
+          ⊎_elim (λ another. absurd (no_byte line before.got after.got front modules requests mappings count another gives told some given)) (λ linked. linked) (write_is_ok words old new bytes done status line generated says);
+    }
 
 pub says_write : (words : List (List ℕ)) (old new : FolderState) (bytes done : List ℕ) (status : ℕ) (line : List ℕ) → IsCounted words done → IfSome old.told (λ tree. IsGenerated tree words bytes done) → SaysWrite old new bytes done status line → Says words old new status line
 says_write words old new bytes done status line counted generated (writes.written e l w lk wr) =
     says.outcome (shaped.done counted.config counted.modules counted.requests counted.mappings counted.is_config e (l ∙ counted.says)) (if_two old.told (λ tree is g written. (written.after, Outcome.done g.config bytes g.is_config g.generates e (l ∙ g.says) written.placed, written.is_told)) generated w) lk wr
-says_write words old new bytes done status line counted generated (writes.write_fault e l t lk wr) = says.write_fault e l t lk wr
+says_write words old new bytes done status line counted generated (writes.write_fault e l t lk wr) = says.write_fault bytes done counted generated e l t lk wr
 says_write words old new bytes done status line counted generated (writes.memory e l s) = says.memory e l s
 
 pub write_same : (old middle new : FolderState) (bytes done : List ℕ) (status : ℕ) (line : List ℕ) → middle ≡ old → SaysWrite middle new bytes done status line → SaysWrite old new bytes done status line
@@ -319,25 +324,25 @@ bad_base_of : (words : List (List ℕ)) (why : Refusal) → RefusesWords words w
 bad_base_of words why (no_link none) is_two = absurd (omega arith)
 bad_base_of words why (bad_base base entries link none) is_two = (base, bad_base base entries link none)
 
-trace_is_not_two : (why : Refusal) → IsOfTrace why → status_of why ≢ 2
-trace_is_not_two refusal.Words kind is_two = kind
-trace_is_not_two (refusal.BadBase text) kind is_two = kind
-trace_is_not_two (refusal.Unservable path url) kind is_two = omega arith
-trace_is_not_two (refusal.NotFound referrer specifier) kind is_two = omega arith
-trace_is_not_two (refusal.RequestNotBuilt referrer specifier) kind is_two = omega arith
-trace_is_not_two (refusal.ModuleNotBuilt asker) kind is_two = omega arith
-trace_is_not_two (refusal.Limit which) kind is_two = omega arith
+trace_is_not_two : (config : Config) (why : Refusal) → IsOfTrace config why → status_of why ≢ 2
+trace_is_not_two config refusal.Words kind is_two = kind
+trace_is_not_two config (refusal.BadBase text) kind is_two = kind
+trace_is_not_two config (refusal.Unservable path url) kind is_two = omega arith
+trace_is_not_two config (refusal.NotFound referrer specifier) kind is_two = omega arith
+trace_is_not_two config (refusal.RequestNotBuilt referrer specifier) kind is_two = omega arith
+trace_is_not_two config (refusal.ModuleNotBuilt asker) kind is_two = omega arith
+trace_is_not_two config (refusal.Limit which) kind is_two = omega arith
 
 shaped_two : (words : List (List ℕ)) (status : ℕ) (line : List ℕ) → Shaped words status line → status ≡ 2 → (base : List ℕ) × RefusesWords words (refusal.BadBase base)
 shaped_two words status line (shaped.words_refused why refuses s l) is_two = bad_base_of words why refuses (sym s ∙ is_two)
-shaped_two words status line (shaped.trace_refused config why is_config kind s l) is_two = absurd (trace_is_not_two why kind (sym s ∙ is_two))
+shaped_two words status line (shaped.trace_refused config why is_config kind s l) is_two = absurd (trace_is_not_two config why kind (sym s ∙ is_two))
 shaped_two words status line (shaped.done config modules requests mappings is_config s l) is_two = absurd (omega arith)
 
 said_two : (words : List (List ℕ)) (old new : FolderState) (status : ℕ) (line : List ℕ) → Says words old new status line → status ≡ 2 → (base : List ℕ) × RefusesWords words (refusal.BadBase base)
 said_two words old new status line (says.outcome shape o l w) is_two = shaped_two words status line shape is_two
 said_two words old new status line (says.memory s t same) is_two = absurd (omega arith)
 said_two words old new status line (says.read_fault s t told rose w) is_two = absurd (omega arith)
-said_two words old new status line (says.write_fault s t told l rose) is_two = absurd (omega arith)
+said_two words old new status line (says.write_fault bytes done counted generated s t told l rose) is_two = absurd (omega arith)
 
 ended_two : (words : List (List ℕ)) (old new : FolderState) (out out_after : SinkState) (result : ℕ) (status : ℕ) (line : List ℕ) → Says words old new status line → Ends status line out out_after result → result ≡ 2 → (base : List ℕ) × RefusesWords words (refusal.BadBase base)
 ended_two words old new out out_after result status line s (ends.said is given quiet) is_two = said_two words old new status line s (sym is ∙ is_two)

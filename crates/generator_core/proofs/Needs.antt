@@ -2,7 +2,7 @@
 use Rattle.std.proofs.Common.{◌≡◌, ℕ, zero, suc, Bool, true, false, List, [], ◌∷◌, ◌++◌, Contains, refl, sym, ap, ◌∙◌, subst, ⊎_elim, arith}
 use Rattle.std.specs.Prelude.{bytes_eq, ◌&&◌, ◌||◌}
 use Rattle.std.specs.List.{list_any}
-use Rattle.std.proofs.lemmas.Bool.{cond-true, cond-false}
+use Rattle.std.proofs.lemmas.Bool.{cond-true, cond-false, or_parts}
 use Rattle.std.proofs.lemmas.List.Elements.{Contains-append_cases}
 use Rattle.std.proofs.lemmas.Slice.Eq.{bytes_eq-Decides}
 use Rattle.layout_spec.specs.declared.Need.{Need}
@@ -14,14 +14,6 @@ asks_first true true c e = absurd (cc)
 asks_first true false c e = refl
 asks_first false b c e = refl
 
-or_first : (a b : Bool) → (a || b) ≡ false → a ≡ false
-or_first true b e = absurd (cc)
-or_first false b e = refl
-
-or_second : (a b : Bool) → (a || b) ≡ false → b ≡ false
-or_second true b e = absurd (cc)
-or_second false b e = e
-
 or_both : (a b : Bool) → a ≡ false → b ≡ false → (a || b) ≡ false
 or_both true b e f = absurd (cc)
 or_both false b e f = f
@@ -31,8 +23,8 @@ pub not_there : (need : Need) (needs : List Need) → list_any (asks_alike need)
 not_there need [] e = refl
 not_there need (other ∷ needs) e =
     or_both (is_need need other) (list_any (is_need need) needs)
-    (asks_first (bytes_eq need.referrer other.referrer) (bytes_eq need.asked other.asked) (bytes_eq need.target other.target) (or_first _ _ e))
-    (not_there need needs (or_second (asks_alike need other) (list_any (asks_alike need) needs) e))
+    (asks_first (bytes_eq need.referrer other.referrer) (bytes_eq need.asked other.asked) (bytes_eq need.target other.target) (or_parts (asks_alike need other) (list_any (asks_alike need) needs) e).0)
+    (not_there need needs (or_parts (asks_alike need other) (list_any (asks_alike need) needs) e).1)
 
 same_text : (text : List ℕ) → bytes_eq text text ≡ true
 same_text text = (bytes_eq-Decides text text).1 refl
@@ -67,8 +59,8 @@ counted-new old new need none e = e ∙ sym (cond-false (list_any (is_need need)
 -- no member of a list passes a test that none passes
 pub none_passes : {X : Type 0} (test : X → Bool) (xs : List X) (x : X) → list_any test xs ≡ false → Contains xs x → test x ≡ true → ⊥
 none_passes test [] x e is passes = omega (arith, is.1)
-none_passes test (y ∷ xs) x e (zero, within, same) passes = let fails : test y ≡ false = or_first (test y) (list_any test xs) e in let f : test x ≡ false = subst (λ z. test z ≡ false) same fails in cc
-none_passes test (y ∷ xs) x e (suc k, within, same) passes = none_passes test xs x (or_second (test y) (list_any test xs) e) (k, omega arith, same) passes
+none_passes test (y ∷ xs) x e (zero, within, same) passes = let fails : test y ≡ false = (or_parts (test y) (list_any test xs) e).0 in let f : test x ≡ false = subst (λ z. test z ≡ false) same fails in cc
+none_passes test (y ∷ xs) x e (suc k, within, same) passes = none_passes test xs x (or_parts (test y) (list_any test xs) e).1 (k, omega arith, same) passes
 
 pub alike : (one other : Need) → one.referrer ≡ other.referrer → one.asked ≡ other.asked → asks_alike one other ≡ true
 alike one other r a = and_true _ _ ((bytes_eq-Decides one.referrer other.referrer).1 r) ((bytes_eq-Decides one.asked other.asked).1 a)

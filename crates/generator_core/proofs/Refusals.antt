@@ -18,16 +18,18 @@ use Rattle.layout_spec.specs.Needs.{counted, counted_onto, NoClash}
 use Rattle.layout_spec.specs.Contained.{counted_keeps}
 use Rattle.generator_spec.specs.declared.Refusal.{Refusal}
 use Rattle.generator_spec.specs.declared.RequestRefusal.{RequestRefusal}
+use Rattle.generator_spec.specs.declared.RequestRefusal.TheVariants.{NotFound, NotBuilt, Limit}
 use Rattle.generator_spec.specs.Modules.{Config, Module, Referrer, the_page, a_module, path_of, Asks}
 use Rattle.generator_spec.specs.Modules.Asks.{entries, requests}
 use Rattle.generator_spec.specs.Trace.{ends_in_slash, IsServable, Turn, TurnsOf, new_modules, targets_of, needs_of}
 use Rattle.generator_spec.specs.Closed.{new_modules-append, length-TurnsOf}
-use Rattle.generator_spec.specs.Refusing.{AsksFile, Clashes, Refuses, Reaches, FirstRefusal, asked_for}
+use Rattle.generator_spec.specs.Refusing.{AsksFile, Clashes, Refuses, Reaches, FirstRefusal, asked_for, of_request}
 use Rattle.generator_spec.specs.Refusing.Comes.{page_first, module_next}
 use Rattle.generator_spec.specs.Refusing.{Refuses as refuses, FirstRefusal as first_refusal}
 use Rattle.generator_core.specs.declared.trace.Trace.{Trace}
 use Rattle.generator_core.specs.declared.trace.Asker.{Asker}
 use Rattle.generator_core.specs.Answering.{IsRefusedBy}
+use Rattle.generator_core.specs.Faults.{IsOfRequest, IsOfTrace}
 use Rattle.generator_core.specs.Walking.{IsAsker, Turned, RequestRefused, TurnRefused, ModuleRefused, IsPageRefused, Walked}
 use Rattle.generator_core.specs.Walking.{ModuleRefused as module_refused}
 use Rattle.generator_core.proofs.Needs.{none_passes, alike}
@@ -204,3 +206,13 @@ module_first tree config next trace name first servable few walked (module_refus
     none is
 module_first tree config next trace name first servable few walked (module_refused.request asker specifiers stands asks refused) =
     request_first tree config (walked.page ∷ walked.turns) (a_module asker) specifiers trace first (module_reached tree config next trace name asker servable walked stands) asks walked.counted walked.closed few walked.no_clash refused
+
+-- ---- what is refused, whatever the tree holds
+
+pub request_kind : (config : Config) (why : RequestRefusal) (asker specifier : List ℕ) → IsOfRequest why → IsOfTrace config (of_request why asker specifier)
+request_kind config NotFound asker specifier kind = tt
+request_kind config NotBuilt asker specifier kind = tt
+request_kind config (Limit which) asker specifier kind = kind
+
+pub page_kind : (config : Config) (first : Refusal) → IsPageRefused config first → IsOfTrace config first
+page_kind config first page = subst (IsOfTrace config) (sym page.is) (record { url = page.url; is_url = page.is_url; unservable = page.unservable; is = refl })

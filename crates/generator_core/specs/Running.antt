@@ -1,5 +1,5 @@
 -- How a run ends.
-use Rattle.std.specs.Prelude.{◌≡◌, ◌≢◌, ◌⊎◌, ◌++◌, ℕ, List, Option, Some, IfSome, option_map, take, codes}
+use Rattle.std.specs.Prelude.{◌≡◌, ◌≢◌, ◌≤◌, ◌⊎◌, ◌++◌, ℕ, List, Option, Some, IfSome, option_map, take, codes}
 use Rattle.tree_spec.specs.declared.Entry.TheVariants.{Stored}
 use Rattle.tree_spec.specs.Counts.{Rose}
 use Rattle.tree_spec.specs.Trees.{Tree, Places}
@@ -18,10 +18,6 @@ use Rattle.generator_core.specs.declared.stop.Stop.TheVariants as Stopped
 -- own: the statuses of an end before the first write
 abbrev pub IsRefusalStatus : ℕ → Type 0
 IsRefusalStatus status = (status ≡ 1) ⊎ (status ≡ 2) ⊎ (status ≡ 3) ⊎ (status ≡ 4) ⊎ (status ≡ 8) ⊎ (status ≡ 9)
-
--- own: the line of a command that was done begins so
-abbrev pub BeginsOk : List ℕ → Type 0
-BeginsOk line = take 3 line ≡ codes "ok:"
 
 -- own: these bytes were written as the map, and nothing else was changed
 pub record IsWritten (tree : Tree) (bytes : List ℕ) (told : Option Tree) : Type 0 where
@@ -45,7 +41,7 @@ pub record Linked (tree : Tree) (words : List (List ℕ)) (told : Option Tree) :
   pub serves : Serves tree generated.config bytes
   pub written : IsWritten tree bytes told
 
--- own: the words give a config, and the line has the counts of a map that is written
+-- own: the words give a config, and the line is that of a map that is written, with some counts
 pub record IsCounted (words : List (List ℕ)) (line : List ℕ) : Type 0 where
   pub config : Config
   pub is_config : IsConfigOf words config
@@ -57,7 +53,7 @@ pub record IsCounted (words : List (List ℕ)) (line : List ℕ) : Type 0 where
 -- own: the words are refused, or the first refusal of their config in the told tree is this one
 pub data IsRefused (words : List (List ℕ)) (told : Option Tree) (first : Refusal) : Type 0 where
   by_words : RefusesWords words first → IsRefused words told first
-  by_trace : (config : Config) → IsConfigOf words config → IsOfTrace first → IfSome told (λ tree. FirstRefusal tree config first) → IsRefused words told first
+  by_trace : (config : Config) → IsConfigOf words config → IsOfTrace config first → IfSome told (λ tree. FirstRefusal tree config first) → IsRefused words told first
 
 -- ---- what goes out
 
@@ -66,11 +62,11 @@ pub record Gives (old new : Option (List ℕ)) (line : List ℕ) : Type 0 where
   pub count : ℕ
   pub given : new ≡ option_map (λ before. before ++ take count line) old
 
--- own: a front of one line went out, and that of a command that was done only where its map was written
+-- own: a front of one line went out; and a byte of the line of a command that was done only where its map was written
 pub record Tells (old new : Option (List ℕ)) (written : Type 0) : Type 0 where
   pub line : List ℕ
   pub gives : Gives old new line
-  pub only_where_done : BeginsOk line → written
+  pub only_where_done : (before : List ℕ) (modules requests mappings count : ℕ) → old ≡ Some before → 1 ≤ count → new ≡ Some (before ++ take count (counts_line modules requests mappings)) → written
 
 -- ---- the end, exactly
 
@@ -98,16 +94,16 @@ write_fault_line = codes "fault: write" ++ end_of_line
 -- of a refusal of its trace, or of a map that is written
 pub data Shaped (words : List (List ℕ)) (status : ℕ) (line : List ℕ) : Type 0 where
   words_refused : (why : Refusal) → RefusesWords words why → status ≡ status_of why → line ≡ line_of why → Shaped words status line
-  trace_refused : (config : Config) (why : Refusal) → IsConfigOf words config → IsOfTrace why → status ≡ status_of why → line ≡ line_of why → Shaped words status line
+  trace_refused : (config : Config) (why : Refusal) → IsConfigOf words config → IsOfTrace config why → status ≡ status_of why → line ≡ line_of why → Shaped words status line
   done : (config : Config) (modules requests mappings : ℕ) → IsConfigOf words config → status ≡ 0 → line ≡ counts_line modules requests mappings → Shaped words status line
 
 -- own: why a command ends with this status and this line. It has the outcome that is defined, where no fault was counted; or there is
--- want of memory, or a fault that was counted, and then the tree is as it was
+-- want of memory, or a fault that was counted, and then the tree is as it was. A write fails only where there is a map to write
 pub data Says (words : List (List ℕ)) (old new : FolderState) (status : ℕ) (line : List ℕ) : Type 0 where
   outcome : Shaped words status line → IfSome old.told (λ tree. (after : Tree) × Outcome words tree status line after × (new.told ≡ Some after)) → new.look_faults ≡ old.look_faults → new.write_faults ≡ old.write_faults → Says words old new status line
   memory : status ≡ 8 → line ≡ memory_line → new ≡ old → Says words old new status line
   read_fault : status ≡ 4 → line ≡ read_fault_line → new.told ≡ old.told → Rose old.look_faults new.look_faults → new.write_faults ≡ old.write_faults → Says words old new status line
-  write_fault : status ≡ 5 → line ≡ write_fault_line → new.told ≡ old.told → new.look_faults ≡ old.look_faults → Rose old.write_faults new.write_faults → Says words old new status line
+  write_fault : (bytes done : List ℕ) → IsCounted words done → IfSome old.told (λ tree. IsGenerated tree words bytes done) → status ≡ 5 → line ≡ write_fault_line → new.told ≡ old.told → new.look_faults ≡ old.look_faults → Rose old.write_faults new.write_faults → Says words old new status line
 
 -- own: the line went out, and its status is answered; or the output failed and counted it, a front of the line went out, and 5 is answered
 pub data Ends (status : ℕ) (line : List ℕ) (old new : SinkState) (result : ℕ) : Type 0 where
@@ -133,11 +129,13 @@ pub record Ending (words : List (List ℕ)) (folder folder_after : FolderState) 
   pub says : Says words folder folder_after status line
   pub ends : Ends status line out out_after result
 
--- own: a count that changed shows in the status, and 4 comes where the looks alone failed
+-- own: a count that changed shows in the status: that of looks in 4, or in 5 where the output failed too; 4 comes only where the looks
+-- alone failed
 pub record Shows (folder folder_after : FolderState) (out out_after : SinkState) (result : ℕ) : Type 0 where
   pub looks : folder_after.look_faults ≢ folder.look_faults → (result ≡ 4) ⊎ (result ≡ 5)
   pub writes : folder_after.write_faults ≢ folder.write_faults → result ≡ 5
   pub output : out_after.faults ≢ out.faults → result ≡ 5
+  pub looks_alone : folder_after.look_faults ≢ folder.look_faults → (Rose out.faults out_after.faults → ⊥) → result ≡ 4
   pub read_alone : result ≡ 4 → (folder_after.write_faults ≡ folder.write_faults) × (out_after.faults ≡ out.faults)
 
 -- own: no count of faults rose
@@ -151,8 +149,16 @@ pub data Completes (status : ℕ) (line : List ℕ) (after : Tree) (folder folde
   complete : result ≡ status → out_after.got ≡ option_map (λ before. before ++ line) out.got → folder_after.told ≡ Some after → Completes status line after folder folder_after out out_after result
   memory : result ≡ 8 → out_after.got ≡ option_map (λ before. before ++ memory_line) out.got → folder_after.told ≡ folder.told → Completes status line after folder folder_after out out_after result
 
--- own: where the words and the tree have an outcome, the answer is its status, or 8, or 4 or 5 for a fault; and where no fault was
--- counted, the command ended so
+-- own: the command ended as an outcome says that is defined; or with `memory`, and the tree is as it was
+pub data Finishes (words : List (List ℕ)) (tree : Tree) (folder folder_after : FolderState) (out out_after : SinkState) (result : ℕ) : Type 0 where
+  finished : (status : ℕ) (line : List ℕ) (after : Tree) → Outcome words tree status line after → result ≡ status → out_after.got ≡ option_map (λ before. before ++ line) out.got → folder_after.told ≡ Some after → Finishes words tree folder folder_after out out_after result
+  memory : result ≡ 8 → out_after.got ≡ option_map (λ before. before ++ memory_line) out.got → folder_after.told ≡ folder.told → Finishes words tree folder folder_after out out_after result
+
+-- own: where no fault was counted, the command ended as an outcome says that is defined, or with `memory`. Where the words and the tree
+-- have an outcome, the answer is its status, or 8, or 4 or 5 for a fault; where no fault was counted, the command ended so; and where
+-- that outcome has no map, no write failed
 pub record Meets (words : List (List ℕ)) (tree : Tree) (folder folder_after : FolderState) (out out_after : SinkState) (result : ℕ) : Type 0 where
+  pub ended : Quiet folder folder_after out out_after → Finishes words tree folder folder_after out out_after result
   pub exactly : (status : ℕ) (line : List ℕ) (after : Tree) → Outcome words tree status line after → (result ≡ status) ⊎ (result ≡ 8) ⊎ (result ≡ 4) ⊎ (result ≡ 5)
   pub complete : (status : ℕ) (line : List ℕ) (after : Tree) → Outcome words tree status line after → Quiet folder folder_after out out_after → Completes status line after folder folder_after out out_after result
+  pub unwritten : (status : ℕ) (line : List ℕ) (after : Tree) → Outcome words tree status line after → status ≢ 0 → folder_after.write_faults ≡ folder.write_faults

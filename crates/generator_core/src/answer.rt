@@ -1,11 +1,11 @@
-ghost use Rattle.std.specs.Prelude.{◌≡◌, ◌≢◌, ℕ, List, true, Err, IfOk, IfErr, IfSome, OnOk, IsErrOf};
+ghost use Rattle.std.specs.Prelude.{◌≡◌, ◌≢◌, ◌≤◌, ℕ, List, true, Err, IfOk, IfErr, IfSome, OnOk, IsErrOf};
 ghost use Rattle.tree_spec.specs.Counts.{Rose};
 ghost use Rattle.url_spec.specs.Specifiers.{is_relative};
 ghost use Rattle.node_spec.specs.Resolution as node;
 ghost use Rattle.generator_spec.specs.Trace.{FitsFile};
 ghost use Rattle.generator_core.specs.Files.{KnowsFiles, Has, Grows};
 ghost use Rattle.generator_core.specs.Answering.{Answers, StandsAsFile, NotStands, IsRefusedBy};
-ghost use Rattle.generator_core.specs.Faults.{IfRequestRefused};
+ghost use Rattle.generator_core.specs.Faults.{IfRequestRefused, IsOfRequest};
 
 use crate::files::{Files, Standing};
 use crate::module::Module;
@@ -65,11 +65,13 @@ pub fn answer<F: Folder>(
     requires { is_relative specifier.now ≡ true }
     ensures found { IfOk result (λ target. IfSome (F.holds folder.old) (λ tree. KnowsFiles tree files.old → Answers tree parent.now specifier.now (node.Resolved target.path target.suffix) × FitsFile tree target.path × KnowsFiles tree files.new)) }
     ensures refused { IfErr result (λ fault. IfRequestRefused fault (λ why. IfSome (F.holds folder.old) (λ tree. KnowsFiles tree files.old → IsRefusedBy tree parent.now specifier.now why))) }
+    ensures kind { IfErr result (λ fault. IfRequestRefused fault IsOfRequest) }
     ensures grows { OnOk result (Grows files.old files.new) }
     ensures kept { IfOk result (λ target. Has files.new target.path) }
     ensures tree { F.holds folder.new ≡ F.holds folder.old }
     ensures failed { IsErrOf result RequestFault.Failed → Rose (F.look_faults folder.old) (F.look_faults folder.new) }
     ensures quiet { result ≢ Err RequestFault.Failed → F.look_faults folder.new ≡ F.look_faults folder.old }
+    ensures later { F.look_faults folder.old ≤ F.look_faults folder.new }
     ensures writes { F.write_faults folder.new ≡ F.write_faults folder.old }
 {
     let Some(url) = file_join(alloc, specifier, parent)? else {
@@ -91,11 +93,13 @@ fn judge<F: Folder>(
 ) -> Result<Module, RequestFault>
     ensures found { IfOk result (λ target. IfSome (F.holds folder.old) (λ tree. KnowsFiles tree files.old → StandsAsFile tree place target × FitsFile tree target.path × KnowsFiles tree files.new)) }
     ensures refused { IfErr result (λ fault. IfRequestRefused fault (λ why. IfSome (F.holds folder.old) (λ tree. KnowsFiles tree files.old → NotStands tree place why))) }
+    ensures kind { IfErr result (λ fault. IfRequestRefused fault IsOfRequest) }
     ensures grows { OnOk result (Grows files.old files.new) }
     ensures kept { IfOk result (λ target. Has files.new target.path) }
     ensures tree { F.holds folder.new ≡ F.holds folder.old }
     ensures failed { IsErrOf result RequestFault.Failed → Rose (F.look_faults folder.old) (F.look_faults folder.new) }
     ensures quiet { result ≢ Err RequestFault.Failed → F.look_faults folder.new ≡ F.look_faults folder.old }
+    ensures later { F.look_faults folder.old ≤ F.look_faults folder.new }
     ensures writes { F.write_faults folder.new ≡ F.write_faults folder.old }
 {
     let Place {

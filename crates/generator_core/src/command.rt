@@ -1,4 +1,4 @@
-ghost use Rattle.std.specs.Prelude.{◌≡◌, ◌≢◌, ◌⊎◌, ℕ, List, length, Err, IfSome, IfOk, IfErr, IsErrOf, map, string_bytes};
+ghost use Rattle.std.specs.Prelude.{◌≡◌, ◌≢◌, ◌≤◌, ◌⊎◌, ℕ, List, length, None, Err, IfSome, IfOk, IfErr, IsErrOf, map, string_bytes};
 ghost use Rattle.tree_spec.specs.Counts.{Rose};
 ghost use Rattle.import_map_spec.specs.Printing.{map_text};
 ghost use Rattle.layout_spec.specs.Counting.{mapping_count};
@@ -59,7 +59,12 @@ pub fn run<F: Folder, I: Source, O: Sink, L: Ledger>(
     ensures ending { Ending (map string_bytes words.now) (record { told = F.holds folder.old; look_faults = F.look_faults folder.old; write_faults = F.write_faults folder.old }) (record { told = F.holds folder.new; look_faults = F.look_faults folder.new; write_faults = F.write_faults folder.new }) (record { got = O.got out.old; faults = O.faults out.old }) (record { got = O.got out.new; faults = O.faults out.new }) result }
     ensures meets { IfSome (F.holds folder.old) (λ tree. Meets (map string_bytes words.now) tree (record { told = F.holds folder.old; look_faults = F.look_faults folder.old; write_faults = F.write_faults folder.old }) (record { told = F.holds folder.new; look_faults = F.look_faults folder.new; write_faults = F.write_faults folder.new }) (record { got = O.got out.old; faults = O.faults out.old }) (record { got = O.got out.new; faults = O.faults out.new }) result) }
     ensures shows { Shows (record { told = F.holds folder.old; look_faults = F.look_faults folder.old; write_faults = F.write_faults folder.old }) (record { told = F.holds folder.new; look_faults = F.look_faults folder.new; write_faults = F.write_faults folder.new }) (record { got = O.got out.old; faults = O.faults out.old }) (record { got = O.got out.new; faults = O.faults out.new }) result }
+    ensures looks_later { F.look_faults folder.old ≤ F.look_faults folder.new }
+    ensures writes_later { F.write_faults folder.old ≤ F.write_faults folder.new }
+    ensures output_later { O.faults out.old ≤ O.faults out.new }
     ensures input { _input.new ≡ _input.old }
+    ensures steps { _steps.new ≡ _steps.old }
+    ensures untold { F.holds folder.old ≡ None → F.holds folder.new ≡ None }
     ensures bad_base { result ≡ 2 → (base : List ℕ) × RefusesWords (map string_bytes words.now) (refusal.BadBase base) }
     ensures words { (why : Refusal) → RefusesWords (map string_bytes words.now) why → (folder.new ≡ folder.old) × (Ends (spec.status_of why) (spec.line_of why) (record { got = O.got out.old; faults = O.faults out.old }) (record { got = O.got out.new; faults = O.faults out.new }) result ⊎ Ends 8 memory_line (record { got = O.got out.old; faults = O.faults out.old }) (record { got = O.got out.new; faults = O.faults out.new }) result) }
 {
@@ -71,7 +76,8 @@ pub fn run<F: Folder, I: Source, O: Sink, L: Ledger>(
 
 // Says why nothing is written.
 fn refuse<O: Sink>(alloc: Global, stop: &Stop, out: &mut O) -> u8
-    ensures { (status : ℕ) × (line : List ℕ) × SaysStop stop.now status line × Ends status line (record { got = O.got out.old; faults = O.faults out.old }) (record { got = O.got out.new; faults = O.faults out.new }) result }
+    ensures ends { (status : ℕ) × (line : List ℕ) × SaysStop stop.now status line × Ends status line (record { got = O.got out.old; faults = O.faults out.old }) (record { got = O.got out.new; faults = O.faults out.new }) result }
+    ensures later { O.faults out.old ≤ O.faults out.new }
 {
     match stop {
         Stop::Refused { refusal } => match line_of(alloc, refusal) {
@@ -90,7 +96,11 @@ fn finish<F: Folder, O: Sink>(
     generated: &Generated,
     out: &mut O,
 ) -> u8
-    ensures { (status : ℕ) × (line : List ℕ) × SaysWrite (record { told = F.holds folder.old; look_faults = F.look_faults folder.old; write_faults = F.write_faults folder.old }) (record { told = F.holds folder.new; look_faults = F.look_faults folder.new; write_faults = F.write_faults folder.new }) generated.now.map.items (string_bytes generated.now.line) status line × Ends status line (record { got = O.got out.old; faults = O.faults out.old }) (record { got = O.got out.new; faults = O.faults out.new }) result }
+    ensures ends { (status : ℕ) × (line : List ℕ) × SaysWrite (record { told = F.holds folder.old; look_faults = F.look_faults folder.old; write_faults = F.write_faults folder.old }) (record { told = F.holds folder.new; look_faults = F.look_faults folder.new; write_faults = F.write_faults folder.new }) generated.now.map.items (string_bytes generated.now.line) status line × Ends status line (record { got = O.got out.old; faults = O.faults out.old }) (record { got = O.got out.new; faults = O.faults out.new }) result }
+    ensures later { O.faults out.old ≤ O.faults out.new }
+    ensures writes { F.write_faults folder.old ≤ F.write_faults folder.new }
+    ensures looks { F.look_faults folder.new ≡ F.look_faults folder.old }
+    ensures untold { F.holds folder.old ≡ None → F.holds folder.new ≡ None }
 {
     let path = match Path::parse(alloc, MAP_PATH) {
         Ok(path) => path,
@@ -105,7 +115,8 @@ fn finish<F: Folder, O: Sink>(
 
 // Says a line; where that fails, that is how it ends.
 fn tell<O: Sink>(out: &mut O, line: &[u8], status: u8) -> u8
-    ensures { Ends status line.now (record { got = O.got out.old; faults = O.faults out.old }) (record { got = O.got out.new; faults = O.faults out.new }) result }
+    ensures ends { Ends status line.now (record { got = O.got out.old; faults = O.faults out.old }) (record { got = O.got out.new; faults = O.faults out.new }) result }
+    ensures later { O.faults out.old ≤ O.faults out.new }
 {
     match out.give(line) {
         Ok(()) => status,
@@ -122,6 +133,7 @@ fn generate<F: Folder>(alloc: Global, words: &[String], folder: &mut F) -> Resul
     ensures tree { F.holds folder.new ≡ F.holds folder.old }
     ensures failed { IsErrOf result Stop.ReadFault → Rose (F.look_faults folder.old) (F.look_faults folder.new) }
     ensures quiet { result ≢ Err Stop.ReadFault → F.look_faults folder.new ≡ F.look_faults folder.old }
+    ensures later { F.look_faults folder.old ≤ F.look_faults folder.new }
     ensures writes { F.write_faults folder.new ≡ F.write_faults folder.old }
 {
     let config = config_of(alloc, words)?;

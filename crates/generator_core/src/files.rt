@@ -1,4 +1,4 @@
-ghost use Rattle.std.specs.Prelude.{◌≡◌, ◌≢◌, None, Some, Err, IfOk, IfSome, IsErrOf, OnOk, option_copied, bytes_eq};
+ghost use Rattle.std.specs.Prelude.{◌≡◌, ◌≢◌, ◌≤◌, None, Some, Err, IfOk, IfSome, IsErrOf, OnOk, option_copied, bytes_eq};
 ghost use Rattle.std.specs.HashMap.{get};
 ghost use Rattle.tree_spec.specs.Counts.{Rose};
 ghost use Rattle.tree_spec.specs.Trees.{Tree};
@@ -50,6 +50,7 @@ impl Files {
         ensures tree { F.holds folder.new ≡ F.holds folder.old }
         ensures failed { IsErrOf result LookFault.Failed → Rose (F.look_faults folder.old) (F.look_faults folder.new) }
         ensures quiet { result ≢ Err LookFault.Failed → F.look_faults folder.new ≡ F.look_faults folder.old }
+        ensures later { F.look_faults folder.old ≤ F.look_faults folder.new }
         ensures writes { F.write_faults folder.new ≡ F.write_faults folder.old }
     {
         if self.known.contains_key(path) {

@@ -11,7 +11,7 @@ ghost use Rattle.generator_spec.specs.declared.RequestRefusal.TheVariants.{NotBu
 ghost use Rattle.tree_spec.specs.declared.LimitName.TheVariants.{Modules};
 ghost use Rattle.layout_spec.specs.declared.Need.{Need};
 ghost use Rattle.layout_spec.specs.Needs.{counted_onto, NoClash};
-ghost use Rattle.generator_core.specs.Faults.{IfRequestRefused};
+ghost use Rattle.generator_core.specs.Faults.{IfRequestRefused, IsOfRequest};
 ghost use Rattle.generator_core.specs.Files.{KnowsFiles};
 ghost use Rattle.generator_core.specs.Walking.{AllNamed, AllKept, AddsEntry, IsAsker, Takes};
 
@@ -80,11 +80,13 @@ impl Trace {
     ) -> Result<(), RequestFault>
         ensures takes { OnOk result (IfSome (F.holds folder.old) (λ tree. (referrer : spec.Referrer) → IsAsker config.now referrer asker.now → KnowsFiles tree self.old.files → Takes tree config.now referrer specifier.now self.old self.new)) }
         ensures refused { IfErr result (λ fault. IfRequestRefused fault (λ why. IfSome (F.holds folder.old) (λ tree. (referrer : spec.Referrer) → IsAsker config.now referrer asker.now → KnowsFiles tree self.old.files → NoClash self.old.needs → Refuses tree config.now referrer self.old.needs (keys self.old.modules) specifier.now why))) }
+        ensures kind { IfErr result (λ fault. IfRequestRefused fault IsOfRequest) }
         ensures few { OnOk result (length self.old.modules.entries ≤ 20000 → length self.new.modules.entries ≤ 20000) }
         ensures kept { OnOk result (AllKept self.old → AllKept self.new) }
         ensures tree { F.holds folder.new ≡ F.holds folder.old }
         ensures failed { IsErrOf result RequestFault.Failed → Rose (F.look_faults folder.old) (F.look_faults folder.new) }
         ensures quiet { result ≢ Err RequestFault.Failed → F.look_faults folder.new ≡ F.look_faults folder.old }
+        ensures later { F.look_faults folder.old ≤ F.look_faults folder.new }
         ensures writes { F.write_faults folder.new ≡ F.write_faults folder.old }
     {
         self.requests = one_more(self.requests)?;
@@ -118,6 +120,7 @@ fn asked_url(alloc: Global, referrer: &WebUrl, specifier: &str) -> Result<WebUrl
     requires { is_relative specifier.now ≡ true }
     ensures url { IfOk result (λ url. (as_url referrer.now specifier.now ≡ Some url) × (ends_in_slash url ≡ false)) }
     ensures refused { IfErr result (λ fault. IfRequestRefused fault (λ why. (why ≡ NotBuilt) × ((url : List ℕ) → as_url referrer.now specifier.now ≡ Some url → ends_in_slash url ≡ false → ⊥))) }
+    ensures kind { IfErr result (λ fault. IfRequestRefused fault IsOfRequest) }
     ensures failed { IsErrOf result RequestFault.Failed → ⊥ }
 {
     match ask(alloc, specifier, referrer) {
@@ -133,6 +136,7 @@ fn asked_url(alloc: Global, referrer: &WebUrl, specifier: &str) -> Result<WebUrl
 fn target_name(alloc: Global, config: &Config, target: &Module) -> Result<WebUrl, RequestFault>
     ensures url { IfOk result (λ url. IsServable config.now target.now.path target.now.suffix url × (ends_in_slash url ≡ false)) }
     ensures refused { IfErr result (λ fault. IfRequestRefused fault (λ why. (why ≡ NotBuilt) × (HasName config.now target.now → ⊥))) }
+    ensures kind { IfErr result (λ fault. IfRequestRefused fault IsOfRequest) }
     ensures failed { IsErrOf result RequestFault.Failed → ⊥ }
 {
     match web_of(alloc, config.base(), target.path(), target.suffix()) {
@@ -159,6 +163,7 @@ fn add_need(needs: &mut Needs, need: Need) -> Result<(), RequestFault>
     ensures no_clash { OnOk result (NoClash needs.old → NoClash needs.new) }
     ensures clear { OnOk result (NoClash needs.old → Clashes needs.old need → ⊥) }
     ensures refused { IfErr result (λ fault. IfRequestRefused fault (λ why. (why ≡ NotBuilt) × Clashes needs.old need)) }
+    ensures kind { IfErr result (λ fault. IfRequestRefused fault IsOfRequest) }
     ensures failed { IsErrOf result RequestFault.Failed → ⊥ }
 {
     match needs.add(need) {
@@ -179,6 +184,7 @@ fn add_module(
     ensures names { OnOk result ((config : spec.Config) → AllNamed config modules.old.entries → IsServable config target.path target.suffix name → AllNamed config modules.new.entries) }
     ensures few { OnOk result (length modules.old.entries ≤ 20000 → length modules.new.entries ≤ 20000) }
     ensures refused { IfErr result (λ fault. IfRequestRefused fault (λ why. (why ≡ Limit Modules) × (list_any (spec.is_module target) (keys modules.old) ≡ false) × (20000 ≤ length (keys modules.old)))) }
+    ensures kind { IfErr result (λ fault. IfRequestRefused fault IsOfRequest) }
     ensures failed { IsErrOf result RequestFault.Failed → ⊥ }
 {
     if modules.contains_key(&target) {

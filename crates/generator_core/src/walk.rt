@@ -30,10 +30,11 @@ use web_url::{Suffix, WebFault, WebUrl, file_url, web_of};
 pub fn walk<F: Folder>(alloc: Global, folder: &mut F, config: &Config) -> Result<Trace, Stop>
     ensures traced { IfOk result (λ trace. IfSome (F.holds folder.old) (λ tree. Traced tree config.now trace)) }
     ensures refused { IfErr result (λ stop. IfRefused stop (λ first. IfSome (F.holds folder.old) (λ tree. FirstRefusal tree config.now first))) }
-    ensures kind { IfErr result (λ stop. IfRefused stop IsOfTrace) }
+    ensures kind { IfErr result (λ stop. IfRefused stop (IsOfTrace config.now)) }
     ensures tree { F.holds folder.new ≡ F.holds folder.old }
     ensures failed { IsErrOf result Stop.ReadFault → Rose (F.look_faults folder.old) (F.look_faults folder.new) }
     ensures quiet { result ≢ Err Stop.ReadFault → F.look_faults folder.new ≡ F.look_faults folder.old }
+    ensures later { F.look_faults folder.old ≤ F.look_faults folder.new }
     ensures writes { F.write_faults folder.new ≡ F.write_faults folder.old }
 {
     let page = page_asker(alloc, config)?;
@@ -53,7 +54,7 @@ fn page_asker(alloc: Global, config: &Config) -> Result<Asker, Stop>
     ensures servable { IfOk result (λ asker. IsServable config.now config.now.page [] asker.url) }
     ensures file { IfOk result (λ asker. config.now.page ≢ codes "/" → ends_in_slash asker.url ≡ false) }
     ensures refused { IfErr result (λ stop. IfRefused stop (IsPageRefused config.now)) }
-    ensures kind { IfErr result (λ stop. IfRefused stop IsOfTrace) }
+    ensures kind { IfErr result (λ stop. IfRefused stop (IsOfTrace config.now)) }
     ensures failed { IsErrOf result Stop.ReadFault → ⊥ }
 {
     let suffix = Suffix::none(alloc);
@@ -108,12 +109,13 @@ fn turn<F: Folder>(
 ) -> Result<(), Stop>
     ensures turned { OnOk result (IfSome (F.holds folder.old) (λ tree. (referrer : spec.Referrer) → IsAsker config.now referrer asker.now → KnowsFiles tree trace.old.files → Turned tree config.now referrer specifiers.now trace.old trace.new)) }
     ensures refused { IfErr result (λ stop. IfRefused stop (λ first. IfSome (F.holds folder.old) (λ tree. (referrer : spec.Referrer) → IsAsker config.now referrer asker.now → KnowsFiles tree trace.old.files → NoClash trace.old.needs → TurnRefused tree config.now referrer specifiers.now trace.old first))) }
-    ensures kind { IfErr result (λ stop. IfRefused stop IsOfTrace) }
+    ensures kind { IfErr result (λ stop. IfRefused stop (IsOfTrace config.now)) }
     ensures few { OnOk result (length trace.old.modules.entries ≤ 20000 → length trace.new.modules.entries ≤ 20000) }
     ensures kept { OnOk result (AllKept trace.old → AllKept trace.new) }
     ensures tree { F.holds folder.new ≡ F.holds folder.old }
     ensures failed { IsErrOf result Stop.ReadFault → Rose (F.look_faults folder.old) (F.look_faults folder.new) }
     ensures quiet { result ≢ Err Stop.ReadFault → F.look_faults folder.new ≡ F.look_faults folder.old }
+    ensures later { F.look_faults folder.old ≤ F.look_faults folder.new }
     ensures writes { F.write_faults folder.new ≡ F.write_faults folder.old }
 {
     for specifier in specifiers {
@@ -133,12 +135,13 @@ fn follow<F: Folder>(
 ) -> Result<(), Stop>
     ensures takes { OnOk result (IfSome (F.holds folder.old) (λ tree. (referrer : spec.Referrer) → IsAsker config.now referrer asker.now → KnowsFiles tree trace.old.files → Takes tree config.now referrer specifier.now trace.old trace.new)) }
     ensures refused { IfErr result (λ stop. IfRefused stop (λ first. IfSome (F.holds folder.old) (λ tree. (referrer : spec.Referrer) → IsAsker config.now referrer asker.now → KnowsFiles tree trace.old.files → NoClash trace.old.needs → RequestRefused tree config.now referrer specifier.now trace.old first))) }
-    ensures kind { IfErr result (λ stop. IfRefused stop IsOfTrace) }
+    ensures kind { IfErr result (λ stop. IfRefused stop (IsOfTrace config.now)) }
     ensures few { OnOk result (length trace.old.modules.entries ≤ 20000 → length trace.new.modules.entries ≤ 20000) }
     ensures kept { OnOk result (AllKept trace.old → AllKept trace.new) }
     ensures tree { F.holds folder.new ≡ F.holds folder.old }
     ensures failed { IsErrOf result Stop.ReadFault → Rose (F.look_faults folder.old) (F.look_faults folder.new) }
     ensures quiet { result ≢ Err Stop.ReadFault → F.look_faults folder.new ≡ F.look_faults folder.old }
+    ensures later { F.look_faults folder.old ≤ F.look_faults folder.new }
     ensures writes { F.write_faults folder.new ≡ F.write_faults folder.old }
 {
     match trace.request(alloc, folder, config, asker, specifier) {
@@ -198,12 +201,13 @@ fn module_turn<F: Folder>(
     requires kept { AllKept trace.old }
     ensures turned { OnOk result (IfSome (F.holds folder.old) (λ tree. KnowsFiles tree trace.old.files → AllNamed config.now trace.old.modules.entries → ModuleTurned tree config.now number trace.old trace.new)) }
     ensures refused { IfErr result (λ stop. IfRefused stop (λ first. IfSome (F.holds folder.old) (λ tree. KnowsFiles tree trace.old.files → AllNamed config.now trace.old.modules.entries → NoClash trace.old.needs → ModuleRefused tree config.now number trace.old first))) }
-    ensures kind { IfErr result (λ stop. IfRefused stop IsOfTrace) }
+    ensures kind { IfErr result (λ stop. IfRefused stop (IsOfTrace config.now)) }
     ensures few { OnOk result (length trace.old.modules.entries ≤ 20000 → length trace.new.modules.entries ≤ 20000) }
     ensures kept { OnOk result (AllKept trace.new) }
     ensures tree { F.holds folder.new ≡ F.holds folder.old }
     ensures failed { IsErrOf result Stop.ReadFault → Rose (F.look_faults folder.old) (F.look_faults folder.new) }
     ensures quiet { result ≢ Err Stop.ReadFault → F.look_faults folder.new ≡ F.look_faults folder.old }
+    ensures later { F.look_faults folder.old ≤ F.look_faults folder.new }
     ensures writes { F.write_faults folder.new ≡ F.write_faults folder.old }
 {
     let (module, asker) = asker_at(alloc, trace, number)?;

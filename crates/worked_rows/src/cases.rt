@@ -27,7 +27,7 @@ const BELOW_BASE: &str = "{
 ";
 
 /// The rows: maps, refusals, and what isn't built.
-pub static CASES: [Case; 34] = [
+pub static CASES: [Case; 36] = [
     Case {
         words: LINK,
         files: ALONE,
@@ -280,6 +280,20 @@ pub static CASES: [Case; 34] = [
         files: ALONE,
         status: 9,
         line: "not built: words\n",
+        map: None,
+    },
+    Case {
+        words: LINK,
+        files: &[("/app.mjs", "import \"./b.mjs/?q\";"), ("/b.mjs", "")],
+        status: 1,
+        line: "refused: NotFound from \"/app.mjs\" for \"./b.mjs/?q\"\n",
+        map: None,
+    },
+    Case {
+        words: LINK,
+        files: &[("/app.mjs", ""), ("/importmap.json/x", "")],
+        status: 5,
+        line: "fault: write\n",
         map: None,
     },
 ];

@@ -15,9 +15,15 @@ const OLD_MAP: &[(&str, &str)] = &[
     ("/importmap.json", "old"),
 ];
 
+const MISSING_WITH_OLD_MAP: &[(&str, &str)] = &[
+    ("/app.mjs", "import \"./q.mjs\";"),
+    ("/importmap.json", "old"),
+];
+
 /// A run over a module that asks for another one looks at each of the two, writes the map, and gives one line: two
-/// looks, one write and one give. Each of them fails in turn, and so does the one that would come next.
-pub static FAULTS: [Fault; 14] = [
+/// looks, one write and one give. Each of them fails in turn, and so does the one that would come next. A command that is
+/// refused makes no write that could fail, and refused words and an entry that isn't built make no look.
+pub static FAULTS: [Fault; 17] = [
     Fault {
         fails: Fails {
             looks: &[1],
@@ -211,6 +217,48 @@ pub static FAULTS: [Fault; 14] = [
             files: MISSING,
             status: 5,
             line: "",
+            map: None,
+        },
+    },
+    Fault {
+        fails: Fails {
+            looks: &[],
+            writes: &[1],
+            gives: &[],
+        },
+        case: Case {
+            words: LINK,
+            files: MISSING_WITH_OLD_MAP,
+            status: 1,
+            line: "refused: NotFound from \"/app.mjs\" for \"./q.mjs\"\n",
+            map: Some("old"),
+        },
+    },
+    Fault {
+        fails: Fails {
+            looks: &[1],
+            writes: &[1],
+            gives: &[],
+        },
+        case: Case {
+            words: "link --base https://app.test/ ui",
+            files: &[],
+            status: 9,
+            line: "not built: from \"/index.html\" for \"ui\"\n",
+            map: None,
+        },
+    },
+    Fault {
+        fails: Fails {
+            looks: &[1],
+            writes: &[1],
+            gives: &[],
+        },
+        case: Case {
+            words: "link --base ftp://h/ x",
+            files: PAIR,
+            status: 2,
+            line: "words: BadBase \"ftp://h/\"\n",
             map: None,
         },
     },

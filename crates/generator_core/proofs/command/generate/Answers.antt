@@ -1,8 +1,9 @@
 use Rattle.std.proofs.Common.{map}
 use Rattle.std.specs.Prelude.{string_bytes}
+use Rattle.generator_spec.specs.Outcomes.{refused_or_config}
 use Rattle.generator_core.specs.Running.IsRefused.{by_trace}
 use Rattle.generator_core.proofs.Answering.{if_some, if_refused_both, stop_passed}
-use Rattle.generator_core.proofs.Endings.{is_generated, not_refused}
+use Rattle.generator_core.proofs.Endings.{is_generated}
 use Rattle.generator_core.proofs.command.generate.Goals as goal
 
 pub returns-clause-generated : goal.returns-clause-generated
@@ -16,7 +17,7 @@ returns-in_err-trace-clause-refused g c =
     stop_passed c.from_residual-in_err-trace.result c.in_err-trace.field-0.0 c.from_residual-in_err-trace.ensures.1 (λ first here. by_trace c.in_ok-config.config c.in_ok-config.ensures.config here.0 here.1) (if_refused_both _ _ c.in_err-trace.field-0.0 c.in_err-trace.ensures.kind c.in_err-trace.ensures.refused)
 
 pub returns-in_err-trace-clause-words : goal.returns-in_err-trace-clause-words
-returns-in_err-trace-clause-words g c = λ why refuses. absurd (not_refused (map string_bytes c.args.words.now) c.in_ok-config.config why c.in_ok-config.ensures.config refuses)
+returns-in_err-trace-clause-words g c = λ why refuses. absurd (refused_or_config (map string_bytes c.args.words.now) why c.in_ok-config.config refuses c.in_ok-config.ensures.config)
 
 pub returns-clause-counted : goal.returns-clause-counted
 returns-clause-counted g c = record {
