@@ -1,5 +1,5 @@
 -- The number of mappings of the lists that stand for a map.
-use Rattle.std.specs.Prelude.{ℕ, ◌+◌, List, length}
+use Rattle.std.specs.Prelude.{ℕ, ◌+◌, length}
 use Rattle.std.specs.List.{sum_by}
 use Rattle.map_print.specs.declared.keyed.Layout.{Layout}
 
