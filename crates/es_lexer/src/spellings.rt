@@ -1,4 +1,4 @@
-ghost use Rattle.std.specs.Prelude.{◌≡◌, ◌≢◌, ◌<◌, ◌==◌, ◌||◌, Bool, true, false, not, List, [], ◌∷◌, None, Some, length, MatchOption, slice_index};
+ghost use Rattle.std.specs.Prelude.{◌≡◌, ◌<◌, ◌==◌, ◌||◌, false, [], ◌∷◌, None, Some, length, MatchOption};
 ghost use Rattle.module_spec.specs.Spellings.{begins, line_rest, comment_rest, slash_rest, blank_rest, hashbang_rest, has_base_letter, begins_sign, number_size, number_rest, begins_number, text_size, closed_rest, text_rest, begins_substitution, template_size, part_rest, template_rest, regex_body_rest};
 ghost use Rattle.module_spec.specs.Characters.{passed};
 ghost use Rattle.module_spec.specs.Tokens.{Skips};
@@ -199,7 +199,7 @@ fn begins_return_and_line_feed(bytes: &[u8]) -> bool
     }
 }
 
-// How many bytes of a string go on at the front.
+// How many bytes a string takes next.
 fn text_size(quote: u8, bytes: &[u8]) -> usize
     ensures { result ≡ text_size quote bytes.now }
 {
@@ -221,7 +221,7 @@ fn text_size(quote: u8, bytes: &[u8]) -> usize
     }
 }
 
-// The bytes behind those of a string that go on at the front.
+// The bytes behind those that a string takes next.
 fn text_more(quote: u8, bytes: &[u8]) -> Option<&[u8]>
     ensures { MatchOption result (passed (text_size quote) 0 bytes.now ≡ bytes.now) (λ more. (passed (text_size quote) 0 bytes.now ≡ passed (text_size quote) 0 more.now) × (length more.now < length bytes.now)) }
 {
@@ -262,7 +262,7 @@ fn begins_substitution(bytes: &[u8]) -> bool
     }
 }
 
-// How many bytes of a template's part go on at the front.
+// How many bytes a part of a template takes next.
 fn template_size(bytes: &[u8]) -> usize
     ensures { result ≡ template_size bytes.now }
 {
@@ -280,7 +280,7 @@ fn template_size(bytes: &[u8]) -> usize
     }
 }
 
-// The bytes behind those of a template's part that go on at the front.
+// The bytes behind those that a part of a template takes next.
 fn template_more(bytes: &[u8]) -> Option<&[u8]>
     ensures { MatchOption result (passed template_size 0 bytes.now ≡ bytes.now) (λ more. (passed template_size 0 bytes.now ≡ passed template_size 0 more.now) × (length more.now < length bytes.now)) }
 {

@@ -68,7 +68,8 @@ begins_number (b ∷ rest) = is_digit b || b == 46 && begins_digit rest
 
 -- ---- literals between marks
 
--- ECMA-262, 12.9.4: how many bytes of a string go on, none at its quote and at CR or LF. A `\` takes what stands behind it, CR LF as one.
+-- ECMA-262, 12.9.4: how many bytes a string takes next: none at its quote, at CR and at LF. A `\` is taken with what stands behind it,
+-- where CR LF counts as one.
 abbrev pub text_size : ℕ → List ℕ → ℕ
 text_size quote [] = 0
 text_size quote (b ∷ rest) =
@@ -76,6 +77,7 @@ text_size quote (b ∷ rest) =
     else if b == 92 then (if begins (13 ∷ 10 ∷ []) rest then 3 else 2)
     else 1
 
+-- behind the quote, where it stands at the front
 abbrev pub closed_rest : ℕ → List ℕ → Option (List ℕ)
 closed_rest quote [] = None
 closed_rest quote (b ∷ rest) = if b == quote then Some rest else None
@@ -84,20 +86,23 @@ closed_rest quote (b ∷ rest) = if b == quote then Some rest else None
 abbrev pub text_rest : ℕ → List ℕ → Option (List ℕ)
 text_rest quote bytes = closed_rest quote (passed (λ more. text_size quote more) 0 bytes)
 
+-- ECMA-262, 12.9.6: `${` stands at the front
 abbrev pub begins_substitution : List ℕ → Bool
 begins_substitution [] = false
 begins_substitution (b ∷ rest) = b == 36 && begins (codes "{") rest
 
--- ECMA-262, 12.9.6: how many bytes of a template's part go on, none at a backquote and at `${`. A `\` takes what stands behind it.
+-- ECMA-262, 12.9.6: how many bytes a part of a template takes next: none at a backquote and at `${`. A `\` is taken with what stands
+-- behind it.
 abbrev pub template_size : List ℕ → ℕ
 template_size [] = 0
 template_size (b ∷ rest) = if b == 96 || begins_substitution (b ∷ rest) then 0 else if b == 92 then 2 else 1
 
+-- behind the backquote or the `${` at the front, and whether it is a backquote
 abbrev pub part_rest : List ℕ → Option (Bool × List ℕ)
 part_rest [] = None
 part_rest (b ∷ rest) = if b == 96 then Some (true, rest) else if begins_substitution (b ∷ rest) then Some (false, drop 1 rest) else None
 
--- ECMA-262, 12.9.6: the bytes behind a template's part, and whether a backquote ends it
+-- ECMA-262, 12.9.6: a part of a template from behind what opens it to behind what ends it, and whether that is a backquote
 abbrev pub template_rest : List ℕ → Option (Bool × List ℕ)
 template_rest bytes = part_rest (passed (λ more. template_size more) 0 bytes)
 
