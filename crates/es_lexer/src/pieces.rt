@@ -28,7 +28,7 @@ fn private_piece(bytes: &[u8]) -> Option<(Sort, &[u8])>
 }
 
 fn text_piece(quote: u8, bytes: &[u8]) -> Option<(Sort, &[u8])>
-    ensures { MatchOption result (as_piece Sort.Text (text_rest quote false false bytes.now) ≡ None) (λ found. as_piece Sort.Text (text_rest quote false false bytes.now) ≡ Some (found.0, found.1.now)) }
+    ensures { MatchOption result (as_piece Sort.Text (text_rest quote bytes.now) ≡ None) (λ found. as_piece Sort.Text (text_rest quote bytes.now) ≡ Some (found.0, found.1.now)) }
 {
     match text_rest(quote, bytes) {
         None => None,
@@ -37,7 +37,7 @@ fn text_piece(quote: u8, bytes: &[u8]) -> Option<(Sort, &[u8])>
 }
 
 fn first_part(bytes: &[u8]) -> Option<(Sort, &[u8])>
-    ensures { MatchOption result (first_part (template_rest false false bytes.now) ≡ None) (λ found. first_part (template_rest false false bytes.now) ≡ Some (found.0, found.1.now)) }
+    ensures { MatchOption result (first_part (template_rest bytes.now) ≡ None) (λ found. first_part (template_rest bytes.now) ≡ Some (found.0, found.1.now)) }
 {
     match template_rest(bytes) {
         None => None,
@@ -47,7 +47,7 @@ fn first_part(bytes: &[u8]) -> Option<(Sort, &[u8])>
 }
 
 fn later_part(bytes: &[u8]) -> Option<(Sort, &[u8])>
-    ensures { MatchOption result (later_part (template_rest false false bytes.now) ≡ None) (λ found. later_part (template_rest false false bytes.now) ≡ Some (found.0, found.1.now)) }
+    ensures { MatchOption result (later_part (template_rest bytes.now) ≡ None) (λ found. later_part (template_rest bytes.now) ≡ Some (found.0, found.1.now)) }
 {
     match template_rest(bytes) {
         None => None,

@@ -1,5 +1,5 @@
 ghost use Rattle.std.specs.Prelude.{◌≡◌};
-ghost use Rattle.module_spec.specs.Sorts.{kind_of, opens, closes, same_bracket, word, is_dot, sort_before_value, word_before_value, mark_before_value, mark_opens, mark_closes, is_dot_mark, is_condition, is_for, is_await};
+ghost use Rattle.module_spec.specs.Sorts.{kind_of, opens, closes, same_bracket, is_condition_word, is_value_word, is_statement_word, word, is_dot, sort_before_value, word_before_value, mark_before_value, mark_opens, mark_closes, is_dot_mark, is_condition, is_for, is_await};
 ghost use Rattle.module_spec.specs.Tokens.{name_word};
 
 use module_spec::{Bracket, Kind, Mark, Sort, Word};
@@ -103,16 +103,45 @@ pub fn same_bracket(one: Bracket, other: Bracket) -> bool
     }
 }
 
+fn is_condition_word(text: &[u8]) -> bool
+    ensures { result ≡ is_condition_word text.now }
+{
+    text == b"if".as_slice() || text == b"while".as_slice() || text == b"with".as_slice()
+}
+
+fn is_value_word(text: &[u8]) -> bool
+    ensures { result ≡ is_value_word text.now }
+{
+    text == b"case".as_slice()
+        || text == b"default".as_slice()
+        || text == b"delete".as_slice()
+        || text == b"extends".as_slice()
+        || text == b"in".as_slice()
+        || text == b"instanceof".as_slice()
+        || text == b"new".as_slice()
+        || text == b"return".as_slice()
+        || text == b"throw".as_slice()
+        || text == b"typeof".as_slice()
+        || text == b"void".as_slice()
+        || text == b"yield".as_slice()
+}
+
+fn is_statement_word(text: &[u8]) -> bool
+    ensures { result ≡ is_statement_word text.now }
+{
+    text == b"break".as_slice()
+        || text == b"continue".as_slice()
+        || text == b"debugger".as_slice()
+        || text == b"do".as_slice()
+        || text == b"else".as_slice()
+}
+
 // What a name says of what stands behind it.
 #[tactic(auto, unfolding(module_spec::specs::Sorts::word))]
 fn word(text: &[u8]) -> Word
     ensures { result ≡ word text.now }
 {
-    if text == b"if".as_slice() {
-        Word::Condition
-    } else if text == b"while".as_slice() {
-        Word::Condition
-    } else if text == b"with".as_slice() {
+    if is_condition_word(text) {
         Word::Condition
     } else if text == b"for".as_slice() {
         Word::For
@@ -120,39 +149,9 @@ fn word(text: &[u8]) -> Word
         Word::Await
     } else if text == b"of".as_slice() {
         Word::Of
-    } else if text == b"case".as_slice() {
+    } else if is_value_word(text) {
         Word::Value
-    } else if text == b"default".as_slice() {
-        Word::Value
-    } else if text == b"delete".as_slice() {
-        Word::Value
-    } else if text == b"extends".as_slice() {
-        Word::Value
-    } else if text == b"in".as_slice() {
-        Word::Value
-    } else if text == b"instanceof".as_slice() {
-        Word::Value
-    } else if text == b"new".as_slice() {
-        Word::Value
-    } else if text == b"return".as_slice() {
-        Word::Value
-    } else if text == b"throw".as_slice() {
-        Word::Value
-    } else if text == b"typeof".as_slice() {
-        Word::Value
-    } else if text == b"void".as_slice() {
-        Word::Value
-    } else if text == b"yield".as_slice() {
-        Word::Value
-    } else if text == b"break".as_slice() {
-        Word::Statement
-    } else if text == b"continue".as_slice() {
-        Word::Statement
-    } else if text == b"debugger".as_slice() {
-        Word::Statement
-    } else if text == b"do".as_slice() {
-        Word::Statement
-    } else if text == b"else".as_slice() {
+    } else if is_statement_word(text) {
         Word::Statement
     } else {
         Word::Other

@@ -1,10 +1,19 @@
-ghost use Rattle.std.specs.Prelude.{◌≡◌, ◌≢◌, ◌<◌, ◌==◌, ◌||◌, Bool, true, false, not, List, [], ◌∷◌, None, Some, length, MatchOption, slice_index};
-ghost use Rattle.module_spec.specs.Spellings.{line_rest, comment_rest, slash_rest, blank_rest, hashbang_rest, has_base_letter, begins_sign, number_size, number_rest, begins_number, text_rest, template_rest, regex_body_rest};
+ghost use Rattle.std.specs.Prelude.{◌≡◌, ◌<◌, ◌==◌, ◌||◌, false, [], ◌∷◌, None, Some, length, MatchOption};
+ghost use Rattle.module_spec.specs.Spellings.{begins, line_rest, comment_rest, slash_rest, blank_rest, hashbang_rest, has_base_letter, begins_sign, number_size, number_rest, begins_number, text_size, closed_rest, text_rest, begins_substitution, template_size, part_rest, template_rest, regex_body_rest};
 ghost use Rattle.module_spec.specs.Characters.{passed};
 ghost use Rattle.module_spec.specs.Tokens.{Skips};
 
 use crate::characters::{begins_line_end, behind, space_size};
 use crate::names::{begins_digit, is_digit, name_size};
+
+fn stands_first(wanted: u8, bytes: &[u8]) -> bool
+    ensures { result ≡ begins (wanted ∷ []) bytes.now }
+{
+    match bytes.split_first() {
+        None => false,
+        Some((first, _)) => wanted == *first,
+    }
+}
 
 /// The bytes from the next line end on.
 fn line_rest(bytes: &[u8]) -> &[u8]
@@ -22,15 +31,13 @@ fn line_rest(bytes: &[u8]) -> &[u8]
 
 // The bytes behind the next `*/`.
 fn comment_rest(bytes: &[u8]) -> Option<&[u8]>
-    ensures { MatchOption result (comment_rest false bytes.now ≡ None) (λ rest. comment_rest false bytes.now ≡ Some rest.now) }
+    ensures { MatchOption result (comment_rest bytes.now ≡ None) (λ rest. comment_rest bytes.now ≡ Some rest.now) }
 {
     let mut rest = bytes;
-    let mut star = false;
     while let Some((b, more)) = rest.split_first() {
-        if star && *b == b'/' {
-            return Some(more);
+        if *b == b'*' && stands_first(b'/', more) {
+            return Some(behind(more, 1));
         }
-        star = *b == b'*';
         rest = more;
     }
     None
@@ -183,54 +190,134 @@ pub fn begins_number(bytes: &[u8]) -> bool
     }
 }
 
-/// The bytes behind the closing quote of a string literal.
+fn begins_return_and_line_feed(bytes: &[u8]) -> bool
+    ensures { result ≡ begins (13 ∷ 10 ∷ []) bytes.now }
+{
+    match bytes.split_first() {
+        Some((b'\r', rest)) => stands_first(b'\n', rest),
+        _ => false,
+    }
+}
+
+// How many bytes a string takes next.
+fn text_size(quote: u8, bytes: &[u8]) -> usize
+    ensures { result ≡ text_size quote bytes.now }
+{
+    match bytes.split_first() {
+        None => 0,
+        Some((first, rest)) => {
+            if *first == quote || *first == b'\n' || *first == b'\r' {
+                0
+            } else if *first == b'\\' {
+                if begins_return_and_line_feed(rest) {
+                    3
+                } else {
+                    2
+                }
+            } else {
+                1
+            }
+        }
+    }
+}
+
+// The bytes behind those that a string takes next.
+fn text_more(quote: u8, bytes: &[u8]) -> Option<&[u8]>
+    ensures { MatchOption result (passed (text_size quote) 0 bytes.now ≡ bytes.now) (λ more. (passed (text_size quote) 0 bytes.now ≡ passed (text_size quote) 0 more.now) × (length more.now < length bytes.now)) }
+{
+    let size = text_size(quote, bytes);
+    if size == 0 {
+        None
+    } else {
+        Some(behind(bytes, size))
+    }
+}
+
+fn closed_rest(quote: u8, bytes: &[u8]) -> Option<&[u8]>
+    ensures { MatchOption result (closed_rest quote bytes.now ≡ None) (λ rest. closed_rest quote bytes.now ≡ Some rest.now) }
+{
+    match bytes.split_first() {
+        None => None,
+        Some((first, rest)) => { if *first == quote { Some(rest) } else { None } }
+    }
+}
+
+/// The bytes behind the closing quote of a string literal, by those behind the opening one.
 pub fn text_rest(quote: u8, bytes: &[u8]) -> Option<&[u8]>
-    ensures { MatchOption result (text_rest quote false false bytes.now ≡ None) (λ rest. text_rest quote false false bytes.now ≡ Some rest.now) }
+    ensures { MatchOption result (text_rest quote bytes.now ≡ None) (λ rest. text_rest quote bytes.now ≡ Some rest.now) }
 {
     let mut rest = bytes;
-    let mut escaped = false;
-    let mut after_return = false;
-    while let Some((b, more)) = rest.split_first() {
-        if escaped {
-            escaped = false;
-            after_return = *b == b'\r';
-        } else if *b == quote {
-            return Some(more);
-        } else if *b == b'\\' {
-            escaped = true;
-            after_return = false;
-        } else if *b == b'\r' || *b == b'\n' && !after_return {
-            return None;
-        } else {
-            after_return = false;
-        }
+    while let Some(more) = text_more(quote, rest) {
         rest = more;
     }
-    None
+    closed_rest(quote, rest)
+}
+
+fn begins_substitution(bytes: &[u8]) -> bool
+    ensures { result ≡ begins_substitution bytes.now }
+{
+    match bytes.split_first() {
+        None => false,
+        Some((first, rest)) => *first == b'$' && stands_first(b'{', rest),
+    }
+}
+
+// How many bytes a part of a template takes next.
+fn template_size(bytes: &[u8]) -> usize
+    ensures { result ≡ template_size bytes.now }
+{
+    match bytes.split_first() {
+        None => 0,
+        Some((first, _)) => {
+            if *first == b'`' || begins_substitution(bytes) {
+                0
+            } else if *first == b'\\' {
+                2
+            } else {
+                1
+            }
+        }
+    }
+}
+
+// The bytes behind those that a part of a template takes next.
+fn template_more(bytes: &[u8]) -> Option<&[u8]>
+    ensures { MatchOption result (passed template_size 0 bytes.now ≡ bytes.now) (λ more. (passed template_size 0 bytes.now ≡ passed template_size 0 more.now) × (length more.now < length bytes.now)) }
+{
+    let size = template_size(bytes);
+    if size == 0 {
+        None
+    } else {
+        Some(behind(bytes, size))
+    }
+}
+
+fn part_rest(bytes: &[u8]) -> Option<(bool, &[u8])>
+    ensures { MatchOption result (part_rest bytes.now ≡ None) (λ part. part_rest bytes.now ≡ Some (part.0, part.1.now)) }
+{
+    match bytes.split_first() {
+        None => None,
+        Some((first, rest)) => {
+            if *first == b'`' {
+                Some((true, rest))
+            } else if begins_substitution(bytes) {
+                Some((false, behind(rest, 1)))
+            } else {
+                None
+            }
+        }
+    }
 }
 
 /// The bytes behind a template's part, and whether a backquote ends it.
 pub fn template_rest(bytes: &[u8]) -> Option<(bool, &[u8])>
-    ensures { MatchOption result (template_rest false false bytes.now ≡ None) (λ part. template_rest false false bytes.now ≡ Some (part.0, part.1.now)) }
+    ensures { MatchOption result (template_rest bytes.now ≡ None) (λ part. template_rest bytes.now ≡ Some (part.0, part.1.now)) }
 {
     let mut rest = bytes;
-    let mut escaped = false;
-    let mut dollar = false;
-    while let Some((b, more)) = rest.split_first() {
-        if escaped {
-            escaped = false;
-            dollar = false;
-        } else if *b == b'`' {
-            return Some((true, more));
-        } else if *b == b'{' && dollar {
-            return Some((false, more));
-        } else {
-            escaped = *b == b'\\';
-            dollar = *b == b'$';
-        }
+    while let Some(more) = template_more(rest) {
         rest = more;
     }
-    None
+    part_rest(rest)
 }
 
 /// The bytes behind the closing `/` of a regular expression.

@@ -421,7 +421,7 @@ fn full(rt: HostRuntime) -> Result<(), Fail> {
 static WHOLE: &str =
     "#!a\n\u{feff}f(#b,1.5e-3,'c\\\r\n',`d`,`e${/g[/]/i}h${{}}k`)/*l*/+\u{a0}\\u{6d}[n]?.o//p\u{2028}q";
 
-// The last row stands for the end.
+// The last row is where the text ends.
 static WHOLE_TOKENS: [(Kind, usize, usize); 26] = [
     (Kind::Name, 7, 8),
     (Kind::Punctuator, 8, 9),
@@ -448,16 +448,75 @@ static WHOLE_TOKENS: [(Kind, usize, usize); 26] = [
     (Kind::Punctuator, 68, 70),
     (Kind::Name, 70, 71),
     (Kind::Name, 77, 78),
-    (Kind::Name, 0, 0),
+    (Kind::Name, 78, 78),
 ];
 
-// Whether the tokens that a text begins with stand in the table, as far as they end before the text does.
-fn agrees(alloc: Global, text: &str) -> Result<bool, Fail> {
+/// How a truncation of [`WHOLE`] ends.
+#[derive(Clone, Copy)]
+enum Cut {
+    /// Without a fault.
+    Clean,
+    /// Within a token or a comment that begins here, so that it can't be read.
+    Within(usize),
+    /// Behind a token, with brackets left open: the fault stands at the truncation's own end.
+    Open,
+}
+
+/// How the truncations end, each row from its length on up to that of the next one.
+static CUTS: [(usize, Cut); 25] = [
+    (0, Cut::Clean),
+    (1, Cut::Within(0)),
+    (2, Cut::Clean),
+    (9, Cut::Open),
+    (10, Cut::Within(9)),
+    (11, Cut::Open),
+    (20, Cut::Within(19)),
+    (25, Cut::Open),
+    (27, Cut::Within(26)),
+    (29, Cut::Open),
+    (31, Cut::Within(30)),
+    (34, Cut::Open),
+    (35, Cut::Within(34)),
+    (40, Cut::Open),
+    (42, Cut::Within(41)),
+    (45, Cut::Open),
+    (48, Cut::Within(47)),
+    (50, Cut::Open),
+    (51, Cut::Clean),
+    (53, Cut::Within(51)),
+    (56, Cut::Clean),
+    (60, Cut::Within(59)),
+    (65, Cut::Clean),
+    (66, Cut::Open),
+    (68, Cut::Clean),
+];
+
+fn cut_of(length: usize) -> Cut {
+    let mut last = Cut::Clean;
+    for (from, cut) in CUTS {
+        if from <= length {
+            last = cut;
+        }
+    }
+    last
+}
+
+fn cut_fault(length: usize) -> Option<LexFault> {
+    match cut_of(length) {
+        Cut::Clean => None,
+        Cut::Within(at) => unreadable(at),
+        Cut::Open => unreadable(length),
+    }
+}
+
+// Whether a text's tokens stand in the table, as far as they end before the text does, none of them is missing, and the
+// text ends with this fault.
+fn agrees(alloc: Global, text: &str, wanted: Option<LexFault>) -> Result<bool, Fail> {
     let mut lexer = Lexer::new(alloc, text)?;
     for (kind, from, to) in WHOLE_TOKENS {
         match lexer.next() {
-            Ok(None) => return Ok(true),
-            Err(fault) => return Ok(fault.at <= text.len()),
+            Ok(None) => return Ok(wanted.is_none() && from >= text.len()),
+            Err(fault) => return Ok(wanted == Some(fault) && from >= fault.at),
             Ok(Some(token)) => {
                 if token.to < text.len()
                     && (token.kind != kind || token.from != from || token.to != to)
@@ -474,7 +533,7 @@ fn agrees(alloc: Global, text: &str) -> Result<bool, Fail> {
 fn truncations(rt: HostRuntime) -> Result<(), Fail> {
     for length in 0..=WHOLE.len() {
         if let Some(text) = WHOLE.get(..length) {
-            assert!(rt; agrees(rt.alloc(), text)?);
+            assert!(rt; agrees(rt.alloc(), text, cut_fault(length))?, "at {length}");
         }
     }
     let tokens = tokens_of(rt.alloc(), WHOLE)?;

@@ -7,6 +7,7 @@ pub mod Sorts
 pub mod Tokens
 pub mod Suffixes
 pub mod OneOutcome
+pub mod DepthExamples
 pub mod TokenExamples
 pub mod Tails
 pub mod Spans

@@ -1,5 +1,5 @@
 -- What the kinds of tokens do to brackets, and what a name says of what stands behind it. ECMA-262, 12.7.2, 12.8 and 12.9.
-use Rattle.std.specs.Prelude.{ℕ, Bool, true, false, List, bytes_eq, codes, if◌then◌else◌, Option, Some, None}
+use Rattle.std.specs.Prelude.{ℕ, Bool, true, false, List, bytes_eq, codes, ◌||◌, if◌then◌else◌, Option, Some, None}
 use Rattle.module_spec.specs.declared.token.Mark.{Mark}
 use Rattle.module_spec.specs.declared.token.Mark.TheVariants.{OpenRound, OpenSquare, OpenCurly, CloseRound, CloseSquare, CloseCurly, Dot, Step, Stop, Operator}
 use Rattle.module_spec.specs.declared.token.Kind as kinds
@@ -91,32 +91,46 @@ same_bracket Template Round = false
 same_bracket Template Square = false
 same_bracket Template Curly = false
 
+-- ECMA-262, 14.6, 14.7 and 14.11: the statements with a condition or an object in round brackets
+abbrev pub is_condition_word : List ℕ → Bool
+is_condition_word text = bytes_eq text (codes "if")
+    || bytes_eq text (codes "while")
+    || bytes_eq text (codes "with")
+
+-- own: of ECMA-262, 12.7.2, the words behind which a value stands
+abbrev pub is_value_word : List ℕ → Bool
+is_value_word text =
+    bytes_eq text (codes "case")
+    || bytes_eq text (codes "default")
+    || bytes_eq text (codes "delete")
+    || bytes_eq text (codes "extends")
+    || bytes_eq text (codes "in")
+    || bytes_eq text (codes "instanceof")
+    || bytes_eq text (codes "new")
+    || bytes_eq text (codes "return")
+    || bytes_eq text (codes "throw")
+    || bytes_eq text (codes "typeof")
+    || bytes_eq text (codes "void")
+    || bytes_eq text (codes "yield")
+
+-- own: of ECMA-262, 12.7.2, the other words behind which a statement may stand
+abbrev pub is_statement_word : List ℕ → Bool
+is_statement_word text =
+    bytes_eq text (codes "break")
+    || bytes_eq text (codes "continue")
+    || bytes_eq text (codes "debugger")
+    || bytes_eq text (codes "do")
+    || bytes_eq text (codes "else")
+
 -- own: the words of ECMA-262, 12.7.2, by what may stand behind them
 unfoldable pub word : List ℕ → Word
 word text =
-    if bytes_eq text (codes "if") then Condition
-    else if bytes_eq text (codes "while") then Condition
-    else if bytes_eq text (codes "with") then Condition
+    if is_condition_word text then Condition
     else if bytes_eq text (codes "for") then For
     else if bytes_eq text (codes "await") then Await
     else if bytes_eq text (codes "of") then Of
-    else if bytes_eq text (codes "case") then Value
-    else if bytes_eq text (codes "default") then Value
-    else if bytes_eq text (codes "delete") then Value
-    else if bytes_eq text (codes "extends") then Value
-    else if bytes_eq text (codes "in") then Value
-    else if bytes_eq text (codes "instanceof") then Value
-    else if bytes_eq text (codes "new") then Value
-    else if bytes_eq text (codes "return") then Value
-    else if bytes_eq text (codes "throw") then Value
-    else if bytes_eq text (codes "typeof") then Value
-    else if bytes_eq text (codes "void") then Value
-    else if bytes_eq text (codes "yield") then Value
-    else if bytes_eq text (codes "break") then Statement
-    else if bytes_eq text (codes "continue") then Statement
-    else if bytes_eq text (codes "debugger") then Statement
-    else if bytes_eq text (codes "do") then Statement
-    else if bytes_eq text (codes "else") then Statement
+    else if is_value_word text then Value
+    else if is_statement_word text then Statement
     else Other
 
 abbrev pub is_dot_mark : Mark → Bool

@@ -4,20 +4,26 @@ use Rattle.module_spec.specs.declared.token.Mark.{Mark}
 use Rattle.module_spec.specs.declared.token.Mark.TheVariants.{OpenRound, OpenSquare, OpenCurly, CloseRound, CloseSquare, CloseCurly, Dot, Step, Stop, Operator}
 use Rattle.module_spec.specs.Characters.{begins_line_end, space_size, is_digit, begins_digit, name_size, passed}
 
+-- the first text stands at the front of the second one
+abbrev pub begins : List ℕ → List ℕ → Bool
+begins [] bytes = true
+begins (f ∷ front) [] = false
+begins (f ∷ front) (b ∷ bytes) = f == b && begins front bytes
+
 -- ECMA-262, 12.4: a comment to the end of its line, before the line end
 abbrev pub line_rest : List ℕ → List ℕ
 line_rest [] = []
 line_rest (b ∷ rest) = if begins_line_end (b ∷ rest) then b ∷ rest else line_rest rest
 
--- ECMA-262, 12.4: to behind the next `*/`; `star` says that a `*` stands before
-abbrev pub comment_rest : Bool → List ℕ → Option (List ℕ)
-comment_rest star [] = None
-comment_rest star (b ∷ rest) = if star && b == 47 then Some rest else comment_rest (b == 42) rest
+-- ECMA-262, 12.4: to behind the next `*/`
+abbrev pub comment_rest : List ℕ → Option (List ℕ)
+comment_rest [] = None
+comment_rest (b ∷ rest) = if b == 42 && begins (codes "/") rest then Some (drop 1 rest) else comment_rest rest
 
 -- ECMA-262, 12.4: what stands behind the first `/`
 abbrev pub slash_rest : List ℕ → Option (List ℕ)
 slash_rest [] = None
-slash_rest (b ∷ rest) = if b == 47 then Some (line_rest rest) else if b == 42 then comment_rest false rest else None
+slash_rest (b ∷ rest) = if b == 47 then Some (line_rest rest) else if b == 42 then comment_rest rest else None
 
 -- ECMA-262, 12.2 to 12.4: behind one character of white space, one line end or one comment
 unfoldable pub blank_rest : List ℕ → Option (List ℕ)
@@ -62,26 +68,43 @@ begins_number (b ∷ rest) = is_digit b || b == 46 && begins_digit rest
 
 -- ---- literals between marks
 
--- ECMA-262, 12.9.4, behind the opening quote. `escaped` says that a `\` stands before, and `return` that `\` and CR do.
-abbrev pub text_rest : ℕ → Bool → Bool → List ℕ → Option (List ℕ)
-text_rest quote escaped return [] = None
-text_rest quote true return (b ∷ rest) = text_rest quote false (b == 13) rest
-text_rest quote false return (b ∷ rest) =
-    if b == quote then Some rest
-    else if b == 92 then text_rest quote true false rest
-    else if b == 13 then None
-    else if b == 10 && not return then None
-    else text_rest quote false false rest
+-- ECMA-262, 12.9.4: how many bytes a string takes next: none at its quote, at CR and at LF. A `\` is taken with what stands behind it,
+-- where CR LF counts as one.
+abbrev pub text_size : ℕ → List ℕ → ℕ
+text_size quote [] = 0
+text_size quote (b ∷ rest) =
+    if b == quote || b == 10 || b == 13 then 0
+    else if b == 92 then (if begins (13 ∷ 10 ∷ []) rest then 3 else 2)
+    else 1
 
--- ECMA-262, 12.9.6: the bytes behind a template's part, and whether a backquote ends it. `escaped` says that a `\` stands before, and
--- `dollar` that a `$` does.
-abbrev pub template_rest : Bool → Bool → List ℕ → Option (Bool × List ℕ)
-template_rest escaped dollar [] = None
-template_rest true dollar (b ∷ rest) = template_rest false false rest
-template_rest false dollar (b ∷ rest) =
-    if b == 96 then Some (true, rest)
-    else if b == 123 && dollar then Some (false, rest)
-    else template_rest (b == 92) (b == 36) rest
+-- behind the quote, where it stands at the front
+abbrev pub closed_rest : ℕ → List ℕ → Option (List ℕ)
+closed_rest quote [] = None
+closed_rest quote (b ∷ rest) = if b == quote then Some rest else None
+
+-- ECMA-262, 12.9.4: a string from behind its opening quote to behind the closing one
+abbrev pub text_rest : ℕ → List ℕ → Option (List ℕ)
+text_rest quote bytes = closed_rest quote (passed (λ more. text_size quote more) 0 bytes)
+
+-- ECMA-262, 12.9.6: `${` stands at the front
+abbrev pub begins_substitution : List ℕ → Bool
+begins_substitution [] = false
+begins_substitution (b ∷ rest) = b == 36 && begins (codes "{") rest
+
+-- ECMA-262, 12.9.6: how many bytes a part of a template takes next: none at a backquote and at `${`. A `\` is taken with what stands
+-- behind it.
+abbrev pub template_size : List ℕ → ℕ
+template_size [] = 0
+template_size (b ∷ rest) = if b == 96 || begins_substitution (b ∷ rest) then 0 else if b == 92 then 2 else 1
+
+-- behind the backquote or the `${` at the front, and whether it is a backquote
+abbrev pub part_rest : List ℕ → Option (Bool × List ℕ)
+part_rest [] = None
+part_rest (b ∷ rest) = if b == 96 then Some (true, rest) else if begins_substitution (b ∷ rest) then Some (false, drop 1 rest) else None
+
+-- ECMA-262, 12.9.6: a part of a template from behind what opens it to behind what ends it, and whether that is a backquote
+abbrev pub template_rest : List ℕ → Option (Bool × List ℕ)
+template_rest bytes = part_rest (passed (λ more. template_size more) 0 bytes)
 
 -- ECMA-262, 12.9.5, behind the opening `/` and to behind the closing one. `class` says that a `[` is open, `escaped` that a `\` stands before.
 abbrev pub regex_body_rest : Bool → Bool → List ℕ → Option (List ℕ)
@@ -93,11 +116,6 @@ regex_body_rest class escaped (b ∷ rest) =
     else regex_body_rest (b == 91 || class && not (b == 93)) (b == 92) rest
 
 -- ---- punctuators
-
-abbrev pub begins : List ℕ → List ℕ → Bool
-begins [] bytes = true
-begins (f ∷ front) [] = false
-begins (f ∷ front) (b ∷ bytes) = f == b && begins front bytes
 
 -- ECMA-262, 12.8: the punctuators, longer ones first
 abbrev pub punctuators : List (List ℕ × Mark)

@@ -10,7 +10,7 @@ use Rattle.module_spec.specs.declared.token.LexKind.{LexKind}
 use Rattle.module_spec.specs.declared.token.LexKind.TheVariants.{Unreadable}
 use Rattle.module_spec.specs.Sorts.{opens, closes}
 use Rattle.module_spec.specs.Characters.{space_size, is_digit, is_name_byte, begins_digit, begins_name, name_size, passed}
-use Rattle.module_spec.specs.Spellings.{hashbang_rest, line_rest, comment_rest, slash_rest, blank_rest, number_size, begins_sign, begins_number, has_base_letter, text_rest, template_rest, regex_body_rest, begins, first_of, punctuators, punctuator, is_question_before_number}
+use Rattle.module_spec.specs.Spellings.{hashbang_rest, line_rest, comment_rest, slash_rest, blank_rest, number_size, begins_sign, begins_number, has_base_letter, text_size, closed_rest, text_rest, begins_substitution, template_size, part_rest, template_rest, regex_body_rest, begins, first_of, punctuators, punctuator, is_question_before_number}
 use Rattle.module_spec.specs.Tokens.{Piece, as_piece, first_part, later_part, regex_piece, punctuator_piece, slash_piece, private_piece, piece, Lexeme, Next, next_from, next_at, unless_refused, refusal, Skips, IsNext, is_template, opener, depth}
 use Rattle.module_spec.specs.Tokens.Next.{Ends, Faults, Gives}
 use Rattle.module_spec.specs.Tokens.Skips.{stop, more}
@@ -45,10 +45,6 @@ at_most (behind s) = let l = at_most s in omega arith
 later : {b : ℕ} {bytes : List ℕ} {out : Option (List ℕ)} → Rests out bytes → Rests out (b ∷ bytes)
 later nothing = nothing
 later (something s) = something (behind s)
-
-part_later : {b : ℕ} {bytes : List ℕ} {out : Option (Bool × List ℕ)} → PartRests out bytes → PartRests out (b ∷ bytes)
-part_later no_part = no_part
-part_later (a_part s) = a_part (behind s)
 
 -- ---- a choice of two
 
@@ -94,13 +90,13 @@ hashbang_suffix [] = whole
 hashbang_suffix (b ∷ []) = whole
 hashbang_suffix (b ∷ c ∷ rest) = if_suffix _ (behind (behind (line_suffix rest))) whole
 
-comment_suffix : (star : Bool) (bytes : List ℕ) → Rests (comment_rest star bytes) bytes
-comment_suffix star [] = nothing
-comment_suffix star (b ∷ rest) = if_rests _ (something (behind whole)) (later (comment_suffix (b == 42) rest))
+comment_suffix : (bytes : List ℕ) → Rests (comment_rest bytes) bytes
+comment_suffix [] = nothing
+comment_suffix (b ∷ rest) = if_rests _ (something (behind (dropped 1 rest))) (later (comment_suffix rest))
 
 slash_suffix : (bytes : List ℕ) → Rests (slash_rest bytes) bytes
 slash_suffix [] = nothing
-slash_suffix (b ∷ rest) = if_rests _ (something (behind (line_suffix rest))) (if_rests _ (later (comment_suffix false rest)) nothing)
+slash_suffix (b ∷ rest) = if_rests _ (something (behind (line_suffix rest))) (if_rests _ (later (comment_suffix rest)) nothing)
 
 of_some : {rest bytes : List ℕ} → Rests (Some rest) bytes → Suffix rest bytes
 of_some (something s) = s
@@ -129,17 +125,20 @@ blank_from (b ∷ tail) rest e = (b, tail, refl, of_some (subst (λ out. Rests o
 pub blank_shorter : (bytes rest : List ℕ) → blank_rest bytes ≡ Some rest → length rest < length bytes
 blank_shorter bytes rest e = let parts = blank_from bytes rest e in let l = at_most parts.3 in let f : length bytes ≡ suc (length parts.1) = ap length parts.2 in omega arith
 
-text_suffix : (quote : ℕ) (escaped return : Bool) (bytes : List ℕ) → Rests (text_rest quote escaped return bytes) bytes
-text_suffix quote escaped return [] = nothing
-text_suffix quote true return (b ∷ rest) = later (text_suffix quote false (b == 13) rest)
-text_suffix quote false return (b ∷ rest) =
-    if_rests _ (something (behind whole)) (if_rests _ (later (text_suffix quote true false rest)) (if_rests _ nothing (if_rests _ nothing (later (text_suffix quote false false rest)))))
+closed_suffix : (quote : ℕ) (rest bytes : List ℕ) → Suffix rest bytes → Rests (closed_rest quote rest) bytes
+closed_suffix quote [] bytes s = nothing
+closed_suffix quote (b ∷ rest) bytes s = if_rests (b == quote) (something (joined (behind whole) s)) nothing
 
-template_suffix : (escaped dollar : Bool) (bytes : List ℕ) → PartRests (template_rest escaped dollar bytes) bytes
-template_suffix escaped dollar [] = no_part
-template_suffix true dollar (b ∷ rest) = part_later (template_suffix false false rest)
-template_suffix false dollar (b ∷ rest) =
-    if_part (b == 96) (a_part {closed = true} (behind whole)) (if_part (b == 123 && dollar) (a_part {closed = false} (behind whole)) (part_later (template_suffix (b == 92) (b == 36) rest)))
+text_suffix : (quote : ℕ) (bytes : List ℕ) → Rests (text_rest quote bytes) bytes
+text_suffix quote bytes = closed_suffix quote (passed (text_size quote) 0 bytes) bytes (passed_suffix (text_size quote) 0 bytes)
+
+part_suffix : (rest bytes : List ℕ) → Suffix rest bytes → PartRests (part_rest rest) bytes
+part_suffix [] bytes s = no_part
+part_suffix (b ∷ rest) bytes s =
+    if_part (b == 96) (a_part {closed = true} (joined (behind whole) s)) (if_part (begins_substitution (b ∷ rest)) (a_part {closed = false} (joined (behind (dropped 1 rest)) s)) no_part)
+
+template_suffix : (bytes : List ℕ) → PartRests (template_rest bytes) bytes
+template_suffix bytes = part_suffix (passed template_size 0 bytes) bytes (passed_suffix template_size 0 bytes)
 
 regex_suffix : (class escaped : Bool) (bytes : List ℕ) → Rests (regex_body_rest class escaped bytes) bytes
 regex_suffix class escaped [] = nothing
@@ -236,9 +235,9 @@ piece_suffix regex part b rest =
     if_piece (begins_number (b ∷ rest)) (λ e. let exponent = not (has_base_letter (b ∷ rest)) in a_piece (passed_some (number_size exponent) b rest (number_some exponent b rest e)))
     (if_piece (begins_name (b ∷ rest)) (λ e. a_piece (passed_some name_size b rest (name_some b rest e)))
     (if_piece (b == 35) (λ e. private_suffix rest)
-    (if_piece (b == 34 || b == 39) (λ e. text_piece Text (text_suffix b false false rest))
-    (if_piece (b == 96) (λ e. first_piece (template_suffix false false rest))
-    (if_piece (b == 125 && part) (λ e. later_piece (template_suffix false false rest))
+    (if_piece (b == 34 || b == 39) (λ e. text_piece Text (text_suffix b rest))
+    (if_piece (b == 96) (λ e. first_piece (template_suffix rest))
+    (if_piece (b == 125 && part) (λ e. later_piece (template_suffix rest))
     (if_piece (b == 47) (λ e. slash_piece_suffix regex rest)
     (mark_piece b rest (mark_takes (b ∷ rest)))))))))
 

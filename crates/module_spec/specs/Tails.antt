@@ -6,7 +6,7 @@ use Rattle.module_spec.specs.declared.token.Mark.{Mark}
 use Rattle.module_spec.specs.declared.token.Sort.{Sort}
 use Rattle.module_spec.specs.declared.token.Sort.TheVariants.{Text}
 use Rattle.module_spec.specs.Characters.{character_size, code_point, is_wide_line_end, is_wide_space, is_ascii_space, begins_line_end, space_size, is_digit, is_hex_digit, hex_digits, braced_size, unicode_size, escape_size, is_name_byte, name_size, passed, begins_name, begins_digit}
-use Rattle.module_spec.specs.Spellings.{hashbang_rest, line_rest, comment_rest, slash_rest, blank_rest, number_size, begins_sign, begins_number, has_base_letter, text_rest, template_rest, regex_body_rest, begins, first_of, punctuators, punctuator, is_question_before_number}
+use Rattle.module_spec.specs.Spellings.{hashbang_rest, line_rest, comment_rest, slash_rest, blank_rest, number_size, begins_sign, begins_number, has_base_letter, text_size, closed_rest, text_rest, begins_substitution, template_size, part_rest, template_rest, regex_body_rest, begins, first_of, punctuators, punctuator, is_question_before_number}
 use Rattle.module_spec.specs.Tokens.{Piece, as_piece, first_part, later_part, regex_piece, punctuator_piece, slash_piece, private_piece, piece, Skips}
 use Rattle.module_spec.specs.Tokens.Skips.{stop, more}
 
@@ -96,9 +96,6 @@ byte_low b k l e = let f = eqb-true b k e in omega arith
 first_low : (b k : ℕ) (c : Bool) → k < 128 → (b == k && c) ≡ true → b < 128
 first_low b k c l e = byte_low b k l (and_parts (b == k) c e).0
 
-second_low : (b k : ℕ) (c : Bool) → k < 128 → (c && b == k) ≡ true → b < 128
-second_low b k c l e = byte_low b k l (and_parts c (b == k) e).1
-
 or_low : (b : ℕ) (c d : Bool) → (c ≡ true → b < 128) → (d ≡ true → b < 128) → (c || d) ≡ true → b < 128
 or_low b true d f g e = f refl
 or_low b false d f g e = g e
@@ -137,27 +134,46 @@ line_end_size b rest l m e =
 line_end_lead : (b : ℕ) (rest : List ℕ) → 128 ≤ b → is_wide_line_end (code_point (b ∷ rest)) ≡ true → 192 ≤ b
 line_end_lead b rest l e = ge_or b 224 (λ m. absurd (line_end_size b rest l m e)) (λ m. omega arith)
 
-comment_bounds : (n : ℕ) (star : Bool) (bytes : List ℕ) → Tail n bytes → Bounds (comment_rest star bytes)
-comment_bounds n star [] t = nothing
-comment_bounds n star (b ∷ rest) t =
-    let more = at_any t in
-    if_bounds (star && b == 47) (λ e. something (past_low (second_low b 47 star (omega arith) e) t)) (comment_bounds more.left (b == 42) rest more.rest)
+-- behind two bytes of ASCII that stand at the front
+two_tail : {n : ℕ} (b k l : ℕ) (rest : List ℕ) → k < 128 → l < 128 → (b == k && begins (l ∷ []) rest) ≡ true → Tail n (b ∷ rest) → Tail 0 (drop 1 rest)
+two_tail b k l [] below small e t = done
+two_tail b k l (c ∷ rest) below small e t =
+    let parts = and_parts (b == k) (l == c && true) e in
+    let second = eqb-true l c (and_parts (l == c) true parts.1).0 in
+    past_low (omega arith) (past_low (byte_low b k below parts.0) t)
 
-text_bounds : (quote n : ℕ) (escaped return : Bool) (bytes : List ℕ) → quote < 128 → Tail n bytes → Bounds (text_rest quote escaped return bytes)
-text_bounds quote n escaped return [] l t = nothing
-text_bounds quote n true return (b ∷ rest) l t = let more = at_any t in text_bounds quote more.left false (b == 13) rest l more.rest
-text_bounds quote n false return (b ∷ rest) l t =
+comment_bounds : (n : ℕ) (bytes : List ℕ) → Tail n bytes → Bounds (comment_rest bytes)
+comment_bounds n [] t = nothing
+comment_bounds n (b ∷ rest) t =
     let more = at_any t in
-    if_bounds (b == quote) (λ e. something (past_low (byte_low b quote l e) t)) (if_bounds (b == 92) (λ e. text_bounds quote more.left true false rest l more.rest)
-    (if_bounds (b == 13) (λ e. nothing) (if_bounds (b == 10 && not return) (λ e. nothing) (text_bounds quote more.left false false rest l more.rest))))
+    if_bounds (b == 42 && begins (codes "/") rest) (λ e. something (two_tail b 42 47 rest (omega arith) (omega arith) e t)) (comment_bounds more.left rest more.rest)
 
-template_bounds : (n : ℕ) (escaped dollar : Bool) (bytes : List ℕ) → Tail n bytes → PartBounds (template_rest escaped dollar bytes)
-template_bounds n escaped dollar [] t = no_part
-template_bounds n true dollar (b ∷ rest) t = let more = at_any t in template_bounds more.left false false rest more.rest
-template_bounds n false dollar (b ∷ rest) t =
+if_any : (c : Bool) {x y : List ℕ} → Any x → Any y → Any (if c then x else y)
+if_any true a b = a
+if_any false a b = b
+
+passed_any : (size : List ℕ → ℕ) (k n : ℕ) (bytes : List ℕ) → Tail n bytes → Any (passed size k bytes)
+passed_any size k n [] t = record { left = n; rest = t }
+passed_any size (suc k) n (b ∷ rest) t = let more = at_any t in passed_any size k more.left rest more.rest
+passed_any size zero n (b ∷ rest) t =
     let more = at_any t in
-    if_part (b == 96) (λ e. a_part {closed = true} (past_low (byte_low b 96 (omega arith) e) t)) (if_part (b == 123 && dollar) (λ e. a_part {closed = false} (past_low (first_low b 123 dollar (omega arith) e) t))
-    (template_bounds more.left (b == 92) (b == 36) rest more.rest))
+    if_any (size (b ∷ rest) == 0) (record { left = n; rest = t }) (passed_any size (size (b ∷ rest) - 1) more.left rest more.rest)
+
+closed_bounds : (quote n : ℕ) (bytes : List ℕ) → quote < 128 → Tail n bytes → Bounds (closed_rest quote bytes)
+closed_bounds quote n [] l t = nothing
+closed_bounds quote n (b ∷ rest) l t = if_bounds (b == quote) (λ e. something (past_low (byte_low b quote l e) t)) nothing
+
+text_bounds : (quote n : ℕ) (bytes : List ℕ) → quote < 128 → Tail n bytes → Bounds (text_rest quote bytes)
+text_bounds quote n bytes l t = let more = passed_any (text_size quote) 0 n bytes t in closed_bounds quote more.left (passed (text_size quote) 0 bytes) l more.rest
+
+part_bounds : (n : ℕ) (bytes : List ℕ) → Tail n bytes → PartBounds (part_rest bytes)
+part_bounds n [] t = no_part
+part_bounds n (b ∷ rest) t =
+    if_part (b == 96) (λ e. a_part {closed = true} (past_low (byte_low b 96 (omega arith) e) t))
+    (if_part (begins_substitution (b ∷ rest)) (λ e. a_part {closed = false} (two_tail b 36 123 rest (omega arith) (omega arith) e t)) no_part)
+
+template_bounds : (n : ℕ) (bytes : List ℕ) → Tail n bytes → PartBounds (template_rest bytes)
+template_bounds n bytes t = let more = passed_any template_size 0 n bytes t in part_bounds more.left (passed template_size 0 bytes) more.rest
 
 regex_bounds : (n : ℕ) (class escaped : Bool) (bytes : List ℕ) → Tail n bytes → Bounds (regex_body_rest class escaped bytes)
 regex_bounds n class escaped [] t = nothing
@@ -180,7 +196,7 @@ line_tail n (b ∷ rest) t =
 slash_bounds : (bytes : List ℕ) → Tail 0 bytes → Bounds (slash_rest bytes)
 slash_bounds [] t = nothing
 slash_bounds (b ∷ rest) t =
-    if_bounds (b == 47) (λ e. something (line_tail 0 rest (past_low (byte_low b 47 (omega arith) e) t))) (if_bounds (b == 42) (λ e. comment_bounds 0 false rest (past_low (byte_low b 42 (omega arith) e) t)) nothing)
+    if_bounds (b == 47) (λ e. something (line_tail 0 rest (past_low (byte_low b 47 (omega arith) e) t))) (if_bounds (b == 42) (λ e. comment_bounds 0 rest (past_low (byte_low b 42 (omega arith) e) t)) nothing)
 
 -- a size that stands at the front of a whole character and ends before one
 abbrev IsSized : (List ℕ → ℕ) → Type 0
@@ -373,8 +389,8 @@ piece_bounds regex part (b ∷ rest) t =
     if_piece (begins_number (b ∷ rest)) (λ e. let exponent = not (has_base_letter (b ∷ rest)) in a_piece (passed_tail (number_size exponent) (number_tail exponent) 0 (b ∷ rest) t))
     (if_piece (begins_name (b ∷ rest)) (λ e. a_piece (passed_tail name_size name_tail 0 (b ∷ rest) t))
     (if_piece (b == 35) (λ e. private_bounds rest (past_low (byte_low b 35 (omega arith) e) t))
-    (if_piece (b == 34 || b == 39) (λ e. let l = either_low b 34 39 (omega arith) (omega arith) e in text_piece Text (text_bounds b 0 false false rest l (past_low l t)))
-    (if_piece (b == 96) (λ e. first_piece (template_bounds 0 false false rest (past_low (byte_low b 96 (omega arith) e) t)))
-    (if_piece (b == 125 && part) (λ e. later_piece (template_bounds 0 false false rest (past_low (first_low b 125 part (omega arith) e) t)))
+    (if_piece (b == 34 || b == 39) (λ e. let l = either_low b 34 39 (omega arith) (omega arith) e in text_piece Text (text_bounds b 0 rest l (past_low l t)))
+    (if_piece (b == 96) (λ e. first_piece (template_bounds 0 rest (past_low (byte_low b 96 (omega arith) e) t)))
+    (if_piece (b == 125 && part) (λ e. later_piece (template_bounds 0 rest (past_low (first_low b 125 part (omega arith) e) t)))
     (if_piece (b == 47) (λ e. let f = eqb-true b 47 e in slash_piece_bounds regex rest (past_low (byte_low b 47 (omega arith) e) t) (subst (λ c. Tail 0 (c ∷ rest)) f t))
     (mark_piece (b ∷ rest) (mark_bounds (b ∷ rest) t))))))))

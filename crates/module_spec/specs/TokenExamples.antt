@@ -5,14 +5,15 @@ use Rattle.module_spec.specs.declared.token.Kind.{Kind}
 use Rattle.module_spec.specs.declared.token.Kind.TheVariants as kinds
 use Rattle.module_spec.specs.declared.token.Mark.TheVariants as marks
 use Rattle.module_spec.specs.declared.token.Sort.TheVariants as sorts
-use Rattle.module_spec.specs.declared.token.LexKind.TheVariants.{Unreadable}
+use Rattle.module_spec.specs.declared.token.LexKind.TheVariants.{Unreadable, TooDeep}
 use Rattle.module_spec.specs.declared.token.Token.{Token}
 use Rattle.module_spec.specs.Characters.{name_size}
 use Rattle.module_spec.specs.Spellings.{blank_rest}
 use Rattle.module_spec.specs.Sorts.{word}
+use Rattle.module_spec.specs.DepthExamples.{rounds, as_many_as_may, one_too_many}
 use Rattle.module_spec.specs.Tokens.{Lexeme, lexeme, piece, next_at, Reaches, ReadsTokens}
 use Rattle.module_spec.specs.Tokens.Balanced.{same, neither, closed}
-use Rattle.module_spec.specs.Tokens.Outside.{first}
+use Rattle.module_spec.specs.Tokens.Outside.{first, later}
 use Rattle.module_spec.specs.Tokens.Innermost.{none, bracket}
 use Rattle.module_spec.specs.Tokens.Slash.{start, token}
 use Rattle.module_spec.specs.Tokens.Skips.{stop, more}
@@ -31,6 +32,9 @@ pub record TokenExamples : Type 0 where
   pub wrong_closer : ReadsTokens (codes "(]") (Err (record { at = 1; kind = Unreadable }))
   pub open_at_end : ReadsTokens (codes "(") (Err (record { at = 1; kind = Unreadable }))
   pub unclosed_text : ReadsTokens (codes "a'b") (Err (record { at = 1; kind = Unreadable }))
+  pub template : ReadsTokens (codes "(`${a}${b}`)") (Ok (span kinds.Punctuator 0 1 ∷ span kinds.TemplateHead 1 4 ∷ span kinds.Name 4 5 ∷ span kinds.TemplateMiddle 5 8 ∷ span kinds.Name 8 9 ∷ span kinds.TemplateTail 9 11 ∷ span kinds.Punctuator 11 12 ∷ []))
+  pub most_open : ReadsTokens (rounds 4096) (Err (record { at = 4096; kind = Unreadable }))
+  pub too_deep : ReadsTokens (rounds 4097) (Err (record { at = 4096; kind = TooDeep }))
 
 -- ---- one token behind others
 
@@ -195,5 +199,61 @@ unclosed_text : ReadsTokens (codes "a'b") (Err (record { at = 1; kind = Unreadab
 unfolding name_size blank_rest word piece next_at
 unclosed_text = fault unclosed_text_reached_1 (next (token (none same) refl) (none (neither refl refl same)) (stop refl) refl) refl
 
+abbrev template_1 : Lexeme
+template_1 = lexeme (sorts.Punctuator marks.OpenRound) (codes "(`${a}${b}`)") (codes "`${a}${b}`)")
+
+abbrev template_2 : Lexeme
+template_2 = lexeme sorts.TemplateHead (codes "`${a}${b}`)") (codes "a}${b}`)")
+
+abbrev template_3 : Lexeme
+template_3 = lexeme sorts.Name (codes "a}${b}`)") (codes "}${b}`)")
+
+abbrev template_4 : Lexeme
+template_4 = lexeme sorts.TemplateMiddle (codes "}${b}`)") (codes "b}`)")
+
+abbrev template_5 : Lexeme
+template_5 = lexeme sorts.Name (codes "b}`)") (codes "}`)")
+
+abbrev template_6 : Lexeme
+template_6 = lexeme sorts.TemplateTail (codes "}`)") (codes ")")
+
+abbrev template_7 : Lexeme
+template_7 = lexeme (sorts.Punctuator marks.CloseRound) (codes ")") []
+
+template_reached_0 : Reaches (codes "(`${a}${b}`)") [] (codes "(`${a}${b}`)")
+template_reached_0 = begin refl
+
+template_reached_1 : Reaches (codes "(`${a}${b}`)") (template_1 ∷ []) (codes "`${a}${b}`)")
+unfolding name_size blank_rest word piece next_at
+template_reached_1 = go template_reached_0 (next start (none same) (stop refl) refl)
+
+template_reached_2 : Reaches (codes "(`${a}${b}`)") (template_2 ∷ template_1 ∷ []) (codes "a}${b}`)")
+unfolding name_size blank_rest word piece next_at
+template_reached_2 = go template_reached_1 (next (token (none same) refl) (bracket same refl) (stop refl) refl)
+
+template_reached_3 : Reaches (codes "(`${a}${b}`)") (template_3 ∷ template_2 ∷ template_1 ∷ []) (codes "}${b}`)")
+unfolding name_size blank_rest word piece next_at
+template_reached_3 = go template_reached_2 (next (token (bracket same refl) refl) (bracket same refl) (stop refl) refl)
+
+template_reached_4 : Reaches (codes "(`${a}${b}`)") (template_4 ∷ template_3 ∷ template_2 ∷ template_1 ∷ []) (codes "b}`)")
+unfolding name_size blank_rest word piece next_at
+template_reached_4 = go template_reached_3 (next (token (bracket same refl) refl) (bracket (neither refl refl same) refl) (stop refl) refl)
+
+template_reached_5 : Reaches (codes "(`${a}${b}`)") (template_5 ∷ template_4 ∷ template_3 ∷ template_2 ∷ template_1 ∷ []) (codes "}`)")
+unfolding name_size blank_rest word piece next_at
+template_reached_5 = go template_reached_4 (next (token (bracket (neither refl refl same) refl) refl) (bracket same refl) (stop refl) refl)
+
+template_reached_6 : Reaches (codes "(`${a}${b}`)") (template_6 ∷ template_5 ∷ template_4 ∷ template_3 ∷ template_2 ∷ template_1 ∷ []) (codes ")")
+unfolding name_size blank_rest word piece next_at
+template_reached_6 = go template_reached_5 (next (token (bracket same refl) refl) (bracket (neither refl refl same) refl) (stop refl) refl)
+
+template_reached_7 : Reaches (codes "(`${a}${b}`)") (template_7 ∷ template_6 ∷ template_5 ∷ template_4 ∷ template_3 ∷ template_2 ∷ template_1 ∷ []) []
+unfolding name_size blank_rest word piece next_at
+template_reached_7 = go template_reached_6 (next (token (bracket (neither refl refl same) refl) refl) (bracket (closed refl refl (neither refl refl same) refl (later refl (neither refl refl same) refl (first refl)) same) refl) (stop refl) refl)
+
+template : ReadsTokens (codes "(`${a}${b}`)") (Ok (span kinds.Punctuator 0 1 ∷ span kinds.TemplateHead 1 4 ∷ span kinds.Name 4 5 ∷ span kinds.TemplateMiddle 5 8 ∷ span kinds.Name 8 9 ∷ span kinds.TemplateTail 9 11 ∷ span kinds.Punctuator 11 12 ∷ []))
+unfolding name_size blank_rest word piece next_at
+template = all template_reached_7 (next (token (bracket (closed refl refl (neither refl refl same) refl (later refl (neither refl refl same) refl (first refl)) same) refl) refl) (none (closed refl refl (closed refl refl (neither refl refl same) refl (later refl (neither refl refl same) refl (first refl)) same) refl (first refl) same)) (stop refl) refl) refl
+
 pub token_examples : TokenExamples
-token_examples = record { empty = empty; regex = regex; division = division; brackets = brackets; wrong_closer = wrong_closer; open_at_end = open_at_end; unclosed_text = unclosed_text }
+token_examples = record { empty = empty; regex = regex; division = division; brackets = brackets; wrong_closer = wrong_closer; open_at_end = open_at_end; unclosed_text = unclosed_text; template = template; most_open = as_many_as_may 4096 refl; too_deep = one_too_many 4096 refl }

@@ -66,9 +66,9 @@ piece regex part (b ∷ rest) =
     if begins_number (b ∷ rest) then Some (Number, number_rest (b ∷ rest))
     else if begins_name (b ∷ rest) then Some (Name, name_rest (b ∷ rest))
     else if b == 35 then private_piece rest
-    else if b == 34 || b == 39 then as_piece Text (text_rest b false false rest)
-    else if b == 96 then first_part (template_rest false false rest)
-    else if b == 125 && part then later_part (template_rest false false rest)
+    else if b == 34 || b == 39 then as_piece Text (text_rest b rest)
+    else if b == 96 then first_part (template_rest rest)
+    else if b == 125 && part then later_part (template_rest rest)
     else if b == 47 then slash_piece regex rest
     else punctuator_piece (b ∷ rest) (punctuator (b ∷ rest))
 
