@@ -14,3 +14,4 @@ pub mod PatternChoice
 pub mod RecordLaws
 pub mod Examples
 pub mod RecordExamples
+pub mod PatternExamples

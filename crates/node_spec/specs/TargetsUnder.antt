@@ -60,7 +60,7 @@ abbrev mutual
 
 -- ---- it is what the target comes to
 
-undefined_from : (out : Outcome) → is_undefined out ≡ true → out ≡ Undefined
+pub undefined_from : (out : Outcome) → is_undefined out ≡ true → out ≡ Undefined
 undefined_from Undefined e = refl
 undefined_from Null e = absurd (cc)
 undefined_from (Place text) e = absurd (cc)

@@ -5,13 +5,14 @@
 ghost use Rattle.node_spec.specs.Examples.{WorkedExamples};
 ghost use Rattle.node_spec.specs.Laws.{OneAnswer};
 ghost use Rattle.node_spec.specs.PatternChoice.{OneChoice, SomeChoice};
+ghost use Rattle.node_spec.specs.PatternExamples.{PatternExamples};
 ghost use Rattle.node_spec.specs.PatternOrder.{KeysAreInOrder};
 ghost use Rattle.node_spec.specs.PatternParts.{PatternMatchStands};
 ghost use Rattle.node_spec.specs.RecordExamples.{RecordExamples};
 ghost use Rattle.node_spec.specs.RecordLaws.{OneRecord, RecordNamesAreDistinct, SomeRecord};
 ghost use Rattle.node_spec.specs.Some.{SomeAnswer};
 ghost use Rattle.node_spec.specs.TargetExamples.{TargetExamples};
-ghost use Rattle.node_spec.specs.TargetLaws.{AnswersDetermine, OneOutcome, OneUnder};
+ghost use Rattle.node_spec.specs.TargetLaws.{AnswersDetermine, OneOutcome, OneUnder, PlacesInPackage};
 ghost use Rattle.node_spec.specs.TargetsUnder.{SomeOutcome};
 
 use primitives::Text;
@@ -127,6 +128,12 @@ pub fn one_under()
     ensures { OneUnder }
 {}
 
+/// A target comes to no place but one that begins with `./`.
+#[tactic(auto, using(crate::specs::TargetLaws::places_in_package))]
+pub fn places_in_package()
+    ensures { PlacesInPackage }
+{}
+
 /// Where every bare text has an answer, each target comes to an outcome.
 pub fn some_outcome()
     ensures { SomeOutcome }
@@ -169,4 +176,10 @@ pub fn one_choice()
 /// Among a set of keys there is a choice, unless none of them matches.
 pub fn some_choice()
     ensures { SomeChoice }
+{}
+
+/// Worked examples of keys that are chosen.
+#[tactic(auto, using(crate::specs::PatternExamples::pattern_examples))]
+pub fn pattern_examples()
+    ensures { PatternExamples }
 {}
