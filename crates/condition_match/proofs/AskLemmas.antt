@@ -1,13 +1,13 @@
 -- Questions that follow one another.
-use Rattle.std.proofs.Common.{◌≡◌, ◌≢◌, ◌++◌, ℕ, Bool, true, false, List, [], ◌∷◌, length, rules, refl, sym, ap, subst, ◌∙◌, inl, inr, append_assoc, append-nil, arith}
+use Rattle.std.proofs.Common.{◌≡◌, ◌≢◌, ◌++◌, ℕ, Bool, true, false, List, [], ◌∷◌, length, rules, refl, sym, ap, subst, ◌∙◌, inl, inr, append_assoc, arith}
 use Rattle.std.specs.Prelude.{codes, Result, Ok, Err, IfOk}
 use Rattle.std.proofs.lemmas.Bool.{true≢false}
 use Rattle.url_spec.specs.Specifiers.{begins}
-use Rattle.json_spec.specs.Value.{Json, a_null, a_bool, a_number, a_text, a_list, an_object, Items, no_items, an_item, Members, no_members, a_member}
+use Rattle.json_spec.specs.Value.{Json, a_null, a_bool, a_number, a_list, Items, Members}
 use Rattle.node_spec.specs.declared.BareAnswer.{BareAnswer}
 use Rattle.node_spec.specs.declared.Outcome.{Outcome}
 use Rattle.node_spec.specs.declared.Outcome.TheVariants.{Undefined, Null, Place, Bare, Stopped, InvalidTarget, InvalidSpecifier, InvalidConfig}
-use Rattle.node_spec.specs.PackageTargets.{Rules, Call, own_outcome, names_package, with_match, bare_outcome, ResolvesText, has_index_key, is_tried, is_undefined, is_passed, last_of, Resolves, ResolvesMembers, ResolvesItems}
+use Rattle.node_spec.specs.PackageTargets.{Rules, Call, own_outcome, names_package, with_match, bare_outcome, ResolvesText, has_index_key, is_undefined, is_passed, last_of, Resolves, ResolvesMembers, ResolvesItems}
 use Rattle.node_spec.specs.PackageTargets.ResolvesText.{own_place, bare, no_target}
 use Rattle.node_spec.specs.PackageTargets.Resolves.{text_target, index_key, object_target, empty_list, list_target, null_target, bool_target, number_target}
 use Rattle.node_spec.specs.PackageTargets.ResolvesMembers.{no_member, untried, defined, undefined}
@@ -19,19 +19,11 @@ use Rattle.ordered_json.specs.declared.value.Members as code_members
 use Rattle.ordered_json.specs.Lists.{values_of, pairs_of}
 use Rattle.ordered_json.proofs.ShownLemmas.{json_of_list, json_of_object, json_of_text}
 use Rattle.ordered_json.specs.Shown.{json_of, items_of, members_of}
-use Rattle.condition_match.specs.Choosing.{Calls, Asks, Tries}
+use Rattle.node_spec.specs.TargetLaws.{places_in_package}
+use Rattle.node_spec.specs.TargetsUnder.{undefined_from}
+use Rattle.condition_match.specs.Choosing.{Calls, Asks, Chooses, Tries}
 
 -- ---- outcomes
-
-undefined_is : (out : Outcome) → is_undefined out ≡ true → out ≡ Undefined
-undefined_is Undefined e = refl
-undefined_is Null e = absurd (cc)
-undefined_is (Place text) e = absurd (cc)
-undefined_is Bare e = absurd (cc)
-undefined_is Stopped e = absurd (cc)
-undefined_is InvalidTarget e = absurd (cc)
-undefined_is InvalidSpecifier e = absurd (cc)
-undefined_is InvalidConfig e = absurd (cc)
 
 behind_nothing : (out : Outcome) → out ≡ last_of Undefined out
 behind_nothing Undefined = refl
@@ -113,6 +105,18 @@ module _ {B : Type 0} (gives : B → List ℕ → BareAnswer → B → Type 0) w
   ends : {Whole Rest : List Call → Outcome → Type 0} {shape : Outcome → Outcome} (old middle now : B) (out : Outcome) → Completes Whole Rest shape old middle → Asks gives Rest middle now out → Asks gives Whole old now (shape out)
   ends old middle now out c a = record { asked = c.asked ++ a.asked; calls = calls_join old middle now c.asked a.asked c.calls a.calls; is = c.completes a.asked out a.is }
 
+  pub if_chosen : {E : Type 0} (rules : Rules) (target : Json) (old now : B) (found : Result Outcome E) → IfOk found (Asks gives (Resolves rules target) old now) → IfOk found (Chooses gives rules target old now)
+  if_chosen rules target old now found is =
+      if_ok found
+      (λ out a. record {
+        asked = a.asked;
+        calls = a.calls;
+        resolves = a.is;
+        under = λ answers agrees. record { asked = a.asked; agrees = agrees; resolves = a.is };
+        place = places_in_package rules target a.asked out a.is;
+      })
+      is
+
   module _ (rules : Rules) where
     -- ---- the items of a list
 
@@ -147,7 +151,7 @@ module _ {B : Type 0} (gives : B → List ℕ → BareAnswer → B → Type 0) w
     member_step key v more asked out tries none others found r =
         elim tries [
           | inl skipped ↦ subst (λ xs. ResolvesMembers rules (members_of ((key, v) ∷ more)) (xs ++ others) found) (sym skipped.1) (untried key (json_of v) (members_of more) others found skipped.0 r)
-          | inr tried ↦ undefined key (json_of v) (members_of more) asked others found tried.0 (subst (λ o. Resolves rules (json_of v) asked o) (undefined_is out none) tried.1) r
+          | inr tried ↦ undefined key (json_of v) (members_of more) asked others found tried.0 (subst (λ o. Resolves rules (json_of v) asked o) (undefined_from out none) tried.1) r
         ]
 
     pub member_undefined : (pairs rest more : List (List ℕ × Value)) (key : List ℕ) (v : Value) (out : Outcome) (old middle now : B) → Completes (ResolvesMembers rules (members_of pairs)) (ResolvesMembers rules (members_of rest)) (λ o. o) old middle → rest ≡ (key, v) ∷ more → Asks gives (Tries rules key (json_of v)) middle now out → is_undefined out ≡ true → Completes (ResolvesMembers rules (members_of pairs)) (ResolvesMembers rules (members_of more)) (λ o. o) old now

@@ -2,7 +2,7 @@ ghost use Rattle.std.specs.Prelude.{◌≡◌, ◌<◌, ◌+◌, ◌∷◌, IfOk
 ghost use Rattle.node_spec.specs.PackageTargets.{Resolves, ResolvesItems, ResolvesMembers, is_undefined, is_passed, is_tried, last_of};
 ghost use Rattle.ordered_json.specs.Lists.{values_of, pairs_of};
 ghost use Rattle.ordered_json.specs.Shown.{json_of, items_of, members_of};
-ghost use Rattle.condition_match.specs.Choosing.{Asks, Tries, judged_by, rules_of};
+ghost use Rattle.condition_match.specs.Choosing.{Asks, Chooses, Tries, judged_by, rules_of};
 
 use crate::array_index::has_index_key;
 use crate::bare_target::BareTarget;
@@ -32,7 +32,7 @@ pub fn choose<B: BareTarget>(
     imports: bool,
     bare: &mut B,
 ) -> Result<Outcome, Memory>
-    ensures { IfOk result (Asks B.gives (Resolves (judged_by conditions.now (option_map (λ text. text.now) star.entry) imports) (json_of target.now)) bare.old bare.new) }
+    ensures { IfOk result (Chooses B.gives (judged_by conditions.now (option_map (λ text. text.now) star.entry) imports) (json_of target.now) bare.old bare.new) }
 {
     let rules = Rules {
         conditions,

@@ -1,5 +1,5 @@
 //! Targets that are strings.
-ghost use Rattle.std.specs.Prelude.{◌≡◌, IfOk, option_map, codes};
+ghost use Rattle.std.specs.Prelude.{◌≡◌, IfOk, option_map};
 ghost use Rattle.url_spec.specs.Specifiers.{begins};
 ghost use Rattle.node_spec.specs.PackageTargets.{own_outcome, names_package, with_match, bare_outcome, ResolvesText};
 ghost use Rattle.condition_match.specs.Segments.{replaced};

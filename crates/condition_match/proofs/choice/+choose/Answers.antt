@@ -3,9 +3,8 @@ use Rattle.std.proofs.lemmas.Bool.{eqb-true, eqb-false}
 use Rattle.std.proofs.lemmas.List.{drop_all}
 use Rattle.node_spec.specs.PackageTargets.{ResolvesText}
 use Rattle.ordered_json.specs.Lists.{values_of, pairs_of}
-use Rattle.ordered_json.specs.Shown.{json_of, items_of, members_of}
 use Rattle.condition_match.specs.Choosing.{Asks, rules_of}
-use Rattle.condition_match.proofs.Sizes.{size, size_items, size_members, item_size, member_size}
+use Rattle.condition_match.proofs.Sizes.{item_size, member_size}
 use Rattle.condition_match.proofs.AskLemmas.{if_ok, item_passed, item_decided, items_end, member_undefined, member_defined, members_end, null_chosen, bool_chosen, number_chosen, text_chosen, empty_chosen, list_chosen, index_chosen, object_chosen}
 use Rattle.condition_match.proofs.choice.+choose.Goals as goal
 

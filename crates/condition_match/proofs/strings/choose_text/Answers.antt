@@ -1,4 +1,4 @@
-use Rattle.std.proofs.Common.{refl, sym, ◌∙◌}
+use Rattle.std.proofs.Common.{sym, ◌∙◌}
 use Rattle.condition_match.specs.Choosing.{rules_of}
 use Rattle.condition_match.proofs.AskLemmas.{own_chosen, none_chosen, bare_chosen}
 use Rattle.condition_match.proofs.strings.choose_text.Goals as goal
