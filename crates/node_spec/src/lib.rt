@@ -2,6 +2,8 @@
 //! comes to: definitions and their laws.
 #![tactic(auto)]
 
+ghost use Rattle.node_spec.specs.AnswersInTurn.{SomeOutcomeInTurn};
+ghost use Rattle.node_spec.specs.ConditionSets.{ConditionsAreASet};
 ghost use Rattle.node_spec.specs.Examples.{WorkedExamples};
 ghost use Rattle.node_spec.specs.Laws.{OneAnswer};
 ghost use Rattle.node_spec.specs.PatternChoice.{OneChoice, SomeChoice};
@@ -51,31 +53,31 @@ pub enum PackageKind {
     Unstated,
 }
 
-/// What a bare text that a target names comes to.
+/// What the resolution of a bare text that a target names comes to.
 #[derive(Clone, Copy, Debug, PartialEq, Eq)]
 pub enum BareAnswer {
-    /// A module.
+    /// A URL; what stands there isn't judged.
     Found,
-    /// The target isn't well formed, or leaves its package.
+    /// None: a target that it comes to isn't well formed, or leaves its package.
     InvalidTarget,
-    /// It is refused for another reason, or isn't found.
+    /// None, for any other reason.
     Stop,
 }
 
 /// What a target comes to.
 #[derive(Debug, Drop)]
 pub enum Outcome {
-    /// No condition of it holds.
+    /// Nothing: no key of an object is tried, or those that are come to nothing.
     Undefined,
-    /// Null, by which a package keeps a subpath to itself.
+    /// Null, by which a package keeps a subpath to itself; also an empty list.
     Null,
-    /// A place in the package, as a text that begins with `./`.
+    /// A text that begins with `./`, to be joined to the URL of the package's folder. What stands there isn't judged.
     Place(Text),
-    /// What a bare text names.
+    /// The URL of the bare text that was asked for last.
     Bare,
-    /// A bare text stopped.
+    /// The bare text that was asked for last is refused, by `Stop`.
     Stopped,
-    /// It isn't well formed, or leaves the package.
+    /// A target, or one that a bare text came to, isn't well formed or leaves its package.
     InvalidTarget,
     /// What stands for `*` has a segment that isn't allowed.
     InvalidSpecifier,
@@ -137,6 +139,18 @@ pub fn places_in_package()
 /// Where every bare text has an answer, each target comes to an outcome.
 pub fn some_outcome()
     ensures { SomeOutcome }
+{}
+
+/// Each target comes to an outcome also where one text is answered differently at two places.
+#[tactic(auto, using(crate::specs::AnswersInTurn::some_outcome_in_turn))]
+pub fn some_outcome_in_turn()
+    ensures { SomeOutcomeInTurn }
+{}
+
+/// Conditions are a set: neither their order nor how often one is named changes an outcome or the texts asked for.
+#[tactic(auto, using(crate::specs::ConditionSets::conditions_are_a_set))]
+pub fn conditions_are_a_set()
+    ensures { ConditionsAreASet }
 {}
 
 /// Worked examples of targets.
