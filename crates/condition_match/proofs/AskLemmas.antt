@@ -22,7 +22,7 @@ use Rattle.ordered_json.specs.Lists.{values_of, pairs_of}
 use Rattle.ordered_json.proofs.ShownLemmas.{json_of_list, json_of_object, json_of_text}
 use Rattle.ordered_json.specs.Shown.{json_of, items_of, members_of}
 use Rattle.node_spec.specs.TargetLaws.{places_in_package}
-use Rattle.node_spec.specs.TargetsUnder.{Found, found_text, found_items, found_members, undefined_from, text_found, sound_items, sound_members}
+use Rattle.node_spec.specs.TargetsUnder.{found_text, found_items, found_members, undefined_from, text_found, sound_items, sound_members}
 use Rattle.condition_match.specs.Choosing.{Calls, Asks, IsLeft, Begins, Comes, AsksOne, Chooses, Tries}
 
 -- ---- outcomes

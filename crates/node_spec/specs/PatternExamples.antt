@@ -6,9 +6,9 @@ use Rattle.std.proofs.lemmas.List.{append-nil, append_cancel_left}
 use mathlib.Core.Logic.{inl, inr}
 use Rattle.std.proofs.lemmas.Bool.{and_parts, eqb-false, not-true}
 use Rattle.std.proofs.lemmas.List.Elements.{All-nil, All-cons}
-use Rattle.node_spec.specs.PatternKeys.{HasNoStar, IsPattern, KeyMatch, Itself, PatternMatch, Matches, Precedes, IsChoice, MatchesNone}
+use Rattle.node_spec.specs.PatternKeys.{HasNoStar, IsPattern, KeyMatch, Itself, PatternMatch, Matches, IsChoice, MatchesNone}
 use Rattle.node_spec.specs.PatternKeys.Matches.{by_itself, by_pattern}
-use Rattle.node_spec.specs.PatternParts.{PartStands, part_length, fits_from_part, no_pattern_match, many_stars}
+use Rattle.node_spec.specs.PatternParts.{fits_from_part, no_pattern_match, many_stars}
 use Rattle.node_spec.specs.PatternOrder.{GoesBefore, one_match, precedes_before, never_before_itself}
 
 abbrev three_keys : List (List ℕ)

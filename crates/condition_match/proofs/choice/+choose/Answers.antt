@@ -3,7 +3,7 @@ use Rattle.std.proofs.lemmas.Bool.{eqb-true, eqb-false}
 use Rattle.std.proofs.lemmas.List.{drop_all}
 use Rattle.node_spec.specs.PackageTargets.{ResolvesText}
 use Rattle.ordered_json.specs.Lists.{values_of, pairs_of}
-use Rattle.condition_match.specs.Choosing.{Asks, rules_of}
+use Rattle.condition_match.specs.Choosing.{rules_of}
 use Rattle.condition_match.proofs.Sizes.{item_size, member_size}
 use Rattle.condition_match.proofs.AskLemmas.{comes_err, comes_as, text_value, list_value, object_value, item_passed, item_decided, items_end, item_begun, member_undefined, member_defined, members_end, member_begun, null_chosen, bool_chosen, number_chosen, empty_chosen, index_chosen}
 use Rattle.condition_match.proofs.choice.+choose.Goals as goal
