@@ -1,10 +1,12 @@
 -- Questions that follow one another.
 use Rattle.std.proofs.Common.{◌≡◌, ◌≢◌, ◌++◌, ℕ, Bool, true, false, List, [], ◌∷◌, length, rules, refl, sym, ap, subst, ◌∙◌, inl, inr, append_assoc, append-nil, arith}
-use Rattle.std.specs.Prelude.{codes, Result, Ok, Err, IfOk}
-use Rattle.std.proofs.lemmas.Bool.{true≢false}
+use Rattle.std.specs.Prelude.{codes, Result, Ok, Err, IfOk, OnErr}
+use Rattle.std.specs.Result.{IsErrAnd}
+use Rattle.std.proofs.lemmas.Bool.{true≢false, cases_Bool}
 use Rattle.url_spec.specs.Specifiers.{begins}
-use Rattle.json_spec.specs.Value.{Json, a_null, a_bool, a_number, a_text, a_list, an_object, Items, no_items, an_item, Members, no_members, a_member}
+use Rattle.json_spec.specs.Value.{Json, a_null, a_bool, a_number, a_list, Items, an_item, Members, a_member}
 use Rattle.node_spec.specs.declared.BareAnswer.{BareAnswer}
+use Rattle.node_spec.specs.declared.BareAnswer.TheVariants.{Stop}
 use Rattle.node_spec.specs.declared.Outcome.{Outcome}
 use Rattle.node_spec.specs.declared.Outcome.TheVariants.{Undefined, Null, Place, Bare, Stopped, InvalidTarget, InvalidSpecifier, InvalidConfig}
 use Rattle.node_spec.specs.PackageTargets.{Rules, Call, own_outcome, names_package, with_match, bare_outcome, ResolvesText, has_index_key, is_tried, is_undefined, is_passed, last_of, Resolves, ResolvesMembers, ResolvesItems}
@@ -19,19 +21,11 @@ use Rattle.ordered_json.specs.declared.value.Members as code_members
 use Rattle.ordered_json.specs.Lists.{values_of, pairs_of}
 use Rattle.ordered_json.proofs.ShownLemmas.{json_of_list, json_of_object, json_of_text}
 use Rattle.ordered_json.specs.Shown.{json_of, items_of, members_of}
-use Rattle.condition_match.specs.Choosing.{Calls, Asks, Tries}
+use Rattle.node_spec.specs.TargetLaws.{places_in_package}
+use Rattle.node_spec.specs.TargetsUnder.{found_text, found_items, found_members, undefined_from, text_found, sound_items, sound_members}
+use Rattle.condition_match.specs.Choosing.{Calls, Asks, IsLeft, Begins, Comes, AsksOne, Chooses, Tries}
 
 -- ---- outcomes
-
-undefined_is : (out : Outcome) → is_undefined out ≡ true → out ≡ Undefined
-undefined_is Undefined e = refl
-undefined_is Null e = absurd (cc)
-undefined_is (Place text) e = absurd (cc)
-undefined_is Bare e = absurd (cc)
-undefined_is Stopped e = absurd (cc)
-undefined_is InvalidTarget e = absurd (cc)
-undefined_is InvalidSpecifier e = absurd (cc)
-undefined_is InvalidConfig e = absurd (cc)
 
 behind_nothing : (out : Outcome) → out ≡ last_of Undefined out
 behind_nothing Undefined = refl
@@ -84,6 +78,20 @@ a_full_list : (rules : Rules) (values : List Value) (asked : List Call) (out : O
 a_full_list rules [] asked out some r = absurd (some refl)
 a_full_list rules (v ∷ values) asked out some r = list_target (json_of v) (items_of values) asked out r
 
+-- ---- a value by its kind
+
+pub text_value : (rules : Rules) (v : Value) (text : List ℕ) → v ≡ value.Text text → (asked : List Call) (out : Outcome) → ResolvesText rules text asked out → Resolves rules (json_of v) asked out
+text_value rules v text e asked out r = subst (λ j. Resolves rules j asked out) (sym (ap json_of e ∙ json_of_text text)) (text_target text asked out r)
+
+pub list_value : (rules : Rules) (v : Value) (items : code.Items) → v ≡ value.List items → length (values_of items) ≢ 0 → (asked : List Call) (out : Outcome) → ResolvesItems rules (items_of (values_of items)) asked out → Resolves rules (json_of v) asked out
+list_value rules v items e some asked out r = subst (λ j. Resolves rules j asked out) (sym (ap json_of e ∙ json_of_list items)) (a_full_list rules (values_of items) asked out some r)
+
+pub object_value : (rules : Rules) (v : Value) (members : code_members.Members) → v ≡ value.Object members → has_index_key (members_of (pairs_of members)) ≡ false → (asked : List Call) (out : Outcome) → ResolvesMembers rules (members_of (pairs_of members)) asked out → Resolves rules (json_of v) asked out
+object_value rules v members e none asked out r =
+    subst (λ j. Resolves rules j asked out) (sym (ap json_of e ∙ json_of_object members)) (object_target (members_of (pairs_of members)) asked out none r)
+
+-- ---- calls
+
 module _ {B : Type 0} (gives : B → List ℕ → BareAnswer → B → Type 0) where
   calls_join : (a b c : B) (xs ys : List Call) → Calls gives a xs b → Calls gives b ys c → Calls gives a (xs ++ ys) c
   calls_join a b c [] ys p q = subst (λ m. Calls gives m ys c) p q
@@ -112,6 +120,137 @@ module _ {B : Type 0} (gives : B → List ℕ → BareAnswer → B → Type 0) w
 
   ends : {Whole Rest : List Call → Outcome → Type 0} {shape : Outcome → Outcome} (old middle now : B) (out : Outcome) → Completes Whole Rest shape old middle → Asks gives Rest middle now out → Asks gives Whole old now (shape out)
   ends old middle now out c a = record { asked = c.asked ++ a.asked; calls = calls_join old middle now c.asked a.asked c.calls a.calls; is = c.completes a.asked out a.is }
+
+  chosen : (rules : Rules) (target : Json) (old now : B) (out : Outcome) → Asks gives (Resolves rules target) old now out → Chooses gives rules target old now out
+  chosen rules target old now out a =
+      record {
+        asked = a.asked;
+        calls = a.calls;
+        resolves = a.is;
+        under = λ answers agrees. record { asked = a.asked; agrees = agrees; resolves = a.is };
+        place = places_in_package rules target a.asked out a.is;
+      }
+
+  module _ (fails : B → List ℕ → B → Type 0) where
+    pub if_chosen : {E : Type 0} (rules : Rules) (target : Json) (old now : B) (found : Result Outcome E) → Comes gives fails (Resolves rules target) old now found → IfOk found (Chooses gives rules target old now)
+    if_chosen rules target old now (Ok out) a = chosen rules target old now out a
+    if_chosen rules target old now (Err fault) b = tt
+
+    pub if_begun : {E : Type 0} (Is : List Call → Outcome → Type 0) (old now : B) (found : Result Outcome E) → Comes gives fails Is old now found → OnErr found (Begins gives fails Is old now)
+    if_begun Is old now (Ok out) a = tt
+    if_begun Is old now (Err fault) b = b
+
+    -- what `?` hands on
+    pub comes_err : {E : Type 0} (Q : E → Type 0) (Is : List Call → Outcome → Type 0) (old now : B) (found : Result Outcome E) → IsErrAnd found Q → Begins gives fails Is old now → Comes gives fails Is old now found
+    comes_err Q Is old now (Ok out) is b = absurd is
+    comes_err Q Is old now (Err fault) is b = b
+
+    pub comes_as : {E : Type 0} (Is Other : List Call → Outcome → Type 0) (old now : B) (found : Result Outcome E) → ((asked : List Call) (out : Outcome) → Is asked out → Other asked out) → Comes gives fails Is old now found → Comes gives fails Other old now found
+    comes_as Is Other old now (Ok out) turn a = asks_as old now out (λ asked is. turn asked out is) a
+    comes_as Is Other old now (Err fault) turn b =
+        record { asked = b.asked; middle = b.middle; calls = b.calls; more = b.more; out = b.out; is = turn (b.asked ++ b.more) b.out b.is; left = b.left }
+
+    -- ---- memory is wanted
+
+    untouched : (middle now : B) (more : List Call) → now ≡ middle → IsLeft fails middle more now
+    untouched middle now [] same = same
+    untouched middle now (call ∷ more) same = inl same
+
+    pub unasked : {Is : List Call → Outcome → Type 0} (old now : B) (more : List Call) (out : Outcome) → now ≡ old → Is more out → Begins gives fails Is old now
+    unasked old now more out same is = record { asked = []; middle = old; calls = refl; more = more; out = out; is = is; left = untouched old now more same }
+
+    left_longer : (middle now : B) (more others : List Call) → IsLeft fails middle more now → IsLeft fails middle (more ++ others) now
+    left_longer middle now [] others same = untouched middle now others same
+    left_longer middle now (call ∷ more) others left = left
+
+    -- more texts come behind those that are missing
+    begins_with : {Is Other : List Call → Outcome → Type 0} (old now : B) → ((asked : List Call) (out : Outcome) → Is asked out → (others : List Call) × (found : Outcome) × Other (asked ++ others) found) → Begins gives fails Is old now → Begins gives fails Other old now
+    begins_with {Other = Other} old now turn b =
+        let further = turn (b.asked ++ b.more) b.out b.is in
+        record {
+          asked = b.asked;
+          middle = b.middle;
+          calls = b.calls;
+          more = b.more ++ further.0;
+          out = further.1;
+          is = subst (λ xs. Other xs further.1) (append_assoc b.asked b.more further.0) further.2;
+          left = left_longer b.middle now b.more further.0 b.left;
+        }
+
+    -- and fewer before those that were asked for
+    begins_behind : {Whole Rest : List Call → Outcome → Type 0} {shape : Outcome → Outcome} (old middle now : B) → Completes Whole Rest shape old middle → Begins gives fails Rest middle now → Begins gives fails Whole old now
+    begins_behind {Whole = Whole} {shape = shape} old middle now c b =
+        record {
+          asked = c.asked ++ b.asked;
+          middle = b.middle;
+          calls = calls_join old middle b.middle c.asked b.asked c.calls b.calls;
+          more = b.more;
+          out = shape b.out;
+          is = subst (λ xs. Whole xs (shape b.out)) (sym (append_assoc c.asked b.asked b.more)) (c.completes (b.asked ++ b.more) b.out b.is);
+          left = b.left;
+        }
+
+    module _ (rules : Rules) where
+      -- what answers the texts that weren't asked for counts for nothing
+      stops : List ℕ → BareAnswer
+      stops text = Stop
+
+      item_goes_on : (item : Json) (more : Items) (asked : List Call) (out : Outcome) → Resolves rules item asked out → (others : List Call) × (found : Outcome) × ResolvesItems rules (an_item item more) (asked ++ others) found
+      item_goes_on item more asked out r =
+          elim (cases_Bool (is_passed out)) [
+            | inl p ↦ (let f = found_items stops rules more in (f.asked, last_of out f.out, passed item more asked f.asked out f.out r p (sound_items stops rules more)))
+            | inr d ↦ ([], out, subst (λ xs. ResolvesItems rules (an_item item more) xs out) (sym (append-nil asked)) (decided item more asked out r d))
+          ]
+
+      tried_goes_on : (key : List ℕ) (value : Json) (more : Members) (asked : List Call) (out : Outcome) → is_tried rules.conditions key ≡ true → Resolves rules value asked out → (others : List Call) × (found : Outcome) × ResolvesMembers rules (a_member key value more) (asked ++ others) found
+      tried_goes_on key value more asked out t r =
+          elim (cases_Bool (is_undefined out)) [
+            | inl u ↦ (let f = found_members stops rules more in (f.asked, f.out, undefined key value more asked f.asked f.out t (subst (λ o. Resolves rules value asked o) (undefined_from out u) r) (sound_members stops rules more)))
+            | inr d ↦ ([], out, subst (λ xs. ResolvesMembers rules (a_member key value more) xs out) (sym (append-nil asked)) (defined key value more asked out t r d))
+          ]
+
+      member_goes_on : (key : List ℕ) (value : Json) (more : Members) (asked : List Call) (out : Outcome) → Tries rules key value asked out → (others : List Call) × (found : Outcome) × ResolvesMembers rules (a_member key value more) (asked ++ others) found
+      member_goes_on key value more asked out (inl skipped) =
+          let f = found_members stops rules more in
+          (f.asked, f.out, subst (λ xs. ResolvesMembers rules (a_member key value more) (xs ++ f.asked) f.out) (sym skipped.1) (untried key value more f.asked f.out skipped.0 (sound_members stops rules more)))
+      member_goes_on key value more asked out (inr tried) = tried_goes_on key value more asked out tried.0 tried.1
+
+      pub item_begun : (values rest more : List Value) (v : Value) (last : Outcome) (old middle now : B) → Completes (ResolvesItems rules (items_of values)) (ResolvesItems rules (items_of rest)) (last_of last) old middle → rest ≡ v ∷ more → Begins gives fails (Resolves rules (json_of v)) middle now → Begins gives fails (ResolvesItems rules (items_of values)) old now
+      item_begun values rest more v last old middle now c split b =
+          begins_behind old middle now c
+          (begins_with middle now
+          (λ asked out r. subst (λ vs. (others : List Call) × (found : Outcome) × ResolvesItems rules (items_of vs) (asked ++ others) found) (sym split) (item_goes_on (json_of v) (items_of more) asked out r)) b)
+
+      pub member_begun : (pairs rest more : List (List ℕ × Value)) (key : List ℕ) (v : Value) (old middle now : B) → Completes (ResolvesMembers rules (members_of pairs)) (ResolvesMembers rules (members_of rest)) (λ out. out) old middle → rest ≡ (key, v) ∷ more → Begins gives fails (Tries rules key (json_of v)) middle now → Begins gives fails (ResolvesMembers rules (members_of pairs)) old now
+      member_begun pairs rest more key v old middle now c split b =
+          begins_behind old middle now c
+          (begins_with middle now
+          (λ asked out r. subst (λ ps. (others : List Call) × (found : Outcome) × ResolvesMembers rules (members_of ps) (asked ++ others) found) (sym split) (member_goes_on key (json_of v) (members_of more) asked out r)) b)
+
+      pub text_begun : (target : List ℕ) (old : B) → Begins gives fails (ResolvesText rules target) old old
+      text_begun target old = let f = found_text stops rules target in unasked old old f.asked f.out refl (text_found stops rules target)
+
+      pub own_comes : {E : Type 0} (target : List ℕ) (old : B) (found : Result Outcome E) → begins target (codes "./") ≡ true → IfOk found (λ out. out ≡ own_outcome rules.pattern_match target) → Comes gives fails (ResolvesText rules target) old old found
+      own_comes target old (Ok out) e is = silent old old out refl (subst (λ o. ResolvesText rules target [] o) (sym is) (own_place e))
+      own_comes target old (Err fault) e is = text_begun target old
+
+      pub bare_comes : {E : Type 0} (target : List ℕ) (old now : B) (found : Result Outcome E) → begins target (codes "./") ≡ false → names_package rules.is_imports target ≡ true → AsksOne gives fails (with_match rules.pattern_match target) old now found → Comes gives fails (ResolvesText rules target) old now found
+      bare_comes target old now (Ok out) e n called =
+          record {
+            asked = (with_match rules.pattern_match target, called.0) ∷ [];
+            calls = (now, called.1, refl);
+            is = subst (λ o. ResolvesText rules target ((with_match rules.pattern_match target, called.0) ∷ []) o) (sym called.2) (bare called.0 e n);
+          }
+      bare_comes target old now (Err fault) e n left =
+          record {
+            asked = [];
+            middle = old;
+            calls = refl;
+            more = (with_match rules.pattern_match target, Stop) ∷ [];
+            out = bare_outcome Stop;
+            is = bare Stop e n;
+            left = left;
+          }
 
   module _ (rules : Rules) where
     -- ---- the items of a list
@@ -147,7 +286,7 @@ module _ {B : Type 0} (gives : B → List ℕ → BareAnswer → B → Type 0) w
     member_step key v more asked out tries none others found r =
         elim tries [
           | inl skipped ↦ subst (λ xs. ResolvesMembers rules (members_of ((key, v) ∷ more)) (xs ++ others) found) (sym skipped.1) (untried key (json_of v) (members_of more) others found skipped.0 r)
-          | inr tried ↦ undefined key (json_of v) (members_of more) asked others found tried.0 (subst (λ o. Resolves rules (json_of v) asked o) (undefined_is out none) tried.1) r
+          | inr tried ↦ undefined key (json_of v) (members_of more) asked others found tried.0 (subst (λ o. Resolves rules (json_of v) asked o) (undefined_from out none) tried.1) r
         ]
 
     pub member_undefined : (pairs rest more : List (List ℕ × Value)) (key : List ℕ) (v : Value) (out : Outcome) (old middle now : B) → Completes (ResolvesMembers rules (members_of pairs)) (ResolvesMembers rules (members_of rest)) (λ o. o) old middle → rest ≡ (key, v) ∷ more → Asks gives (Tries rules key (json_of v)) middle now out → is_undefined out ≡ true → Completes (ResolvesMembers rules (members_of pairs)) (ResolvesMembers rules (members_of more)) (λ o. o) old now
@@ -167,22 +306,10 @@ module _ {B : Type 0} (gives : B → List ℕ → BareAnswer → B → Type 0) w
 
     -- ---- a string
 
-    pub own_chosen : {E : Type 0} (target : List ℕ) (old : B) (found : Result Outcome E) → begins target (codes "./") ≡ true → IfOk found (λ out. out ≡ own_outcome rules.pattern_match target) → IfOk found (Asks gives (ResolvesText rules target) old old)
-    own_chosen target old (Ok out) e is = silent old old out refl (subst (λ o. ResolvesText rules target [] o) (sym is) (own_place e))
-    own_chosen target old (Err f) e is = tt
-
     pub none_chosen : (target : List ℕ) (old : B) → begins target (codes "./") ≡ false → names_package rules.is_imports target ≡ false → Asks gives (ResolvesText rules target) old old InvalidTarget
     none_chosen target old e n = silent old old InvalidTarget refl (no_target e n)
 
-    pub bare_chosen : (target text : List ℕ) (answer : BareAnswer) (old now : B) (out : Outcome) → begins target (codes "./") ≡ false → names_package rules.is_imports target ≡ true → text ≡ with_match rules.pattern_match target → gives old text answer now → out ≡ bare_outcome answer → Asks gives (ResolvesText rules target) old now out
-    bare_chosen target text answer old now out e n is called shows =
-        record {
-          asked = (text, answer) ∷ [];
-          calls = (now, called, refl);
-          is = subst (λ o. ResolvesText rules target ((text, answer) ∷ []) o) (sym shows) (subst (λ t. ResolvesText rules target ((t, answer) ∷ []) (bare_outcome answer)) (sym is) (bare answer e n));
-        }
-
-    -- ---- a value by its kind
+    -- ---- a value that asks for nothing
 
     pub null_chosen : (v : Value) (old now : B) → v ≡ value.Null → now ≡ old → Asks gives (Resolves rules (json_of v)) old now Null
     null_chosen v old now e same = silent old now Null same (subst (λ j. Resolves rules j [] Null) (sym (ap json_of e ∙ json_of_null)) null_target)
@@ -194,22 +321,10 @@ module _ {B : Type 0} (gives : B → List ℕ → BareAnswer → B → Type 0) w
     number_chosen v number old now e same =
         silent old now InvalidTarget same (subst (λ j. Resolves rules j [] InvalidTarget) (sym (ap json_of e ∙ json_of_number number)) (number_target number))
 
-    pub text_chosen : (v : Value) (text : List ℕ) (old now : B) (out : Outcome) → v ≡ value.Text text → Asks gives (ResolvesText rules text) old now out → Asks gives (Resolves rules (json_of v)) old now out
-    text_chosen v text old now out e a =
-        asks_as old now out (λ asked r. subst (λ j. Resolves rules j asked out) (sym (ap json_of e ∙ json_of_text text)) (text_target text asked out r)) a
-
     pub empty_chosen : (v : Value) (items : code.Items) (old now : B) → v ≡ value.List items → length (values_of items) ≡ 0 → now ≡ old → Asks gives (Resolves rules (json_of v)) old now Null
     empty_chosen v items old now e none same =
         silent old now Null same (subst (λ j. Resolves rules j [] Null) (sym (ap json_of e ∙ (json_of_list items ∙ ap (λ vs. a_list (items_of vs)) (nothing (values_of items) none)))) empty_list)
 
-    pub list_chosen : (v : Value) (items : code.Items) (old now : B) (out : Outcome) → v ≡ value.List items → length (values_of items) ≢ 0 → Asks gives (ResolvesItems rules (items_of (values_of items))) old now out → Asks gives (Resolves rules (json_of v)) old now out
-    list_chosen v items old now out e some a =
-        asks_as old now out (λ asked r. subst (λ j. Resolves rules j asked out) (sym (ap json_of e ∙ json_of_list items)) (a_full_list rules (values_of items) asked out some r)) a
-
     pub index_chosen : (v : Value) (members : code_members.Members) (old now : B) → v ≡ value.Object members → has_index_key (members_of (pairs_of members)) ≡ true → now ≡ old → Asks gives (Resolves rules (json_of v)) old now InvalidConfig
     index_chosen v members old now e has same =
         silent old now InvalidConfig same (subst (λ j. Resolves rules j [] InvalidConfig) (sym (ap json_of e ∙ json_of_object members)) (index_key (members_of (pairs_of members)) has))
-
-    pub object_chosen : (v : Value) (members : code_members.Members) (old now : B) (out : Outcome) → v ≡ value.Object members → has_index_key (members_of (pairs_of members)) ≡ false → Asks gives (ResolvesMembers rules (members_of (pairs_of members))) old now out → Asks gives (Resolves rules (json_of v)) old now out
-    object_chosen v members old now out e none a =
-        asks_as old now out (λ asked r. subst (λ j. Resolves rules j asked out) (sym (ap json_of e ∙ json_of_object members)) (object_target (members_of (pairs_of members)) asked out none r)) a

@@ -1,5 +1,5 @@
 -- How large a value is: what nests in it is smaller.
-use Rattle.std.proofs.Common.{◌≡◌, ◌≤◌, ◌<◌, ◌+◌, ℕ, zero, suc, List, [], ◌∷◌, drop, ap, subst, sym, arith}
+use Rattle.std.proofs.Common.{◌≡◌, ◌≤◌, ◌+◌, ℕ, zero, suc, List, [], ◌∷◌, drop, ap, arith}
 use Rattle.json_spec.specs.Value.{Json, a_null, a_bool, a_number, a_text, a_list, an_object, Items, no_items, an_item, Members, no_members, a_member}
 use Rattle.ordered_json.specs.declared.value.Value.{Value}
 use Rattle.ordered_json.specs.Shown.{json_of, items_of, members_of}

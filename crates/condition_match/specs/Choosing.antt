@@ -1,12 +1,16 @@
 -- A target that is judged with an object that answers bare texts.
 --     Asks gives Is old new out      the object was asked, one text after another, and with these calls the outcome is out
-use Rattle.std.specs.Prelude.{◌≡◌, ℕ, Bool, true, false, List, [], ◌∷◌, Option, option_map, ◌⊎◌}
+--     Begins gives fails Is old new      memory was wanted on the way: the object was asked for the first of such texts
+--     Comes gives fails Is old new result      the one or the other
+--     Chooses gives rules target old new out      the calls and the outcome of a whole target
+use Rattle.std.specs.Prelude.{◌≡◌, ◌++◌, ℕ, Bool, true, false, List, [], ◌∷◌, Option, Result, Ok, Err, option_map, ◌⊎◌}
 use Rattle.node_spec.specs.declared.BareAnswer.{BareAnswer}
 use Rattle.node_spec.specs.declared.Outcome.{Outcome}
 use Rattle.node_spec.specs.declared.Outcome.TheVariants.{Undefined}
 use Rattle.json_spec.specs.Value.{Json}
 use Rattle.node_spec.specs.PackageTargets as targets
-use Rattle.node_spec.specs.PackageTargets.{Call, is_tried, Resolves}
+use Rattle.node_spec.specs.PackageTargets.{Call, Answers, Agrees, bare_outcome, is_tried, Resolves, ResolvesUnder}
+use Rattle.node_spec.specs.TargetLaws.{IsInPackage}
 use Rattle.condition_match.specs.declared.choice.Rules.{Rules}
 
 -- the object after these calls, one after another
@@ -18,6 +22,38 @@ pub record Asks {B : Type 0} (gives : B → List ℕ → BareAnswer → B → Ty
   pub asked : List Call
   pub calls : Calls gives old asked new
   pub is : Is asked out
+
+-- the object as the calls before the next of these left it, or as that next one did, which found no memory
+abbrev pub IsLeft : {B : Type 0} → (B → List ℕ → B → Type 0) → B → List Call → B → Type 0
+IsLeft fails middle [] new = new ≡ middle
+IsLeft fails middle (call ∷ more) new = (new ≡ middle) ⊎ fails middle call.0 new
+
+-- the calls that were made are the first of those by which there is an outcome, and the object is as they left it
+pub record Begins {B : Type 0} (gives : B → List ℕ → BareAnswer → B → Type 0) (fails : B → List ℕ → B → Type 0) (Is : List Call → Outcome → Type 0) (old new : B) : Type 0 where
+  pub asked : List Call
+  pub middle : B
+  pub calls : Calls gives old asked middle
+  pub more : List Call
+  pub out : Outcome
+  pub is : Is (asked ++ more) out
+  pub left : IsLeft fails middle more new
+
+abbrev pub Comes : {B E : Type 0} → (B → List ℕ → BareAnswer → B → Type 0) → (B → List ℕ → B → Type 0) → (List Call → Outcome → Type 0) → B → B → Result Outcome E → Type 0
+Comes gives fails Is old new (Ok out) = Asks gives Is old new out
+Comes gives fails Is old new (Err fault) = Begins gives fails Is old new
+
+-- one call for this text, unless memory was wanted before it
+abbrev pub AsksOne : {B E : Type 0} → (B → List ℕ → BareAnswer → B → Type 0) → (B → List ℕ → B → Type 0) → List ℕ → B → B → Result Outcome E → Type 0
+AsksOne gives fails text old new (Ok out) = (answer : BareAnswer) × gives old text answer new × (out ≡ bare_outcome answer)
+AsksOne gives fails text old new (Err fault) = (new ≡ old) ⊎ fails old text new
+
+-- what a target comes to, by the calls that were made: it is its outcome under every map that agrees with them
+pub record Chooses {B : Type 0} (gives : B → List ℕ → BareAnswer → B → Type 0) (rules : targets.Rules) (target : Json) (old new : B) (out : Outcome) : Type 0 where
+  pub asked : List Call
+  pub calls : Calls gives old asked new
+  pub resolves : Resolves rules target asked out
+  pub under : (answers : Answers) → Agrees answers asked → ResolvesUnder answers rules target out
+  pub place : IsInPackage out
 
 abbrev pub judged_by : List (List ℕ) → Option (List ℕ) → Bool → targets.Rules
 judged_by conditions star imports = record { conditions = conditions; pattern_match = star; is_imports = imports }

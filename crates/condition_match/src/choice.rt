@@ -1,8 +1,8 @@
-ghost use Rattle.std.specs.Prelude.{◌≡◌, ◌<◌, ◌+◌, ◌∷◌, IfOk, drop, length, option_map};
+ghost use Rattle.std.specs.Prelude.{◌≡◌, ◌<◌, ◌+◌, ◌∷◌, IfOk, OnErr, drop, length, option_map};
 ghost use Rattle.node_spec.specs.PackageTargets.{Resolves, ResolvesItems, ResolvesMembers, is_undefined, is_passed, is_tried, last_of};
 ghost use Rattle.ordered_json.specs.Lists.{values_of, pairs_of};
 ghost use Rattle.ordered_json.specs.Shown.{json_of, items_of, members_of};
-ghost use Rattle.condition_match.specs.Choosing.{Asks, Tries, judged_by, rules_of};
+ghost use Rattle.condition_match.specs.Choosing.{Begins, Comes, Chooses, Tries, judged_by, rules_of};
 
 use crate::array_index::has_index_key;
 use crate::bare_target::BareTarget;
@@ -23,7 +23,7 @@ pub struct Rules<'a> {
 
 /// What a target comes to (Node.js, ECMAScript modules: PACKAGE_TARGET_RESOLVE) under these conditions, with a text for
 /// each `*` or none. A target of `imports` may name another package: `bare` is asked for each such text that the rules
-/// reach, in their order, and for no other.
+/// reach, in their order, and for no other. Where memory is wanted on the way, `bare` was asked for the first of them.
 pub fn choose<B: BareTarget>(
     alloc: Global,
     target: &Value,
@@ -32,7 +32,8 @@ pub fn choose<B: BareTarget>(
     imports: bool,
     bare: &mut B,
 ) -> Result<Outcome, Memory>
-    ensures { IfOk result (Asks B.gives (Resolves (judged_by conditions.now (option_map (λ text. text.now) star.entry) imports) (json_of target.now)) bare.old bare.new) }
+    ensures chosen { IfOk result (Chooses B.gives (judged_by conditions.now (option_map (λ text. text.now) star.entry) imports) (json_of target.now) bare.old bare.new) }
+    ensures memory { OnErr result (Begins B.gives B.fails (Resolves (judged_by conditions.now (option_map (λ text. text.now) star.entry) imports) (json_of target.now)) bare.old bare.new) }
 {
     let rules = Rules {
         conditions,
@@ -49,7 +50,7 @@ fn choose_value<B: BareTarget>(
     rules: &Rules<'_>,
     bare: &mut B,
 ) -> Result<Outcome, Memory>
-    ensures { IfOk result (Asks B.gives (Resolves (rules_of rules.now) (json_of target.now)) bare.old bare.new) }
+    ensures { Comes B.gives B.fails (Resolves (rules_of rules.now) (json_of target.now)) bare.old bare.new result }
 {
     match target {
         Value::Null => Ok(Outcome::Null),
@@ -80,7 +81,7 @@ fn choose_item<B: BareTarget>(
     rules: &Rules<'_>,
     bare: &mut B,
 ) -> Result<Outcome, Memory>
-    ensures { IfOk result (Asks B.gives (ResolvesItems (rules_of rules.now) (items_of (values_of items.now))) bare.old bare.new) }
+    ensures { Comes B.gives B.fails (ResolvesItems (rules_of rules.now) (items_of (values_of items.now))) bare.old bare.new result }
 {
     let mut last = Outcome::Undefined;
     for index in 0..items.len() {
@@ -101,7 +102,7 @@ fn choose_member<B: BareTarget>(
     rules: &Rules<'_>,
     bare: &mut B,
 ) -> Result<Outcome, Memory>
-    ensures { IfOk result (Asks B.gives (ResolvesMembers (rules_of rules.now) (members_of (pairs_of members.now))) bare.old bare.new) }
+    ensures { Comes B.gives B.fails (ResolvesMembers (rules_of rules.now) (members_of (pairs_of members.now))) bare.old bare.new result }
 {
     for index in 0..members.len() {
         let (key, value) = member_at(members, index);
@@ -122,7 +123,7 @@ fn try_member<B: BareTarget>(
     rules: &Rules<'_>,
     bare: &mut B,
 ) -> Result<Outcome, Memory>
-    ensures { IfOk result (Asks B.gives (Tries (rules_of rules.now) key.now (json_of value.now)) bare.old bare.new) }
+    ensures { Comes B.gives B.fails (Tries (rules_of rules.now) key.now (json_of value.now)) bare.old bare.new result }
 {
     if is_tried(rules.conditions, key.as_str()) {
         choose_value(alloc, value, rules, bare)

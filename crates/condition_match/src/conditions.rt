@@ -48,6 +48,7 @@ impl Conditions {
     /// The conditions that a text names, between commas; the empty text names none.
     pub fn parse(alloc: Global, text: &str) -> Result<Conditions, ConditionsFault>
         ensures names { IfOk result (λ conditions. conditions ≡ names_in text.now) }
+        ensures allowed { IfOk result AreConditions }
         ensures bad { IsErrOf result ConditionsFault.BadConditions → AreConditions (names_in text.now) → ⊥ }
     {
         let mut names = Listed::new(alloc);
@@ -88,7 +89,7 @@ impl Conditions {
     }
 
     /// Whether this name is among them.
-    pub fn holds(&self, name: &str) -> bool
+    pub(crate) fn holds(&self, name: &str) -> bool
         ensures { result ≡ list_any (bytes_eq name.now) self.now }
     {
         holds(&self.names, name)

@@ -9,6 +9,8 @@ mod conditions;
 mod cuts;
 mod segments;
 mod strings;
+#[cfg(test)]
+mod tests;
 
 pub use bare_target::BareTarget;
 pub use choice::choose;

@@ -1,9 +1,9 @@
 //! Targets that are strings.
-ghost use Rattle.std.specs.Prelude.{◌≡◌, IfOk, option_map, codes};
+ghost use Rattle.std.specs.Prelude.{◌≡◌, IfOk, MatchOption, option_map};
 ghost use Rattle.url_spec.specs.Specifiers.{begins};
 ghost use Rattle.node_spec.specs.PackageTargets.{own_outcome, names_package, with_match, bare_outcome, ResolvesText};
 ghost use Rattle.condition_match.specs.Segments.{replaced};
-ghost use Rattle.condition_match.specs.Choosing.{Asks, rules_of};
+ghost use Rattle.condition_match.specs.Choosing.{AsksOne, Comes, rules_of};
 
 use crate::bare_target::BareTarget;
 use crate::choice::Rules;
@@ -21,7 +21,7 @@ pub fn choose_text<B: BareTarget>(
     rules: &Rules<'_>,
     bare: &mut B,
 ) -> Result<Outcome, Memory>
-    ensures { IfOk result (Asks B.gives (ResolvesText (rules_of rules.now) target.now) bare.old bare.new) }
+    ensures { Comes B.gives B.fails (ResolvesText (rules_of rules.now) target.now) bare.old bare.new result }
 {
     if begins(target, "./") {
         return own_outcome(alloc, target, rules.star);
@@ -29,9 +29,45 @@ pub fn choose_text<B: BareTarget>(
     if !names_package(alloc, target, rules.imports)? {
         return Ok(Outcome::InvalidTarget);
     }
-    let text = with_match(alloc, target, rules.star)?;
-    let answer = bare.bare(alloc, text.as_str())?;
+    choose_bare(alloc, target, rules.star, bare)
+}
+
+// What a bare text comes to. It is copied only where a `*` in it is replaced.
+fn choose_bare<B: BareTarget>(
+    alloc: Global,
+    target: &str,
+    star: Option<&str>,
+    bare: &mut B,
+) -> Result<Outcome, Memory>
+    ensures { AsksOne B.gives B.fails (with_match (option_map (λ part. part.now) star.entry) target.now) bare.old bare.new result }
+{
+    match replacing(target, star) {
+        None => ask(alloc, target, bare),
+        Some(part) => {
+            let text = with_part(alloc, target, part)?;
+            ask(alloc, text.as_str(), bare)
+        }
+    }
+}
+
+fn ask<B: BareTarget>(alloc: Global, text: &str, bare: &mut B) -> Result<Outcome, Memory>
+    ensures { AsksOne B.gives B.fails text.now bare.old bare.new result }
+{
+    let answer = bare.bare(alloc, text)?;
     Ok(bare_outcome(answer))
+}
+
+// What replaces each `*` of a text, where there is both.
+fn replacing<'a>(target: &str, star: Option<&'a str>) -> Option<&'a str>
+    ensures { MatchOption result (with_match (option_map (λ part. part.now) star.entry) target.now ≡ target.now) (λ part. replaced part.now target.now ≡ with_match (option_map (λ part. part.now) star.entry) target.now) }
+{
+    match star {
+        None => None,
+        Some(part) => match cut_once(target, '*') {
+            None => None,
+            Some(_) => Some(part),
+        },
+    }
 }
 
 #[tactic(auto, using(std::proofs::lemmas::Str::Pattern::starts_text))]

@@ -4,6 +4,8 @@ pub mod Records
 pub mod PackageTargets
 pub mod TargetLaws
 pub mod TargetsUnder
+pub mod ConditionSets
+pub mod AnswersInTurn
 pub mod TargetExamples
 pub mod Laws
 pub mod Some
@@ -14,3 +16,4 @@ pub mod PatternChoice
 pub mod RecordLaws
 pub mod Examples
 pub mod RecordExamples
+pub mod PatternExamples

@@ -60,7 +60,7 @@ abbrev mutual
 
 -- ---- it is what the target comes to
 
-undefined_from : (out : Outcome) → is_undefined out ≡ true → out ≡ Undefined
+pub undefined_from : (out : Outcome) → is_undefined out ≡ true → out ≡ Undefined
 undefined_from Undefined e = refl
 undefined_from Null e = absurd (cc)
 undefined_from (Place text) e = absurd (cc)
@@ -70,7 +70,7 @@ undefined_from InvalidTarget e = absurd (cc)
 undefined_from InvalidSpecifier e = absurd (cc)
 undefined_from InvalidConfig e = absurd (cc)
 
-text_found : (answer : List ℕ → BareAnswer) (rules : Rules) (target : List ℕ) → ResolvesText rules target (found_text answer rules target).asked (found_text answer rules target).out
+pub text_found : (answer : List ℕ → BareAnswer) (rules : Rules) (target : List ℕ) → ResolvesText rules target (found_text answer rules target).asked (found_text answer rules target).out
 text_found answer rules target =
     cond_both (begins target (codes "./")) _ _ (λ (f : Found). ResolvesText rules target f.asked f.out) (λ e. own_place e)
     (λ e. cond_both (names_package rules.is_imports target) _ _ (λ (f : Found). ResolvesText rules target f.asked f.out) (λ n. bare (answer (with_match rules.pattern_match target)) e n) (λ n. no_target e n))

@@ -2,16 +2,19 @@
 //! comes to: definitions and their laws.
 #![tactic(auto)]
 
+ghost use Rattle.node_spec.specs.AnswersInTurn.{SomeOutcomeInTurn};
+ghost use Rattle.node_spec.specs.ConditionSets.{ConditionsAreASet};
 ghost use Rattle.node_spec.specs.Examples.{WorkedExamples};
 ghost use Rattle.node_spec.specs.Laws.{OneAnswer};
 ghost use Rattle.node_spec.specs.PatternChoice.{OneChoice, SomeChoice};
+ghost use Rattle.node_spec.specs.PatternExamples.{PatternExamples};
 ghost use Rattle.node_spec.specs.PatternOrder.{KeysAreInOrder};
 ghost use Rattle.node_spec.specs.PatternParts.{PatternMatchStands};
 ghost use Rattle.node_spec.specs.RecordExamples.{RecordExamples};
 ghost use Rattle.node_spec.specs.RecordLaws.{OneRecord, RecordNamesAreDistinct, SomeRecord};
 ghost use Rattle.node_spec.specs.Some.{SomeAnswer};
 ghost use Rattle.node_spec.specs.TargetExamples.{TargetExamples};
-ghost use Rattle.node_spec.specs.TargetLaws.{AnswersDetermine, OneOutcome, OneUnder};
+ghost use Rattle.node_spec.specs.TargetLaws.{AnswersDetermine, OneOutcome, OneUnder, PlacesInPackage};
 ghost use Rattle.node_spec.specs.TargetsUnder.{SomeOutcome};
 
 use primitives::Text;
@@ -50,31 +53,31 @@ pub enum PackageKind {
     Unstated,
 }
 
-/// What a bare text that a target names comes to.
+/// What the resolution of a bare text that a target names comes to.
 #[derive(Clone, Copy, Debug, PartialEq, Eq)]
 pub enum BareAnswer {
-    /// A module.
+    /// A URL; what stands there isn't judged.
     Found,
-    /// The target isn't well formed, or leaves its package.
+    /// None: a target that it comes to isn't well formed, or leaves its package.
     InvalidTarget,
-    /// It is refused for another reason, or isn't found.
+    /// None, for any other reason.
     Stop,
 }
 
 /// What a target comes to.
 #[derive(Debug, Drop)]
 pub enum Outcome {
-    /// No condition of it holds.
+    /// Nothing: no key of an object is tried, or those that are come to nothing.
     Undefined,
-    /// Null, by which a package keeps a subpath to itself.
+    /// Null, by which a package keeps a subpath to itself; also an empty list.
     Null,
-    /// A place in the package, as a text that begins with `./`.
+    /// A text that begins with `./`, to be joined to the URL of the package's folder. What stands there isn't judged.
     Place(Text),
-    /// What a bare text names.
+    /// The URL of the bare text that was asked for last.
     Bare,
-    /// A bare text stopped.
+    /// The bare text that was asked for last is refused, by `Stop`.
     Stopped,
-    /// It isn't well formed, or leaves the package.
+    /// A target, or one that a bare text came to, isn't well formed or leaves its package.
     InvalidTarget,
     /// What stands for `*` has a segment that isn't allowed.
     InvalidSpecifier,
@@ -127,9 +130,27 @@ pub fn one_under()
     ensures { OneUnder }
 {}
 
+/// A target comes to no place but one that begins with `./`.
+#[tactic(auto, using(crate::specs::TargetLaws::places_in_package))]
+pub fn places_in_package()
+    ensures { PlacesInPackage }
+{}
+
 /// Where every bare text has an answer, each target comes to an outcome.
 pub fn some_outcome()
     ensures { SomeOutcome }
+{}
+
+/// Each target comes to an outcome also where one text is answered differently at two places.
+#[tactic(auto, using(crate::specs::AnswersInTurn::some_outcome_in_turn))]
+pub fn some_outcome_in_turn()
+    ensures { SomeOutcomeInTurn }
+{}
+
+/// Conditions are a set: neither their order nor how often one is named changes an outcome or the texts asked for.
+#[tactic(auto, using(crate::specs::ConditionSets::conditions_are_a_set))]
+pub fn conditions_are_a_set()
+    ensures { ConditionsAreASet }
 {}
 
 /// Worked examples of targets.
@@ -169,4 +190,10 @@ pub fn one_choice()
 /// Among a set of keys there is a choice, unless none of them matches.
 pub fn some_choice()
     ensures { SomeChoice }
+{}
+
+/// Worked examples of keys that are chosen.
+#[tactic(auto, using(crate::specs::PatternExamples::pattern_examples))]
+pub fn pattern_examples()
+    ensures { PatternExamples }
 {}

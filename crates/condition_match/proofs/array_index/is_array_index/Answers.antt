@@ -1,4 +1,4 @@
-use Rattle.std.proofs.Common.{◌+◌, drop, get_or, sym, ◌∙◌, arith}
+use Rattle.std.proofs.Common.{sym, ◌∙◌, arith}
 use Rattle.std.proofs.lemmas.List.{drop_more, drop_all}
 use Rattle.condition_match.proofs.IndexKeys.{no_index, not_a_digit, too_great, next_digit, an_index}
 use Rattle.condition_match.proofs.array_index.is_array_index.Goals as goal

@@ -3,10 +3,9 @@ use Rattle.std.proofs.lemmas.Bool.{eqb-true, eqb-false}
 use Rattle.std.proofs.lemmas.List.{drop_all}
 use Rattle.node_spec.specs.PackageTargets.{ResolvesText}
 use Rattle.ordered_json.specs.Lists.{values_of, pairs_of}
-use Rattle.ordered_json.specs.Shown.{json_of, items_of, members_of}
-use Rattle.condition_match.specs.Choosing.{Asks, rules_of}
-use Rattle.condition_match.proofs.Sizes.{size, size_items, size_members, item_size, member_size}
-use Rattle.condition_match.proofs.AskLemmas.{if_ok, item_passed, item_decided, items_end, member_undefined, member_defined, members_end, null_chosen, bool_chosen, number_chosen, text_chosen, empty_chosen, list_chosen, index_chosen, object_chosen}
+use Rattle.condition_match.specs.Choosing.{rules_of}
+use Rattle.condition_match.proofs.Sizes.{item_size, member_size}
+use Rattle.condition_match.proofs.AskLemmas.{comes_err, comes_as, text_value, list_value, object_value, item_passed, item_decided, items_end, item_begun, member_undefined, member_defined, members_end, member_begun, null_chosen, bool_chosen, number_chosen, empty_chosen, index_chosen}
 use Rattle.condition_match.proofs.choice.+choose.Goals as goal
 
 pub choose_item-choose_value-requires : goal.choose_item-choose_value-requires
@@ -52,8 +51,8 @@ choose_value-returns-in-Number g t c = number_chosen g.B.BareTarget.gives (rules
 
 pub choose_value-returns-in-Text : goal.choose_value-returns-in-Text
 choose_value-returns-in-Text g t c =
-    if_ok c.choose_text.result
-    (λ out a. text_chosen g.B.BareTarget.gives (rules_of c.args.rules.now) c.args.target.now c.in-Text.text c.args.bare.now c.choose_text.new.bare out c.in-Text.is (subst (λ text. Asks g.B.BareTarget.gives (ResolvesText (rules_of c.args.rules.now) text) c.args.bare.now c.choose_text.new.bare out) c.as_str.ensures a))
+    comes_as g.B.BareTarget.gives g.B.BareTarget.fails _ _ c.args.bare.now c.choose_text.new.bare c.choose_text.result
+    (λ asked out r. text_value (rules_of c.args.rules.now) c.args.target.now c.in-Text.text c.in-Text.is asked out (subst (λ text. ResolvesText (rules_of c.args.rules.now) text asked out) c.as_str.ensures r))
     c.choose_text.ensures
 
 pub choose_value-returns-then-is_empty : goal.choose_value-returns-then-is_empty
@@ -62,8 +61,8 @@ choose_value-returns-then-is_empty g t c =
 
 pub choose_value-returns-else-is_empty : goal.choose_value-returns-else-is_empty
 choose_value-returns-else-is_empty g t c =
-    if_ok c.choose_item.result
-    (λ out a. list_chosen g.B.BareTarget.gives (rules_of c.args.rules.now) c.args.target.now c.in-List.items c.args.bare.now c.choose_item.new.bare out c.in-List.is (eqb-false _ 0 (sym c.is_empty.ensures ∙ c.if-is_empty.false)) a)
+    comes_as g.B.BareTarget.gives g.B.BareTarget.fails _ _ c.args.bare.now c.choose_item.new.bare c.choose_item.result
+    (λ asked out r. list_value (rules_of c.args.rules.now) c.args.target.now c.in-List.items c.in-List.is (eqb-false _ 0 (sym c.is_empty.ensures ∙ c.if-is_empty.false)) asked out r)
     c.choose_item.ensures
 
 pub choose_value-returns-then-has_index_key : goal.choose_value-returns-then-has_index_key
@@ -72,6 +71,16 @@ choose_value-returns-then-has_index_key g t c =
 
 pub choose_value-returns-else-has_index_key : goal.choose_value-returns-else-has_index_key
 choose_value-returns-else-has_index_key g t c =
-    if_ok c.choose_member.result
-    (λ out a. object_chosen g.B.BareTarget.gives (rules_of c.args.rules.now) c.args.target.now c.in-Object.members c.args.bare.now c.choose_member.new.bare out c.in-Object.is (sym c.has_index_key.ensures ∙ c.if-has_index_key.false) a)
+    comes_as g.B.BareTarget.gives g.B.BareTarget.fails _ _ c.args.bare.now c.choose_member.new.bare c.choose_member.result
+    (λ asked out r. object_value (rules_of c.args.rules.now) c.args.target.now c.in-Object.members c.in-Object.is (sym c.has_index_key.ensures ∙ c.if-has_index_key.false) asked out r)
     c.choose_member.ensures
+
+pub choose_item-returns-in_err-outcome : goal.choose_item-returns-in_err-outcome
+choose_item-returns-in_err-outcome g t c =
+    comes_err g.B.BareTarget.gives g.B.BareTarget.fails _ _ c.args.bare.now c.choose_value.new.bare c.from_residual.result c.from_residual.ensures.1
+    (item_begun g.B.BareTarget.gives g.B.BareTarget.fails (rules_of c.args.rules.now) (values_of c.args.items.now) _ _ c.item_at-item.result.now c.loop-index.last c.args.bare.now c.loop-index.bare c.choose_value.new.bare c.loop-index.invariant c.item_at-item.ensures c.in_err-outcome.ensures)
+
+pub choose_member-returns-in_err-outcome : goal.choose_member-returns-in_err-outcome
+choose_member-returns-in_err-outcome g t c =
+    comes_err g.B.BareTarget.gives g.B.BareTarget.fails _ _ c.args.bare.now c.try_member.new.bare c.from_residual.result c.from_residual.ensures.1
+    (member_begun g.B.BareTarget.gives g.B.BareTarget.fails (rules_of c.args.rules.now) (pairs_of c.args.members.now) _ _ c.member_at.result.0.now c.member_at.result.1.now c.args.bare.now c.loop-index.bare c.try_member.new.bare c.loop-index.invariant c.member_at.ensures c.in_err-outcome.ensures)
