@@ -105,11 +105,11 @@ fn read_items(alloc: Global, depth: usize, bytes: &[u8]) -> Result<(Items, &[u8]
     ensures reads { MatchResult result (λ x. ReadsItems (Reads depth) (after_space bytes.now) (taken (items_of (values_of x.0)) x.1.now)) (Fails (ReadsItems (Reads depth) (after_space bytes.now))) }
     ensures shorter { IfOk result (λ x. length x.1.now < length bytes.now) }
 {
-    let mut items = Items::new(alloc);
     let mut rest = skip_space(bytes);
     if let Some(after) = after_byte(rest, b']') {
-        return Ok((items, after));
+        return Ok((Items::new(alloc), after));
     }
+    let mut items = Items::for_one(alloc)?;
     loop {
         let (value, after) = read_value(alloc, depth, rest)?;
         items.push(value)?;

@@ -42,6 +42,16 @@ impl Items {
         }
     }
 
+    // The empty list, with room for one value. A text of brackets alone would take three times the memory with the room that
+    // a first `push` makes.
+    pub(crate) fn for_one(alloc: Global) -> Result<Items, Memory>
+        ensures { IfOk result (λ items. values_of items ≡ []) }
+    {
+        Ok(Items {
+            items: Vec::with_capacity(alloc, 1)?,
+        })
+    }
+
     /// Puts a value at the end. Without memory the list stays as it was.
     pub fn push(&mut self, item: Value) -> Result<(), Memory>
         ensures { values_of self.new ≡ (if is_ok result then values_of self.old ++ item ∷ [] else values_of self.old) }

@@ -8,7 +8,7 @@ use Rattle.ordered_json.proofs.reader.+read.Goals as goal
 
 pub read_items-returns-in-Some-clause-reads : goal.read_items-returns-in-Some-clause-reads
 read_items-returns-in-Some-clause-reads t c =
-    no_items_read _ _ _ _ c.new-items.ensures (sym c.skip_space-rest.ensures ∙ c.in-Some.ensures)
+    no_items_read _ _ _ _ c.new.ensures (sym c.skip_space-rest.ensures ∙ c.in-Some.ensures)
 
 pub read_items-returns-in-Some-clause-shorter : goal.read_items-returns-in-Some-clause-shorter
 read_items-returns-in-Some-clause-shorter t c =
@@ -16,7 +16,7 @@ read_items-returns-in-Some-clause-shorter t c =
 
 pub read_items-loop-items-init : goal.read_items-loop-items-init
 read_items-loop-items-init t c =
-    record { awaits = awaits_first_item c.args.depth c.args.bytes.now _ _ c.new-items.ensures c.skip_space-rest.ensures c.in_default.ensures; shorter = omega (arith, space_at_most c.args.bytes.now, ap length c.skip_space-rest.ensures) }
+    record { awaits = awaits_first_item c.args.depth c.args.bytes.now _ _ c.in_ok-items.ensures c.skip_space-rest.ensures c.in_default.ensures; shorter = omega (arith, space_at_most c.args.bytes.now, ap length c.skip_space-rest.ensures) }
 
 pub read_items-returns-in-Some-after_byte-clause-reads : goal.read_items-returns-in-Some-after_byte-clause-reads
 read_items-returns-in-Some-after_byte-clause-reads t c =
