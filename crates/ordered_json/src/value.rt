@@ -1,7 +1,6 @@
 ghost use Rattle.std.specs.Prelude.{◌≡◌, ◌==◌, if◌then◌else◌, List, [], ◌∷◌, ◌++◌, ℕ, length, slice_get, option_copied, option_map, is_ok, IfOk};
 ghost use Rattle.ordered_json.specs.Lists.{values_of, pairs_of};
 
-use indexmap::IndexMap;
 use primitives::{Memory, Text};
 use std::alloc::Global;
 
@@ -42,14 +41,11 @@ impl Items {
         }
     }
 
-    // The empty list, with room for one value. A text of brackets alone would take three times the memory with the room that
-    // a first `push` makes.
-    pub(crate) fn for_one(alloc: Global) -> Result<Items, Memory>
-        ensures { IfOk result (λ items. values_of items ≡ []) }
+    /// The list of a `Vec`, which is moved.
+    pub(crate) fn from_vec(items: Vec<Value>) -> Items
+        ensures { values_of result ≡ items.items }
     {
-        Ok(Items {
-            items: Vec::with_capacity(alloc, 1)?,
-        })
+        Items { items }
     }
 
     /// Puts a value at the end. Without memory the list stays as it was.
@@ -83,13 +79,11 @@ impl Items {
 }
 
 impl Members {
-    /// The members of a map, in its order.
-    pub(crate) fn from_map(alloc: Global, map: IndexMap<Text, Value>) -> Result<Members, Memory>
-        ensures { IfOk result (λ members. pairs_of members ≡ map.entries) }
+    /// The members of a `Vec`, which is moved.
+    pub(crate) fn from_vec(pairs: Vec<(Text, Value)>) -> Members
+        ensures { pairs_of result ≡ pairs.items }
     {
-        Ok(Members {
-            pairs: map.into_iter().collect(alloc)?,
-        })
+        Members { pairs }
     }
 
     /// The pairs of these members, which are moved out.
