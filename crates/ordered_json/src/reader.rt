@@ -1,4 +1,4 @@
-ghost use Rattle.std.specs.Prelude.{◌≡◌, ◌<◌, ◌≤◌, [], ◌∷◌, ◌++◌, length, MatchResult, IfOk, OnOk, Ok};
+ghost use Rattle.std.specs.Prelude.{◌≡◌, ◌<◌, ◌≤◌, [], ◌∷◌, ◌++◌, length, take, drop, MatchResult, IfOk, OnOk, Ok};
 ghost use Rattle.json_spec.specs.Value.{HasDistinctNames};
 ghost use Rattle.json_spec.specs.Taken.{taken};
 ghost use Rattle.json_spec.specs.Grammar.{after_space, scalar_at, ReadsName, ReadsItems, Reads, ReadsJson};
@@ -15,9 +15,13 @@ use crate::strings::read_string;
 use crate::value::{Items, Members, Value};
 use primitives::{Memory, Text};
 use std::alloc::Global;
+use std::mem;
 
 /// How many brackets may be open at once.
 const MOST_BRACKETS: usize = 128;
+
+/// From how many values on a list is long.
+const MANY: usize = 1024;
 
 /// The value of a JSON text (RFC 8259), or its first fault.
 pub fn read(alloc: Global, bytes: &[u8]) -> Result<Value, JsonFault>
@@ -69,12 +73,25 @@ fn put_on(values: &mut Vec<Value>, value: Value) -> Result<(), Memory>
     Ok(())
 }
 
-// Takes off the values from this place on, and puts on the list of them. So a list has no more room than it needs.
-fn close_list(values: &mut Vec<Value>, start: usize) -> Result<(), Memory>
+// Takes off the values from this place on, with no more room than they need. Where they are all and many, they keep the
+// room that the stack has, as a copy would cost more.
+fn take_from(alloc: Global, values: &mut Vec<Value>, start: usize) -> Result<Vec<Value>, Memory>
+    requires { start ≤ length values.old.items }
+    ensures taken { IfOk result (λ tail. tail.items ≡ drop start values.old.items) }
+    ensures left { OnOk result (values.new.items ≡ take start values.old.items) }
+{
+    if start == 0 && values.as_slice().len() >= MANY {
+        return Ok(mem::replace(values, Vec::new(alloc)));
+    }
+    values.split_off(start)
+}
+
+// Takes off the values from this place on, and puts on the list of them.
+fn close_list(alloc: Global, values: &mut Vec<Value>, start: usize) -> Result<(), Memory>
     requires { start ≤ length values.old.items }
     ensures { OnOk result (IsListed start values.old.items values.new.items) }
 {
-    let items = Items::from_vec(values.split_off(start)?);
+    let items = Items::from_vec(take_from(alloc, values, start)?);
     put_on(values, Value::List(items))
 }
 
@@ -98,7 +115,7 @@ fn read_value<'a>(
         }
         let start = values.as_slice().len();
         let end = read_items(alloc, values, depth - 1, rest)?;
-        close_list(values, start)?;
+        close_list(alloc, values, start)?;
         return Ok(end);
     }
     if first == b'{' {

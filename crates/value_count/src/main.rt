@@ -2,7 +2,7 @@
 #![tactic(auto)]
 
 use ordered_json::{JsonFault, Value, read};
-use std::{env, fs, io};
+use std::{env, fs, io, mem};
 
 /// The values of a list, or the members of an object; any other value is one.
 fn count(value: &Value) -> usize {
@@ -23,6 +23,8 @@ fn main(rt: HostRuntime) -> io::Result<()> {
     match read(rt.alloc(), text.as_slice()) {
         Ok(value) => {
             let count = count(&value);
+            // The process ends here, and what is measured is reading.
+            mem::forget(value);
             println!(rt; "{count} values")
         }
         Err(JsonFault::NotJson { at }) => println!(rt; "no JSON at {at}"),
