@@ -5,7 +5,7 @@
 
 ghost use Rattle.json_spec.specs.Distinct.{NamesAreDistinct};
 ghost use Rattle.json_spec.specs.Examples.{WorkedExamples};
-ghost use Rattle.json_spec.specs.JsonBack.{PrintsUtf8, TextsReadBack, ValuesReadBack};
+ghost use Rattle.json_spec.specs.JsonBack.{PrintsUtf8, StringsReadBack, TextsReadBack, ValuesReadBack};
 ghost use Rattle.json_spec.specs.One.{OneJson};
 ghost use Rattle.json_spec.specs.Some.{SomeJson};
 
@@ -31,6 +31,12 @@ pub fn names_are_distinct()
 #[tactic(auto, using(crate::specs::JsonBack::texts_read_back))]
 pub fn texts_read_back()
     ensures { TextsReadBack }
+{}
+
+/// A printed string is a JSON text, and its value is that string, where the string is UTF-8.
+#[tactic(auto, using(crate::specs::JsonBack::strings_read_back))]
+pub fn strings_read_back()
+    ensures { StringsReadBack }
 {}
 
 /// A printed value reads back where it holds no number and no name twice in one object, its texts are UTF-8, and it opens no

@@ -1,8 +1,10 @@
 -- The grammar's rules at the bytes that a reader holds.
-use Rattle.std.specs.Prelude.{◌≡◌, ◌≢◌, ℕ, zero, suc, ◌-◌, ◌<◌, ◌==◌, List, [], ◌∷◌, ◌++◌, length, Result, Ok, Err, MatchResult, IfOk}
+use Rattle.std.specs.Prelude.{◌≡◌, ◌≢◌, ℕ, zero, suc, ◌-◌, ◌<◌, ◌≤◌, ◌==◌, List, [], ◌∷◌, ◌++◌, length, take, drop, Result, Ok, Err, MatchResult, IfOk}
 use Rattle.std.specs.Borrow.{Bor}
-use Rattle.std.proofs.Common.{refl, ap, sym, subst, ◌∙◌, arith}
+use Rattle.std.proofs.Common.{refl, ap, sym, subst, ◌∙◌, arith, append-nil, append_assoc, length-append}
 use Rattle.std.proofs.lemmas.Bool.{cond-false, false_from_ne_true, eqb-true}
+use Rattle.std.proofs.lemmas.List.{same_from_push}
+use Rattle.std.proofs.Math.Seq.{take-append_seam, drop-append_seam}
 use Rattle.json_spec.specs.Value.{Json, a_text, a_list, an_object, Items, no_items, an_item, Members, no_members, settled_onto, put}
 use Rattle.json_spec.specs.Taken.{taken, refused, and_then}
 use Rattle.json_spec.specs.Strings.{ReadsString}
@@ -14,6 +16,7 @@ use Rattle.ordered_json.specs.declared.fault.Stop.{Stop}
 use Rattle.ordered_json.specs.declared.fault.Stop.TheVariants.{Unreadable, Deep, NoMemory}
 use Rattle.ordered_json.specs.Shown.{json_of, items_of}
 use Rattle.ordered_json.specs.Outcomes.{Fails, settle, ReadsSettled, IsWhole, WholeFails}
+use Rattle.ordered_json.specs.Stacks.{PutsOn, PutsOnAll, IsListed}
 
 not_taken : {A : Type 0} {x : A} {rest : List ℕ} {f : Fault} → ◌≡◌ {A = Reading A} (taken x rest) (refused f) → ⊥
 not_taken p = cc
@@ -164,6 +167,57 @@ module _ {value : List ℕ → Reading Json → Type 0} {bytes rest : List ℕ} 
         no_turn [] n m = items_end
         no_turn (b ∷ xs) n m = items_other (λ e. n xs (ap (λ x. x ∷ xs) e)) (λ e. m xs (ap (λ x. x ∷ xs) e))
 
+-- the same while the values that were read stand behind others
+pub record Gathers (value : List ℕ → Reading Json → Type 0) (bytes : List ℕ) (before now : List Value) (rest : List ℕ) : Type 0 where
+  pub found : List Value
+  pub pushed : now ≡ before ++ found
+  pub awaits : AwaitsItem value bytes found rest
+
+pub gathers_none : (depth : ℕ) (whole start : List ℕ) (before : List Value) → start ≡ after_space whole → ((rest : List ℕ) → start ≢ 93 ∷ rest) → Gathers (Reads depth) (after_space whole) before before start
+gathers_none depth whole start before s n = record { found = []; pushed = sym (append-nil before); awaits = awaits_first_item depth whole start [] refl s n }
+
+pub none_gathered : (value : List ℕ → Reading Json → Type 0) (whole start end : List ℕ) (before : List Value) → start ≡ after_space whole → start ≡ 93 ∷ end → PutsOnAll before before (λ found. ReadsItems value (after_space whole) (taken (items_of found) end))
+none_gathered value whole start end before s e = record { found = []; pushed = sym (append-nil before); is = no_items_read value (after_space whole) end [] refl (sym s ∙ e) }
+
+module _ {value : List ℕ → Reading Json → Type 0} {bytes rest middle : List ℕ} {before now next : List Value} (gathers : Gathers value bytes before now rest) (here : PutsOn now next (λ v. value rest (taken v middle))) (space : List ℕ) (skipped : space ≡ after_space middle) where
+  more_gathered : next ≡ before ++ (gathers.found ++ here.value ∷ [])
+  more_gathered = here.pushed ∙ (ap (λ (vs : List Value). vs ++ here.value ∷ []) gathers.pushed ∙ append_assoc before gathers.found (here.value ∷ []))
+
+  pub gathers_more : (more start : List ℕ) → space ≡ 44 ∷ more → start ≡ after_space more → Gathers value bytes before next start
+  gathers_more more start e s = record { found = gathers.found ++ here.value ∷ []; pushed = more_gathered; awaits = awaits_next_item gathers.awaits here.value middle space here.is skipped _ more start refl e s }
+
+  pub all_gathered : (end : List ℕ) → space ≡ 93 ∷ end → PutsOnAll before next (λ found. ReadsItems value bytes (taken (items_of found) end))
+  all_gathered end e = record { found = gathers.found ++ here.value ∷ []; pushed = more_gathered; is = last_item gathers.awaits here.value middle space here.is skipped _ end refl e }
+
+  pub gathers_no_more : ((end : List ℕ) → space ≢ 93 ∷ end) → ((more : List ℕ) → space ≢ 44 ∷ more) → ReadsItems value bytes (fault_here space)
+  gathers_no_more n m = no_more_items gathers.awaits here.value middle space here.is skipped n m
+
+-- the values of a list are put on, and then the list of them in their place
+pub start_within : {before now : List Value} {Is : List Value → Type 0} (start : ℕ) → start ≡ length before → PutsOnAll before now Is → start ≤ length now
+start_within {before} start z p = omega (arith, z, ap length p.pushed, length-append before p.found)
+
+pub list_put_on : (m depth : ℕ) (d : ℕ) (bytes rest end : List ℕ) (start : ℕ) {before now after : List Value} → depth ≡ suc m → bytes ≡ d ∷ rest → d ≡ 91 → start ≡ length before → PutsOnAll before now (λ found. ReadsItems (Reads m) (after_space rest) (taken (items_of found) end)) → IsListed start now after → PutsOn before after (λ v. Reads depth bytes (taken v end))
+list_put_on m depth d bytes rest end start {before} {now} s e b z p l =
+    let kept : take start now ≡ before = rw (z, p.pushed) (take-append_seam before p.found) in
+    let listed : drop start now ≡ p.found = rw (z, p.pushed) (drop-append_seam before p.found) in
+    record {
+      value = l.value;
+      pushed = l.pushed ∙ ap (λ (vs : List Value). vs ++ l.value ∷ []) kept;
+      is = list_value m depth d bytes rest end (items_of p.found) (json_of l.value) s e b p.is (l.list ∙ ap (λ (vs : List Value). a_list (items_of vs)) listed);
+    }
+
+pub one_put_on : {before after : List Value} {Is : Json → Type 0} (value : Value) → after ≡ before ++ value ∷ [] → Is (json_of value) → PutsOn before after Is
+one_put_on value e is = record { value = value; pushed = e; is = is }
+
+-- a value that was put on last is taken off
+pub taken_off : {before now : List Value} {Is : Json → Type 0} (last : Value) (left : List Value) → PutsOn before now Is → now ≡ left ++ last ∷ [] → Is (json_of last) × (left ≡ before)
+taken_off {before} {now} {Is} last left p e =
+    let same : (left ≡ before) × (last ≡ p.value) = same_from_push left before last p.value (sym e ∙ p.pushed) in
+    (rw same.1 p.is, same.0)
+
+pub some_put_on : {before now : List Value} {Is : Json → Type 0} → PutsOn before now Is → 0 < length now
+some_put_on {before} p = omega (arith, ap length p.pushed, length-append before (p.value ∷ []))
+
 -- ---- the members of an object
 
 no_quote_at : {bytes : List ℕ} → bytes ≡ [] → ReadsName bytes (refused (NotJson 0))
@@ -266,15 +320,13 @@ scalar_left : {n : ℕ} {v : Json} {more : List ℕ} {out : Reading Json} → Be
 scalar_left {more = more} {out = taken w rest} b e = let same : rest ≡ more = cc in rw (← same) b
 scalar_left {out = refused f} b e = absurd (cc)
 
-pub scalar_shorter : (bytes : List ℕ) (found : Result (Value × Bor (List ℕ)) Stop) → MatchResult found (λ x. scalar_at bytes ≡ taken (json_of x.0) x.1.now) (Fails (λ out. scalar_at bytes ≡ out)) → IfOk found (λ x. length x.1.now < length bytes)
-scalar_shorter bytes (Ok x) e = scalar_left (scalar_below bytes) e
-scalar_shorter bytes (Err stop) e = tt
+pub scalar_shorter : (bytes more : List ℕ) (v : Json) → scalar_at bytes ≡ taken v more → length more < length bytes
+scalar_shorter bytes more v e = scalar_left (scalar_below bytes) e
 
-pub scalar_found : (depth : ℕ) (b : ℕ) {bytes : List ℕ} (rest : List ℕ) (found : Result (Value × Bor (List ℕ)) Stop) → bytes ≡ b ∷ rest → b ≢ 34 → b ≢ 91 → b ≢ 123 → MatchResult found (λ x. scalar_at bytes ≡ taken (json_of x.0) x.1.now) (Fails (λ out. scalar_at bytes ≡ out)) → MatchResult found (λ x. Reads depth bytes (taken (json_of x.0) x.1.now)) (Fails (Reads depth bytes))
-scalar_found depth b rest (Ok x) e q l o s = scalar_reads depth b _ rest _ e q l o s
-scalar_found depth b rest (Err (Unreadable left)) e q l o s = scalar_reads depth b _ rest _ e q l o s
-scalar_found depth b rest (Err (Deep left)) e q l o s = scalar_reads depth b _ rest _ e q l o s
-scalar_found depth b rest (Err NoMemory) e q l o s = tt
+pub scalar_fails : (depth : ℕ) (b : ℕ) {bytes : List ℕ} (rest : List ℕ) → bytes ≡ b ∷ rest → b ≢ 34 → b ≢ 91 → b ≢ 123 → (stop : Stop) → Fails (λ out. scalar_at bytes ≡ out) stop → Fails (Reads depth bytes) stop
+scalar_fails depth b rest e q l o (Unreadable left) s = scalar_reads depth b _ rest _ e q l o s
+scalar_fails depth b rest e q l o (Deep left) s = scalar_reads depth b _ rest _ e q l o s
+scalar_fails depth b rest e q l o NoMemory s = tt
 
 -- a fault within a list or an object is a fault of the value
 pub list_fails : (m depth : ℕ) (d : ℕ) (bytes rest : List ℕ) → depth ≡ suc m → bytes ≡ d ∷ rest → d ≡ 91 → (stop : Stop) → Fails (ReadsItems (Reads m) (after_space rest)) stop → Fails (Reads depth bytes) stop

@@ -1,22 +1,27 @@
-ghost use Rattle.std.specs.Prelude.{◌≡◌, ◌<◌, ◌≤◌, length, MatchResult, IfOk, OnOk, Ok};
-ghost use Rattle.json_spec.specs.Value.{put, HasDistinctNames};
+ghost use Rattle.std.specs.Prelude.{◌≡◌, ◌<◌, ◌≤◌, [], ◌∷◌, ◌++◌, length, take, drop, MatchResult, IfOk, OnOk, Ok};
+ghost use Rattle.json_spec.specs.Value.{HasDistinctNames};
 ghost use Rattle.json_spec.specs.Taken.{taken};
 ghost use Rattle.json_spec.specs.Grammar.{after_space, scalar_at, ReadsName, ReadsItems, Reads, ReadsJson};
 ghost use Rattle.ordered_json.specs.Lists.{values_of, pairs_of};
 ghost use Rattle.ordered_json.specs.Shown.{json_of, items_of, members_of};
 ghost use Rattle.ordered_json.specs.Outcomes.{Fails, IsFault, IsWhole, WholeFails, ReadsSettled};
+ghost use Rattle.ordered_json.specs.Stacks.{PutsOn, PutsOnAll, IsListed};
 
 use crate::fault::{JsonFault, Stop};
+use crate::gathered::Gathered;
 use crate::numbers::read_number;
 use crate::scan::{after_byte, after_word, cut_first, skip_space};
 use crate::strings::read_string;
 use crate::value::{Items, Members, Value};
-use indexmap::IndexMap;
 use primitives::{Memory, Text};
-use std::alloc::{AllocError, Global};
+use std::alloc::Global;
+use std::mem;
 
 /// How many brackets may be open at once.
 const MOST_BRACKETS: usize = 128;
+
+/// From how many values on a list is long.
+const MANY: usize = 1024;
 
 /// The value of a JSON text (RFC 8259), or its first fault.
 pub fn read(alloc: Global, bytes: &[u8]) -> Result<Value, JsonFault>
@@ -39,45 +44,98 @@ pub fn read(alloc: Global, bytes: &[u8]) -> Result<Value, JsonFault>
 fn read_whole(alloc: Global, bytes: &[u8]) -> Result<Value, Stop>
     ensures { MatchResult result (λ value. IsWhole bytes.now (Ok (json_of value))) (WholeFails bytes.now) }
 {
-    let (value, rest) = read_value(alloc, MOST_BRACKETS, skip_space(bytes))?;
+    let mut values = Vec::new(alloc);
+    let rest = read_value(alloc, &mut values, MOST_BRACKETS, skip_space(bytes))?;
     let rest = skip_space(rest);
     if rest.is_empty() {
-        Ok(value)
+        Ok(take_last(&mut values))
     } else {
         Err(Stop::Unreadable(rest.len()))
     }
 }
 
-// The value at the front, in which this many brackets may be opened, and the bytes behind it.
+// Takes off the value that was put on last.
+fn take_last(values: &mut Vec<Value>) -> Value
+    requires { 0 < length values.old.items }
+    ensures { values.old.items ≡ values.new.items ++ result ∷ [] }
+{
+    match values.pop() {
+        Some(value) => value,
+        None => unreachable!(),
+    }
+}
+
+// Puts on a value.
+fn put_on(values: &mut Vec<Value>, value: Value) -> Result<(), Memory>
+    ensures { OnOk result (values.new.items ≡ values.old.items ++ value ∷ []) }
+{
+    values.push(value)?;
+    Ok(())
+}
+
+// Takes off the values from this place on, with no more room than they need. Where they are all and many, they keep the
+// room that the stack has, as a copy would cost more.
+fn take_from(alloc: Global, values: &mut Vec<Value>, start: usize) -> Result<Vec<Value>, Memory>
+    requires { start ≤ length values.old.items }
+    ensures taken { IfOk result (λ tail. tail.items ≡ drop start values.old.items) }
+    ensures left { OnOk result (values.new.items ≡ take start values.old.items) }
+{
+    if start == 0 && values.as_slice().len() >= MANY {
+        return Ok(mem::replace(values, Vec::new(alloc)));
+    }
+    values.split_off(start)
+}
+
+// Takes off the values from this place on, and puts on the list of them.
+fn close_list(alloc: Global, values: &mut Vec<Value>, start: usize) -> Result<(), Memory>
+    requires { start ≤ length values.old.items }
+    ensures { OnOk result (IsListed start values.old.items values.new.items) }
+{
+    let items = Items::from_vec(take_from(alloc, values, start)?);
+    put_on(values, Value::List(items))
+}
+
+// Reads the value at the front, in which this many brackets may be opened, puts it on, and gives the bytes behind it.
 #[cycle(read)]
-fn read_value(alloc: Global, depth: usize, bytes: &[u8]) -> Result<(Value, &[u8]), Stop>
-    ensures reads { MatchResult result (λ x. Reads depth bytes.now (taken (json_of x.0) x.1.now)) (Fails (Reads depth bytes.now)) }
-    ensures shorter { IfOk result (λ x. length x.1.now < length bytes.now) }
+fn read_value<'a>(
+    alloc: Global,
+    values: &mut Vec<Value>,
+    depth: usize,
+    bytes: &'a [u8],
+) -> Result<&'a [u8], Stop>
+    ensures reads { MatchResult result (λ rest. PutsOn values.old.items values.new.items (λ value. Reads depth bytes.now (taken value rest.now))) (Fails (Reads depth bytes.now)) }
+    ensures shorter { IfOk result (λ rest. length rest.now < length bytes.now) }
 {
     let Some((first, rest)) = cut_first(bytes) else {
         return Err(Stop::Unreadable(0));
     };
-    if first == b'"' {
-        return match read_string(alloc, rest)? {
-            Some((text, rest)) => Ok((Value::Text(text), rest)),
-            None => Err(Stop::Unreadable(bytes.len())),
-        };
-    }
     if first == b'[' {
         if depth == 0 {
             return Err(Stop::Deep(bytes.len()));
         }
-        let (items, rest) = read_items(alloc, depth - 1, rest)?;
-        return Ok((Value::List(items), rest));
+        let start = values.as_slice().len();
+        let end = read_items(alloc, values, depth - 1, rest)?;
+        close_list(alloc, values, start)?;
+        return Ok(end);
     }
     if first == b'{' {
         if depth == 0 {
             return Err(Stop::Deep(bytes.len()));
         }
-        let (members, rest) = read_members(alloc, depth - 1, rest)?;
-        return Ok((Value::Object(members), rest));
+        let (members, end) = read_members(alloc, values, depth - 1, rest)?;
+        put_on(values, Value::Object(members))?;
+        return Ok(end);
     }
-    read_scalar(alloc, bytes)
+    if first == b'"' {
+        let Some((text, end)) = read_string(alloc, rest)? else {
+            return Err(Stop::Unreadable(bytes.len()));
+        };
+        put_on(values, Value::Text(text))?;
+        return Ok(end);
+    }
+    let (value, end) = read_scalar(alloc, bytes)?;
+    put_on(values, value)?;
+    Ok(end)
 }
 
 // A value that is no string, list or object.
@@ -99,23 +157,26 @@ fn read_scalar(alloc: Global, bytes: &[u8]) -> Result<(Value, &[u8]), Stop>
     }
 }
 
-// The values of a list whose opening bracket stands before the bytes.
+// Reads the values of a list whose opening bracket stands before the bytes, puts them on, and gives the bytes behind the list.
 #[cycle(read)]
-fn read_items(alloc: Global, depth: usize, bytes: &[u8]) -> Result<(Items, &[u8]), Stop>
-    ensures reads { MatchResult result (λ x. ReadsItems (Reads depth) (after_space bytes.now) (taken (items_of (values_of x.0)) x.1.now)) (Fails (ReadsItems (Reads depth) (after_space bytes.now))) }
-    ensures shorter { IfOk result (λ x. length x.1.now < length bytes.now) }
+fn read_items<'a>(
+    alloc: Global,
+    values: &mut Vec<Value>,
+    depth: usize,
+    bytes: &'a [u8],
+) -> Result<&'a [u8], Stop>
+    ensures reads { MatchResult result (λ rest. PutsOnAll values.old.items values.new.items (λ found. ReadsItems (Reads depth) (after_space bytes.now) (taken (items_of found) rest.now))) (Fails (ReadsItems (Reads depth) (after_space bytes.now))) }
+    ensures shorter { IfOk result (λ rest. length rest.now < length bytes.now) }
 {
-    let mut items = Items::new(alloc);
     let mut rest = skip_space(bytes);
-    if let Some(after) = after_byte(rest, b']') {
-        return Ok((items, after));
+    if let Some(end) = after_byte(rest, b']') {
+        return Ok(end);
     }
     loop {
-        let (value, after) = read_value(alloc, depth, rest)?;
-        items.push(value)?;
+        let after = read_value(alloc, values, depth, rest)?;
         let after = skip_space(after);
         if let Some(end) = after_byte(after, b']') {
-            return Ok((items, end));
+            return Ok(end);
         }
         let Some(more) = after_byte(after, b',') else {
             return Err(Stop::Unreadable(after.len()));
@@ -125,23 +186,31 @@ fn read_items(alloc: Global, depth: usize, bytes: &[u8]) -> Result<(Items, &[u8]
 }
 
 // The members of an object whose opening bracket stands before the bytes. A key that was there takes the later value.
+// Not inlined, so that nested lists take less of the stack.
 #[cycle(read)]
-fn read_members(alloc: Global, depth: usize, bytes: &[u8]) -> Result<(Members, &[u8]), Stop>
+#[inline(never)]
+fn read_members<'a>(
+    alloc: Global,
+    values: &mut Vec<Value>,
+    depth: usize,
+    bytes: &'a [u8],
+) -> Result<(Members, &'a [u8]), Stop>
     ensures reads { MatchResult result (λ x. ReadsSettled (Reads depth) (after_space bytes.now) (taken (members_of (pairs_of x.0)) x.1.now)) (Fails (ReadsSettled (Reads depth) (after_space bytes.now))) }
+    ensures kept { OnOk result (values.new.items ≡ values.old.items) }
     ensures shorter { IfOk result (λ x. length x.1.now < length bytes.now) }
 {
-    let mut members = IndexMap::new(alloc);
     let mut rest = skip_space(bytes);
     if let Some(after) = after_byte(rest, b'}') {
         return Ok((Members::new(alloc), after));
     }
+    let mut members = Gathered::new(alloc)?;
     loop {
         let (key, after) = read_name(alloc, rest)?;
-        let (value, after) = read_value(alloc, depth, skip_space(after))?;
-        put_member(&mut members, key, value)?;
+        let after = read_value(alloc, values, depth, skip_space(after))?;
+        members.put(key, take_last(values))?;
         let after = skip_space(after);
         if let Some(end) = after_byte(after, b'}') {
-            return Ok((Members::from_map(alloc, members)?, end));
+            return Ok((members.into_members(alloc)?, end));
         }
         let Some(more) = after_byte(after, b',') else {
             return Err(Stop::Unreadable(after.len()));
@@ -165,14 +234,5 @@ fn read_name(alloc: Global, bytes: &[u8]) -> Result<(Text, &[u8]), Stop>
     match after_byte(rest, b':') {
         Some(after) => Ok((key, after)),
         None => Err(Stop::Unreadable(rest.len())),
-    }
-}
-
-fn put_member(members: &mut IndexMap<Text, Value>, key: Text, value: Value) -> Result<(), Memory>
-    ensures { OnOk result (members_of members.new.entries ≡ put key (json_of value) (members_of members.old.entries)) }
-{
-    match members.insert(key, value) {
-        Ok(_) => Ok(()),
-        Err(failed) => Err(AllocError::from(failed)),
     }
 }

@@ -1,7 +1,6 @@
 ghost use Rattle.std.specs.Prelude.{◌≡◌, ◌==◌, if◌then◌else◌, List, [], ◌∷◌, ◌++◌, ℕ, length, slice_get, option_copied, option_map, is_ok, IfOk};
 ghost use Rattle.ordered_json.specs.Lists.{values_of, pairs_of};
 
-use indexmap::IndexMap;
 use primitives::{Memory, Text};
 use std::alloc::Global;
 
@@ -42,6 +41,13 @@ impl Items {
         }
     }
 
+    /// The list of a `Vec`, which is moved.
+    pub(crate) fn from_vec(items: Vec<Value>) -> Items
+        ensures { values_of result ≡ items.items }
+    {
+        Items { items }
+    }
+
     /// Puts a value at the end. Without memory the list stays as it was.
     pub fn push(&mut self, item: Value) -> Result<(), Memory>
         ensures { values_of self.new ≡ (if is_ok result then values_of self.old ++ item ∷ [] else values_of self.old) }
@@ -73,13 +79,11 @@ impl Items {
 }
 
 impl Members {
-    /// The members of a map, in its order.
-    pub(crate) fn from_map(alloc: Global, map: IndexMap<Text, Value>) -> Result<Members, Memory>
-        ensures { IfOk result (λ members. pairs_of members ≡ map.entries) }
+    /// The members of a `Vec`, which is moved.
+    pub(crate) fn from_vec(pairs: Vec<(Text, Value)>) -> Members
+        ensures { pairs_of result ≡ pairs.items }
     {
-        Ok(Members {
-            pairs: map.into_iter().collect(alloc)?,
-        })
+        Members { pairs }
     }
 
     /// The pairs of these members, which are moved out.

@@ -3,41 +3,78 @@ use ordered_json::{Text, Value};
 use std::test::Fail;
 
 /// Bytes of a package.json, with the kind, the name and the main that they give.
-static RECORDS: [(&str, PackageKind, &str, &str); 5] = [
-    ("{\"type\":\"module\"}", PackageKind::Module, "", ""),
+static RECORDS: [(&str, PackageKind, Option<&str>, Option<&str>); 7] = [
+    ("{}", PackageKind::Unstated, None, None),
+    ("{\"type\":\"module\"}", PackageKind::Module, None, None),
+    (
+        "{\"name\":\"\",\"type\":\"\",\"main\":\"\"}",
+        PackageKind::Unstated,
+        Some(""),
+        Some(""),
+    ),
     (
         "{\"name\":\"p\",\"type\":\"commonjs\",\"main\":\"m.js\"}",
         PackageKind::CommonJs,
-        "p",
-        "m.js",
+        Some("p"),
+        Some("m.js"),
     ),
     (
         "{\"name\":3,\"type\":\"Module\",\"main\":[]}",
         PackageKind::Unstated,
-        "",
-        "",
+        None,
+        None,
     ),
     (
         "{\"name\":\"p\",\"name\":\"q\",\"type\":null}",
         PackageKind::Unstated,
-        "q",
-        "",
+        Some("q"),
+        None,
     ),
     (
         "\u{feff} {\"main\":\"./m\"}",
         PackageKind::Unstated,
-        "",
-        "./m",
+        None,
+        Some("./m"),
     ),
+];
+
+/// Bytes of a package.json, with what its `exports` and its `imports` are.
+static TARGETS: [(&str, &str, &str); 6] = [
+    ("{}", "null", "null"),
+    (
+        "{\"exports\":\"./e.js\",\"imports\":null}",
+        "./e.js",
+        "null",
+    ),
+    ("{\"imports\":{\"#a\":\"./a.js\"}}", "null", "object"),
+    ("{\"imports\":\"./i.js\",\"exports\":[]}", "list", "./i.js"),
+    (
+        "{\"imports\":[],\"exports\":false,\"imports\":3}",
+        "false",
+        "3",
+    ),
+    ("{\"exports\":{},\"Imports\":true}", "object", "null"),
 ];
 
 /// Bytes that give no record.
 static REFUSED: [&str; 5] = ["[]", "\"\"", "{\"name\":", "", "\u{feff}\u{feff}{}"];
 
-fn text_or_empty(text: &Option<Text>) -> &str {
+fn lent(text: &Option<Text>) -> Option<&str> {
     match text {
-        Some(text) => text.as_str(),
-        None => "",
+        Some(text) => Some(text.as_str()),
+        None => None,
+    }
+}
+
+/// A text or a number as it stands, and any other value's name.
+fn spelled(value: &Value) -> &str {
+    match value {
+        Value::Null => "null",
+        Value::Bool(true) => "true",
+        Value::Bool(false) => "false",
+        Value::Number(text) | Value::Text(text) => text.as_str(),
+        Value::List(_) => "list",
+        Value::Object(_) => "object",
     }
 }
 
@@ -46,8 +83,18 @@ fn records(rt: HostRuntime) -> Result<(), Fail> {
     for (text, kind, name, main) in RECORDS.iter() {
         let found = read_package(rt.alloc(), text.as_bytes())?;
         assert_eq!(rt; found.kind, *kind, "{text}");
-        assert_eq!(rt; text_or_empty(&found.name), *name, "{text}");
-        assert_eq!(rt; text_or_empty(&found.main), *main, "{text}");
+        assert_eq!(rt; lent(&found.name), *name, "{text}");
+        assert_eq!(rt; lent(&found.main), *main, "{text}");
+    }
+    Ok(())
+}
+
+#[test]
+fn targets(rt: HostRuntime) -> Result<(), Fail> {
+    for (text, exports, imports) in TARGETS.iter() {
+        let found = read_package(rt.alloc(), text.as_bytes())?;
+        assert_eq!(rt; spelled(&found.exports), *exports, "{text}");
+        assert_eq!(rt; spelled(&found.imports), *imports, "{text}");
     }
     Ok(())
 }
