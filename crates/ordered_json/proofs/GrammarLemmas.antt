@@ -1,7 +1,6 @@
 -- The grammar's rules at the bytes that a reader holds.
-use Rattle.std.specs.Prelude.{◌≡◌, ◌≢◌, ℕ, zero, suc, ◌-◌, ◌<◌, ◌≤◌, ◌==◌, List, [], ◌∷◌, ◌++◌, length, take, drop, Result, Ok, Err, MatchResult, IfOk}
-use Rattle.std.specs.Borrow.{Bor}
-use Rattle.std.proofs.Common.{refl, ap, sym, subst, ◌∙◌, arith, append-nil, append_assoc, length-append}
+use Rattle.std.specs.Prelude.{◌≡◌, ◌≢◌, ℕ, zero, suc, ◌-◌, ◌<◌, ◌==◌, List, [], ◌∷◌, ◌++◌, length, take, drop, Result, Ok, Err}
+use Rattle.std.proofs.Common.{refl, ap, sym, subst, ◌∙◌, arith, append-nil, append_assoc}
 use Rattle.std.proofs.lemmas.Bool.{cond-false, false_from_ne_true, eqb-true}
 use Rattle.std.proofs.lemmas.List.{same_from_push}
 use Rattle.std.proofs.Math.Seq.{take-append_seam, drop-append_seam}
@@ -145,11 +144,6 @@ pub awaits_first_item : (depth : ℕ) (whole start : List ℕ) (items : List Val
 awaits_first_item depth whole start items i s n = rw (i, ← s) (first_awaited depth start n)
 
 module _ {value : List ℕ → Reading Json → Type 0} {bytes rest : List ℕ} {found : List Value} (awaits : AwaitsItem value bytes found rest) where
-  pub items_fail : (stop : Stop) → Fails (value rest) stop → Fails (ReadsItems value bytes) stop
-  items_fail (Unreadable left) r = awaits.fault (NotJson left) r
-  items_fail (Deep left) r = awaits.fault (TooDeep left) r
-  items_fail NoMemory r = tt
-
   module _ (item : Value) (middle space : List ℕ) (here : value rest (taken (json_of item) middle)) (skipped : space ≡ after_space middle) where
     pub awaits_next_item : (items : List Value) (more start : List ℕ) → items ≡ found ++ item ∷ [] → space ≡ 44 ∷ more → start ≡ after_space more → AwaitsItem value bytes items start
     awaits_next_item items more start i e s = rw (i, s) (record {
@@ -193,9 +187,6 @@ module _ {value : List ℕ → Reading Json → Type 0} {bytes rest middle : Lis
   gathers_no_more n m = no_more_items gathers.awaits here.value middle space here.is skipped n m
 
 -- the values of a list are put on, and then the list of them in their place
-pub start_within : {before now : List Value} {Is : List Value → Type 0} (start : ℕ) → start ≡ length before → PutsOnAll before now Is → start ≤ length now
-start_within {before} start z p = omega (arith, z, ap length p.pushed, length-append before p.found)
-
 pub list_put_on : (m depth : ℕ) (d : ℕ) (bytes rest end : List ℕ) (start : ℕ) {before now after : List Value} → depth ≡ suc m → bytes ≡ d ∷ rest → d ≡ 91 → start ≡ length before → PutsOnAll before now (λ found. ReadsItems (Reads m) (after_space rest) (taken (items_of found) end)) → IsListed start now after → PutsOn before after (λ v. Reads depth bytes (taken v end))
 list_put_on m depth d bytes rest end start {before} {now} s e b z p l =
     let kept : take start now ≡ before = rw (z, p.pushed) (take-append_seam before p.found) in
@@ -214,9 +205,6 @@ pub taken_off : {before now : List Value} {Is : Json → Type 0} (last : Value) 
 taken_off {before} {now} {Is} last left p e =
     let same : (left ≡ before) × (last ≡ p.value) = same_from_push left before last p.value (sym e ∙ p.pushed) in
     (rw same.1 p.is, same.0)
-
-pub some_put_on : {before now : List Value} {Is : Json → Type 0} → PutsOn before now Is → 0 < length now
-some_put_on {before} p = omega (arith, ap length p.pushed, length-append before (p.value ∷ []))
 
 -- ---- the members of an object
 

@@ -4,7 +4,7 @@ use Rattle.json_spec.specs.Grammar.{Reads}
 use Rattle.json_spec.specs.Shorter.{space_at_most}
 use Rattle.ordered_json.specs.Shown.{json_of, members_of}
 use Rattle.ordered_json.proofs.ShownLemmas.{json_of_text, json_of_object}
-use Rattle.ordered_json.proofs.GrammarLemmas.{no_value, text_value, bad_text, scalar_reads, scalar_fails, scalar_shorter, deep_list, deep_object, below_depth, list_fails, object_value, object_fails, none_gathered, gathers_none, gathers_more, all_gathered, gathers_no_more, items_fail, start_within, list_put_on, one_put_on, taken_off, some_put_on, no_members_read, awaits_first_member, names_fail, values_fail, awaits_next_member, last_member, no_more_members, shorter_by_close, shorter_by_turn, shorter_by_space}
+use Rattle.ordered_json.proofs.GrammarLemmas.{no_value, text_value, bad_text, scalar_reads, scalar_fails, scalar_shorter, deep_list, deep_object, below_depth, list_fails, object_value, object_fails, none_gathered, gathers_none, gathers_more, all_gathered, gathers_no_more, list_put_on, one_put_on, taken_off, no_members_read, awaits_first_member, names_fail, values_fail, awaits_next_member, last_member, no_more_members, shorter_by_close, shorter_by_turn, shorter_by_space}
 use Rattle.ordered_json.proofs.reader.+read.Goals as goal
 
 pub read_items-returns-in-Some-clause-reads : goal.read_items-returns-in-Some-clause-reads
