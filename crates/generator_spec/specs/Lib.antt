@@ -20,6 +20,7 @@ pub mod SomeReading
 pub mod SomeRequest
 pub mod SomeTurn
 pub mod SomeEnding
+pub mod SomeConfig
 pub mod TraceLaws
 pub mod NeedLaws
 pub mod Written

@@ -8,6 +8,7 @@ ghost use Rattle.generator_spec.specs.OutcomeExamples.{WorkedOutcomes};
 ghost use Rattle.generator_spec.specs.NeedLaws.{NeedsAreRequests};
 ghost use Rattle.generator_spec.specs.OneGeneration.{OneGeneration};
 ghost use Rattle.generator_spec.specs.Reaching.{NeedsNameFiles, ReachedTurns};
+ghost use Rattle.generator_spec.specs.SomeConfig.{SomeConfig};
 ghost use Rattle.generator_spec.specs.SomeEnding.{SomeEnding};
 ghost use Rattle.generator_spec.specs.SomeReading.{SomeRequests};
 ghost use Rattle.generator_spec.specs.SomeRequest.{SomeRequestRefusal};
@@ -100,6 +101,11 @@ pub fn nothing_refused()
 /// A command has one outcome at most.
 pub fn one_outcome()
     ensures { OneOutcome }
+{}
+
+/// Words give a config or are refused.
+pub fn some_config()
+    ensures { SomeConfig }
 {}
 
 /// Who asks for modules asks for something, or its file isn't of a form that asks for anything.
