@@ -21,6 +21,9 @@ pub mod SomeRequest
 pub mod SomeTurn
 pub mod SomeEnding
 pub mod SomeConfig
+pub mod LastBytes
+pub mod PageNames
+pub mod SomeOutcome
 pub mod TraceLaws
 pub mod NeedLaws
 pub mod Written

@@ -8,8 +8,10 @@ ghost use Rattle.generator_spec.specs.OutcomeExamples.{WorkedOutcomes};
 ghost use Rattle.generator_spec.specs.NeedLaws.{NeedsAreRequests};
 ghost use Rattle.generator_spec.specs.OneGeneration.{OneGeneration};
 ghost use Rattle.generator_spec.specs.Reaching.{NeedsNameFiles, ReachedTurns};
+ghost use Rattle.generator_spec.specs.PageNames.{PageNamesFiles};
 ghost use Rattle.generator_spec.specs.SomeConfig.{SomeConfig};
 ghost use Rattle.generator_spec.specs.SomeEnding.{SomeEnding};
+ghost use Rattle.generator_spec.specs.SomeOutcome.{SomeOutcome};
 ghost use Rattle.generator_spec.specs.SomeReading.{SomeRequests};
 ghost use Rattle.generator_spec.specs.SomeRequest.{SomeRequestRefusal};
 ghost use Rattle.generator_spec.specs.TraceLaws.{TurnsAreReached, TurnsOnce};
@@ -121,6 +123,16 @@ pub fn some_request_refusal()
 /// A tree and a config whose page's web name is a file's have a generation or a first refusal.
 pub fn some_ending()
     ensures { SomeEnding }
+{}
+
+/// The web name of the page that words give ends in no `/`.
+pub fn page_names_files()
+    ensures { PageNamesFiles }
+{}
+
+/// A command over a tree has an outcome.
+pub fn some_outcome()
+    ensures { SomeOutcome }
 {}
 
 /// Worked examples.
