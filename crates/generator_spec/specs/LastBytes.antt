@@ -1,9 +1,9 @@
 -- The last byte of a text, and of what the URL parser makes of one.
-use Rattle.std.proofs.Common.{◌≡◌, ◌≢◌, ◌<◌, ◌≤◌, ◌+◌, ◌-◌, ◌==◌, ◌&&◌, ◌||◌, not, cond, if◌then◌else◌, ℕ, Bool, true, false, List, [], ◌∷◌, ◌++◌, reverse, take, drop, length, get_or, Option, None, All, refl, sym, ap, ◌∙◌, subst, arith, append_assoc, append-nil, take-append-drop, length-append, length-drop, inl, inr}
+use Rattle.std.proofs.Common.{◌≡◌, ◌≢◌, ◌<◌, ◌≤◌, ◌-◌, ◌==◌, ◌&&◌, not, ℕ, Bool, true, false, List, [], ◌∷◌, ◌++◌, reverse, take, drop, length, get_or, None, All, refl, sym, ap, ◌∙◌, subst, arith, append_assoc, append-nil, take-append-drop, length-append, length-drop, inl, inr}
 use Rattle.std.specs.Prelude.{codes, nat_eq}
 use Rattle.std.specs.List.{concat, ends_with, list_all}
 use Rattle.std.specs.Cmp.Lexicographic.{same_text}
-use Rattle.std.proofs.lemmas.Bool.{cases_Bool, cond-true, cond-false, cond_both, ne_eqb, and_parts, not-true}
+use Rattle.std.proofs.lemmas.Bool.{cases_Bool, cond-false, cond_both, ne_eqb, and_parts, not-true}
 use Rattle.std.proofs.lemmas.List.{reverse-append}
 use Rattle.std.proofs.lemmas.List.Elements.{All-nil, All-cons, All-head, All-tail}
 use Rattle.percent_encoding.specs.AsciiSet.{should_percent_encode}
@@ -13,7 +13,7 @@ use Rattle.url.specs.declared.sets.TheConstants.{PATH}
 use Rattle.url.specs.declared.scheme.SchemeType.TheVariants.{SpecialNotFile}
 use Rattle.url.specs.Input.{is_empty}
 use Rattle.url.specs.Scheme.{is_slash}
-use Rattle.url.specs.Path.{dot_len, dot_count, segment_text, push_segment, parse_segments, parse_path, parse_path_start}
+use Rattle.url.specs.Path.{dot_len, dot_count, push_segment, parse_segments, parse_path, parse_path_start}
 use Rattle.url.specs.Parts.{Parts, pieces}
 use Rattle.url_spec.specs.Parsing.{text_of}
 use Rattle.generator_spec.specs.Trace.{ends_in_slash}

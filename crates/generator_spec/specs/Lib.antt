@@ -16,13 +16,13 @@ pub mod Fronts
 pub mod FirstRefusals
 pub mod Outcomes
 pub mod Choices
+pub mod LastBytes
+pub mod PageNames
+pub mod SomeConfig
 pub mod SomeReading
 pub mod SomeRequest
 pub mod SomeTurn
 pub mod SomeEnding
-pub mod SomeConfig
-pub mod LastBytes
-pub mod PageNames
 pub mod SomeOutcome
 pub mod TraceLaws
 pub mod NeedLaws

@@ -1,10 +1,10 @@
 -- The web name of the page `/index.html` below a base ends in no `/`.
-use Rattle.std.proofs.Common.{◌≡◌, ◌≢◌, ◌<◌, ◌≤◌, ◌+◌, ◌-◌, ◌==◌, ◌&&◌, ◌||◌, not, cond, if◌then◌else◌, ℕ, zero, suc, Bool, true, false, List, [], ◌∷◌, ◌++◌, reverse, take, drop, length, get_or, filter, Option, Some, None, is_some, Ok, Err, All, codes, nat_lt, bytes_eq, ◌⊎◌, inl, inr, refl, sym, ap, ◌∙◌, subst, arith, append_assoc, append-nil, one-add}
+use Rattle.std.proofs.Common.{◌≡◌, ◌<◌, ◌≤◌, ◌+◌, ◌-◌, ◌==◌, ◌&&◌, ◌||◌, not, cond, ℕ, zero, suc, Bool, true, false, List, [], ◌∷◌, ◌++◌, take, drop, length, get_or, filter, Option, Some, None, is_some, Ok, Err, All, codes, nat_lt, bytes_eq, ◌⊎◌, inl, inr, refl, sym, ap, ◌∙◌, subst, arith, append_assoc, one-add}
 use Rattle.std.specs.Prelude.{nat_eq, unwrap_or}
 use Rattle.std.specs.Char.{is_ascii_alphabetic}
 use Rattle.std.specs.List.{prefix_len, suffix_len, ends_with, list_all}
 use Rattle.std.specs.Result.{result_ok}
-use Rattle.std.proofs.lemmas.Bool.{cases_Bool, cond-true, cond-false, cond_both, and_parts, eqb-true, ne_eqb, not-true, eqb-false, true≢false}
+use Rattle.std.proofs.lemmas.Bool.{cases_Bool, cond-true, cond-false, cond_both, and_parts, eqb-true, not-true, eqb-false, true≢false}
 use Rattle.std.proofs.lemmas.List.{reverse-append, take-append-le}
 use Rattle.std.proofs.Math.Seq.{take-length, take-append_seam, drop-append-le}
 use Rattle.std.proofs.lemmas.List.Elements.{All-nil, All-cons, All-append, All-take, All-drop, All-filter, All-weaker, filter-append}
@@ -14,10 +14,9 @@ use Rattle.url.specs.declared.scheme.SchemeType.TheVariants.{File, SpecialNotFil
 use Rattle.url.specs.Input.{trim_c0_control_and_space, strip_tabs_and_new_lines, split_once, is_c0_control_or_space, is_tab_or_new_line, lowercase, trim_start, trim_end, rsplit_once}
 use Rattle.url.specs.Scheme.{scheme_type, default_port, is_special, is_file, is_slash, scheme_len, is_scheme_byte}
 use Rattle.url.specs.Host.{parse_host, parse_file_host}
-use Rattle.url.specs.Head.{with_authority, scheme_only}
 use Rattle.url.specs.Path.{segment_len, parse_path_start, is_windows_drive_letter}
 use Rattle.url.specs.Parts.{Parts, kind_of, has_credentials}
-use Rattle.url.specs.Parser.{Parsed, and_then, parse_url, parse_by_scheme, parse_parts, parse_all, parse_body, parse_file, parse_not_file, parse_non_special, after_double_slash, after_file_double_slash, parse_authority, split_scheme, split_port, lacks_host, parse_port, leading_slashes, skip_slashes, with_path, with_tail, before_tail}
+use Rattle.url.specs.Parser.{Parsed, and_then, parse_url, parse_by_scheme, parse_parts, parse_body, parse_file, parse_not_file, parse_non_special, after_double_slash, after_file_double_slash, parse_authority, split_scheme, split_port, lacks_host, parse_port, leading_slashes, skip_slashes, with_path, with_tail, before_tail}
 use Rattle.url.proofs.InputLemmas.{IsNot, Passes, split_once_none, All-take-prefix_len}
 use Rattle.url.proofs.OnLiterals.{url_on_literals}
 use Rattle.url.proofs.SchemeLemmas.{file_from_scheme_type, file_from_is_file}
@@ -435,9 +434,13 @@ page_name_ends base name path is_base served e =
     let last : EndsIn 108 (text_of page.url) = subst (λ u. EndsIn 108 (text_of u)) (sym found.3) (text_ends 108 (with_tail found.1 None None) refl refl found.2) in
     another_last 108 name (λ s. omega (arith, s)) (subst (EndsIn 108) page.own last)
 
--- own law: the page that words give has no web name that ends in `/`
+-- own: the page's web name, where it has one that leads back to the page, ends in no `/`
+abbrev pub PageNamesFile : Config → Type 0
+PageNamesFile config = (name : List ℕ) → IsServable config config.page [] name → ends_in_slash name ≡ false
+
+-- own law: the web name of the page that words give ends in no `/`
 abbrev pub PageNamesFiles : Type 0
-PageNamesFiles = (words : List (List ℕ)) (config : Config) → IsConfigOf words config → (name : List ℕ) → IsServable config config.page [] name → ends_in_slash name ≡ false
+PageNamesFiles = (words : List (List ℕ)) (config : Config) → IsConfigOf words config → PageNamesFile config
 
 pub page_names_files : PageNamesFiles
 page_names_files words config is name servable =

@@ -1,5 +1,5 @@
 -- Words give a config or are refused.
-use Rattle.std.proofs.Common.{◌≡◌, ◌≢◌, ◌⊎◌, ℕ, List, [], ◌∷◌, ◌++◌, Option, Some, None, refl, sym, ap, ◌∙◌, subst, inl, inr}
+use Rattle.std.proofs.Common.{◌≡◌, ◌≢◌, ◌⊎◌, ℕ, List, [], ◌∷◌, Option, Some, None, refl, ap, subst, inl, inr}
 use Rattle.std.specs.Prelude.{codes, All}
 use Rattle.tree_spec.specs.TreeLaws.{text_same_or_not}
 use Rattle.url_spec.specs.Parsing.{base_of}

@@ -1,39 +1,35 @@
 -- A tree and a config whose page is a file's have a generation or a first refusal: turn by turn either all goes through, or
 -- the first that doesn't is refused, and there are at most 20,001 turns.
 use Rattle.std.proofs.Common.{◌≡◌, ◌<◌, ◌≤◌, ◌+◌, ◌⊎◌, ℕ, zero, suc, false, List, [], ◌∷◌, ◌++◌, take, length, slice_get, Option, Some, None, refl, sym, ap, ◌∙◌, subst, arith, inl, inr, append-nil, length-append}
-use Rattle.std.specs.Prelude.{flat_map, Contains, unwrap_or}
+use Rattle.std.specs.Prelude.{flat_map, unwrap_or}
 use Rattle.std.proofs.lemmas.Bool.{cases_lt}
 use Rattle.std.proofs.lemmas.Grind.{flat_map-append}
 use Rattle.std.proofs.lemmas.List.{take-append-le, take_all}
-use Rattle.std.proofs.lemmas.Option.{slice_get_within, slice_get-get_or}
+use Rattle.std.proofs.lemmas.Option.{slice_get_within}
 use Rattle.tree_spec.specs.Trees.{Tree}
 use Rattle.url_spec.specs.WebNames.{web}
-use Rattle.layout_spec.specs.declared.Need.{Need}
 use Rattle.layout_spec.specs.Needs.{NoClash}
 use Rattle.layout_spec.specs.Contained.{contains_none, counted_keeps}
 use Rattle.layout_spec.specs.Layout.{layout}
 use Rattle.import_map_spec.specs.Printing.{map_text}
 use Rattle.generator_spec.specs.declared.Refusal.TheVariants as refusal
-use Rattle.generator_spec.specs.Modules.{Config, Module, Referrer, the_page, a_module, path_of, Asks}
+use Rattle.generator_spec.specs.Modules.{Config, Module, the_page, a_module, Asks}
 use Rattle.generator_spec.specs.Trace.{ends_in_slash, IsServable, Turn, IsTurn, TurnsOf, new_modules, targets_of, IsTrace, needs_of}
 use Rattle.generator_spec.specs.Trace.TurnsOf.{no_turns, a_turn}
 use Rattle.generator_spec.specs.Generation.{Generates}
-use Rattle.generator_spec.specs.Refusing.{asked_for, IsFront, Comes, AllFit, Reaches, FirstRefusal, shown}
+use Rattle.generator_spec.specs.Refusing.{asked_for, IsFront, AllFit, Reaches, shown}
 use Rattle.generator_spec.specs.Refusing.Comes.{page_first, module_next}
 use Rattle.generator_spec.specs.Refusing.FirstRefusal.{unservable, no_module}
 use Rattle.generator_spec.specs.Closed.{length-TurnsOf, levels_of_closed, targets_of-append}
 use Rattle.generator_spec.specs.Fronts.{asked_for-append}
+use Rattle.generator_spec.specs.PageNames.{PageNamesFile}
 use Rattle.generator_spec.specs.SomeReading.{HasRequests, AsksNothing, some_requests}
-use Rattle.generator_spec.specs.SomeRequest.{HasWebName, servable_or_not}
+use Rattle.generator_spec.specs.SomeRequest.{servable_or_not}
 use Rattle.generator_spec.specs.SomeTurn.{TurnPasses, IsFirst, turn_or_refusal}
 
 pub record IsGenerated (tree : Tree) (config : Config) : Type 0 where
   pub bytes : List ℕ
   pub generates : Generates tree config bytes
-
--- own: the page's web name, where it has one that leads back to the page, ends in no `/`
-abbrev pub PageNamesFile : Config → Type 0
-PageNamesFile config = (name : List ℕ) → IsServable config config.page [] name → ends_in_slash name ≡ false
 
 -- ---- one more turn
 

@@ -1,5 +1,5 @@
 -- A command over a tree has an outcome.
-use Rattle.std.proofs.Common.{◌≡◌, ◌⊎◌, ℕ, List, [], refl, sym, ap, ◌∙◌, subst, inl, inr, arith, lit≤}
+use Rattle.std.proofs.Common.{ℕ, List, refl, inl, inr, lit≤}
 use Rattle.std.specs.Prelude.{codes}
 use Rattle.std.specs.FinMap.{insert}
 use Rattle.tree_spec.specs.declared.Entry.TheVariants.{Stored}
@@ -12,7 +12,7 @@ use Rattle.generator_spec.specs.Lines.{status_of, line_of, done_line}
 use Rattle.generator_spec.specs.Outcome.{Outcome}
 use Rattle.generator_spec.specs.Outcome.Outcome.{words_refused, trace_refused, done}
 use Rattle.generator_spec.specs.Outcomes.{map_segment}
-use Rattle.generator_spec.specs.SomeConfig.{HasConfig, AreRefused, some_config}
+use Rattle.generator_spec.specs.SomeConfig.{AreRefused, some_config}
 use Rattle.generator_spec.specs.SomeTurn.{IsFirst}
 use Rattle.generator_spec.specs.SomeEnding.{IsGenerated, some_ending}
 use Rattle.generator_spec.specs.PageNames.{page_names_files}

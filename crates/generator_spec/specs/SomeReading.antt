@@ -1,6 +1,6 @@
 -- A text is of the plain form or isn't, and what asks for modules asks for something or doesn't.
-use Rattle.std.proofs.Common.{◌≡◌, ◌≢◌, ◌<◌, ◌+◌, ◌⊎◌, ℕ, zero, suc, Bool, true, false, List, [], ◌∷◌, ◌++◌, take, drop, length, Option, Some, None, refl, sym, ap, ◌∙◌, subst, arith, inl, inr, length-append, take-append-drop}
-use Rattle.std.specs.Prelude.{◌≤◌, codes, All, nat_eq, nat_le, IsUtf8}
+use Rattle.std.proofs.Common.{◌≡◌, ◌≢◌, ◌<◌, ◌⊎◌, ℕ, zero, suc, Bool, true, false, List, [], ◌∷◌, ◌++◌, take, drop, length, Option, Some, None, refl, sym, ap, ◌∙◌, subst, arith, inl, inr, length-append, take-append-drop}
+use Rattle.std.specs.Prelude.{◌≤◌, codes, All, nat_eq, IsUtf8}
 use Rattle.std.specs.List.{ends_with}
 use Rattle.std.specs.Str.{is_utf8}
 use Rattle.std.specs.FinMap.{get}
@@ -12,10 +12,10 @@ use Rattle.tree_spec.specs.declared.Entry.{Entry}
 use Rattle.tree_spec.specs.declared.Entry.TheVariants.{Stored, Directory}
 use Rattle.tree_spec.specs.Trees.{Tree}
 use Rattle.tree_spec.specs.TreeLaws.{text_same_or_not}
-use Rattle.module_spec.specs.PlainForm.{IsSpace, IsPlainByte, IsStatement, IsPlain, Requests}
+use Rattle.module_spec.specs.PlainForm.{IsSpace, IsPlainByte, IsStatement, IsPlain}
 use Rattle.module_spec.specs.PlainForm.IsPlain.{nothing, space, statement}
 use Rattle.module_spec.specs.Readings.{one_cut, no_space, quote_no_space, end_no_space, word_no_space, quote_not_plain, one_statement, starts}
-use Rattle.generator_spec.specs.Modules.{Config, Module, Referrer, the_page, a_module, IsModuleFile, Asks}
+use Rattle.generator_spec.specs.Modules.{Config, Module, Referrer, the_page, a_module, Asks}
 use Rattle.generator_spec.specs.Modules.Asks.{entries, requests}
 use Rattle.generator_spec.specs.Choices.{number_or_other}
 
@@ -103,14 +103,18 @@ module _ (text : List ℕ) (word : text ≡ codes "import" ++ drop 6 text) where
 
   by_end : (open_quote : IsCut IsSpace 34 (drop 6 text)) (close_quote : IsCut IsPlainByte 34 open_quote.behind) → IsCut IsSpace 59 close_quote.behind ⊎ (IsCut IsSpace 59 close_quote.behind → ⊥) → HasStatement text ⊎ NoStatement text
   by_end open_quote close_quote (inl end) =
-      inl (record { specifier = close_quote.front; rest = end.behind; is = record {
-        before = open_quote.front;
-        after = end.front;
-        spaced = open_quote.all;
-        plain = close_quote.all;
-        closed = end.all;
-        split = word ∙ ap (λ t. codes "import" ++ t) (open_quote.whole ∙ ap (λ t. open_quote.front ++ 34 ∷ t) (close_quote.whole ∙ ap (λ t. close_quote.front ++ 34 ∷ t) end.whole));
-      } })
+      inl (record {
+        specifier = close_quote.front;
+        rest = end.behind;
+        is = record {
+          before = open_quote.front;
+          after = end.front;
+          spaced = open_quote.all;
+          plain = close_quote.all;
+          closed = end.all;
+          split = word ∙ ap (λ t. codes "import" ++ t) (open_quote.whole ∙ ap (λ t. open_quote.front ++ 34 ∷ t) (close_quote.whole ∙ ap (λ t. close_quote.front ++ 34 ∷ t) end.whole));
+        };
+      })
   by_end open_quote close_quote (inr none) = inr (λ specifier rest is.
       let inner : open_quote.behind ≡ specifier ++ 34 ∷ (is.after ++ 59 ∷ rest) = one_behind IsSpace 34 (drop 6 text) quote_no_space open_quote is.before _ is.spaced (behind_word specifier rest is) in
       let outer : close_quote.behind ≡ is.after ++ 59 ∷ rest = one_behind IsPlainByte 34 open_quote.behind quote_not_plain close_quote specifier _ is.plain inner in

@@ -1,6 +1,6 @@
 -- A request passes or is refused.
 use Rattle.std.proofs.Common.{◌≡◌, ◌≢◌, ◌<◌, ◌≤◌, ◌⊎◌, ℕ, Bool, true, false, List, [], ◌∷◌, ◌++◌, drop, length, Option, Some, None, refl, sym, ap, ◌∙◌, subst, arith, inl, inr}
-use Rattle.std.specs.Prelude.{codes, flat_map, Contains, IsUtf8}
+use Rattle.std.specs.Prelude.{codes, flat_map, IsUtf8}
 use Rattle.std.specs.List.{list_any}
 use Rattle.std.specs.Str.{is_utf8}
 use Rattle.std.specs.FinMap.{get}
@@ -202,11 +202,14 @@ module _ (tree : Tree) (parent specifier : List ℕ) where
   fitting : (LooksAbove tree parent specifier → ⊥) → (path suffix : List ℕ) → Resolves tree parent specifier (Resolved path suffix) → FitsFile tree path
   fitting few path suffix resolves =
       let is = answered_file tree parent specifier _ path suffix resolves refl in
-      let looks = looked_at_file tree parent specifier _ path suffix resolves refl in
-      (is.bytes, is.stored, elim (cases_lt 16777216 (length is.bytes)) [
-        | inl above ↦ absurd (few (record { path = path; bytes = is.bytes; looks = looks; stored = is.stored; above = above }))
-        | inr within ↦ within
-      ])
+      let looks = looked_at_file tree parent specifier _ path suffix resolves refl in (
+        is.bytes,
+        is.stored,
+        elim (cases_lt 16777216 (length is.bytes)) [
+          | inl above ↦ absurd (few (record { path = path; bytes = is.bytes; looks = looks; stored = is.stored; above = above }))
+          | inr within ↦ within
+        ],
+      )
 
   by_answer : (LooksAbove tree parent specifier → ⊥) → (answer : Answer) → Resolves tree parent specifier answer → HasAnswer tree parent specifier ⊎ HasRefusal tree parent specifier
   by_answer few (Resolved path suffix) resolves = inl (record { target = record { path = path; suffix = suffix }; answers = record { answers = resolves; fits = fitting few path suffix resolves } })
@@ -250,7 +253,7 @@ pub record HasWebName (config : Config) (path suffix : List ℕ) : Type 0 where
   pub name : List ℕ
   pub servable : IsServable config path suffix name
 
--- own law: a path with a suffix has a web name that leads back to it, or none
+-- a path with a suffix has a web name that leads back to it, or none
 pub servable_or_not : (config : Config) (path suffix : List ℕ) → HasWebName config path suffix ⊎ ((name : List ℕ) → IsServable config path suffix name → ⊥)
 servable_or_not config path suffix = by (web config.base path suffix) refl
   where

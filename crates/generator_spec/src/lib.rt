@@ -120,14 +120,14 @@ pub fn some_request_refusal()
     ensures { SomeRequestRefusal }
 {}
 
-/// A tree and a config whose page's web name is a file's have a generation or a first refusal.
-pub fn some_ending()
-    ensures { SomeEnding }
-{}
-
 /// The web name of the page that words give ends in no `/`.
 pub fn page_names_files()
     ensures { PageNamesFiles }
+{}
+
+/// A tree and a config whose page's web name is a file's have a generation or a first refusal.
+pub fn some_ending()
+    ensures { SomeEnding }
 {}
 
 /// A command over a tree has an outcome.
