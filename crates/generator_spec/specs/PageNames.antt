@@ -1,4 +1,5 @@
--- The web name of the page `/index.html` below a base ends in no `/`.
+-- The web name of the page `/index.html` below a base ends in no `/`. The parser reads the page's text as it reads the base's up
+-- to the base's last `/`, behind which the authority has ended; so the page's path ends in the last letter of its name.
 use Rattle.std.proofs.Common.{◌≡◌, ◌<◌, ◌≤◌, ◌+◌, ◌-◌, ◌==◌, ◌&&◌, ◌||◌, not, cond, ℕ, zero, suc, Bool, true, false, List, [], ◌∷◌, ◌++◌, take, drop, length, get_or, filter, Option, Some, None, is_some, Ok, Err, All, codes, nat_lt, bytes_eq, ◌⊎◌, inl, inr, refl, sym, ap, ◌∙◌, subst, arith, append_assoc, one-add}
 use Rattle.std.specs.Prelude.{nat_eq, unwrap_or}
 use Rattle.std.specs.Char.{is_ascii_alphabetic}
@@ -328,9 +329,15 @@ clean_page = record {
   no_question = without_from_test 63 (codes "/index.html") refl;
 }
 
+-- own: the URL of the page, whose path ends in its name's last letter
+record IsPageUrl (url : Parts) : Type 0 where
+  head : Parts
+  ends : EndsIn 108 head.path
+  whole : url ≡ with_tail head None None
+
 -- a base on the web, and the page below it
 page_path_ends : (front : List ℕ) (base url : Parts) → All (IsNot 35) front → All (IsNot 63) front → parse_url None (front ++ 47 ∷ []) ≡ Ok base → IsWeb base.scheme → parse_url None (front ++ 47 ∷ codes "index.html") ≡ Ok url
-    → (scheme : List ℕ) × (head : Parts) × (EndsIn 108 head.path) × (url ≡ with_tail head None None)
+    → IsPageUrl url
 page_path_ends front base url no_hash no_question base_parsed is_web parsed =
     let text = cleaned_front front in
     let own = sym (parsed_by_scheme front [] clean_end no_hash no_question) ∙ base_parsed in
@@ -346,7 +353,7 @@ page_path_ends front base url no_hash no_question base_parsed is_web parsed =
     let page_slashes = sym (web_body scheme (s.body ++ 47 ∷ codes "index.html") kind) ∙ page_body.parsed in
     elim (skipped s.body) [
       | all_skipped e ↦ absurd (no_host scheme own_body.head is (ap (after_double_slash scheme) (sym e) ∙ own_slashes))
-      | left more e ↦ (scheme, page_body.head, web_path_ends scheme more page_body.head kind (ap (after_double_slash scheme) (sym (e (codes "index.html"))) ∙ page_slashes), page_body.whole)
+      | left more e ↦ record { head = page_body.head; ends = web_path_ends scheme more page_body.head kind (ap (after_double_slash scheme) (sym (e (codes "index.html"))) ∙ page_slashes); whole = page_body.whole }
     ]
 
 -- ---- the law
@@ -431,7 +438,7 @@ page_name_ends base name path is_base served e =
     let whole : base ++ codes "index.html" ≡ ends.front ++ 47 ∷ codes "index.html" = ap (λ b. b ++ codes "index.html") ends.split ∙ append_assoc ends.front (47 ∷ []) (codes "index.html") in
     let found = page_path_ends ends.front own.url page.url (front_of (IsNot 35) base 47 ends (base_without 35 base name path refl served)) (front_of (IsNot 63) base 47 ends (base_without 63 base name path refl served))
     (ap (parse_url None) (sym ends.split) ∙ own.parsed) own.is_web (ap (parse_url None) (sym whole) ∙ page.parsed) in
-    let last : EndsIn 108 (text_of page.url) = subst (λ u. EndsIn 108 (text_of u)) (sym found.3) (text_ends 108 (with_tail found.1 None None) refl refl found.2) in
+    let last : EndsIn 108 (text_of page.url) = subst (λ u. EndsIn 108 (text_of u)) (sym found.whole) (text_ends 108 (with_tail found.head None None) refl refl found.ends) in
     another_last 108 name (λ s. omega (arith, s)) (subst (EndsIn 108) page.own last)
 
 -- own: the page's web name, where it has one that leads back to the page, ends in no `/`
