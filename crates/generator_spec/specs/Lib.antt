@@ -15,6 +15,15 @@ pub mod RequestRefusals
 pub mod Fronts
 pub mod FirstRefusals
 pub mod Outcomes
+pub mod Choices
+pub mod LastBytes
+pub mod PageNames
+pub mod SomeConfig
+pub mod SomeReading
+pub mod SomeRequest
+pub mod SomeTurn
+pub mod SomeEnding
+pub mod SomeOutcome
 pub mod TraceLaws
 pub mod NeedLaws
 pub mod Written

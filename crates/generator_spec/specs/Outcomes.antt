@@ -77,7 +77,7 @@ long : (n : ℕ) (text other : List ℕ) → n < length text → length other �
 long n text other more few e = let lengths : length text ≡ length other = ap length e in absurd (omega arith)
 
 -- the map's name is a segment
-map_segment : IsSegment (codes "importmap.json")
+pub map_segment : IsSegment (codes "importmap.json")
 map_segment = record {
   nonempty = long 2 (codes "importmap.json") [] (lit≤ tt) (lit≤ tt);
   no_slash = lacks 47 (codes "importmap.json") refl;

@@ -27,7 +27,7 @@ use Rattle.generator_spec.specs.OneRefusal.{OneRequestRefusal}
 -- ---- what Node answers
 
 -- the file that is answered is one that is looked at
-looked_at_file : (tree : Tree) (parent specifier : List ℕ) (answer : Answer) (path suffix : List ℕ) → Resolves tree parent specifier answer → answer ≡ Resolved path suffix → LooksAt parent specifier path
+pub looked_at_file : (tree : Tree) (parent specifier : List ℕ) (answer : Answer) (path suffix : List ℕ) → Resolves tree parent specifier answer → answer ≡ Resolved path suffix → LooksAt parent specifier path
 looked_at_file tree parent specifier answer path suffix (relative a is_relative (no_url e)) same = absurd (cc)
 looked_at_file tree parent specifier answer path suffix (relative a is_relative (other_host url e host)) same = absurd (cc)
 looked_at_file tree parent specifier answer path suffix (relative a is_relative (joined url b e host (separator s))) same = absurd (cc)

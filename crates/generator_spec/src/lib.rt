@@ -8,6 +8,12 @@ ghost use Rattle.generator_spec.specs.OutcomeExamples.{WorkedOutcomes};
 ghost use Rattle.generator_spec.specs.NeedLaws.{NeedsAreRequests};
 ghost use Rattle.generator_spec.specs.OneGeneration.{OneGeneration};
 ghost use Rattle.generator_spec.specs.Reaching.{NeedsNameFiles, ReachedTurns};
+ghost use Rattle.generator_spec.specs.PageNames.{PageNamesFiles};
+ghost use Rattle.generator_spec.specs.SomeConfig.{SomeConfig};
+ghost use Rattle.generator_spec.specs.SomeEnding.{SomeEnding};
+ghost use Rattle.generator_spec.specs.SomeOutcome.{SomeOutcome};
+ghost use Rattle.generator_spec.specs.SomeReading.{SomeRequests};
+ghost use Rattle.generator_spec.specs.SomeRequest.{SomeRequestRefusal};
 ghost use Rattle.generator_spec.specs.TraceLaws.{TurnsAreReached, TurnsOnce};
 
 use primitives::Text;
@@ -97,6 +103,36 @@ pub fn nothing_refused()
 /// A command has one outcome at most.
 pub fn one_outcome()
     ensures { OneOutcome }
+{}
+
+/// Words give a config or are refused.
+pub fn some_config()
+    ensures { SomeConfig }
+{}
+
+/// Who asks for modules asks for something, or its file isn't of a form that asks for anything.
+pub fn some_requests()
+    ensures { SomeRequests }
+{}
+
+/// A request goes through or is refused.
+pub fn some_request_refusal()
+    ensures { SomeRequestRefusal }
+{}
+
+/// The web name of the page that words give ends in no `/`.
+pub fn page_names_files()
+    ensures { PageNamesFiles }
+{}
+
+/// A tree and a config whose page's web name is a file's have a generation or a first refusal.
+pub fn some_ending()
+    ensures { SomeEnding }
+{}
+
+/// A command over a tree has an outcome.
+pub fn some_outcome()
+    ensures { SomeOutcome }
 {}
 
 /// Worked examples.
