@@ -1,0 +1,62 @@
+"""Measures how fast JSON is read, by processor time, and says PASS or FAIL to the target.
+
+It runs crates/value_count/out/value_count, which `rt ci` or `rt run` in crates/value_count leaves there, on the texts of
+json_texts.py. The times hold all that this program does but for freeing the value: it starts, reads the file, and then
+reads the text. The number of values that it prints is checked against what Python's reader finds.
+"""
+
+import json
+import os
+import resource
+import subprocess
+import sys
+import tempfile
+
+import json_texts
+
+HERE = os.path.dirname(os.path.abspath(__file__))
+PROGRAM = os.path.join(HERE, "..", "crates", "value_count", "out", "value_count")
+TRIES = 7
+# Bytes in a second.
+SPEED = 50_000_000
+
+failures = 0
+
+
+def seconds(path, wanted):
+    """The processor time of one run, whose line is checked."""
+    before = resource.getrusage(resource.RUSAGE_CHILDREN)
+    out = subprocess.run([PROGRAM, path], check=True, capture_output=True, text=True).stdout
+    after = resource.getrusage(resource.RUSAGE_CHILDREN)
+    if out != wanted:
+        sys.exit(f"{os.path.basename(path)}: {out!r}, wanted {wanted!r}")
+    return after.ru_utime + after.ru_stime - before.ru_utime - before.ru_stime
+
+
+def measure(name, text, folder):
+    """The fastest of a few runs over one text."""
+    global failures
+    path = os.path.join(folder, f"{name}.json")
+    with open(path, "w", encoding="utf-8") as file:
+        file.write(text)
+    value = json.loads(text)
+    count = len(value) if isinstance(value, (list, dict)) else 1
+    best = min(seconds(path, f"{count} values\n") for _ in range(TRIES))
+    size = os.path.getsize(path)
+    passed = size >= SPEED * best
+    failures += not passed
+    print(f"{'PASS' if passed else 'FAIL'}  {name}: {best:.3f} s, {size / best / 1e6:.0f} MB/s, at least {SPEED / 1e6:.0f}", flush=True)
+
+
+def main():
+    if not os.access(PROGRAM, os.X_OK):
+        sys.exit("bench: there is no crates/value_count/out/value_count: run `rt run` in crates/value_count first")
+    with tempfile.TemporaryDirectory(prefix="salimgub-values-") as folder:
+        for name, text in json_texts.TEXTS.items():
+            measure(name, text(), folder)
+    print(f"{failures} failed" if failures else "all passed")
+    sys.exit(1 if failures else 0)
+
+
+if __name__ == "__main__":
+    main()
