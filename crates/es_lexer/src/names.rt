@@ -92,9 +92,10 @@ fn is_name_byte(b: u8) -> bool
     b'a' <= b && b <= b'z' || b'A' <= b && b <= b'Z' || is_digit(b) || b == b'_' || b == b'$'
 }
 
-/// How many bytes of a character of names, or of an escape, stand at the front.
+// How many bytes of a character of names, or of an escape, stand at the front.
 #[tactic(auto, unfolding(module_spec::specs::Characters::name_size))]
-pub fn name_size(bytes: &[u8]) -> usize
+#[inline(never)]
+fn any_name_size(bytes: &[u8]) -> usize
     ensures { result ≡ name_size bytes.now }
 {
     match bytes.split_first() {
@@ -108,6 +109,25 @@ pub fn name_size(bytes: &[u8]) -> usize
                 0
             } else {
                 character_size(*first)
+            }
+        }
+    }
+}
+
+/// How many bytes of a character of names, or of an escape, stand at the front. Nearly all of them are single bytes, so
+/// what these need stands here, and the rest is called.
+#[tactic(auto, unfolding(module_spec::specs::Characters::name_size))]
+#[inline]
+pub fn name_size(bytes: &[u8]) -> usize
+    ensures { result ≡ name_size bytes.now }
+{
+    match bytes.split_first() {
+        None => 0,
+        Some((first, _)) => {
+            if is_name_byte(*first) {
+                1
+            } else {
+                any_name_size(bytes)
             }
         }
     }

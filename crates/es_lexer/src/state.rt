@@ -192,7 +192,7 @@ fn slash_behind(sort: Sort, word: Word, top: Option<Open>) -> bool
 }
 
 /// Opens and closes the brackets that a token does.
-pub fn change(stack: &mut Vec<Open>, last: Last, sort: Sort)
+pub(crate) fn change(stack: &mut Vec<Open>, last: Last, sort: Sort)
     requires { vec_len stack.old < vec_capacity stack.old ⊎ ((opens sort ≡ None) ⊎ (closes sort ≢ None)) }
     ensures items { stack.new.items ≡ changed (opens sort) (closes sort) last stack.old.items }
     ensures capacity { vec_capacity stack.old ≤ vec_capacity stack.new }
