@@ -28,7 +28,7 @@ abbrev pub IsLeft : {B : Type 0} → (B → List ℕ → B → Type 0) → B →
 IsLeft fails middle [] new = new ≡ middle
 IsLeft fails middle (call ∷ more) new = (new ≡ middle) ⊎ fails middle call.0 new
 
--- the calls that were made are the first of those by which there is an outcome, and the object is as they left it
+-- the calls that were made are the first of those by which there is an outcome; `left` says what became of the object
 pub record Begins {B : Type 0} (gives : B → List ℕ → BareAnswer → B → Type 0) (fails : B → List ℕ → B → Type 0) (Is : List Call → Outcome → Type 0) (old new : B) : Type 0 where
   pub asked : List Call
   pub middle : B

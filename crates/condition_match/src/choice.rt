@@ -179,7 +179,7 @@ fn item_at(items: &Items, index: usize) -> &Value
 }
 
 /// The member with this number.
-pub fn member_at(members: &Members, index: usize) -> (&Text, &Value)
+pub(crate) fn member_at(members: &Members, index: usize) -> (&Text, &Value)
     requires { index < length (pairs_of members.now) }
     ensures { drop index (pairs_of members.now) ≡ (result.0.now, result.1.now) ∷ drop (index + 1) (pairs_of members.now) }
 {
