@@ -6,15 +6,17 @@ kept=$(mktemp -d) || exit 1
 trap 'rm -rf "$kept"' EXIT
 failed=0
 
-# Links ENTRY in the folder $kept/NAME: row NAME ENTRY STATUS LINE, and the map on the standard input. Without a map no
-# file may be written.
+# Links ENTRY in the folder $kept/NAME: row NAME ENTRY STATUS LINE, and the map on the standard input. No other file may be
+# written, and without a map none.
 row() {
     cat >"$kept/map"
+    before=$(cd "$kept/$1" && find . | sort)
     (cd "$kept/$1" && "$program" link --base https://app.test/ "$2" >"$kept/out")
     status=$?
     written=/dev/null
     [ ! -e "$kept/$1/importmap.json" ] || written=$kept/$1/importmap.json
-    if [ "$status" = "$3" ] && echo "$4" | diff - "$kept/out" && diff "$kept/map" "$written"; then
+    after=$(cd "$kept/$1" && find . ! -path ./importmap.json | sort)
+    if [ "$status" = "$3" ] && echo "$4" | diff - "$kept/out" && diff "$kept/map" "$written" && [ "$before" = "$after" ]; then
         return
     fi
     echo "$1: status $status"
