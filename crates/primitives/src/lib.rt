@@ -4,6 +4,7 @@
 
 mod listed;
 mod pairs;
+mod short;
 mod step_count;
 #[cfg(test)]
 mod tests;

@@ -1,8 +1,18 @@
 use super::*;
 use std::test::Fail;
 
-/// Texts in byte order.
-static TEXTS: [&str; 5] = ["", "A", "a", "ab", "ä"];
+/// Texts in byte order, some of as many bytes as lie in the value, and of one more.
+static TEXTS: [&str; 9] = [
+    "",
+    "A",
+    "a",
+    "ab",
+    "abcdefghijklmnopqrstuvwxyz1234",
+    "abcdefghijklmnopqrstuvwxyz12345",
+    "ä",
+    "äääääääääääääää",
+    "ääääääääääääääää",
+];
 
 #[test]
 fn texts_and_lists_keep_what_they_are_given(rt: HostRuntime) -> Result<(), Fail> {
@@ -18,6 +28,7 @@ fn texts_and_lists_keep_what_they_are_given(rt: HostRuntime) -> Result<(), Fail>
             let first = list.at(i).ok_or("no item")?;
             let (length, second) = pairs.at(j).ok_or("no pair")?;
             assert_eq!(rt; *length, second.len());
+            assert_eq!(rt; first.as_str(), TEXTS[i]);
             assert!(rt;
                 first.cmp(second) == i.cmp(&j) && (first == second) == (i == j),
                 "{i} {j}"

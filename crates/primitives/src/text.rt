@@ -1,24 +1,35 @@
 ghost use Rattle.std.specs.Prelude.{◌≡◌, ◌==◌, List, [], ℕ, length, IfOk, slice_get, option_copied};
 
 use crate::Memory;
+use crate::short::Short;
 use std::alloc::Global;
 use std::cmp::Ordering;
+use std::fmt;
 use std::hash::{Hash, Hasher};
 use std::marker::Model;
 
+const _: () = prove!(size_of::<Text>() == 32);
+
 /// A text that is kept: a contract sees it as the list of its UTF-8 bytes.
-#[derive(Debug, Drop)]
+#[derive(Drop)]
 pub struct Text {
-    text: String,
+    kept: Kept,
+}
+
+// A short text lies in the value itself, so that it takes no memory of its own.
+#[derive(Drop)]
+enum Kept {
+    Short(Short),
+    Long(String),
 }
 
 impl Model for Text {
     ghost use Rattle.std.specs.Prelude.{List, ℕ};
-    ghost use Rattle.std.specs.String.{string_bytes};
+    ghost use Rattle.primitives.specs.Kept.{kept_bytes};
 
     ghost Value = { List ℕ };
 
-    ghost view = { λ t. string_bytes t.text };
+    ghost view = { λ t. kept_bytes t.kept };
 }
 
 impl Text {
@@ -29,7 +40,7 @@ impl Text {
         ensures { result ≡ [] }
     {
         Text {
-            text: String::new(alloc),
+            kept: Kept::Long(String::new(alloc)),
         }
     }
 
@@ -37,24 +48,20 @@ impl Text {
     pub fn of(alloc: Global, text: &str) -> Result<Text, Memory>
         ensures { IfOk result (λ copy. copy ≡ text.now) }
     {
-        Ok(Text {
-            text: String::from_str(alloc, text)?,
-        })
+        let kept = match Short::of(text) {
+            Some(short) => Kept::Short(short),
+            None => Kept::Long(String::from_str(alloc, text)?),
+        };
+        Ok(Text { kept })
     }
 
     /// The text of a `String`, which is moved.
     pub fn from_string(text: String) -> Text
         ensures { result ≡ string_bytes text }
     {
-        Text { text }
-    }
-
-    /// The `String` of this text, which is moved out.
-    pub fn into_string(self) -> String
-        ensures { string_bytes result ≡ self }
-    {
-        let Text { text } = self;
-        text
+        Text {
+            kept: Kept::Long(text),
+        }
     }
 
     /// An equal text.
@@ -68,7 +75,10 @@ impl Text {
     pub fn as_str(&self) -> &str
         ensures { result.now ≡ self.now }
     {
-        self.text.as_str()
+        match &self.kept {
+            Kept::Short(text) => text.as_str(),
+            Kept::Long(text) => text.as_str(),
+        }
     }
 
     /// The number of bytes.
@@ -93,6 +103,12 @@ impl Text {
     }
 }
 
+impl fmt::Debug for Text {
+    fn fmt<W: fmt::Write>(&self, f: &mut fmt::Formatter<W>) -> fmt::Result {
+        fmt::Debug::fmt(self.as_str(), f)
+    }
+}
+
 impl PartialEq for Text {
     ghost use Rattle.std.specs.Prelude.{bytes_eq};
     ghost use Rattle.std.proofs.Common.{rules};
@@ -103,7 +119,7 @@ impl PartialEq for Text {
     ghost laws = { Prim.search (comparing, rules) };
 
     fn eq(&self, other: &Text) -> bool {
-        self.text.as_str() == other.text.as_str()
+        self.as_str() == other.as_str()
     }
 }
 
@@ -124,7 +140,7 @@ impl Hash for Text {
     ghost respects_eq = { Prim.search (hashing, rules) };
 
     fn hash<H: Hasher>(&self, state: &mut H) {
-        self.text.as_str().hash(state);
+        self.as_str().hash(state);
     }
 }
 
@@ -143,7 +159,7 @@ impl Ord for Text {
     ghost matches_eq = { Prim.search (comparing, rules) };
 
     fn cmp(&self, other: &Text) -> Ordering {
-        self.text.as_str().cmp(other.text.as_str())
+        self.as_str().cmp(other.as_str())
     }
 }
 

@@ -1,4 +1,5 @@
-use Rattle.std.proofs.Common.{rules, map}
+use Rattle.std.proofs.Common.{rules, map, ◌≡◌, [], ◌∷◌, ◌++◌}
+use Rattle.std.proofs.lemmas.List.Elements.{All-push}
 use Rattle.map_print.specs.Keys.{InKeyOrder}
 use Rattle.map_flatten.specs.Grouped.{listed_scope}
 use Rattle.map_flatten.proofs.Ordered.{front_in_order, listed_in_order, next_listed}
@@ -15,3 +16,13 @@ pub returns-clause-in_order : goal.returns-clause-in_order
 returns-clause-in_order c =
     let whole : InKeyOrder (map listed_scope c.args.grouped.entries) = listed_in_order c.args.grouped.entries (search rules) in
     (front_in_order _ (map listed_scope c.loop-referrer.referrer-iterator) _ (search rules) whole, search rules)
+
+pub loop-referrer-preserved : goal.loop-referrer-preserved
+loop-referrer-preserved c =
+    let pushed : c.push.new.self ≡ c.loop-referrer.scopes ++ (c.in-Some.referrer, c.in_ok-from_map.field-0) ∷ [] = search rules in
+    let each = All-push (λ scope. InKeyOrder scope.1) c.loop-referrer.scopes (c.in-Some.referrer, c.in_ok-from_map.field-0) (search rules) c.in_ok-from_map.ensures.in_order in (
+      tt,
+      tt,
+      rw pushed (next_listed c.loop-referrer.scopes c.loop-referrer.referrer-iterator c.next.new.self c.in-Some.referrer c.in-Some.scope c.in_ok-from_map.field-0 (search rules) (search rules) (search rules)),
+      rw pushed each,
+    )
