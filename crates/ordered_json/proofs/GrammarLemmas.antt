@@ -1,9 +1,8 @@
 -- The grammar's rules at the bytes that a reader holds.
-use Rattle.std.specs.Prelude.{◌≡◌, ◌≢◌, ℕ, zero, suc, ◌-◌, ◌<◌, ◌==◌, List, [], ◌∷◌, ◌++◌, length, take, drop, Result, Ok, Err}
-use Rattle.std.proofs.Common.{refl, ap, sym, subst, ◌∙◌, arith, append-nil, append_assoc}
+use Rattle.std.specs.Prelude.{◌≡◌, ◌≢◌, ℕ, zero, suc, ◌-◌, ◌<◌, ◌==◌, List, [], ◌∷◌, ◌++◌, length, Result, Ok, Err}
+use Rattle.std.proofs.Common.{refl, ap, sym, subst, ◌∙◌, arith}
 use Rattle.std.proofs.lemmas.Bool.{cond-false, false_from_ne_true, eqb-true}
 use Rattle.std.proofs.lemmas.List.{same_from_push}
-use Rattle.std.proofs.Math.Seq.{take-append_seam, drop-append_seam}
 use Rattle.json_spec.specs.Value.{Json, a_text, a_list, an_object, Items, no_items, an_item, Members, no_members, settled_onto, put}
 use Rattle.json_spec.specs.Taken.{taken, refused, and_then}
 use Rattle.json_spec.specs.Strings.{ReadsString}
@@ -15,7 +14,7 @@ use Rattle.ordered_json.specs.declared.fault.Stop.{Stop}
 use Rattle.ordered_json.specs.declared.fault.Stop.TheVariants.{Unreadable, Deep, NoMemory}
 use Rattle.ordered_json.specs.Shown.{json_of, items_of}
 use Rattle.ordered_json.specs.Outcomes.{Fails, settle, ReadsSettled, IsWhole, WholeFails}
-use Rattle.ordered_json.specs.Stacks.{PutsOn, PutsOnAll, IsListed}
+use Rattle.ordered_json.specs.Stacks.{PutsOn}
 
 not_taken : {A : Type 0} {x : A} {rest : List ℕ} {f : Fault} → ◌≡◌ {A = Reading A} (taken x rest) (refused f) → ⊥
 not_taken p = cc
@@ -68,6 +67,10 @@ scalar_value (suc depth) b rest q l o = reads_scalar q l o
 
 pub scalar_reads : (depth : ℕ) (b : ℕ) (bytes rest : List ℕ) (out : Reading Json) → bytes ≡ b ∷ rest → b ≢ 34 → b ≢ 91 → b ≢ 123 → scalar_at bytes ≡ out → Reads depth bytes out
 scalar_reads depth b bytes rest out e q l o s = rw (← s, e) (scalar_value depth b rest q l o)
+
+-- a byte that isn't the opening bracket
+pub not_bracket : {bytes rest : List ℕ} {d : ℕ} → bytes ≡ d ∷ rest → ((rest : List ℕ) → bytes ≢ 91 ∷ rest) → d ≢ 91
+not_bracket {rest = rest} e n b = n rest (e ∙ ap (λ (x : ℕ). x ∷ rest) b)
 
 pub deep_list : (depth : ℕ) (d : ℕ) (bytes rest : List ℕ) → depth ≡ 0 → bytes ≡ d ∷ rest → d ≡ 91 → Reads depth bytes (refused (TooDeep (length bytes)))
 deep_list depth d bytes rest z e b = rw (z, e, b) (reads_list {out = refused (TooDeep (suc (length rest)))} refl)
@@ -160,42 +163,6 @@ module _ {value : List ℕ → Reading Json → Type 0} {bytes rest : List ℕ} 
         no_turn : (xs : List ℕ) → ((end : List ℕ) → xs ≢ 93 ∷ end) → ((more : List ℕ) → xs ≢ 44 ∷ more) → MoreItems value xs (fault_here xs)
         no_turn [] n m = items_end
         no_turn (b ∷ xs) n m = items_other (λ e. n xs (ap (λ x. x ∷ xs) e)) (λ e. m xs (ap (λ x. x ∷ xs) e))
-
--- the same while the values that were read stand behind others
-pub record Gathers (value : List ℕ → Reading Json → Type 0) (bytes : List ℕ) (before now : List Value) (rest : List ℕ) : Type 0 where
-  pub found : List Value
-  pub pushed : now ≡ before ++ found
-  pub awaits : AwaitsItem value bytes found rest
-
-pub gathers_none : (depth : ℕ) (whole start : List ℕ) (before : List Value) → start ≡ after_space whole → ((rest : List ℕ) → start ≢ 93 ∷ rest) → Gathers (Reads depth) (after_space whole) before before start
-gathers_none depth whole start before s n = record { found = []; pushed = sym (append-nil before); awaits = awaits_first_item depth whole start [] refl s n }
-
-pub none_gathered : (value : List ℕ → Reading Json → Type 0) (whole start end : List ℕ) (before : List Value) → start ≡ after_space whole → start ≡ 93 ∷ end → PutsOnAll before before (λ found. ReadsItems value (after_space whole) (taken (items_of found) end))
-none_gathered value whole start end before s e = record { found = []; pushed = sym (append-nil before); is = no_items_read value (after_space whole) end [] refl (sym s ∙ e) }
-
-module _ {value : List ℕ → Reading Json → Type 0} {bytes rest middle : List ℕ} {before now next : List Value} (gathers : Gathers value bytes before now rest) (here : PutsOn now next (λ v. value rest (taken v middle))) (space : List ℕ) (skipped : space ≡ after_space middle) where
-  more_gathered : next ≡ before ++ (gathers.found ++ here.value ∷ [])
-  more_gathered = here.pushed ∙ (ap (λ (vs : List Value). vs ++ here.value ∷ []) gathers.pushed ∙ append_assoc before gathers.found (here.value ∷ []))
-
-  pub gathers_more : (more start : List ℕ) → space ≡ 44 ∷ more → start ≡ after_space more → Gathers value bytes before next start
-  gathers_more more start e s = record { found = gathers.found ++ here.value ∷ []; pushed = more_gathered; awaits = awaits_next_item gathers.awaits here.value middle space here.is skipped _ more start refl e s }
-
-  pub all_gathered : (end : List ℕ) → space ≡ 93 ∷ end → PutsOnAll before next (λ found. ReadsItems value bytes (taken (items_of found) end))
-  all_gathered end e = record { found = gathers.found ++ here.value ∷ []; pushed = more_gathered; is = last_item gathers.awaits here.value middle space here.is skipped _ end refl e }
-
-  pub gathers_no_more : ((end : List ℕ) → space ≢ 93 ∷ end) → ((more : List ℕ) → space ≢ 44 ∷ more) → ReadsItems value bytes (fault_here space)
-  gathers_no_more n m = no_more_items gathers.awaits here.value middle space here.is skipped n m
-
--- the values of a list are put on, and then the list of them in their place
-pub list_put_on : (m depth : ℕ) (d : ℕ) (bytes rest end : List ℕ) (start : ℕ) {before now after : List Value} → depth ≡ suc m → bytes ≡ d ∷ rest → d ≡ 91 → start ≡ length before → PutsOnAll before now (λ found. ReadsItems (Reads m) (after_space rest) (taken (items_of found) end)) → IsListed start now after → PutsOn before after (λ v. Reads depth bytes (taken v end))
-list_put_on m depth d bytes rest end start {before} {now} s e b z p l =
-    let kept : take start now ≡ before = rw (z, p.pushed) (take-append_seam before p.found) in
-    let listed : drop start now ≡ p.found = rw (z, p.pushed) (drop-append_seam before p.found) in
-    record {
-      value = l.value;
-      pushed = l.pushed ∙ ap (λ (vs : List Value). vs ++ l.value ∷ []) kept;
-      is = list_value m depth d bytes rest end (items_of p.found) (json_of l.value) s e b p.is (l.list ∙ ap (λ (vs : List Value). a_list (items_of vs)) listed);
-    }
 
 pub one_put_on : {before after : List Value} {Is : Json → Type 0} (value : Value) → after ≡ before ++ value ∷ [] → Is (json_of value) → PutsOn before after Is
 one_put_on value e is = record { value = value; pushed = e; is = is }

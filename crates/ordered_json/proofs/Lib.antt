@@ -1,5 +1,6 @@
 pub mod EscapesLemmas
 pub mod GrammarLemmas
+pub mod NestLemmas
 pub mod NumbersLemmas
 pub mod PairsLemmas
 pub mod ShownLemmas

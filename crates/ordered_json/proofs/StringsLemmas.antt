@@ -118,3 +118,11 @@ closes_turn more d t e is = let l = left more d t e in let m = t.at_most in (clo
 
 pub escapes_turn : {bytes found rest after items : List ℕ} (inner piece middle : List ℕ) (d : ℕ) → Turned bytes found rest after items → after ≡ d ∷ inner → d ≡ 92 → escape_at inner ≡ taken piece middle → Completes bytes (items ++ piece) middle × (length middle < length rest)
 escapes_turn inner piece middle d t e is f = let l = left inner d t e in let m = escape_shorter inner piece middle f in (completes_escape _ _ _ inner piece middle t.whole (rw (← is) e) f, omega arith)
+
+-- `front` is the plain front of the whole
+pub begins_plain : (bytes after front items : List ℕ) → after ≡ after_plain bytes → ((p : List ℕ) → bytes ≡ p ++ after → front ≡ p) → items ≡ front → Completes bytes items after
+begins_plain bytes after front items e p i = (turned bytes [] bytes after front items (begins bytes) (omega arith) e p i).whole
+
+-- a string without an escape: `after` is behind its plain front, which is `piece`
+pub plain_string : (bytes after piece rest : List ℕ) → after ≡ after_plain bytes → ((p : List ℕ) → bytes ≡ p ++ after → piece ≡ p) → after ≡ 34 ∷ rest → ReadsText bytes (taken piece rest) × (length rest < length bytes)
+plain_string bytes after piece rest e p closed = closes_turn rest 34 (turned bytes [] bytes after piece piece (begins bytes) (omega arith) e p refl) closed refl

@@ -14,9 +14,7 @@ pub fn read_number(alloc: Global, bytes: &[u8]) -> Result<Option<(Text, &[u8])>,
     let Some(rest) = after_number(bytes) else {
         return Ok(None);
     };
-    let Ok(number) = std::str::from_utf8(piece_before(bytes, rest)) else {
-        unreachable!()
-    };
+    let number = unsafe { std::str::from_utf8_unchecked(piece_before(bytes, rest)) };
     Ok(Some((Text::of(alloc, number)?, rest)))
 }
 

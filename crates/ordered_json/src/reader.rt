@@ -1,11 +1,11 @@
-ghost use Rattle.std.specs.Prelude.{◌≡◌, ◌<◌, ◌≤◌, [], ◌∷◌, ◌++◌, length, take, drop, MatchResult, IfOk, OnOk, Ok};
+ghost use Rattle.std.specs.Prelude.{◌≡◌, ◌≢◌, ◌<◌, ◌≤◌, List, ℕ, [], ◌∷◌, ◌++◌, length, take, drop, MatchResult, IfOk, OnOk, Ok};
 ghost use Rattle.json_spec.specs.Value.{HasDistinctNames};
 ghost use Rattle.json_spec.specs.Taken.{taken};
-ghost use Rattle.json_spec.specs.Grammar.{after_space, scalar_at, ReadsName, ReadsItems, Reads, ReadsJson};
-ghost use Rattle.ordered_json.specs.Lists.{values_of, pairs_of};
-ghost use Rattle.ordered_json.specs.Shown.{json_of, items_of, members_of};
+ghost use Rattle.json_spec.specs.Grammar.{after_space, scalar_at, ReadsName, Reads, ReadsJson};
+ghost use Rattle.ordered_json.specs.Lists.{pairs_of};
+ghost use Rattle.ordered_json.specs.Shown.{json_of, members_of};
 ghost use Rattle.ordered_json.specs.Outcomes.{Fails, IsFault, IsWhole, WholeFails, ReadsSettled};
-ghost use Rattle.ordered_json.specs.Stacks.{PutsOn, PutsOnAll, IsListed};
+ghost use Rattle.ordered_json.specs.Stacks.{PutsOn, IsListed, Begins, GoesOn, StopsAt};
 
 use crate::fault::{JsonFault, Stop};
 use crate::gathered::Gathered;
@@ -45,7 +45,14 @@ fn read_whole(alloc: Global, bytes: &[u8]) -> Result<Value, Stop>
     ensures { MatchResult result (λ value. IsWhole bytes.now (Ok (json_of value))) (WholeFails bytes.now) }
 {
     let mut values = Vec::new(alloc);
-    let rest = read_value(alloc, &mut values, MOST_BRACKETS, skip_space(bytes))?;
+    let mut starts = Vec::new(alloc);
+    let rest = read_value(
+        alloc,
+        &mut values,
+        &mut starts,
+        MOST_BRACKETS,
+        skip_space(bytes),
+    )?;
     let rest = skip_space(rest);
     if rest.is_empty() {
         Ok(take_last(&mut values))
@@ -54,22 +61,23 @@ fn read_whole(alloc: Global, bytes: &[u8]) -> Result<Value, Stop>
     }
 }
 
-// Takes off the value that was put on last.
-fn take_last(values: &mut Vec<Value>) -> Value
-    requires { 0 < length values.old.items }
-    ensures { values.old.items ≡ values.new.items ++ result ∷ [] }
+// Takes off what was put on last.
+fn take_last<T>(stack: &mut Vec<T>) -> T
+    requires { 0 < length stack.old.items }
+    ensures { stack.old.items ≡ stack.new.items ++ result ∷ [] }
 {
-    match values.pop() {
-        Some(value) => value,
+    match stack.pop() {
+        Some(last) => last,
         None => unreachable!(),
     }
 }
 
-// Puts on a value.
-fn put_on(values: &mut Vec<Value>, value: Value) -> Result<(), Memory>
-    ensures { OnOk result (values.new.items ≡ values.old.items ++ value ∷ []) }
+// Puts on one more.
+#[inline(always)]
+fn put_on<T: Drop>(stack: &mut Vec<T>, item: T) -> Result<(), Memory>
+    ensures { OnOk result (stack.new.items ≡ stack.old.items ++ item ∷ []) }
 {
-    values.push(value)?;
+    stack.push(item)?;
     Ok(())
 }
 
@@ -95,34 +103,117 @@ fn close_list(alloc: Global, values: &mut Vec<Value>, start: usize) -> Result<()
     put_on(values, Value::List(items))
 }
 
-// Reads the value at the front, in which this many brackets may be opened, puts it on, and gives the bytes behind it.
+// Reads the value at the front, in which this many brackets may be opened, puts it on, and gives the bytes behind it. Of each
+// list that is open within it, `starts` has the number of values before those of the list: so lists in lists take no stack.
 #[cycle(read)]
 fn read_value<'a>(
     alloc: Global,
     values: &mut Vec<Value>,
+    starts: &mut Vec<usize>,
     depth: usize,
     bytes: &'a [u8],
 ) -> Result<&'a [u8], Stop>
     ensures reads { MatchResult result (λ rest. PutsOn values.old.items values.new.items (λ value. Reads depth bytes.now (taken value rest.now))) (Fails (Reads depth bytes.now)) }
+    ensures kept { OnOk result (starts.new.items ≡ starts.old.items) }
+    ensures shorter { IfOk result (λ rest. length rest.now < length bytes.now) }
+{
+    let outside = starts.as_slice().len();
+    let mut rest = bytes;
+    let mut awaited = true;
+    loop {
+        let open = starts.as_slice().len() - outside;
+        if awaited {
+            let (still, left) = begin_value(alloc, values, starts, depth - open, rest)?;
+            awaited = still;
+            rest = left;
+            continue;
+        }
+        if open == 0 {
+            return Ok(rest);
+        }
+        let (again, left) = go_on(alloc, values, starts, rest)?;
+        awaited = again;
+        rest = left;
+    }
+}
+
+// Where a value is awaited, in which this many brackets may be opened: opens a list, or reads what is no list and puts it
+// on. Gives whether a value is awaited still, and the bytes from there on.
+#[cycle(read)]
+#[inline(always)]
+fn begin_value<'a>(
+    alloc: Global,
+    values: &mut Vec<Value>,
+    starts: &mut Vec<usize>,
+    depth: usize,
+    bytes: &'a [u8],
+) -> Result<(bool, &'a [u8]), Stop>
+    ensures begins { MatchResult result (λ x. Begins depth bytes.now values.old.items starts.old.items values.new.items starts.new.items x.0 x.1.now) (Fails (Reads depth bytes.now)) }
+    ensures shorter { IfOk result (λ x. length x.1.now < length bytes.now) }
+{
+    let Some(inner) = after_byte(bytes, b'[') else {
+        let rest = read_other(alloc, values, starts, depth, bytes)?;
+        return Ok((false, rest));
+    };
+    if depth == 0 {
+        return Err(Stop::Deep(bytes.len()));
+    }
+    let inner = skip_space(inner);
+    if let Some(end) = after_byte(inner, b']') {
+        put_on(values, Value::List(Items::new(alloc)))?;
+        return Ok((false, end));
+    }
+    put_on(starts, values.as_slice().len())?;
+    Ok((true, inner))
+}
+
+// Behind a value of a list: goes past a comma, or past the bracket that closes the list, and puts the list on. Gives whether
+// a value is awaited, and the bytes from there on.
+#[inline(always)]
+fn go_on<'a>(
+    alloc: Global,
+    values: &mut Vec<Value>,
+    starts: &mut Vec<usize>,
+    bytes: &'a [u8],
+) -> Result<(bool, &'a [u8]), Stop>
+    requires open { 0 < length starts.old.items }
+    requires within { (others : List ℕ) (start : ℕ) → starts.old.items ≡ others ++ start ∷ [] → start ≤ length values.old.items }
+    ensures goes { MatchResult result (λ x. GoesOn bytes.now values.old.items starts.old.items values.new.items starts.new.items x.0 x.1.now) (StopsAt bytes.now) }
+    ensures shorter { IfOk result (λ x. length x.1.now < length bytes.now) }
+{
+    let space = skip_space(bytes);
+    if let Some(more) = after_byte(space, b',') {
+        return Ok((true, skip_space(more)));
+    }
+    let Some(end) = after_byte(space, b']') else {
+        return Err(Stop::Unreadable(space.len()));
+    };
+    close_list(alloc, values, take_last(starts))?;
+    Ok((false, end))
+}
+
+// The same of a value that is no list.
+#[cycle(read)]
+fn read_other<'a>(
+    alloc: Global,
+    values: &mut Vec<Value>,
+    starts: &mut Vec<usize>,
+    depth: usize,
+    bytes: &'a [u8],
+) -> Result<&'a [u8], Stop>
+    requires { (rest : List ℕ) → bytes.now ≢ 91 ∷ rest }
+    ensures reads { MatchResult result (λ rest. PutsOn values.old.items values.new.items (λ value. Reads depth bytes.now (taken value rest.now))) (Fails (Reads depth bytes.now)) }
+    ensures kept { OnOk result (starts.new.items ≡ starts.old.items) }
     ensures shorter { IfOk result (λ rest. length rest.now < length bytes.now) }
 {
     let Some((first, rest)) = cut_first(bytes) else {
         return Err(Stop::Unreadable(0));
     };
-    if first == b'[' {
-        if depth == 0 {
-            return Err(Stop::Deep(bytes.len()));
-        }
-        let start = values.as_slice().len();
-        let end = read_items(alloc, values, depth - 1, rest)?;
-        close_list(alloc, values, start)?;
-        return Ok(end);
-    }
     if first == b'{' {
         if depth == 0 {
             return Err(Stop::Deep(bytes.len()));
         }
-        let (members, end) = read_members(alloc, values, depth - 1, rest)?;
+        let (members, end) = read_members(alloc, values, starts, depth - 1, rest)?;
         put_on(values, Value::Object(members))?;
         return Ok(end);
     }
@@ -157,46 +248,17 @@ fn read_scalar(alloc: Global, bytes: &[u8]) -> Result<(Value, &[u8]), Stop>
     }
 }
 
-// Reads the values of a list whose opening bracket stands before the bytes, puts them on, and gives the bytes behind the list.
-#[cycle(read)]
-fn read_items<'a>(
-    alloc: Global,
-    values: &mut Vec<Value>,
-    depth: usize,
-    bytes: &'a [u8],
-) -> Result<&'a [u8], Stop>
-    ensures reads { MatchResult result (λ rest. PutsOnAll values.old.items values.new.items (λ found. ReadsItems (Reads depth) (after_space bytes.now) (taken (items_of found) rest.now))) (Fails (ReadsItems (Reads depth) (after_space bytes.now))) }
-    ensures shorter { IfOk result (λ rest. length rest.now < length bytes.now) }
-{
-    let mut rest = skip_space(bytes);
-    if let Some(end) = after_byte(rest, b']') {
-        return Ok(end);
-    }
-    loop {
-        let after = read_value(alloc, values, depth, rest)?;
-        let after = skip_space(after);
-        if let Some(end) = after_byte(after, b']') {
-            return Ok(end);
-        }
-        let Some(more) = after_byte(after, b',') else {
-            return Err(Stop::Unreadable(after.len()));
-        };
-        rest = skip_space(more);
-    }
-}
-
 // The members of an object whose opening bracket stands before the bytes. A key that was there takes the later value.
-// Not inlined, so that nested lists take less of the stack.
 #[cycle(read)]
-#[inline(never)]
 fn read_members<'a>(
     alloc: Global,
     values: &mut Vec<Value>,
+    starts: &mut Vec<usize>,
     depth: usize,
     bytes: &'a [u8],
 ) -> Result<(Members, &'a [u8]), Stop>
     ensures reads { MatchResult result (λ x. ReadsSettled (Reads depth) (after_space bytes.now) (taken (members_of (pairs_of x.0)) x.1.now)) (Fails (ReadsSettled (Reads depth) (after_space bytes.now))) }
-    ensures kept { OnOk result (values.new.items ≡ values.old.items) }
+    ensures kept { OnOk result ((values.new.items ≡ values.old.items) × (starts.new.items ≡ starts.old.items)) }
     ensures shorter { IfOk result (λ x. length x.1.now < length bytes.now) }
 {
     let mut rest = skip_space(bytes);
@@ -206,7 +268,7 @@ fn read_members<'a>(
     let mut members = Gathered::new(alloc)?;
     loop {
         let (key, after) = read_name(alloc, rest)?;
-        let after = read_value(alloc, values, depth, skip_space(after))?;
+        let after = read_value(alloc, values, starts, depth, skip_space(after))?;
         members.put(key, take_last(values))?;
         let after = skip_space(after);
         if let Some(end) = after_byte(after, b'}') {

@@ -4,7 +4,7 @@ ghost use Rattle.json_spec.specs.Strings.{ReadsText, ReadsString};
 ghost use Rattle.ordered_json.specs.Scanned.{after_plain, is_plain};
 
 use crate::escapes::read_escape;
-use crate::scan::{cut_first, piece_before};
+use crate::scan::{after_byte, cut_first, piece_before};
 use primitives::{Memory, Text};
 use std::alloc::Global;
 
@@ -17,7 +17,26 @@ const BACKSLASH: u8 = 92;
 pub fn read_string(alloc: Global, bytes: &[u8]) -> Result<Option<(Text, &[u8])>, Memory>
     ensures { IfOk result (λ found. MatchOption found (ReadsString bytes.now (refused tt)) (λ x. ReadsString bytes.now (taken x.0 x.1.now) × (length x.1.now < length bytes.now))) }
 {
-    match read_characters(alloc, bytes)? {
+    let after = skip_plain(bytes);
+    let Some(rest) = after_byte(after, QUOTE) else {
+        return read_escaped(alloc, bytes, after);
+    };
+    match std::str::from_utf8(piece_before(bytes, after)) {
+        Ok(text) => Ok(Some((Text::of(alloc, text)?, rest))),
+        Err(_) => Ok(None),
+    }
+}
+
+// The same, whatever stands behind the bytes that stand for themselves at the front.
+fn read_escaped<'a>(
+    alloc: Global,
+    bytes: &'a [u8],
+    after: &'a [u8],
+) -> Result<Option<(Text, &'a [u8])>, Memory>
+    requires { after.now ≡ after_plain bytes.now }
+    ensures { IfOk result (λ found. MatchOption found (ReadsString bytes.now (refused tt)) (λ x. ReadsString bytes.now (taken x.0 x.1.now) × (length x.1.now < length bytes.now))) }
+{
+    match read_characters(alloc, bytes, after)? {
         None => Ok(None),
         Some((text, rest)) => match utf8_text(text) {
             None => Ok(None),
@@ -36,11 +55,17 @@ fn utf8_text(bytes: Vec<u8>) -> Option<Text>
 }
 
 // The same, whether the text is UTF-8 or not.
-fn read_characters(alloc: Global, bytes: &[u8]) -> Result<Option<(Vec<u8>, &[u8])>, Memory>
+fn read_characters<'a>(
+    alloc: Global,
+    bytes: &'a [u8],
+    after: &'a [u8],
+) -> Result<Option<(Vec<u8>, &'a [u8])>, Memory>
+    requires { after.now ≡ after_plain bytes.now }
     ensures { IfOk result (λ found. MatchOption found (ReadsText bytes.now (refused tt)) (λ x. ReadsText bytes.now (taken x.0.items x.1.now) × (length x.1.now < length bytes.now))) }
 {
-    let mut text = Vec::new(alloc);
-    let mut rest = bytes;
+    let front = piece_before(bytes, after);
+    let mut text = Vec::from_slice(alloc, front)?;
+    let mut rest = after;
     loop {
         let after = skip_plain(rest);
         text.extend_from_slice(piece_before(rest, after))?;

@@ -1,6 +1,9 @@
 use Rattle.std.proofs.Common.{◌<◌, ◌++◌, length, encode_utf8, arith}
-use Rattle.ordered_json.proofs.StringsLemmas.{Completes, begins, plain_at_most, turned, fails, ends_open, closes_turn, has_control, has_no_escape, escapes_turn}
+use Rattle.ordered_json.proofs.StringsLemmas.{Completes, begins_plain, plain_at_most, turned, fails, ends_open, closes_turn, has_control, has_no_escape, escapes_turn}
 use Rattle.ordered_json.proofs.strings.read_characters.Goals as goal
+
+pub piece_before-front-requires : goal.piece_before-front-requires
+piece_before-front-requires c = rw c.requires (plain_at_most c.args.bytes.now)
 
 pub piece_before-requires : goal.piece_before-requires
 piece_before-requires c = rw c.skip_plain-after.ensures (plain_at_most c.loop-text.rest.now)
@@ -31,7 +34,10 @@ loop-text-smaller c =
     (escapes_turn _ _ _ _ t c.in-Some.ensures c.if-first-ne-BACKSLASH.false c.in-Some-read_escape.ensures).1
 
 pub loop-text-init : goal.loop-text-init
-loop-text-init c = record { found = rw c.new-text.ensures.items (begins c.args.bytes.now); shorter = omega arith }
+loop-text-init c = record {
+  found = begins_plain _ _ _ _ c.requires c.piece_before-front.ensures c.in_ok-text.ensures.items;
+  shorter = rw c.requires (plain_at_most c.args.bytes.now);
+}
 
 pub loop-text-preserved : goal.loop-text-preserved
 loop-text-preserved c =
