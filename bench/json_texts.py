@@ -67,11 +67,15 @@ TEXTS = {
     "fractions": lambda: listed(fractions()),
     "object_500000": one_object,
     "small_objects": lambda: listed(small_objects()),
-    "arrays_numbers": lambda: listed(deep("[", "1,22,333,4444", "]")),
-    "arrays_wide": lambda: listed(deep("[1,22,333,4444,", "5", "]")),
-    "arrays_bare": lambda: listed(deep("[", "", "]")),
-    "objects_deep": lambda: listed(deep('{"key":', "1", "}")),
+    "arrays_of_numbers_128_deep": lambda: listed(deep("[1,22,333,4444,", "5", "]")),
+    "arrays_of_texts_128_deep": lambda: listed(deep('["one","two",', '"three"', "]")),
+    "objects_128_deep": lambda: listed(deep('{"key":', "1", "}")),
+    "brackets_128_deep": lambda: listed(deep("[", "", "]")),
+    "brackets_and_numbers_within": lambda: listed(deep("[", "1,22,333,4444", "]")),
 }
+
+# Texts in which an array has two bytes, or little more: its own brackets.
+BRACKETS_ALONE = {"brackets_128_deep", "brackets_and_numbers_within"}
 
 
 def main(folder):
