@@ -67,15 +67,17 @@ TEXTS = {
     "fractions": lambda: listed(fractions()),
     "object_500000": one_object,
     "small_objects": lambda: listed(small_objects()),
-    "arrays_of_numbers_128_deep": lambda: listed(deep("[1,22,333,4444,", "5", "]")),
-    "arrays_of_texts_128_deep": lambda: listed(deep('["one","two",', '"three"', "]")),
+    "arrays_of_four_numbers_128_deep": lambda: listed(deep("[1,22,333,4444,", "5", "]")),
+    "arrays_of_two_numbers_128_deep": lambda: listed(deep("[10,20,", "30", "]")),
+    "arrays_of_two_texts_128_deep": lambda: listed(deep('["one","two",', '"three"', "]")),
     "objects_128_deep": lambda: listed(deep('{"key":', "1", "}")),
+    "arrays_of_a_digit_128_deep": lambda: listed(deep("[1,", "2", "]")),
     "brackets_128_deep": lambda: listed(deep("[", "", "]")),
     "brackets_and_numbers_within": lambda: listed(deep("[", "1,22,333,4444", "]")),
 }
 
-# Texts in which an array has two bytes, or little more: its own brackets.
-BRACKETS_ALONE = {"brackets_128_deep", "brackets_and_numbers_within"}
+# Texts that have two to four bytes for each array: its own brackets, and a digit and a comma at most.
+NEXT_TO_NOTHING_IN_EACH = {"arrays_of_a_digit_128_deep", "brackets_128_deep", "brackets_and_numbers_within"}
 
 
 def main(folder):

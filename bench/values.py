@@ -2,9 +2,9 @@
 
 It runs crates/value_count/out/value_count, which `rt ci` or `rt run` in crates/value_count leaves there, on the texts of
 json_texts.py. The times hold all that this program does but for freeing the value: it starts, reads the file, and then
-reads the text. The number of values that it prints is checked against what Python's reader finds. Texts of next to nothing
-but brackets are told, without a target: docs/DECISIONS.md says why. Beside each stands Node's `JSON.parse` of the same
-text alone, where Node is installed.
+reads the text. The number of values that it prints is checked against what Python's reader finds. Texts with next to nothing in
+each array are told, without a target: docs/DECISIONS.md says why. Beside each stands Node's `JSON.parse` of the same text
+alone, where Node is installed.
 """
 
 import json
@@ -49,8 +49,8 @@ def beside(path, size):
     """Node's speed on the text, once."""
     if not shutil.which("node"):
         return ""
-    out = subprocess.run(["node", "--max-old-space-size=8192", "-e", NODE, path], check=True, capture_output=True, text=True).stdout
-    return f"; Node {size / float(out) / 1e6:.0f} MB/s"
+    run = subprocess.run(["node", "--max-old-space-size=8192", "-e", NODE, path], check=False, capture_output=True, text=True)
+    return f"; Node {size / float(run.stdout) / 1e6:.0f} MB/s" if run.returncode == 0 else "; Node failed"
 
 
 def measure(name, text, folder):
@@ -64,7 +64,7 @@ def measure(name, text, folder):
     best = min(seconds(path, f"{count} values\n") for _ in range(TRIES))
     size = os.path.getsize(path)
     told = f"{name}: {best:.3f} s, {size / best / 1e6:.0f} MB/s"
-    if name in json_texts.BRACKETS_ALONE:
+    if name in json_texts.NEXT_TO_NOTHING_IN_EACH:
         print(f"told  {told}{beside(path, size)}", flush=True)
         return
     passed = size >= SPEED * best
