@@ -24,6 +24,10 @@ def numbers():
     return (str((i * 7919) % 1000000) for i in itertools.count())
 
 
+def digits():
+    return (str(i % 10) for i in itertools.count())
+
+
 def fractions():
     return (f"-{i % 1000}.{(i * 7919) % 100000}e{i % 30}" for i in itertools.count())
 
@@ -71,13 +75,14 @@ TEXTS = {
     "arrays_of_two_numbers_128_deep": lambda: listed(deep("[10,20,", "30", "]")),
     "arrays_of_two_texts_128_deep": lambda: listed(deep('["one","two",', '"three"', "]")),
     "objects_128_deep": lambda: listed(deep('{"key":', "1", "}")),
+    "digits": lambda: listed(digits()),
     "arrays_of_a_digit_128_deep": lambda: listed(deep("[1,", "2", "]")),
     "brackets_128_deep": lambda: listed(deep("[", "", "]")),
     "brackets_and_numbers_within": lambda: listed(deep("[", "1,22,333,4444", "]")),
 }
 
-# Texts that have two to four bytes for each array: its own brackets, and a digit and a comma at most.
-NEXT_TO_NOTHING_IN_EACH = {"arrays_of_a_digit_128_deep", "brackets_128_deep", "brackets_and_numbers_within"}
+# Texts that have two to four bytes for each number or array.
+NEXT_TO_NOTHING_IN_EACH = {"digits", "arrays_of_a_digit_128_deep", "brackets_128_deep", "brackets_and_numbers_within"}
 
 
 def main(folder):

@@ -3,7 +3,7 @@
 It runs crates/value_count/out/value_count, which `rt ci` or `rt run` in crates/value_count leaves there, on the texts of
 json_texts.py. The times hold all that this program does but for freeing the value: it starts, reads the file, and then
 reads the text. The number of values that it prints is checked against what Python's reader finds. Texts with next to nothing in
-each array are told, without a target: docs/DECISIONS.md says why. Beside each stands Node's `JSON.parse` of the same text
+each value are told, without a target: docs/DECISIONS.md says why. Beside each stands Node's `JSON.parse` of the same text
 alone, where Node is installed.
 """
 
