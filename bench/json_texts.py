@@ -81,9 +81,6 @@ TEXTS = {
     "brackets_and_numbers_within": lambda: listed(deep("[", "1,22,333,4444", "]")),
 }
 
-# Texts that have two to four bytes for each number or array.
-NEXT_TO_NOTHING_IN_EACH = {"digits", "arrays_of_a_digit_128_deep", "brackets_128_deep", "brackets_and_numbers_within"}
-
 
 def main(folder):
     os.makedirs(folder, exist_ok=True)

@@ -2,9 +2,8 @@
 
 It runs crates/value_count/out/value_count, which `rt ci` or `rt run` in crates/value_count leaves there, on the texts of
 json_texts.py. The times hold all that this program does but for freeing the value: it starts, reads the file, and then
-reads the text. The number of values that it prints is checked against what Python's reader finds. Texts with next to nothing in
-each value are told, without a target: docs/DECISIONS.md says why. Beside each stands Node's `JSON.parse` of the same text
-alone, where Node is installed.
+reads the text. The number of values that it prints is checked against what Python's reader finds. Beside each
+stands Node's `JSON.parse` of the same text alone, where Node is installed.
 """
 
 import json
@@ -63,13 +62,9 @@ def measure(name, text, folder):
     count = len(value) if isinstance(value, (list, dict)) else 1
     best = min(seconds(path, f"{count} values\n") for _ in range(TRIES))
     size = os.path.getsize(path)
-    told = f"{name}: {best:.3f} s, {size / best / 1e6:.0f} MB/s"
-    if name in json_texts.NEXT_TO_NOTHING_IN_EACH:
-        print(f"told  {told}{beside(path, size)}", flush=True)
-        return
     passed = size >= SPEED * best
     failures += not passed
-    print(f"{'PASS' if passed else 'FAIL'}  {told}, at least {SPEED / 1e6:.0f}{beside(path, size)}", flush=True)
+    print(f"{'PASS' if passed else 'FAIL'}  {name}: {best:.3f} s, {size / best / 1e6:.0f} MB/s, at least {SPEED / 1e6:.0f}{beside(path, size)}", flush=True)
 
 
 def main():
