@@ -1,8 +1,12 @@
 -- How large a value is: what nests in it is smaller.
-use Rattle.std.proofs.Common.{◌≡◌, ◌≤◌, ◌+◌, ℕ, zero, suc, List, [], ◌∷◌, drop, ap, arith}
+use Rattle.std.proofs.Common.{◌≡◌, ◌≤◌, ◌+◌, ℕ, zero, suc, List, [], ◌∷◌, drop, ap, ◌∙◌, arith}
 use Rattle.json_spec.specs.Value.{Json, a_null, a_bool, a_number, a_text, a_list, an_object, Items, no_items, an_item, Members, no_members, a_member}
+use Rattle.ordered_json.specs.declared.value.Value as value
 use Rattle.ordered_json.specs.declared.value.Value.{Value}
+use Rattle.ordered_json.specs.declared.value.Items as code
+use Rattle.ordered_json.specs.Lists.{values_of}
 use Rattle.ordered_json.specs.Shown.{json_of, items_of, members_of}
+use Rattle.ordered_json.proofs.ShownLemmas.{json_of_list}
 
 abbrev mutual
   pub size : Json → ℕ
@@ -36,3 +40,6 @@ rest_of_members (suc i) (p ∷ pairs) = omega (arith, rest_of_members i pairs)
 
 pub member_size : (pairs : List (List ℕ × Value)) (i : ℕ) (key : List ℕ) (v : Value) (more : List (List ℕ × Value)) → drop i pairs ≡ (key, v) ∷ more → size (json_of v) ≤ size_members (members_of pairs)
 member_size pairs i key v more e = omega (arith, rest_of_members i pairs, ap (λ ps. size_members (members_of ps)) e)
+
+pub list_size : (v : Value) (items : code.Items) → v ≡ value.List items → size (json_of v) ≡ size_items (items_of (values_of items)) + 1
+list_size v items e = ap size (ap json_of e ∙ json_of_list items)

@@ -124,7 +124,7 @@ fn with_part(alloc: Global, target: &str, part: &str) -> Result<Text, Memory>
         rest = back;
     }
     text.push_str(rest)?;
-    Ok(Text::from_string(text))
+    Text::from_string(alloc, text)
 }
 
 fn bare_outcome(answer: BareAnswer) -> Outcome

@@ -98,7 +98,7 @@ impl Trace {
         let name = target_name(alloc, config, &target)?;
         let need = Need {
             referrer: Text::of(alloc, asker.url.as_str())?,
-            asked: asked.into_text(),
+            asked: asked.into_text(alloc)?,
             target: Text::of(alloc, name.as_str())?,
         };
         add_need(&mut self.needs, need)?;

@@ -77,7 +77,7 @@ fn asker_of(alloc: Global, url: WebUrl, path: &Path, suffix: &Suffix) -> Result<
     Ok(Asker {
         url,
         file,
-        shown: Text::from_string(shown),
+        shown: Text::from_string(alloc, shown)?,
     })
 }
 
@@ -89,12 +89,21 @@ fn unservable(alloc: Global, page: &Path, url: Option<WebUrl>) -> Stop
     let Ok(path) = Text::of(alloc, page.as_str()) else {
         return Stop::Memory;
     };
-    let url = match url {
-        Some(url) => url.into_text(),
-        None => Text::new(alloc),
+    let Ok(url) = text_of_url(alloc, url) else {
+        return Stop::Memory;
     };
     Stop::Refused {
         refusal: Refusal::Unservable { path, url },
+    }
+}
+
+// The text of a URL, which is empty where there is none.
+fn text_of_url(alloc: Global, url: Option<WebUrl>) -> Result<Text, Memory>
+    ensures { IfOk result (λ text. text ≡ unwrap_or url []) }
+{
+    match url {
+        Some(url) => url.into_text(alloc),
+        None => Ok(Text::new(alloc)),
     }
 }
 

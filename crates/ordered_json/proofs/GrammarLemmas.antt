@@ -1,20 +1,17 @@
 -- The grammar's rules at the bytes that a reader holds.
-use Rattle.std.specs.Prelude.{◌≡◌, ◌≢◌, ℕ, zero, suc, ◌-◌, ◌<◌, ◌==◌, List, [], ◌∷◌, ◌++◌, length, Result, Ok, Err}
+use Rattle.std.specs.Prelude.{◌≡◌, ◌≢◌, ℕ, zero, suc, ◌-◌, ◌<◌, ◌==◌, List, [], ◌∷◌, ◌++◌, length, Result, Ok, Err, MatchResult, IfOk, OnOk}
 use Rattle.std.proofs.Common.{refl, ap, sym, subst, ◌∙◌, arith}
 use Rattle.std.proofs.lemmas.Bool.{cond-false, false_from_ne_true, eqb-true}
-use Rattle.std.proofs.lemmas.List.{same_from_push}
 use Rattle.json_spec.specs.Value.{Json, a_text, a_list, an_object, Items, no_items, an_item, Members, no_members, settled_onto, put}
 use Rattle.json_spec.specs.Taken.{taken, refused, and_then}
 use Rattle.json_spec.specs.Strings.{ReadsString}
 use Rattle.json_spec.specs.Grammar.{Fault, NotJson, TooDeep, Reading, after_space, fault_here, scalar_at, colon_at, ReadsName, name_text, no_name, name_ends, Member, a_pair, ReadsMember, member_value, member_name, behind_member, behind_item, MoreMembers, members_close, members_next, members_fault, members_other, members_end, ReadsMembers, no_member, first_member, member_fault, object_ends, MoreItems, items_close, items_next, items_fault, items_other, items_end, ReadsItems, no_item, first_item, item_fault, list_ends, as_list, as_object, reads_text, reads_list, reads_object, reads_scalar, value_ends, Reads, most_brackets, alone, with_offset, ReadsJson, json_text}
 use Rattle.json_spec.specs.Shorter.{Below, space_at_most, scalar_below}
 use Rattle.json_spec.specs.One.{name_one, reads_one}
-use Rattle.ordered_json.specs.declared.value.Value.{Value}
 use Rattle.ordered_json.specs.declared.fault.Stop.{Stop}
 use Rattle.ordered_json.specs.declared.fault.Stop.TheVariants.{Unreadable, Deep, NoMemory}
-use Rattle.ordered_json.specs.Shown.{json_of, items_of}
+use Rattle.ordered_json.specs.Shown.{items_from}
 use Rattle.ordered_json.specs.Outcomes.{Fails, settle, ReadsSettled, IsWhole, WholeFails}
-use Rattle.ordered_json.specs.Stacks.{PutsOn}
 
 not_taken : {A : Type 0} {x : A} {rest : List ℕ} {f : Fault} → ◌≡◌ {A = Reading A} (taken x rest) (refused f) → ⊥
 not_taken p = cc
@@ -65,7 +62,7 @@ scalar_value : (depth : ℕ) (b : ℕ) (rest : List ℕ) → b ≢ 34 → b ≢ 
 scalar_value zero b rest q l o = reads_scalar q l o
 scalar_value (suc depth) b rest q l o = reads_scalar q l o
 
-pub scalar_reads : (depth : ℕ) (b : ℕ) (bytes rest : List ℕ) (out : Reading Json) → bytes ≡ b ∷ rest → b ≢ 34 → b ≢ 91 → b ≢ 123 → scalar_at bytes ≡ out → Reads depth bytes out
+scalar_reads : (depth : ℕ) (b : ℕ) (bytes rest : List ℕ) (out : Reading Json) → bytes ≡ b ∷ rest → b ≢ 34 → b ≢ 91 → b ≢ 123 → scalar_at bytes ≡ out → Reads depth bytes out
 scalar_reads depth b bytes rest out e q l o s = rw (← s, e) (scalar_value depth b rest q l o)
 
 -- a byte that isn't the opening bracket
@@ -102,18 +99,18 @@ object_value m depth d bytes rest end ms v s e b r i = rw i (object_reads m dept
 -- ---- the values of a list
 
 -- the values that were read, before those that are read behind them
-abbrev pub onto : List Value → Items → Items
+abbrev pub onto : List Json → Items → Items
 onto [] items = items
-onto (value ∷ values) items = an_item (json_of value) (onto values items)
+onto (value ∷ values) items = an_item value (onto values items)
 
-abbrev pub behind_all : List Value → Reading Items → Reading Items
+abbrev pub behind_all : List Json → Reading Items → Reading Items
 behind_all found out = and_then out (λ items rest. taken (onto found items) rest)
 
-onto_more : (found : List Value) (value : Value) (items : Items) → onto found (an_item (json_of value) items) ≡ onto (found ++ value ∷ []) items
+onto_more : (found : List Json) (value : Json) (items : Items) → onto found (an_item value items) ≡ onto (found ++ value ∷ []) items
 onto_more [] value items = refl
-onto_more (v ∷ found) value items = ap (an_item (json_of v)) (onto_more found value items)
+onto_more (v ∷ found) value items = ap (an_item v) (onto_more found value items)
 
-behind_more : (found : List Value) (value : Value) (out : Reading Items) → behind_all found (behind_item (json_of value) out) ≡ behind_all (found ++ value ∷ []) out
+behind_more : (found : List Json) (value : Json) (out : Reading Items) → behind_all found (behind_item value out) ≡ behind_all (found ++ value ∷ []) out
 behind_more found value (taken items rest) = ap (λ xs. taken xs rest) (onto_more found value items)
 behind_more found value (refused f) = refl
 
@@ -121,16 +118,16 @@ behind_none : (out : Reading Items) → behind_all [] out ≡ out
 behind_none (taken items rest) = refl
 behind_none (refused f) = refl
 
-onto_none : (found : List Value) → onto found no_items ≡ items_of found
+onto_none : (found : List Json) → onto found no_items ≡ items_from found
 onto_none [] = refl
-onto_none (value ∷ found) = ap (an_item (json_of value)) (onto_none found)
+onto_none (value ∷ found) = ap (an_item value) (onto_none found)
 
 -- a value of a list is awaited at the rest: what it and those behind it are makes the list
-pub record AwaitsItem (value : List ℕ → Reading Json → Type 0) (bytes : List ℕ) (found : List Value) (rest : List ℕ) : Type 0 where
+pub record AwaitsItem (value : List ℕ → Reading Json → Type 0) (bytes : List ℕ) (found : List Json) (rest : List ℕ) : Type 0 where
   pub next : (v : Json) (middle : List ℕ) (out : Reading Items) → value rest (taken v middle) → MoreItems value (after_space middle) out → ReadsItems value bytes (behind_all found (behind_item v out))
   pub fault : (f : Fault) → value rest (refused f) → ReadsItems value bytes (refused f)
 
-pub no_items_read : (value : List ℕ → Reading Json → Type 0) (bytes end : List ℕ) (items : List Value) → items ≡ [] → bytes ≡ 93 ∷ end → ReadsItems value bytes (taken (items_of items) end)
+pub no_items_read : (value : List ℕ → Reading Json → Type 0) (bytes end : List ℕ) (items : List Json) → items ≡ [] → bytes ≡ 93 ∷ end → ReadsItems value bytes (taken (items_from items) end)
 no_items_read value bytes end items i e = rw (i, e) no_item
 
 first_awaited : (depth : ℕ) (bytes : List ℕ) → ((rest : List ℕ) → bytes ≢ 93 ∷ rest) → AwaitsItem (Reads depth) bytes [] bytes
@@ -143,35 +140,26 @@ first_awaited depth (b ∷ bytes) n = record {
   fault = λ f r. item_fault (λ e. n bytes (ap (λ x. x ∷ bytes) e)) r;
 }
 
-pub awaits_first_item : (depth : ℕ) (whole start : List ℕ) (items : List Value) → items ≡ [] → start ≡ after_space whole → ((rest : List ℕ) → start ≢ 93 ∷ rest) → AwaitsItem (Reads depth) (after_space whole) items start
+pub awaits_first_item : (depth : ℕ) (whole start : List ℕ) (items : List Json) → items ≡ [] → start ≡ after_space whole → ((rest : List ℕ) → start ≢ 93 ∷ rest) → AwaitsItem (Reads depth) (after_space whole) items start
 awaits_first_item depth whole start items i s n = rw (i, ← s) (first_awaited depth start n)
 
-module _ {value : List ℕ → Reading Json → Type 0} {bytes rest : List ℕ} {found : List Value} (awaits : AwaitsItem value bytes found rest) where
-  module _ (item : Value) (middle space : List ℕ) (here : value rest (taken (json_of item) middle)) (skipped : space ≡ after_space middle) where
-    pub awaits_next_item : (items : List Value) (more start : List ℕ) → items ≡ found ++ item ∷ [] → space ≡ 44 ∷ more → start ≡ after_space more → AwaitsItem value bytes items start
+module _ {value : List ℕ → Reading Json → Type 0} {bytes rest : List ℕ} {found : List Json} (awaits : AwaitsItem value bytes found rest) where
+  module _ (item : Json) (middle space : List ℕ) (here : value rest (taken item middle)) (skipped : space ≡ after_space middle) where
+    pub awaits_next_item : (items : List Json) (more start : List ℕ) → items ≡ found ++ item ∷ [] → space ≡ 44 ∷ more → start ≡ after_space more → AwaitsItem value bytes items start
     awaits_next_item items more start i e s = rw (i, s) (record {
-      next = λ v after out r m. rw (← behind_more found item (behind_item v out)) (awaits.next (json_of item) middle (behind_item v out) here (rw (← skipped, e) (items_next r m)));
-      fault = λ f r. awaits.next (json_of item) middle (refused f) here (rw (← skipped, e) (items_fault r));
+      next = λ v after out r m. rw (← behind_more found item (behind_item v out)) (awaits.next item middle (behind_item v out) here (rw (← skipped, e) (items_next r m)));
+      fault = λ f r. awaits.next item middle (refused f) here (rw (← skipped, e) (items_fault r));
     })
 
-    pub last_item : (items : List Value) (end : List ℕ) → items ≡ found ++ item ∷ [] → space ≡ 93 ∷ end → ReadsItems value bytes (taken (items_of items) end)
-    last_item items end i e = rw (i, ← onto_none (found ++ item ∷ []), ← onto_more found item no_items) (awaits.next (json_of item) middle (taken no_items end) here (rw (← skipped, e) items_close))
+    pub last_item : (items : List Json) (end : List ℕ) → items ≡ found ++ item ∷ [] → space ≡ 93 ∷ end → ReadsItems value bytes (taken (items_from items) end)
+    last_item items end i e = rw (i, ← onto_none (found ++ item ∷ []), ← onto_more found item no_items) (awaits.next item middle (taken no_items end) here (rw (← skipped, e) items_close))
 
     pub no_more_items : ((end : List ℕ) → space ≢ 93 ∷ end) → ((more : List ℕ) → space ≢ 44 ∷ more) → ReadsItems value bytes (fault_here space)
-    no_more_items n m = awaits.next (json_of item) middle (fault_here space) here (rw (← skipped) (no_turn space n m))
+    no_more_items n m = awaits.next item middle (fault_here space) here (rw (← skipped) (no_turn space n m))
       where
         no_turn : (xs : List ℕ) → ((end : List ℕ) → xs ≢ 93 ∷ end) → ((more : List ℕ) → xs ≢ 44 ∷ more) → MoreItems value xs (fault_here xs)
         no_turn [] n m = items_end
         no_turn (b ∷ xs) n m = items_other (λ e. n xs (ap (λ x. x ∷ xs) e)) (λ e. m xs (ap (λ x. x ∷ xs) e))
-
-pub one_put_on : {before after : List Value} {Is : Json → Type 0} (value : Value) → after ≡ before ++ value ∷ [] → Is (json_of value) → PutsOn before after Is
-one_put_on value e is = record { value = value; pushed = e; is = is }
-
--- a value that was put on last is taken off
-pub taken_off : {before now : List Value} {Is : Json → Type 0} (last : Value) (left : List Value) → PutsOn before now Is → now ≡ left ++ last ∷ [] → Is (json_of last) × (left ≡ before)
-taken_off {before} {now} {Is} last left p e =
-    let same : (left ≡ before) × (last ≡ p.value) = same_from_push left before last p.value (sym e ∙ p.pushed) in
-    (rw same.1 p.is, same.0)
 
 -- ---- the members of an object
 
@@ -221,74 +209,89 @@ first_member_awaited value (b ∷ bytes) n = record {
 pub awaits_first_member : (value : List ℕ → Reading Json → Type 0) (whole start : List ℕ) (ms : Members) → ms ≡ no_members → start ≡ after_space whole → ((rest : List ℕ) → start ≢ 125 ∷ rest) → AwaitsMember value (after_space whole) ms start
 awaits_first_member value whole start ms i s n = rw (i, ← s) (first_member_awaited value start n)
 
+-- a member of an object is read
+pub member_read : (value : List ℕ → Reading Json → Type 0) (bytes name after start : List ℕ) (v : Json) (middle : List ℕ) → ReadsName bytes (taken name after) → start ≡ after_space after → value start (taken v middle) → ReadsMember value bytes (taken (a_pair name v) middle)
+member_read value bytes name after start v middle named begun here = member_value {out = taken v middle} named (rw (← begun) here)
+
+pub name_fails : (value : List ℕ → Reading Json → Type 0) (bytes : List ℕ) (stop : Stop) → Fails (ReadsName bytes) stop → Fails (ReadsMember value bytes) stop
+name_fails value bytes (Unreadable left) r = member_name r
+name_fails value bytes (Deep left) r = member_name r
+name_fails value bytes NoMemory r = tt
+
+module _ (value : List ℕ → Reading Json → Type 0) (bytes name after start : List ℕ) (named : ReadsName bytes (taken name after)) (begun : start ≡ after_space after) where
+  value_fault : (f : Fault) → value start (refused f) → ReadsMember value bytes (refused f)
+  value_fault f r = member_value {out = refused f} named (rw (← begun) r)
+
+  pub value_fails : (stop : Stop) → Fails (value start) stop → Fails (ReadsMember value bytes) stop
+  value_fails (Unreadable left) r = value_fault (NotJson left) r
+  value_fails (Deep left) r = value_fault (TooDeep left) r
+  value_fails NoMemory r = tt
+
+-- the bytes stand behind a member and its space: what follows makes the object
+pub record IsBehind (value : List ℕ → Reading Json → Type 0) (bytes : List ℕ) (found : Members) (space : List ℕ) : Type 0 where
+  pub next : (out : Reading Members) → MoreMembers value space out → ReadsSettled value bytes (settled_behind found out)
+
 module _ {value : List ℕ → Reading Json → Type 0} {bytes rest : List ℕ} {found : Members} (awaits : AwaitsMember value bytes found rest) where
-  name_fault : (f : Fault) → ReadsName rest (refused f) → ReadsSettled value bytes (refused f)
-  name_fault f r = awaits.fault f (member_name r)
+  pub members_fail : (stop : Stop) → Fails (ReadsMember value rest) stop → Fails (ReadsSettled value bytes) stop
+  members_fail (Unreadable left) r = awaits.fault (NotJson left) r
+  members_fail (Deep left) r = awaits.fault (TooDeep left) r
+  members_fail NoMemory r = tt
 
-  pub names_fail : (stop : Stop) → Fails (ReadsName rest) stop → Fails (ReadsSettled value bytes) stop
-  names_fail (Unreadable left) r = name_fault (NotJson left) r
-  names_fail (Deep left) r = name_fault (TooDeep left) r
-  names_fail NoMemory r = tt
+  pub behind_one_more : (name : List ℕ) (v : Json) (middle space : List ℕ) (ms : Members) → ReadsMember value rest (taken (a_pair name v) middle) → space ≡ after_space middle → ms ≡ put name v found → IsBehind value bytes ms space
+  behind_one_more name v middle space ms here skipped i = rw i (record { next = λ out m. moved (put_behind found name v out) (awaits.next name v middle out here (rw (← skipped) m)) })
 
-  module _ (name after start : List ℕ) (named_here : ReadsName rest (taken name after)) (begun : start ≡ after_space after) where
-    value_fault : (f : Fault) → value start (refused f) → ReadsSettled value bytes (refused f)
-    value_fault f r = awaits.fault f (member_value {out = refused f} named_here (rw (← begun) r))
+module _ {value : List ℕ → Reading Json → Type 0} {bytes space : List ℕ} {found : Members} (behind : IsBehind value bytes found space) where
+  pub awaits_next_member : (more start : List ℕ) → space ≡ 44 ∷ more → start ≡ after_space more → AwaitsMember value bytes found start
+  awaits_next_member more start e s = rw s (record {
+    next = λ name v middle out r m. behind.next (behind_member name v out) (rw e (members_next r m));
+    fault = λ f r. behind.next (refused f) (rw e (members_fault r));
+  })
 
-    pub values_fail : (stop : Stop) → Fails (value start) stop → Fails (ReadsSettled value bytes) stop
-    values_fail (Unreadable left) r = value_fault (NotJson left) r
-    values_fail (Deep left) r = value_fault (TooDeep left) r
-    values_fail NoMemory r = tt
+  pub last_member : (ms : Members) (end : List ℕ) → ms ≡ found → space ≡ 125 ∷ end → ReadsSettled value bytes (taken ms end)
+  last_member ms end i e = rw i (behind.next (taken no_members end) (rw e members_close))
 
-    module _ (v : Json) (middle space : List ℕ) (here : value start (taken v middle)) (skipped : space ≡ after_space middle) where
-      member_here : ReadsMember value rest (taken (a_pair name v) middle)
-      member_here = member_value {out = taken v middle} named_here (rw (← begun) here)
-
-      pub awaits_next_member : (ms : Members) (more next_start : List ℕ) → ms ≡ put name v found → space ≡ 44 ∷ more → next_start ≡ after_space more → AwaitsMember value bytes ms next_start
-      awaits_next_member ms more next_start i e s = rw (i, s) (record {
-        next = λ other w end out r m. moved (put_behind found name v (behind_member other w out)) (awaits.next name v middle (behind_member other w out) member_here (rw (← skipped, e) (members_next r m)));
-        fault = λ f r. awaits.next name v middle (refused f) member_here (rw (← skipped, e) (members_fault r));
-      })
-
-      pub last_member : (ms : Members) (end : List ℕ) → ms ≡ put name v found → space ≡ 125 ∷ end → ReadsSettled value bytes (taken ms end)
-      last_member ms end i e = rw i (awaits.next name v middle (taken no_members end) member_here (rw (← skipped, e) members_close))
-
-      pub no_more_members : ((end : List ℕ) → space ≢ 125 ∷ end) → ((more : List ℕ) → space ≢ 44 ∷ more) → ReadsSettled value bytes (fault_here space)
-      no_more_members n m = awaits.next name v middle (fault_here space) member_here (rw (← skipped) (no_turn space n m))
-        where
-          no_turn : (xs : List ℕ) → ((end : List ℕ) → xs ≢ 125 ∷ end) → ((more : List ℕ) → xs ≢ 44 ∷ more) → MoreMembers value xs (fault_here xs)
-          no_turn [] n m = members_end
-          no_turn (b ∷ xs) n m = members_other (λ e. n xs (ap (λ x. x ∷ xs) e)) (λ e. m xs (ap (λ x. x ∷ xs) e))
+  pub no_more_members : ((end : List ℕ) → space ≢ 125 ∷ end) → ((more : List ℕ) → space ≢ 44 ∷ more) → ReadsSettled value bytes (fault_here space)
+  no_more_members n m = behind.next (fault_here space) (no_turn space n m)
+    where
+      no_turn : (xs : List ℕ) → ((end : List ℕ) → xs ≢ 125 ∷ end) → ((more : List ℕ) → xs ≢ 44 ∷ more) → MoreMembers value xs (fault_here xs)
+      no_turn [] n m = members_end
+      no_turn (b ∷ xs) n m = members_other (λ e. n xs (ap (λ x. x ∷ xs) e)) (λ e. m xs (ap (λ x. x ∷ xs) e))
 
 -- ---- what is left
 
 pub shorter_by_close : (whole start end : List ℕ) (b : ℕ) → start ≡ after_space whole → start ≡ b ∷ end → length end < length whole
 shorter_by_close whole start end b s e = omega (arith, space_at_most whole, ap length s, ap length e)
 
--- behind a value stand its space, a byte, and perhaps more space
-pub shorter_by_turn : (before after space more : List ℕ) (b : ℕ) → length after < length before → space ≡ after_space after → space ≡ b ∷ more → length more < length before
-shorter_by_turn before after space more b l s e = omega (arith, space_at_most after, ap length s, ap length e)
-
-pub shorter_by_space : (before more start : List ℕ) → length more < length before → start ≡ after_space more → length start < length before
-shorter_by_space before more start l s = omega (arith, space_at_most more, ap length s)
+-- a byte and its space, then a member and its space
+pub shorter_by_member : (before more start after space : List ℕ) (b : ℕ) → before ≡ b ∷ more → start ≡ after_space more → length after < length start → space ≡ after_space after → length space < length before
+shorter_by_member before more start after space b e s l k = omega (arith, ap length e, space_at_most more, ap length s, l, space_at_most after, ap length k)
 
 scalar_left : {n : ℕ} {v : Json} {more : List ℕ} {out : Reading Json} → Below n out → out ≡ taken v more → length more < n
 scalar_left {more = more} {out = taken w rest} b e = let same : rest ≡ more = cc in rw (← same) b
 scalar_left {out = refused f} b e = absurd (cc)
 
-pub scalar_shorter : (bytes more : List ℕ) (v : Json) → scalar_at bytes ≡ taken v more → length more < length bytes
+scalar_shorter : (bytes more : List ℕ) (v : Json) → scalar_at bytes ≡ taken v more → length more < length bytes
 scalar_shorter bytes more v e = scalar_left (scalar_below bytes) e
 
-pub scalar_fails : (depth : ℕ) (b : ℕ) {bytes : List ℕ} (rest : List ℕ) → bytes ≡ b ∷ rest → b ≢ 34 → b ≢ 91 → b ≢ 123 → (stop : Stop) → Fails (λ out. scalar_at bytes ≡ out) stop → Fails (Reads depth bytes) stop
+scalar_fails : (depth : ℕ) (b : ℕ) {bytes : List ℕ} (rest : List ℕ) → bytes ≡ b ∷ rest → b ≢ 34 → b ≢ 91 → b ≢ 123 → (stop : Stop) → Fails (λ out. scalar_at bytes ≡ out) stop → Fails (Reads depth bytes) stop
 scalar_fails depth b rest e q l o (Unreadable left) s = scalar_reads depth b _ rest _ e q l o s
 scalar_fails depth b rest e q l o (Deep left) s = scalar_reads depth b _ rest _ e q l o s
 scalar_fails depth b rest e q l o NoMemory s = tt
 
--- a fault within a list or an object is a fault of the value
-pub list_fails : (m depth : ℕ) (d : ℕ) (bytes rest : List ℕ) → depth ≡ suc m → bytes ≡ d ∷ rest → d ≡ 91 → (stop : Stop) → Fails (ReadsItems (Reads m) (after_space rest)) stop → Fails (Reads depth bytes) stop
-list_fails m depth d bytes rest s e b (Unreadable left) r = list_reads m depth d bytes rest (refused (NotJson left)) s e b r
-list_fails m depth d bytes rest s e b (Deep left) r = list_reads m depth d bytes rest (refused (TooDeep left)) s e b r
-list_fails m depth d bytes rest s e b NoMemory r = tt
+-- the same of what a reader of such a value answers, and the bytes that it leaves
+pub scalar_result : {A : Type 0} (depth b : ℕ) (bytes rest : List ℕ) (result : Result A Stop) (of : A → Reading Json) → bytes ≡ b ∷ rest → b ≢ 34 → b ≢ 91 → b ≢ 123 → MatchResult result (λ x. scalar_at bytes ≡ of x) (Fails (λ out. scalar_at bytes ≡ out)) → MatchResult result (λ x. Reads depth bytes (of x)) (Fails (Reads depth bytes))
+scalar_result depth b bytes rest (Ok x) of e q l o s = scalar_reads depth b bytes rest (of x) e q l o s
+scalar_result depth b bytes rest (Err stop) of e q l o s = scalar_fails depth b rest e q l o stop s
 
+pub scalar_result_shorter : {A : Type 0} (bytes : List ℕ) (result : Result A Stop) (value : A → Json) (left : A → List ℕ) → MatchResult result (λ x. scalar_at bytes ≡ taken (value x) (left x)) (Fails (λ out. scalar_at bytes ≡ out)) → IfOk result (λ x. length (left x) < length bytes)
+scalar_result_shorter bytes (Ok x) value left s = scalar_shorter bytes (left x) (value x) s
+scalar_result_shorter bytes (Err stop) value left s = tt
+
+pub if_taken : {A E P : Type 0} (result : Result A E) → P → OnOk result P
+if_taken (Ok x) p = p
+if_taken (Err e) p = tt
+
+-- a fault within an object is a fault of the value
 pub object_fails : (m depth : ℕ) (d : ℕ) (bytes rest : List ℕ) → depth ≡ suc m → bytes ≡ d ∷ rest → d ≡ 123 → (stop : Stop) → Fails (ReadsSettled (Reads m) (after_space rest)) stop → Fails (Reads depth bytes) stop
 object_fails m depth d bytes rest s e b (Unreadable left) r = object_reads m depth d bytes rest (refused (NotJson left)) s e b r
 object_fails m depth d bytes rest s e b (Deep left) r = object_reads m depth d bytes rest (refused (TooDeep left)) s e b r

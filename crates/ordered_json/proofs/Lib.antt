@@ -1,5 +1,8 @@
 pub mod EscapesLemmas
+pub mod ForestFacts
+pub mod ForestLemmas
 pub mod GrammarLemmas
+pub mod ListLemmas
 pub mod NestLemmas
 pub mod NumbersLemmas
 pub mod PairsLemmas

@@ -15,9 +15,6 @@ one_of_cut test b rest bytes e t l = rw e (record { piece = b ∷ []; took = con
 some_cut : (one : List ℕ → Read (List ℕ)) (bytes rest : List ℕ) → Cut (one bytes) bytes rest → Cut (maybe one bytes) bytes rest
 some_cut one bytes rest c = record { piece = c.piece; took = ap (λ out. or_else out (taken [] bytes)) c.took; split = c.split; utf8 = c.utf8 }
 
-none_cut : (one : List ℕ → Read (List ℕ)) (bytes : List ℕ) → one bytes ≡ refused tt → Cut (maybe one bytes) bytes bytes
-none_cut one bytes e = record { piece = []; took = ap (λ out. or_else out (taken [] bytes)) e; split = refl; utf8 = IsUtf8-nil }
-
 module _ (one another : List ℕ → Read (List ℕ)) (bytes : List ℕ) where
   joined_cut : (middle rest : List ℕ) → Cut (one bytes) bytes middle → Cut (another middle) middle rest → Cut (joined one another bytes) bytes rest
   joined_cut middle rest c d = record {
@@ -118,6 +115,3 @@ unsigned bytes = joined int_at (joined (maybe frac_at) (maybe exp_at)) bytes
 pub number_of : (bytes sign int fraction rest : List ℕ) → Cut (maybe (one_of (λ b. b == 45)) bytes) bytes sign → Cut (int_at sign) sign int → Cut (maybe frac_at int) int fraction → Cut (maybe exp_at fraction) fraction rest → Cut (number_at bytes) bytes rest
 number_of bytes sign int fraction rest m i f e =
     joined_cut (maybe (one_of (λ b. b == 45))) unsigned bytes sign rest m (joined_cut int_at (joined (maybe frac_at) (maybe exp_at)) sign int rest i (joined_cut (maybe frac_at) (maybe exp_at) int fraction rest f e))
-
-pub no_number : (bytes sign : List ℕ) → Cut (maybe (one_of (λ b. b == 45)) bytes) bytes sign → int_at sign ≡ refused tt → number_at bytes ≡ refused tt
-no_number bytes sign m n = joined_no_second (maybe (one_of (λ b. b == 45))) unsigned bytes sign m (joined_no_first int_at (joined (maybe frac_at) (maybe exp_at)) sign n)

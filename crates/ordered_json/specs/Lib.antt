@@ -2,6 +2,7 @@ pub mod Lists
 pub mod Shown
 pub mod Scanned
 pub mod Outcomes
-pub mod Stacks
+pub mod Forests
+pub mod Steps
 pub mod Pairs
 pub mod Gathered

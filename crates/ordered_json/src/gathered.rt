@@ -23,12 +23,12 @@ pub struct Gathered {
 impl Gathered {
     ghost use Rattle.ordered_json.specs.Gathered.{gathered};
 
-    /// No members, with room for one.
+    /// No members, with room for two.
     pub fn new(alloc: Global) -> Result<Gathered, Memory>
         ensures { IfOk result (λ members. gathered members ≡ []) }
     {
         Ok(Gathered {
-            first: Vec::with_capacity(alloc, 1)?,
+            first: Vec::with_capacity(alloc, 2)?,
             more: IndexMap::new(alloc),
         })
     }
@@ -67,12 +67,12 @@ impl Gathered {
     {
         let Gathered { first, more } = self;
         if more.is_empty() {
-            return Ok(Members::from_vec(first));
+            return Members::from_vec(alloc, first);
         }
         let mut pairs = first;
         let mut others = more.into_iter().collect(alloc)?;
         pairs.append(&mut others)?;
-        Ok(Members::from_vec(pairs))
+        Members::from_vec(alloc, pairs)
     }
 }
 

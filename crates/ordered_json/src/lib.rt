@@ -4,6 +4,7 @@
 
 mod escapes;
 mod fault;
+mod forest;
 mod gathered;
 mod numbers;
 mod quoting;

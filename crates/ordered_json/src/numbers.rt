@@ -8,6 +8,7 @@ use primitives::{Memory, Text};
 use std::alloc::Global;
 
 /// The longest number at the front, as it is written, and the bytes behind it (RFC 8259, 6). None where there is none.
+#[inline(always)]
 pub fn read_number(alloc: Global, bytes: &[u8]) -> Result<Option<(Text, &[u8])>, Memory>
     ensures { IfOk result (λ found. MatchOption found (number_at bytes.now ≡ refused tt) (λ x. number_at bytes.now ≡ taken x.0 x.1.now)) }
 {
@@ -18,6 +19,7 @@ pub fn read_number(alloc: Global, bytes: &[u8]) -> Result<Option<(Text, &[u8])>,
     Ok(Some((Text::of(alloc, number)?, rest)))
 }
 
+#[inline(always)]
 fn after_number(bytes: &[u8]) -> Option<&[u8]>
     ensures { MatchOption result (number_at bytes.now ≡ refused tt) (λ rest. Cut (number_at bytes.now) bytes.now rest.now) }
 {
@@ -25,6 +27,7 @@ fn after_number(bytes: &[u8]) -> Option<&[u8]>
     Some(after_exponent(after_fraction(whole)))
 }
 
+#[inline(always)]
 fn after_minus(bytes: &[u8]) -> &[u8]
     ensures { Cut (maybe (one_of (λ b. b == 45)) bytes.now) bytes.now result.now }
 {
@@ -35,6 +38,7 @@ fn after_minus(bytes: &[u8]) -> &[u8]
 }
 
 // A zero, or digits that begin with no zero.
+#[inline(always)]
 fn after_int(bytes: &[u8]) -> Option<&[u8]>
     ensures { MatchOption result (int_at bytes.now ≡ refused tt) (λ rest. Cut (int_at bytes.now) bytes.now rest.now) }
 {
@@ -44,6 +48,7 @@ fn after_int(bytes: &[u8]) -> Option<&[u8]>
     }
 }
 
+#[inline(always)]
 fn after_fraction(bytes: &[u8]) -> &[u8]
     ensures { Cut (maybe frac_at bytes.now) bytes.now result.now }
 {
@@ -62,6 +67,7 @@ fn fraction(bytes: &[u8]) -> Option<&[u8]>
     }
 }
 
+#[inline(always)]
 fn after_exponent(bytes: &[u8]) -> &[u8]
     ensures { Cut (maybe exp_at bytes.now) bytes.now result.now }
 {
@@ -100,6 +106,7 @@ fn after_sign(bytes: &[u8]) -> &[u8]
 }
 
 // One digit or more.
+#[inline(always)]
 fn some_digits(bytes: &[u8]) -> Option<&[u8]>
     ensures { MatchOption result (digits_at bytes.now ≡ refused tt) (λ rest. Cut (digits_at bytes.now) bytes.now rest.now) }
 {
@@ -111,6 +118,7 @@ fn some_digits(bytes: &[u8]) -> Option<&[u8]>
     }
 }
 
+#[inline(always)]
 fn skip_digits(bytes: &[u8]) -> &[u8]
     ensures { result.now ≡ after_digits bytes.now }
 {

@@ -38,19 +38,22 @@ fn read_escaped<'a>(
 {
     match read_characters(alloc, bytes, after)? {
         None => Ok(None),
-        Some((text, rest)) => match utf8_text(text) {
+        Some((text, rest)) => match utf8_text(alloc, text)? {
             None => Ok(None),
             Some(text) => Ok(Some((text, rest))),
         },
     }
 }
 
-fn utf8_text(bytes: Vec<u8>) -> Option<Text>
-    ensures { MatchOption result (IsUtf8 bytes.items → ⊥) (λ text. IsUtf8 bytes.items × (text ≡ bytes.items)) }
+fn utf8_text(alloc: Global, bytes: Vec<u8>) -> Result<Option<Text>, Memory>
+    ensures { IfOk result (λ found. MatchOption found (IsUtf8 bytes.items → ⊥) (λ text. IsUtf8 bytes.items × (text ≡ bytes.items))) }
 {
     match String::from_utf8(bytes) {
-        Ok(text) => Some(Text::from_string(text)),
-        Err(_) => None,
+        Ok(text) => {
+            let text = Text::from_string(alloc, text)?;
+            Ok(Some(text))
+        }
+        Err(_) => Ok(None),
     }
 }
 

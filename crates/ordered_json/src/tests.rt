@@ -1,4 +1,4 @@
-use crate::{Items, JsonFault, Members, Value, print_text, read};
+use crate::{Items, JsonFault, Members, Text, Value, print_text, read};
 use std::alloc::{AllocError, Global};
 use std::test::Fail;
 
@@ -111,13 +111,33 @@ static BYTES: [(&[u8], &str); 10] = [
     (&[34, 97, 0, 34], "NotJson 0"),
 ];
 
-/// How many brackets, whether they are closed, and what comes of it.
-static NESTED: [(usize, bool, &str); 4] = [
-    (128, false, "NotJson 128"),
-    (129, false, "TooDeep 128"),
-    (129, true, "TooDeep 128"),
-    (2, true, "[[]]"),
+/// How often an opening text stands, what stands within, the closing text, which stands as often, and what comes of it.
+static NESTED: [(usize, &str, &str, &str, &str); 9] = [
+    (128, "[", "", "", "NotJson 128"),
+    (129, "[", "", "", "TooDeep 128"),
+    (129, "[", "", "]", "TooDeep 128"),
+    (2, "[", "", "]", "[[]]"),
+    (128, "[", "", "]", "[[[[[[[[..]]]]]]]]"),
+    (
+        128,
+        "{\"k\":",
+        "0",
+        "}",
+        "{'k':{'k':{'k':{'k':{'k':{'k':{'k':{'k':..}}}}}}}}",
+    ),
+    (129, "{\"k\":", "0", "}", "TooDeep 640"),
+    (64, "[{\"k\":", "[", "", "TooDeep 384"),
+    (
+        64,
+        "{\"k\":[0,",
+        "1",
+        "]}",
+        "{'k':[0,{'k':[0,{'k':[0,{'k':[0,..]}]}]}]}",
+    ),
 ];
+
+/// Lists within lists, more of them than one block holds, each as it is spelled.
+static LISTED: [&str; 4] = ["[1]", "[[2,[3,4],5],[[6]]]", "[[],[7,[[]]],[8]]", "9"];
 
 /// A text that uses the whole grammar.
 const WHOLE: &str =
@@ -194,17 +214,13 @@ fn outcome(alloc: Global, bytes: &[u8]) -> Result<String, AllocError> {
     }
 }
 
-fn brackets(alloc: Global, count: usize, closed: bool) -> Result<Vec<u8>, AllocError> {
-    let mut text = Vec::new(alloc);
+fn push_all(text: &mut Vec<u8>, piece: &str, count: usize) -> Result<(), AllocError> {
     for _ in 0..count {
-        text.push(b'[')?;
-    }
-    if closed {
-        for _ in 0..count {
-            text.push(b']')?;
+        for byte in piece.as_bytes() {
+            text.push(*byte)?;
         }
     }
-    Ok(text)
+    Ok(())
 }
 
 #[test]
@@ -227,11 +243,69 @@ fn bytes(rt: HostRuntime) -> Result<(), Fail> {
         let found = outcome(rt.alloc(), bytes)?;
         assert_eq!(rt; found.as_str(), *expected, "{bytes:?}");
     }
-    for (count, closed, expected) in NESTED.iter() {
-        let text = brackets(rt.alloc(), *count, *closed)?;
+    for (count, opening, inner, closing, expected) in NESTED.iter() {
+        let mut text = Vec::new(rt.alloc());
+        push_all(&mut text, opening, *count)?;
+        push_all(&mut text, inner, 1)?;
+        push_all(&mut text, closing, *count)?;
         let found = outcome(rt.alloc(), text.as_slice())?;
         assert_eq!(rt; found.as_str(), *expected);
     }
+    Ok(())
+}
+
+#[test]
+fn blocks(rt: HostRuntime) -> Result<(), Fail> {
+    let mut text = Vec::new(rt.alloc());
+    text.push(b'[')?;
+    for count in 0..150usize {
+        for piece in &LISTED {
+            push_all(&mut text, piece, 1)?;
+            text.push(b',')?;
+        }
+        push_all(&mut text, "[0],", count % 7)?;
+    }
+    push_all(&mut text, "[]]", 1)?;
+    let found = outcome(rt.alloc(), text.as_slice())?;
+    assert!(rt; found.as_bytes() == text.as_slice());
+    Ok(())
+}
+
+#[test]
+fn many_lists(rt: HostRuntime) -> Result<(), Fail> {
+    let mut text = Vec::new(rt.alloc());
+    text.push(b'[')?;
+    push_all(&mut text, "[0],", 70000)?;
+    push_all(&mut text, "[[]]]", 1)?;
+    let found = read(rt.alloc(), text.as_slice()).map_err(|_| "no value")?;
+    let Value::List(items) = found else {
+        return Err(Fail::from("no list"));
+    };
+    assert_eq!(rt; items.len(), 70001);
+    Ok(())
+}
+
+#[test]
+fn pushed(rt: HostRuntime) -> Result<(), Fail> {
+    let alloc = rt.alloc();
+    let mut items = Items::new(alloc);
+    if let Value::List(read) = read(alloc, b"[[1],2]".as_slice()).map_err(|_| "no value")? {
+        items = read;
+    }
+    let mut members = Members::new(alloc);
+    for text in ["a", "b", "a"] {
+        items.push(Value::Text(Text::of(alloc, text)?))?;
+        let mut inner = Items::new(alloc);
+        inner.push(Value::Null)?;
+        members.push(Text::of(alloc, text)?, Value::List(inner))?;
+    }
+    items.push(Value::Object(members))?;
+    let mut spelled = String::new(alloc);
+    value_into(&mut spelled, &Value::List(items), 8)?;
+    assert_eq!(rt;
+        spelled.as_str(),
+        "[[1],2,'a','b','a',{'a':[null],'b':[null],'a':[null]}]"
+    );
     Ok(())
 }
 

@@ -1,10 +1,11 @@
-ghost use Rattle.std.specs.Prelude.{◌≡◌};
+ghost use Rattle.std.specs.Prelude.{◌≡◌, IfOk};
 ghost use Rattle.ordered_json.specs.Lists.{pairs_of};
 ghost use Rattle.ordered_json.specs.Shown.{json_of, members_of};
 ghost use Rattle.json_spec.specs.Value.{a_member, Members as Spec};
 ghost use Rattle.package_record.specs.Fields.{HoldsFields};
 
 use ordered_json::{Members, Value};
+use primitives::Memory;
 
 /// The values of the fields that are looked for, null where a field is absent.
 #[derive(Drop)]
@@ -17,8 +18,8 @@ pub struct Fields {
 }
 
 /// The fields among an object's members.
-pub fn fields_of(members: Members) -> Fields
-    ensures { HoldsFields result (members_of (pairs_of members)) }
+pub fn fields_of(members: Members) -> Result<Fields, Memory>
+    ensures { IfOk result (λ fields. HoldsFields fields (members_of (pairs_of members))) }
 {
     let mut fields = Fields {
         name: Value::Null,
@@ -27,11 +28,11 @@ pub fn fields_of(members: Members) -> Fields
         exports: Value::Null,
         imports: Value::Null,
     };
-    let mut pairs = members.into_pairs();
+    let mut pairs = members.into_pairs()?;
     while let Some((key, value)) = pairs.pop() {
         fields = with_member(fields, key.as_str(), value);
     }
-    fields
+    Ok(fields)
 }
 
 // The fields, where one more member stands before those that were looked at.

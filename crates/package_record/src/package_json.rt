@@ -48,7 +48,10 @@ pub fn read_package(alloc: Global, bytes: &[u8]) -> Result<Package, PackageFault
 {
     match read(alloc, behind_mark(bytes)) {
         Ok(value) => match members_in(value) {
-            Some(members) => Ok(package_of(fields_of(members))),
+            Some(members) => match fields_of(members) {
+                Ok(fields) => Ok(package_of(fields)),
+                Err(_) => Err(PackageFault::Memory),
+            },
             None => Err(PackageFault::InvalidConfig),
         },
         Err(JsonFault::NotJson { .. }) => Err(PackageFault::InvalidConfig),

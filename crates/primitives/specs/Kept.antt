@@ -5,4 +5,4 @@ use Rattle.primitives.specs.declared.text.Kept.{Kept}
 
 abbrev pub kept_bytes : Kept → List ℕ
 kept_bytes (Kept.Short text) = text
-kept_bytes (Kept.Long text) = string_bytes text
+kept_bytes (Kept.Long text) = string_bytes text.value

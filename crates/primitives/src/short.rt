@@ -1,10 +1,11 @@
-ghost use Rattle.std.specs.Prelude.{◌≡◌, ◌<◌, length, MatchOption};
+ghost use Rattle.std.specs.Prelude.{◌≡◌, ◌<◌, [], length, IfSome, MatchOption};
 
 use std::marker::Model;
 use std::str;
 
-/// How many bytes a text may have that lies in its value. With them a text takes 32 bytes, as one does that lies elsewhere.
-const MOST: usize = 30;
+/// How many bytes a text may have that lies in its value. With their number and the kind beside them a text takes 16
+/// bytes, as it also does where it lies elsewhere: a pointer is kept at a multiple of 8.
+const MOST: usize = 14;
 
 /// A text that lies in the value itself.
 #[derive(Drop)]
@@ -20,14 +21,27 @@ impl Model for Short {
 
     ghost view = { λ s. take s.len s.bytes };
 
-    ghost invariant = { λ s. (s.len ≤ 30) × (length s.bytes ≡ 30) × ∥ IsUtf8 (take s.len s.bytes) ∥₁ };
+    ghost invariant = { λ s. (s.len ≤ 14) × (length s.bytes ≡ 14) × ∥ IsUtf8 (take s.len s.bytes) ∥₁ };
 }
 
 impl Short {
+    /// The empty text.
+    pub fn empty() -> Short
+        ensures { result ≡ [] }
+    {
+        Short {
+            len: 0,
+            bytes: [0; MOST],
+        }
+    }
+
     /// A copy of a text, where it is short enough.
     pub fn of(text: &str) -> Option<Short>
-        ensures { MatchOption result (30 < length text.now) (λ copy. copy ≡ text.now) }
+        ensures { MatchOption result (14 < length text.now) (λ copy. copy ≡ text.now) }
     {
+        if let Some(short) = Short::of_byte(text) {
+            return Some(short);
+        }
         if text.len() > MOST {
             return None;
         }
@@ -37,6 +51,30 @@ impl Short {
             len: text.len() as u8,
             bytes,
         })
+    }
+
+    // A copy of a text of one byte, written in one go: a number of one digit is kept so.
+    fn of_byte(text: &str) -> Option<Short>
+        ensures { IfSome result (λ copy. copy ≡ text.now) }
+    {
+        let (first, rest) = text.as_bytes().split_first()?;
+        if !rest.is_empty() {
+            return None;
+        }
+        Some(Short {
+            len: 1,
+            bytes: [*first, 0, 0, 0, 0, 0, 0, 0, 0, 0, 0, 0, 0, 0],
+        })
+    }
+
+    /// An equal text.
+    pub fn copy(&self) -> Short
+        ensures { result ≡ self.now }
+    {
+        Short {
+            len: self.len,
+            bytes: self.bytes,
+        }
     }
 
     /// Lends the text.

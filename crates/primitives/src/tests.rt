@@ -2,15 +2,19 @@ use super::*;
 use std::test::Fail;
 
 /// Texts in byte order, some of as many bytes as lie in the value, and of one more.
-static TEXTS: [&str; 9] = [
+static TEXTS: [&str; 13] = [
     "",
     "A",
     "a",
     "ab",
-    "abcdefghijklmnopqrstuvwxyz1234",
+    "abcdefghijklm",
+    "abcdefghijklmn",
+    "abcdefghijklmno",
     "abcdefghijklmnopqrstuvwxyz12345",
     "ä",
-    "äääääääääääääää",
+    "äääääää",
+    "äääääääa",
+    "ääääääää",
     "ääääääääääääääää",
 ];
 

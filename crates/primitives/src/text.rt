@@ -7,20 +7,24 @@ use std::cmp::Ordering;
 use std::fmt;
 use std::hash::{Hash, Hasher};
 use std::marker::Model;
+use std::rc::Rc;
 
-const _: () = prove!(size_of::<Text>() == 32);
+// So a JSON value, which has its kind beside a text, takes 24 bytes.
+const _: () = prove!(size_of::<Text>() == 16);
 
 /// A text that is kept: a contract sees it as the list of its UTF-8 bytes.
+///
+/// A text of at most 14 bytes lies in its value and takes no memory of its own. A longer one lies in memory that it shares
+/// with its copies.
 #[derive(Drop)]
 pub struct Text {
     kept: Kept,
 }
 
-// A short text lies in the value itself, so that it takes no memory of its own.
 #[derive(Drop)]
 enum Kept {
     Short(Short),
-    Long(String),
+    Long(Rc<String>),
 }
 
 impl Model for Text {
@@ -35,40 +39,47 @@ impl Model for Text {
 impl Text {
     ghost use Rattle.std.specs.String.{string_bytes};
 
-    /// The empty text.
-    pub fn new(alloc: Global) -> Text
+    /// The empty text, which takes no memory.
+    pub fn new(_alloc: Global) -> Text
         ensures { result ≡ [] }
     {
         Text {
-            kept: Kept::Long(String::new(alloc)),
+            kept: Kept::Short(Short::empty()),
         }
     }
 
     /// A copy of a text.
+    #[inline]
     pub fn of(alloc: Global, text: &str) -> Result<Text, Memory>
         ensures { IfOk result (λ copy. copy ≡ text.now) }
     {
         let kept = match Short::of(text) {
             Some(short) => Kept::Short(short),
-            None => Kept::Long(String::from_str(alloc, text)?),
+            None => Kept::Long(Rc::new(alloc, String::from_str(alloc, text)?)?),
         };
         Ok(Text { kept })
     }
 
-    /// The text of a `String`, which is moved.
-    pub fn from_string(text: String) -> Text
-        ensures { result ≡ string_bytes text }
+    /// The text of a `String`, which is moved where it is long.
+    pub fn from_string(alloc: Global, text: String) -> Result<Text, Memory>
+        ensures { IfOk result (λ kept. kept ≡ string_bytes text) }
     {
-        Text {
-            kept: Kept::Long(text),
-        }
+        let kept = match Short::of(text.as_str()) {
+            Some(short) => Kept::Short(short),
+            None => Kept::Long(Rc::new(alloc, text)?),
+        };
+        Ok(Text { kept })
     }
 
-    /// An equal text.
-    pub fn copy(&self, alloc: Global) -> Result<Text, Memory>
+    /// An equal text, which shares the memory of this one.
+    pub fn copy(&self, _alloc: Global) -> Result<Text, Memory>
         ensures { IfOk result (λ copy. copy ≡ self.now) }
     {
-        Text::of(alloc, self.as_str())
+        let kept = match &self.kept {
+            Kept::Short(text) => Kept::Short(text.copy()),
+            Kept::Long(text) => Kept::Long(text.clone()?),
+        };
+        Ok(Text { kept })
     }
 
     /// Lends the text.

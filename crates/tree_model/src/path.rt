@@ -120,7 +120,7 @@ impl Path {
         let text = joined_text(alloc, self.text.as_str(), rest)?;
         if is_path(text.as_str()) {
             Ok(Some(Path {
-                text: Text::from_string(text),
+                text: Text::from_string(alloc, text)?,
             }))
         } else {
             Ok(None)

@@ -47,9 +47,10 @@ impl Base {
                 if !is_web_folder(&url) {
                     return Err(BaseFault::BadBase);
                 }
-                Ok(Base {
-                    text: Text::from_string(String::from(url)),
-                })
+                match Text::from_string(alloc, String::from(url)) {
+                    Ok(text) => Ok(Base { text }),
+                    Err(_) => Err(BaseFault::Memory),
+                }
             }
             Ok(None) => Err(BaseFault::BadBase),
             Err(_) => Err(BaseFault::Memory),

@@ -93,7 +93,7 @@ pub fn normalized(alloc: Global, specifier: &str, base: &WebUrl) -> Result<Text,
     ensures { IfOk result (λ text. text ≡ normalized base.now specifier.now) }
 {
     match as_url(alloc, specifier, base)? {
-        Some(url) => Ok(url.into_text()),
+        Some(url) => url.into_text(alloc),
         None => Text::of(alloc, specifier),
     }
 }

@@ -79,7 +79,7 @@ fn parsed(rt: HostRuntime) -> Result<(), Fail> {
     for (text, expected) in PARSED {
         match WebUrl::parse(rt.alloc(), text)? {
             Some(url) => {
-                let copy = url.copy(rt.alloc())?.into_text();
+                let copy = url.copy(rt.alloc())?.into_text(rt.alloc())?;
                 assert_eq!(rt; copy.as_str(), expected);
             }
             None => assert_eq!(rt; "none", expected),

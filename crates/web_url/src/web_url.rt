@@ -88,11 +88,11 @@ impl WebUrl {
 
     /// The text, which is moved out.
     #[tactic(auto, using(crate::proofs::UrlTexts::texts))]
-    pub fn into_text(self) -> Text
-        ensures { result ≡ self }
+    pub fn into_text(self, alloc: Global) -> Result<Text, Memory>
+        ensures { IfOk result (λ text. text ≡ self) }
     {
         let WebUrl { url } = self;
-        Text::from_string(String::from(url))
+        Text::from_string(alloc, String::from(url))
     }
 }
 

@@ -4,9 +4,12 @@ use Rattle.std.proofs.lemmas.List.{drop_all}
 use Rattle.node_spec.specs.PackageTargets.{ResolvesText}
 use Rattle.ordered_json.specs.Lists.{values_of, pairs_of}
 use Rattle.condition_match.specs.Choosing.{rules_of}
-use Rattle.condition_match.proofs.Sizes.{item_size, member_size}
+use Rattle.condition_match.proofs.Sizes.{item_size, member_size, list_size}
 use Rattle.condition_match.proofs.AskLemmas.{comes_err, comes_as, text_value, list_value, object_value, item_passed, item_decided, items_end, item_begun, member_undefined, member_defined, members_end, member_begun, null_chosen, bool_chosen, number_chosen, empty_chosen, index_chosen}
 use Rattle.condition_match.proofs.choice.+choose.Goals as goal
+
+pub choose_value-choose_item-requires : goal.choose_value-choose_item-requires
+choose_value-choose_item-requires g t c κs within = (omega (arith, list_size c.args.target.now c.in-List.items c.in-List.is, c.decreases), search rules)
 
 pub choose_item-choose_value-requires : goal.choose_item-choose_value-requires
 choose_item-choose_value-requires g t c κs within =

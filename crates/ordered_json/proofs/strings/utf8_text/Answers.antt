@@ -6,4 +6,4 @@ use Rattle.ordered_json.proofs.strings.utf8_text.Goals as goal
 pub returns-in-Ok : goal.returns-in-Ok
 returns-in-Ok c =
     let e : string_bytes c.in-Ok.text ≡ c.args.bytes.items = ap (λ v. v.items) c.in-Ok.ensures.ok in
-    (subst IsUtf8 e (IsUtf8-string_bytes c.in-Ok.text), c.from_string.ensures ∙ e)
+    (subst IsUtf8 e (IsUtf8-string_bytes c.in-Ok.text), c.in_ok-text-in-Ok.ensures ∙ e)

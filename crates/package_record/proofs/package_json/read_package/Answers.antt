@@ -2,14 +2,14 @@ use Rattle.node_spec.specs.RecordLaws.{record_names_are_distinct}
 use Rattle.package_record.proofs.RecordLemmas.{record_from, object_record, no_object}
 use Rattle.package_record.proofs.package_json.read_package.Goals as goal
 
-pub returns-in-Some-clause-reads : goal.returns-in-Some-clause-reads
-returns-in-Some-clause-reads c = object_record _ _ _ _ _ c.behind_mark.ensures c.in-Ok.ensures.reads c.in-Some.ensures (c.package_of.ensures _ c.fields_of.ensures)
+pub returns-in-Ok-fields_of-clause-reads : goal.returns-in-Ok-fields_of-clause-reads
+returns-in-Ok-fields_of-clause-reads c = object_record _ _ _ _ _ c.behind_mark.ensures c.in-Ok.ensures.reads c.in-Some.ensures (c.package_of.ensures _ c.in-Ok-fields_of.ensures)
 
-pub returns-in-Some-clause-distinct : goal.returns-in-Some-clause-distinct
-returns-in-Some-clause-distinct c = (record_names_are_distinct c.args.bytes.now _ (object_record _ _ _ _ _ c.behind_mark.ensures c.in-Ok.ensures.reads c.in-Some.ensures (c.package_of.ensures _ c.fields_of.ensures))).0
+pub returns-in-Ok-fields_of-clause-distinct : goal.returns-in-Ok-fields_of-clause-distinct
+returns-in-Ok-fields_of-clause-distinct c = (record_names_are_distinct c.args.bytes.now _ (object_record _ _ _ _ _ c.behind_mark.ensures c.in-Ok.ensures.reads c.in-Some.ensures (c.package_of.ensures _ c.in-Ok-fields_of.ensures))).0
 
-pub returns-in-Some-clause-distinct_imports : goal.returns-in-Some-clause-distinct_imports
-returns-in-Some-clause-distinct_imports c = (record_names_are_distinct c.args.bytes.now _ (object_record _ _ _ _ _ c.behind_mark.ensures c.in-Ok.ensures.reads c.in-Some.ensures (c.package_of.ensures _ c.fields_of.ensures))).1
+pub returns-in-Ok-fields_of-clause-distinct_imports : goal.returns-in-Ok-fields_of-clause-distinct_imports
+returns-in-Ok-fields_of-clause-distinct_imports c = (record_names_are_distinct c.args.bytes.now _ (object_record _ _ _ _ _ c.behind_mark.ensures c.in-Ok.ensures.reads c.in-Some.ensures (c.package_of.ensures _ c.in-Ok-fields_of.ensures))).1
 
 pub returns-in-None-clause-reads : goal.returns-in-None-clause-reads
 returns-in-None-clause-reads c = no_object _ _ _ c.behind_mark.ensures c.in-Ok.ensures.reads c.in-None.ensures

@@ -15,7 +15,7 @@ use Rattle.generator_core.proofs.trace.Trace.request.Goals as goal
 
 pub returns-clause-takes : goal.returns-clause-takes
 returns-clause-takes g c =
-    let need : Need = record { referrer = c.in_ok-of.field-0; asked = c.into_text.result; target = c.in_ok-of-2.field-0 } in
+    let need : Need = record { referrer = c.in_ok-of.field-0; asked = c.in_ok-into_text.field-0; target = c.in_ok-of-2.field-0 } in
     let referrer_is : need.referrer ≡ c.args.asker.now.url = c.in_ok-of.ensures ∙ c.as_str.ensures.text in
     let target_is : need.target ≡ c.in_ok-name.name = c.in_ok-of-2.ensures ∙ c.as_str-2.ensures.text in
     if_some (g.F.Folder.holds c.args.folder.now)
@@ -26,8 +26,8 @@ returns-clause-takes g c =
           (passes tree c.args.config.now referrer c.args.asker.now c.args.specifier.now need c.in_ok-target.target is
           (sym c.is_relative.ensures ∙ c.if-not-is_relative.false)
           referrer_is
-          (c.in_ok-asked.ensures.url.0 ∙ ap Some (sym c.into_text.ensures))
-          (ap ends_in_slash c.into_text.ensures ∙ c.in_ok-asked.ensures.url.1)
+          (c.in_ok-asked.ensures.url.0 ∙ ap Some (sym c.in_ok-into_text.ensures))
+          (ap ends_in_slash c.in_ok-into_text.ensures ∙ c.in_ok-asked.ensures.url.1)
           (found knows).0
           (found knows).1
           (subst (λ u. IsServable c.args.config.now c.in_ok-target.target.path c.in_ok-target.target.suffix u) (sym target_is) c.in_ok-name.ensures.url.0)
@@ -87,7 +87,7 @@ returns-in_err-name-clause-refused g c =
 
 pub returns-in_err-add_need-clause-refused : goal.returns-in_err-add_need-clause-refused
 returns-in_err-add_need-clause-refused g c =
-    let need : Need = record { referrer = c.in_ok-of.field-0; asked = c.into_text.result; target = c.in_ok-of-2.field-0 } in
+    let need : Need = record { referrer = c.in_ok-of.field-0; asked = c.in_ok-into_text.field-0; target = c.in_ok-of-2.field-0 } in
     let referrer_is : need.referrer ≡ c.args.asker.now.url = c.in_ok-of.ensures ∙ c.as_str.ensures.text in
     let target_is : need.target ≡ c.in_ok-name.name = c.in_ok-of-2.ensures ∙ c.as_str-2.ensures.text in
     request_passed c.from_residual-in_err-add_need.result c.in_err-add_need.field-0.0 c.from_residual-in_err-add_need.ensures.1
@@ -99,8 +99,8 @@ returns-in_err-add_need-clause-refused g c =
     (passes tree c.args.config.now referrer c.args.asker.now c.args.specifier.now need c.in_ok-target.target is
     (sym c.is_relative.ensures ∙ c.if-not-is_relative.false)
     referrer_is
-    (c.in_ok-asked.ensures.url.0 ∙ ap Some (sym c.into_text.ensures))
-    (ap ends_in_slash c.into_text.ensures ∙ c.in_ok-asked.ensures.url.1)
+    (c.in_ok-asked.ensures.url.0 ∙ ap Some (sym c.in_ok-into_text.ensures))
+    (ap ends_in_slash c.in_ok-into_text.ensures ∙ c.in_ok-asked.ensures.url.1)
     (found knows).0
     (found knows).1
     (subst (λ u. IsServable c.args.config.now c.in_ok-target.target.path c.in_ok-target.target.suffix u) (sym target_is) c.in_ok-name.ensures.url.0)
@@ -111,7 +111,7 @@ returns-in_err-add_need-clause-refused g c =
 
 pub returns-in_err-add_module-clause-refused : goal.returns-in_err-add_module-clause-refused
 returns-in_err-add_module-clause-refused g c =
-    let need : Need = record { referrer = c.in_ok-of.field-0; asked = c.into_text.result; target = c.in_ok-of-2.field-0 } in
+    let need : Need = record { referrer = c.in_ok-of.field-0; asked = c.in_ok-into_text.field-0; target = c.in_ok-of-2.field-0 } in
     let referrer_is : need.referrer ≡ c.args.asker.now.url = c.in_ok-of.ensures ∙ c.as_str.ensures.text in
     let target_is : need.target ≡ c.in_ok-name.name = c.in_ok-of-2.ensures ∙ c.as_str-2.ensures.text in
     request_passed c.from_residual-in_err-add_module.result c.in_err-add_module.field-0.0 c.from_residual-in_err-add_module.ensures.1
@@ -123,8 +123,8 @@ returns-in_err-add_module-clause-refused g c =
     (passes tree c.args.config.now referrer c.args.asker.now c.args.specifier.now need c.in_ok-target.target is
     (sym c.is_relative.ensures ∙ c.if-not-is_relative.false)
     referrer_is
-    (c.in_ok-asked.ensures.url.0 ∙ ap Some (sym c.into_text.ensures))
-    (ap ends_in_slash c.into_text.ensures ∙ c.in_ok-asked.ensures.url.1)
+    (c.in_ok-asked.ensures.url.0 ∙ ap Some (sym c.in_ok-into_text.ensures))
+    (ap ends_in_slash c.in_ok-into_text.ensures ∙ c.in_ok-asked.ensures.url.1)
     (found knows).0
     (found knows).1
     (subst (λ u. IsServable c.args.config.now c.in_ok-target.target.path c.in_ok-target.target.suffix u) (sym target_is) c.in_ok-name.ensures.url.0)

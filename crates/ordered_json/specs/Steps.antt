@@ -1,0 +1,63 @@
+-- What the reader of lists within lists does at one place of a text.
+--     IsShown forest      the forest shows some lists
+--     Begins depth bytes before after awaited rest      where a value is awaited, it opens a list, or puts the value on
+--     GoesOn bytes before after awaited rest      behind a value of a list, it goes past a comma, or closes the list
+--     StopsAt bytes stop      there is neither, or no memory was found
+-- before and after are the forest; awaited tells whether a value is awaited at the rest.
+use Rattle.std.specs.Prelude.{◌≡◌, ◌≢◌, ◌<◌, ◌+◌, ℕ, Bool, true, false, List, ◌∷◌, length, ⊤}
+use Rattle.json_spec.specs.Value.{Json}
+use Rattle.json_spec.specs.Taken.{taken}
+use Rattle.json_spec.specs.Grammar.{after_space, Reads}
+use Rattle.ordered_json.specs.declared.forest.Forest.{Forest}
+use Rattle.ordered_json.specs.declared.fault.Stop.{Stop}
+use Rattle.ordered_json.specs.declared.fault.Stop.TheVariants.{Unreadable, Deep, NoMemory}
+use Rattle.ordered_json.specs.Forests.{Shows, PutsOn, OpensList, ClosesList}
+
+pub record IsShown (forest : Forest) : Type 0 where
+  pub lists : List (List Json)
+  pub items : List Json
+  pub shows : Shows forest lists items
+
+pub record Opens (depth : ℕ) (bytes : List ℕ) (before after : Forest) (rest : List ℕ) : Type 0 where
+  pub inner : List ℕ
+  pub bracket : bytes ≡ 91 ∷ inner
+  pub may : depth ≢ 0
+  pub begun : rest ≡ after_space inner
+  pub full : (end : List ℕ) → rest ≢ 93 ∷ end
+  pub opened : OpensList before after
+  pub deeper : length after.above.items ≡ length before.above.items + 1
+
+pub record Puts (depth : ℕ) (bytes : List ℕ) (before after : Forest) (rest : List ℕ) : Type 0 where
+  pub on : PutsOn before after (λ json. Reads depth bytes (taken json rest))
+  pub level : length after.above.items ≡ length before.above.items
+  pub some : 0 < length after.here.value.values.items
+
+abbrev pub Begins : ℕ → List ℕ → Forest → Forest → Bool → List ℕ → Type 0
+Begins depth bytes before after true rest = Opens depth bytes before after rest
+Begins depth bytes before after false rest = Puts depth bytes before after rest
+
+pub record PassesComma (bytes : List ℕ) (before after : Forest) (rest : List ℕ) : Type 0 where
+  pub more : List ℕ
+  pub comma : after_space bytes ≡ 44 ∷ more
+  pub begun : rest ≡ after_space more
+  pub kept : after ≡ before
+
+pub record Closes (bytes : List ℕ) (before after : Forest) (rest : List ℕ) : Type 0 where
+  pub bracket : after_space bytes ≡ 93 ∷ rest
+  pub closed : ClosesList before after
+  pub outer : length before.above.items ≡ length after.above.items + 1
+  pub some : 0 < length after.here.value.values.items
+
+abbrev pub GoesOn : List ℕ → Forest → Forest → Bool → List ℕ → Type 0
+GoesOn bytes before after true rest = PassesComma bytes before after rest
+GoesOn bytes before after false rest = Closes bytes before after rest
+
+pub record IsNeither (space : List ℕ) (left : ℕ) : Type 0 where
+  pub no_bracket : (end : List ℕ) → space ≢ 93 ∷ end
+  pub no_comma : (more : List ℕ) → space ≢ 44 ∷ more
+  pub place : left ≡ length space
+
+abbrev pub StopsAt : List ℕ → Stop → Type 0
+StopsAt bytes (Unreadable left) = IsNeither (after_space bytes) left
+StopsAt bytes (Deep left) = ⊥
+StopsAt bytes NoMemory = ⊤

@@ -1,0 +1,286 @@
+ghost use Rattle.std.specs.Prelude.{◌≡◌, ◌<◌, ◌+◌, [], ◌∷◌, ◌++◌, length, IfOk, OnOk};
+ghost use Rattle.ordered_json.specs.Forests.{IsFresh, IsClosed, GetsItems, Settles, SettlesAll, Seals, IsNext, Keeps, Shows, AddsValue, OpensList, ClosesList, TakesValue};
+
+use crate::value::{Items, Value};
+use primitives::Memory;
+use std::alloc::{AllocError, Global};
+use std::mem;
+use std::rc::Rc;
+
+/// For how many values a level has room at once.
+const ROOM: usize = 64;
+
+/// How many values a block has at least, on the average of those that are made together.
+const FEW: usize = 16;
+
+/// From how many values on a level is moved in any case, as its room is large.
+const MANY: usize = 1024;
+
+/// From how many values on a level is full, whatever room it has.
+const MOST: usize = 8192;
+
+/// The values of one level of lists: those of lists that are closed, and then, from `start` on, those of the list that is open.
+#[derive(Drop)]
+pub struct Level {
+    values: Vec<Value>,
+    start: usize,
+    // Before this one no list waits for its values.
+    ready: usize,
+}
+
+/// What is read of lists within lists. Each list that is open has a level of its own; the levels within the innermost one hold
+/// values of lists that are closed, until there are enough of them for a block a level, or the value is taken. So lists in a
+/// list share blocks.
+#[derive(Drop)]
+pub struct Forest {
+    alloc: Global,
+    // The levels of the lists around the innermost one, the outermost first.
+    above: Vec<Box<Level>>,
+    // The level of the innermost list.
+    here: Box<Level>,
+    // The levels without an open list, the outermost last.
+    below: Vec<Box<Level>>,
+}
+
+impl Level {
+    // No values.
+    fn new(alloc: Global) -> Level
+        ensures { IsFresh result }
+    {
+        Level {
+            values: Vec::new(alloc),
+            start: 0,
+            ready: 0,
+        }
+    }
+
+    // Whether another list as long as the last one would not find room. Where no block is made then, the room is doubled, so
+    // this is asked for again only after as many values.
+    #[inline(always)]
+    fn is_full(&self) -> bool {
+        let count = self.values.as_slice().len();
+        let room = self.values.capacity().saturating_sub(count);
+        count >= MOST || (count >= ROOM / 2 && count - self.start.min(count) > room)
+    }
+
+    // The list of the values from the start on, for which it waits. No list begins behind the last number of an `u16`,
+    // since room was made before it was opened.
+    fn closed(&self, alloc: Global) -> Result<Value, Memory>
+        ensures { IfOk result (λ value. IsClosed self.now value) }
+    {
+        let count = self.values.as_slice().len();
+        let len = count - self.start.min(count);
+        match (u16::try_from(self.start), u32::try_from(len)) {
+            (Ok(start), Ok(len)) => Ok(Value::List(Items::waiting(alloc, start, len))),
+            _ => Err(AllocError),
+        }
+    }
+
+    // Gives each list that waits its span of the block.
+    fn settle(&mut self, block: &Option<Rc<Vec<Value>>>) -> Result<(), Memory>
+        ensures settled { OnOk result (Settles block.now self.old self.new) }
+        ensures start { OnOk result (self.new.start ≡ self.old.start) }
+        ensures count { OnOk result (length self.new.values.items ≡ length self.old.values.items) }
+    {
+        let count = self.values.as_slice().len();
+        if let Some(block) = block {
+            for place in self.ready..count {
+                settle_value(&mut self.values[place], block)?;
+            }
+        }
+        self.ready = count;
+        Ok(())
+    }
+
+    // Takes the values off, as a block with little more room than they need: a level that is about full is moved, and so is a
+    // large one; from any other they are copied out, and it keeps its room.
+    fn take_block(&mut self, alloc: Global) -> Result<Rc<Vec<Value>>, Memory>
+        ensures taken { IfOk result (λ block. block.value.items ≡ self.old.values.items) }
+        ensures left { OnOk result (IsFresh self.new) }
+    {
+        self.start = 0;
+        self.ready = 0;
+        let count = self.values.as_slice().len();
+        let room = self.values.capacity();
+        if count < MANY && count < room - room / 8 {
+            let values = self.values.split_off(0)?;
+            return Ok(Rc::new(alloc, values)?);
+        }
+        let room = Vec::with_capacity(alloc, ROOM)?;
+        let mut values = mem::replace(&mut self.values, room);
+        values.shrink_to_fit();
+        Ok(Rc::new(alloc, values)?)
+    }
+}
+
+// Whether blocks of the levels' values, from the last level up to the first one that has none, would have enough of them.
+fn have_enough(levels: &[Box<Level>]) -> bool {
+    let mut values = 0usize;
+    let mut blocks = 0usize;
+    for level in levels.iter().rev() {
+        let count = level.values.as_slice().len();
+        if count == 0 {
+            break;
+        }
+        values = values.saturating_add(count);
+        blocks = blocks.saturating_add(1);
+    }
+    values / FEW >= blocks
+}
+
+// Gives a value its values, if it is a list that waits for them.
+fn settle_value(value: &mut Value, block: &Rc<Vec<Value>>) -> Result<(), Memory>
+    ensures { OnOk result (GetsItems block.now.value.items value.old value.new) }
+{
+    match value {
+        Value::List(items) => match items.settled(block)? {
+            Some(list) => {
+                *value = Value::List(list);
+                Ok(())
+            }
+            None => Ok(()),
+        },
+        _ => Ok(()),
+    }
+}
+
+// Makes a block of each level's values, from the outermost, which is the last, up to the first level that has none. Gives the
+// block of the outermost.
+fn seal(alloc: Global, levels: &mut Vec<Box<Level>>) -> Result<Option<Rc<Vec<Value>>>, Memory>
+    ensures { IfOk result (λ block. Seals block levels.old.items levels.new.items) }
+{
+    let Some(mut level) = levels.pop() else {
+        return Ok(None);
+    };
+    if level.values.as_slice().is_empty() {
+        levels.push(level)?;
+        return Ok(None);
+    }
+    let inner = seal(alloc, levels)?;
+    level.settle(&inner)?;
+    let block = level.take_block(alloc)?;
+    levels.push(level)?;
+    Ok(Some(block))
+}
+
+// Takes off the outermost level without an open list, or makes one without values.
+fn next_level(alloc: Global, levels: &mut Vec<Box<Level>>) -> Result<Box<Level>, Memory>
+    ensures { IfOk result (λ level. IsNext levels.old.items levels.new.items level.value) }
+{
+    match levels.pop() {
+        Some(level) => Ok(level),
+        None => Ok(Box::new(alloc, Level::new(alloc))?),
+    }
+}
+
+impl Forest {
+    /// One list that is open, without values.
+    pub fn new(alloc: Global) -> Result<Forest, Memory>
+        ensures { IfOk result (λ forest. Shows forest [] []) }
+    {
+        Ok(Forest {
+            alloc,
+            above: Vec::new(alloc),
+            here: Box::new(alloc, Level::new(alloc))?,
+            below: Vec::new(alloc),
+        })
+    }
+
+    /// How many lists are open around the innermost one.
+    pub fn depth(&self) -> usize
+        ensures { result ≡ length self.now.above.items }
+    {
+        self.above.as_slice().len()
+    }
+
+    /// Puts a value behind those of the innermost list.
+    #[inline(always)]
+    pub fn put(&mut self, value: Value) -> Result<(), Memory>
+        ensures adds { OnOk result (AddsValue value self.old self.new) }
+        ensures depth { OnOk result (length self.new.above.items ≡ length self.old.above.items) }
+        ensures some { OnOk result (0 < length self.new.here.value.values.items) }
+    {
+        self.here.values.push(value)?;
+        Ok(())
+    }
+
+    /// Opens a list within the innermost one.
+    #[inline(always)]
+    pub fn open(&mut self) -> Result<(), Memory>
+        ensures opens { OnOk result (OpensList self.old self.new) }
+        ensures depth { OnOk result (length self.new.above.items ≡ length self.old.above.items + 1) }
+    {
+        self.make_room()?;
+        let mut inner = next_level(self.alloc, &mut self.below)?;
+        inner.start = inner.values.as_slice().len();
+        let outer = mem::replace(&mut self.here, inner);
+        self.above.push(outer)?;
+        Ok(())
+    }
+
+    /// Closes the innermost list, which is then a value of the one around it.
+    #[inline(always)]
+    pub fn close(&mut self) -> Result<(), Memory>
+        requires { 0 < length self.old.above.items }
+        ensures closes { OnOk result (ClosesList self.old self.new) }
+        ensures depth { OnOk result (length self.old.above.items ≡ length self.new.above.items + 1) }
+        ensures some { OnOk result (0 < length self.new.here.value.values.items) }
+    {
+        let Some(outer) = self.above.pop() else {
+            unreachable!();
+        };
+        let inner = mem::replace(&mut self.here, outer);
+        let list = inner.closed(self.alloc)?;
+        self.here.values.push(list)?;
+        self.below.push(inner)?;
+        Ok(())
+    }
+
+    // Makes blocks, if there are enough values for them.
+    #[inline(always)]
+    fn make_room(&mut self) -> Result<(), Memory>
+        ensures kept { OnOk result (Keeps self.old self.new) }
+        ensures above { OnOk result (self.new.above ≡ self.old.above) }
+    {
+        match self.below.as_slice().last() {
+            Some(level) if level.is_full() => {}
+            _ => return Ok(()),
+        }
+        if !have_enough(self.below.as_slice()) {
+            return Ok(());
+        }
+        self.settle()
+    }
+
+    // Gives the lists of the innermost level their values, which become blocks. Lists of the levels around it may wait on.
+    #[inline(never)]
+    fn settle(&mut self) -> Result<(), Memory>
+        ensures settled { OnOk result (SettlesAll self.old self.new) }
+        ensures above { OnOk result (self.new.above ≡ self.old.above) }
+        ensures count { OnOk result (length self.new.here.value.values.items ≡ length self.old.here.value.values.items) }
+    {
+        let block = seal(self.alloc, &mut self.below)?;
+        self.here.settle(&block)?;
+        Ok(())
+    }
+
+    /// Takes the one value of the innermost list, and closes that.
+    pub fn take(&mut self) -> Result<Value, Memory>
+        requires around { 0 < length self.old.above.items }
+        requires some { 0 < length self.old.here.value.values.items }
+        ensures takes { IfOk result (λ value. TakesValue value self.old self.new) }
+        ensures depth { OnOk result (length self.old.above.items ≡ length self.new.above.items + 1) }
+    {
+        self.settle()?;
+        let Some(value) = self.here.values.pop() else {
+            unreachable!();
+        };
+        self.here.ready = self.here.values.as_slice().len();
+        let Some(outer) = self.above.pop() else {
+            unreachable!();
+        };
+        let inner = mem::replace(&mut self.here, outer);
+        self.below.push(inner)?;
+        Ok(value)
+    }
+}
