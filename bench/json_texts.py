@@ -63,6 +63,11 @@ def deep(opening, inner, closing):
     return itertools.repeat(opening * depth + inner + closing * depth)
 
 
+def brackets(depth):
+    """Lists in a list, this deep."""
+    return "[" * depth + "]" * depth
+
+
 TEXTS = {
     "long_string": long_string,
     "escapes": escapes,
@@ -79,12 +84,19 @@ TEXTS = {
     "arrays_of_a_digit_128_deep": lambda: listed(deep("[1,", "2", "]")),
     "brackets_128_deep": lambda: listed(deep("[", "", "]")),
     "brackets_and_numbers_within": lambda: listed(deep("[", "1,22,333,4444", "]")),
+    "digits_beside_brackets_128_deep": lambda: listed(itertools.repeat("[" + "0," * 33 + brackets(126) + "]")),
+}
+
+# What no target is asked of: lists that are values of members.
+TOLD = {
+    "brackets_in_members": lambda: listed(itertools.repeat('{"":' + brackets(126) + "}")),
+    "short_lists_in_members": lambda: listed(itertools.repeat('{"":[0]}')),
 }
 
 
 def main(folder):
     os.makedirs(folder, exist_ok=True)
-    for name, text in TEXTS.items():
+    for name, text in (TEXTS | TOLD).items():
         with open(os.path.join(folder, f"{name}.json"), "w", encoding="utf-8") as file:
             file.write(text())
 

@@ -52,8 +52,8 @@ def beside(path, size):
     return f"; Node {size / float(run.stdout) / 1e6:.0f} MB/s" if run.returncode == 0 else "; Node failed"
 
 
-def measure(name, text, folder):
-    """The fastest of a few runs over one text."""
+def measure(name, text, folder, asked):
+    """The fastest of a few runs over one text, judged where a speed is asked for."""
     global failures
     path = os.path.join(folder, f"{name}.json")
     with open(path, "w", encoding="utf-8") as file:
@@ -62,9 +62,12 @@ def measure(name, text, folder):
     count = len(value) if isinstance(value, (list, dict)) else 1
     best = min(seconds(path, f"{count} values\n") for _ in range(TRIES))
     size = os.path.getsize(path)
-    passed = size >= SPEED * best
-    failures += not passed
-    print(f"{'PASS' if passed else 'FAIL'}  {name}: {best:.3f} s, {size / best / 1e6:.0f} MB/s, at least {SPEED / 1e6:.0f}{beside(path, size)}", flush=True)
+    told = f"{name}: {best:.3f} s, {size / best / 1e6:.0f} MB/s"
+    if asked:
+        passed = size >= SPEED * best
+        failures += not passed
+        told = f"{'PASS' if passed else 'FAIL'}  {told}, at least {SPEED / 1e6:.0f}"
+    print(f"{told}{beside(path, size)}", flush=True)
 
 
 def main():
@@ -72,7 +75,9 @@ def main():
         sys.exit("bench: there is no crates/value_count/out/value_count: run `rt run` in crates/value_count first")
     with tempfile.TemporaryDirectory(prefix="salimgub-values-") as folder:
         for name, text in json_texts.TEXTS.items():
-            measure(name, text(), folder)
+            measure(name, text(), folder, True)
+        for name, text in json_texts.TOLD.items():
+            measure(name, text(), folder, False)
     print(f"{failures} failed" if failures else "all passed")
     sys.exit(1 if failures else 0)
 
