@@ -20,7 +20,7 @@ use Rattle.ordered_json.proofs.ShownLemmas.{json_of_list}
 use Rattle.ordered_json.specs.declared.forest.Level.{Level}
 use Rattle.ordered_json.specs.declared.forest.Forest.{Forest}
 use Rattle.ordered_json.specs.Shown.{json_of, items_from, items_of}
-use Rattle.ordered_json.specs.Forests.{place_in, level_in, json_in, IsComplete, Boxed, Means, Deep, deepest, within, Around, outermost, around, Shows, IsFresh, IsClosed, GetsItems, NextLevel, IsNext, IsSettled, Settles, Settling, Keeps, IsSealed, Seals, ShowsSettled, SettlesAll, AddsValue, OpensList, ClosesList, IsTaken, TakesValue}
+use Rattle.ordered_json.specs.Forests.{place_in, level_in, json_in, IsComplete, Boxed, Means, Deep, deepest, within, Around, outermost, around, Shows, IsFresh, IsClosed, IsLeft, GetsItems, NextLevel, IsNext, IsSettled, Settles, Settling, Keeps, IsSealed, Seals, ShowsSettled, SettlesAll, AddsValue, OpensList, ClosesList, IsTaken, TakesValue}
 
 take_whole : {X : Type 0} (xs : List X) {n : ℕ} → length xs ≤ n → take n xs ≡ xs
 take_whole xs {n} l =
@@ -88,25 +88,28 @@ pub no_next : (before left : List Boxed) (level : Level) → before ≡ [] → l
 no_next before left level e l fresh = record { next = λ all deep. none all deep }
   where
     none : (all : List Json) → Deep before all → NextLevel left level all
-    none all (deepest _ a) = record { inner = []; deeper = deepest l refl; means = rw a (fresh_means level fresh) }
-    none all (within {deeper = deeper} other _ _ split) = absurd (nil_no_push deeper other (sym e ∙ split))
+    none all (deepest _ a) = record { inner = []; deeper = deepest l refl; means = rw a (fresh_means level fresh); closed = rw a fresh.start }
+    none all (within {deeper = deeper} other _ _ _ split) = absurd (nil_no_push deeper other (sym e ∙ split))
 
 pub one_next : (before left : List Boxed) (level : Boxed) → before ≡ left ++ level ∷ [] → IsNext before left level.value
 one_next before left level e = record { next = λ all deep. next all deep }
   where
     next : (all : List Json) → Deep before all → NextLevel left level.value all
     next all (deepest b _) = absurd (nil_no_push left level (sym b ∙ e))
-    next all (within {deeper = deeper} {inner = inner} other deep means split) =
+    next all (within {deeper = deeper} {inner = inner} other deep means closed split) =
         let same : (deeper ≡ left) × (other ≡ level) = same_from_push deeper left other level (sym split ∙ e) in
-        record { inner = inner; deeper = subst (λ xs. Deep xs inner) same.0 deep; means = subst (λ (l : Boxed). Means l.value inner all) same.1 means }
+        record { inner = inner; deeper = subst (λ xs. Deep xs inner) same.0 deep; means = subst (λ (l : Boxed). Means l.value inner all) same.1 means; closed = subst (λ (l : Boxed). l.value.start ≡ length all) same.1 closed }
 
--- nor does it matter where the list that is opened on the level starts
-pub next_started : {before left : List Boxed} {level : Level} (after : Level) → after.values.items ≡ level.values.items → after.ready ≡ level.ready → IsNext before left level → IsNext before left after
-next_started {before} {left} {level} after values ready n = record {
-  next = λ all deep.
-      let next = n.next all deep in
-      record { inner = next.inner; deeper = next.deeper; means = record { holds = λ more. rw values (next.means.holds more); ready = λ other. rw (values, ready) (next.means.ready other); fits = rw (values, ready) next.means.fits } };
-}
+-- the level of a list that was closed has its values
+module _ {before after : Level} {inner all : List Json} (means : Means before inner all) (left : IsLeft before after) where
+  same_values : after.values.items ≡ before.values.items
+  same_values = ap (λ vs. vs.items) left.values
+
+  pub left_means_same : Means after inner all
+  left_means_same = record { holds = λ more. rw same_values (means.holds more); ready = λ other. rw (same_values, left.ready) (means.ready other); fits = rw (same_values, left.ready) means.fits }
+
+  pub left_closed : after.start ≡ length all
+  left_closed = left.start ∙ ap length same_values ∙ sym (means_length means)
 
 -- ---- the forest
 
@@ -139,12 +142,12 @@ new_forest forest a b fresh = record {
 }
 
 -- a list is opened: its level is the next one
-pub list_opened : (before after : Forest) → after.above.items ≡ before.above.items ++ before.here ∷ [] → IsNext before.below.items after.below.items after.here.value → after.here.value.start ≡ length after.here.value.values.items → OpensList before after
-list_opened before after pushed next start = record { opens = λ lists items shows. opened lists items shows (next.next shows.inner shows.below) }
+pub list_opened : (before after : Forest) → after.above.items ≡ before.above.items ++ before.here ∷ [] → IsNext before.below.items after.below.items after.here.value → OpensList before after
+list_opened before after pushed next = record { opens = λ lists items shows. opened lists items shows (next.next shows.inner shows.below) }
   where
     opened : (lists : List (List Json)) (items : List Json) → (shows : Shows before lists items) → NextLevel after.below.items after.here.value shows.inner → Shows after (lists ++ items ∷ []) []
     opened lists items shows n =
-        let at_end : after.here.value.start ≡ length shows.inner = start ∙ sym (means_length n.means) in
+        let at_end : after.here.value.start ≡ length shows.inner = n.closed in
         let here : Means before.here.value (take (length shows.inner) shows.inner) shows.all = rw (take-length shows.inner) shows.here in
         record {
           inner = n.inner;
@@ -157,8 +160,8 @@ list_opened before after pushed next start = record { opens = λ lists items sho
         }
 
 -- the innermost list is closed, and is a value of the one around it
-pub list_closed : (before after : Forest) (outer : Boxed) (list : Value) → before.above.items ≡ after.above.items ++ outer ∷ [] → after.here.value.values.items ≡ outer.value.values.items ++ list ∷ [] → after.here.value.ready ≡ outer.value.ready → after.here.value.start ≡ outer.value.start → after.below.items ≡ before.below.items ++ before.here ∷ [] → IsClosed before.here.value list → ClosesList before after
-list_closed before after outer list popped pushed ready start under closed = record { closes = λ lists others items shows. done lists others items shows shows.above }
+pub list_closed : (before after : Forest) (outer inner : Boxed) (list : Value) → before.above.items ≡ after.above.items ++ outer ∷ [] → after.here.value.values.items ≡ outer.value.values.items ++ list ∷ [] → after.here.value.ready ≡ outer.value.ready → after.here.value.start ≡ outer.value.start → after.below.items ≡ before.below.items ++ inner ∷ [] → IsClosed before.here.value list → IsLeft before.here.value inner.value → ClosesList before after
+list_closed before after outer inner list popped pushed ready start under closed left = record { closes = λ lists others items shows. done lists others items shows shows.above }
   where
     done : (lists : List (List Json)) (others items : List Json) → (shows : Shows before (lists ++ others ∷ []) items) → Around before.above.items (take before.here.value.start shows.all) (lists ++ others ∷ []) → Shows after lists (others ++ a_list (items_from items) ∷ [])
     done lists others items shows (outermost none _) = absurd (nil_no_push after.above.items outer (sym none ∙ popped))
@@ -170,7 +173,7 @@ list_closed before after outer list popped pushed ready start under closed = rec
         record {
           inner = shows.all;
           all = all ++ value ∷ [];
-          below = within before.here shows.below shows.here under;
+          below = within inner shows.below (left_means_same shows.here left) (left_closed shows.here left) under;
           here = means_closed means after.here.value list (pushed ∙ ap (λ (l : Boxed). l.value.values.items ++ list ∷ []) (sym same.1)) (ready ∙ ap (λ (l : Boxed). l.value.ready) (sym same.1)) before.here.value shows.all items closed (means_length shows.here) shows.starts refl shows.are;
           starts = rw start_is (starts_still _ all _ starts);
           above = rw (start_is, take-append-le level.value.start all (value ∷ []) starts, same_lists.0, ← same.0) rest;
@@ -273,7 +276,7 @@ nothing_sealed before after e l = record { seals = λ all deep. sealed all deep 
   where
     sealed : (all : List Json) → Deep before all → IsSealed None all after
     sealed all (deepest _ none) = record { block_is = sym none; left = deepest l refl }
-    sealed all (within {deeper = deeper} level _ _ split) = absurd (nil_no_push deeper level (sym e ∙ split))
+    sealed all (within {deeper = deeper} level _ _ _ split) = absurd (nil_no_push deeper level (sym e ∙ split))
 
 -- a level without values has none within that are waited for
 pub empty_sealed : (before after left : List Boxed) (level : Boxed) → before ≡ left ++ level ∷ [] → after ≡ left ++ level ∷ [] → level.value.values.items ≡ [] → Seals None before after
@@ -286,7 +289,7 @@ empty_sealed before after left level e l none = record { seals = λ all deep. se
     sealed all deep =
         let n = (one_next before left level e).next all deep in
         let nil = all_none all n in
-        record { block_is = sym nil; left = within level n.deeper (subst (λ xs. Means level.value n.inner xs) nil n.means) l }
+        record { block_is = sym nil; left = within level n.deeper (subst (λ xs. Means level.value n.inner xs) nil n.means) (n.closed ∙ ap length nil) l }
 
 -- the values of a level that are settled
 pub settled_json : (level : Level) (all : List Json) → IsSettled level all → map json_of level.values.items ≡ all
@@ -302,7 +305,7 @@ level_sealed before middle left after level settled last inner block split seals
       let n = (one_next before middle level split).next all deep in
       let s = seals.seals n.inner n.deeper in
       let done = settles.settles n.inner all n.means s.block_is in
-      record { block_is = ap (map json_of) holds ∙ settled_json settled all done; left = within last s.left (fresh_means last.value fresh) pushed };
+      record { block_is = ap (map json_of) holds ∙ settled_json settled all done; left = within last s.left (fresh_means last.value fresh) fresh.start pushed };
 }
 
 settled_means : (level : Level) (all : List Json) → IsSettled level all → Means level [] all
@@ -337,8 +340,8 @@ keeps_settled before after s = record { keeps = λ lists items shows. settled_sh
 pub keeps_same : (forest : Forest) → Keeps forest forest
 keeps_same forest = record { keeps = λ lists items shows. shows }
 
-pub opened_later : (before middle after : Forest) → Keeps before middle → OpensList middle after → OpensList before after
-opened_later before middle after k o = record { opens = λ lists items shows. o.opens lists items (k.keeps lists items shows) }
+pub closed_before : (before middle after : Forest) → ClosesList before middle → Keeps middle after → ClosesList before after
+closed_before before middle after c k = record { closes = λ lists outer items shows. k.keeps lists (outer ++ a_list (items_from items) ∷ []) (c.closes lists outer items shows) }
 
 -- a settled level whose list has one value, and the level that is left without it
 module _ (level left : Level) (value : Value) (json : Json) (all : List Json) (settled : IsSettled level all) (starts : level.start ≤ length all) (are : json ∷ [] ≡ drop level.start all) (split : level.values.items ≡ left.values.items ++ value ∷ []) (ready : left.ready ≡ length left.values.items) where
@@ -367,9 +370,12 @@ module _ (level left : Level) (value : Value) (json : Json) (all : List Json) (s
   value_complete : IsComplete value
   value_complete inner = (parts inner).1 ∙ sym value_is
 
+  front_length : length (take level.start all) ≡ level.start
+  front_length = ap length (sym (parts []).0) ∙ sym (ends_at (map (json_in []) left.values.items) (json_in [] value) (all_is []))
+
 -- the one value of the innermost list is taken, and the list is closed
-pub value_taken : (before middle after : Forest) (left outer : Boxed) (value : Value) → SettlesAll before middle → middle.above.items ≡ after.above.items ++ outer ∷ [] → middle.here.value.values.items ≡ left.value.values.items ++ value ∷ [] → left.value.ready ≡ length left.value.values.items → after.here ≡ outer → after.below.items ≡ middle.below.items ++ left ∷ [] → TakesValue value before after
-value_taken before middle after left outer value settles popped split ready here under = record {
+pub value_taken : (before middle after : Forest) (left outer : Boxed) (value : Value) → SettlesAll before middle → middle.above.items ≡ after.above.items ++ outer ∷ [] → middle.here.value.values.items ≡ left.value.values.items ++ value ∷ [] → left.value.ready ≡ length left.value.values.items → left.value.start ≡ middle.here.value.start → after.here ≡ outer → after.below.items ≡ middle.below.items ++ left ∷ [] → TakesValue value before after
+value_taken before middle after left outer value settles popped split ready start here under = record {
   takes = λ lists others json shows.
       let s = settles.settles (lists ++ others ∷ []) (json ∷ []) shows in
       taken lists others json s s.above;
@@ -387,7 +393,7 @@ value_taken before middle after left outer value settles popped split ready here
           left = record {
             inner = take middle.here.value.start s.all;
             all = all;
-            below = within left s.below (left_means middle.here.value left.value value json s.all s.here s.starts s.are split ready) under;
+            below = within left s.below (left_means middle.here.value left.value value json s.all s.here s.starts s.are split ready) (start ∙ sym (front_length middle.here.value left.value value json s.all s.here s.starts s.are split ready)) under;
             here = rw here_is means;
             starts = rw here_is starts;
             above = rw (here_is, same_lists.0, ← same.0) rest;

@@ -287,6 +287,11 @@ pub scalar_result_shorter : {A : Type 0} (bytes : List ℕ) (result : Result A S
 scalar_result_shorter bytes (Ok x) value left s = scalar_shorter bytes (left x) (value x) s
 scalar_result_shorter bytes (Err stop) value left s = tt
 
+-- what is read alike in whatever depth
+pub at_depth : {A : Type 0} (depth : ℕ) (bytes : List ℕ) (result : Result A Stop) (of : A → Reading Json) → MatchResult result (λ x. (d : ℕ) → Reads d bytes (of x)) (λ stop. (d : ℕ) → Fails (Reads d bytes) stop) → MatchResult result (λ x. Reads depth bytes (of x)) (Fails (Reads depth bytes))
+at_depth depth bytes (Ok x) of r = r depth
+at_depth depth bytes (Err stop) of r = r depth
+
 pub if_taken : {A E P : Type 0} (result : Result A E) → P → OnOk result P
 if_taken (Ok x) p = p
 if_taken (Err e) p = tt

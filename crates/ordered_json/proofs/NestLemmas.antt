@@ -12,7 +12,7 @@ use Rattle.ordered_json.specs.declared.fault.Stop.TheVariants.{Unreadable, Deep,
 use Rattle.ordered_json.specs.Shown.{items_from}
 use Rattle.ordered_json.specs.Outcomes.{Fails}
 use Rattle.ordered_json.specs.Forests.{Shows, PutsOn, OpensList, ClosesList}
-use Rattle.ordered_json.specs.Steps.{IsShown, Opens, Puts, Begins, PassesComma, Closes, GoesOn, IsNeither, StopsAt}
+use Rattle.ordered_json.specs.Steps.{IsShown, Opens, Puts, Begins, PassesComma, Closes, GoesOn, IsNeither, StopsAt, GoesUp, is_up, passes, closes, StopsAbove, stops_here, stops_above}
 use Rattle.ordered_json.proofs.GrammarLemmas.{list_reads, list_value, AwaitsItem, no_items_read, awaits_first_item, awaits_next_item, last_item, no_more_items, below_depth}
 
 -- a list without values
@@ -152,11 +152,14 @@ abbrev pub Stands : ℕ → List ℕ → Forest → Forest → Bool → List ℕ
 Stands depth bytes before now true rest = AwaitsValue depth bytes before now rest
 Stands depth bytes before now false rest = BehindValue depth bytes before now rest
 
-pub awaiting : (depth : ℕ) (bytes : List ℕ) (before now : Forest) (awaited : Bool) (rest : List ℕ) → awaited ≡ true → Stands depth bytes before now awaited rest → AwaitsValue depth bytes before now rest
-awaiting depth bytes before now awaited rest e s = rw e at s
+-- Behind the whole value, if none is awaited.
+pub record IsAllRead (depth : ℕ) (bytes : List ℕ) (before now : Forest) (rest : List ℕ) : Type 0 where
+  pub behind : BehindValue depth bytes before now rest
+  pub whole : behind.found ≡ []
 
-pub behind_one : (depth : ℕ) (bytes : List ℕ) (before now : Forest) (awaited : Bool) (rest : List ℕ) → awaited ≡ false → Stands depth bytes before now awaited rest → BehindValue depth bytes before now rest
-behind_one depth bytes before now awaited rest e s = rw e at s
+abbrev pub WentUp : ℕ → List ℕ → Forest → Forest → Bool → List ℕ → Type 0
+WentUp depth bytes before now true rest = AwaitsValue depth bytes before now rest
+WentUp depth bytes before now false rest = IsAllRead depth bytes before now rest
 
 pub begins : (depth : ℕ) (bytes : List ℕ) (forest : Forest) → AwaitsValue depth bytes forest forest bytes
 begins depth bytes forest = record {
@@ -207,12 +210,12 @@ module _ {depth : ℕ} {bytes rest : List ℕ} {before now : Forest} (a : Awaits
   begun next left l false start p s = value_put_on left l p s
 
 module _ {depth : ℕ} {bytes after : List ℕ} {before now : Forest} (b : BehindValue depth bytes before now after) where
-  -- whether a list is open that wasn't, by how many are open and were open
-  pub none_open : (open_now open_before : ℕ) → open_now ≡ length now.above.items → open_before ≡ length before.above.items → open_now - open_before ≡ 0 → b.found ≡ []
-  none_open open_now open_before n o z = nil_from_length b.found (omega (arith, n, o, z, b.added.deeper))
+  -- whether a list is open that wasn't, by how many were open outside
+  none_open : (outside : ℕ) → outside ≡ length before.above.items → length now.above.items ≤ outside → b.found ≡ []
+  none_open outside o l = nil_from_length b.found (omega (arith, o, l, b.added.deeper))
 
-  pub some_open : (open_now open_before : ℕ) → open_now ≡ length now.above.items → open_before ≡ length before.above.items → open_now - open_before ≢ 0 → 0 < length b.found
-  some_open open_now open_before n o z = omega (arith, n, o, z, b.added.deeper)
+  some_open : (outside : ℕ) → outside ≡ length before.above.items → outside < length now.above.items → 0 < length b.found
+  some_open outside o l = omega (arith, o, l, b.added.deeper)
 
   pub ends : b.found ≡ [] → PutsOn before now (λ json. Reads depth bytes (taken json after))
   ends e = record { value = b.item; puts = λ lists items shown. shown_at_end lists items b.item e (b.added.adds lists items shown); is = whole_read b.item after b.within e b.here }
@@ -252,16 +255,38 @@ module _ {depth : ℕ} {bytes after : List ℕ} {before now : Forest} (b : Behin
           shorter = omega (arith, b.shorter, space_at_most after, ap length l.bracket);
         }
 
-    pub gone_on : (next : Forest) (awaited : Bool) (rest : List ℕ) → GoesOn after now next awaited rest → Stands depth bytes before next awaited rest
-    gone_on next true rest g = comma_passed g
-    gone_on next false rest g = list_closed g
-
     neither : {left : ℕ} → IsNeither (after_space after) left → Reads depth bytes (refused (NotJson left))
     neither n =
         let i = here_inside in
         rw n.place (fault_within i.within (NotJson (length (after_space after))) (list_reads b.left (suc b.left) 91 i.outer i.inner (fault_here (after_space after)) refl i.opened refl (no_more_items i.awaits b.item after (after_space after) b.here refl n.no_bracket n.no_comma)))
 
-    pub stops : (stop : Stop) → StopsAt after stop → Fails (Reads depth bytes) stop
+    stops : (stop : Stop) → StopsAt after stop → Fails (Reads depth bytes) stop
     stops (Unreadable left) s = neither s
     stops (Deep left) s = absurd s
     stops NoMemory s = tt
+
+-- ---- up to a comma, or to where the whole value ends
+
+pub went_up : (outside : ℕ) {depth : ℕ} {bytes after rest : List ℕ} {before now next : Forest} {awaited : Bool} → outside ≡ length before.above.items → BehindValue depth bytes before now after → GoesUp outside after now next awaited rest → WentUp depth bytes before next awaited rest
+went_up outside o b (is_up l same end) = rw (same, end) (record { behind = b; whole = none_open b outside o l })
+went_up outside o b (passes l p) = comma_passed b (some_open b outside o l) p
+went_up outside o b (closes l c g) = went_up outside o (list_closed b (some_open b outside o l) c) g
+
+pub stopped_above : (outside : ℕ) {depth : ℕ} {bytes after : List ℕ} {before now : Forest} (stop : Stop) → outside ≡ length before.above.items → BehindValue depth bytes before now after → StopsAbove outside after now stop → Fails (Reads depth bytes) stop
+stopped_above outside stop o b (stops_here l s) = stops b (some_open b outside o l) stop s
+stopped_above outside stop o b (stops_above l c s) = stopped_above outside stop o (list_closed b (some_open b outside o l) c) s
+
+-- What was passed so far, by what follows.
+pub record Passed (outside : ℕ) (bytes : List ℕ) (before : Forest) (rest : List ℕ) (now : Forest) : Type 0 where
+  pub goes : (next : Forest) (awaited : Bool) (end : List ℕ) → GoesUp outside rest now next awaited end → GoesUp outside bytes before next awaited end
+  pub stops : (stop : Stop) → StopsAbove outside rest now stop → StopsAbove outside bytes before stop
+
+pub none_passed : (outside : ℕ) (bytes : List ℕ) (forest : Forest) → Passed outside bytes forest bytes forest
+none_passed outside bytes forest = record { goes = λ next awaited end g. g; stops = λ stop s. s }
+
+pub bracket_passed : {outside : ℕ} {bytes rest middle : List ℕ} {before now between : Forest} → Passed outside bytes before rest now → outside < length now.above.items → Closes rest now between middle → Passed outside bytes before middle between
+bracket_passed p l c = record { goes = λ next awaited end g. p.goes next awaited end (closes l c g); stops = λ stop s. p.stops stop (stops_above l c s) }
+
+-- one step of it
+pub step_passed : {outside : ℕ} {bytes rest : List ℕ} {before now : Forest} → Passed outside bytes before rest now → outside < length now.above.items → (next : Forest) (end : List ℕ) → GoesOn rest now next true end → GoesUp outside bytes before next true end
+step_passed p l next end g = p.goes next true end (passes l g)

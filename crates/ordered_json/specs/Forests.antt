@@ -61,7 +61,7 @@ pub record Means (level : Level) (inner all : List Json) : Type 0 where
 
 pub data Deep : List Boxed → List Json → Type 0 where
   deepest : {levels : List Boxed} {all : List Json} → levels ≡ [] → all ≡ [] → Deep levels all
-  within : {levels deeper : List Boxed} {inner all : List Json} (level : Boxed) → Deep deeper inner → Means level.value inner all → levels ≡ deeper ++ level ∷ [] → Deep levels all
+  within : {levels deeper : List Boxed} {inner all : List Json} (level : Boxed) → Deep deeper inner → Means level.value inner all → level.value.start ≡ length all → levels ≡ deeper ++ level ∷ [] → Deep levels all
 
 pub data Around : List Boxed → List Json → List (List Json) → Type 0 where
   outermost : {levels : List Boxed} {inner : List Json} {lists : List (List Json)} → levels ≡ [] → lists ≡ [] → Around levels inner lists
@@ -87,6 +87,12 @@ pub record IsFresh (level : Level) : Type 0 where
 pub record IsClosed (level : Level) (value : Value) : Type 0 where
   pub waits : (inner : List Json) → json_in inner value ≡ a_list (items_from (take (length level.values.items - level.start) (drop level.start inner)))
 
+-- the values of the level are as they were, and the next list starts behind them
+pub record IsLeft (before after : Level) : Type 0 where
+  pub values : after.values ≡ before.values
+  pub ready : after.ready ≡ before.ready
+  pub start : after.start ≡ length after.values.items
+
 -- a value that waits for some of the block's values has got them, and any other is the same ordered value
 pub record GetsItems (block : List Value) (before after : Value) : Type 0 where
   pub gets : (other : List Json) → json_in other after ≡ json_in (map json_of block) before
@@ -101,6 +107,7 @@ pub record NextLevel (left : List Boxed) (level : Level) (all : List Json) : Typ
   pub inner : List Json
   pub deeper : Deep left inner
   pub means : Means level inner all
+  pub closed : level.start ≡ length all
 
 pub record IsNext (before left : List Boxed) (level : Level) : Type 0 where
   pub next : (all : List Json) → Deep before all → NextLevel left level all

@@ -3,8 +3,11 @@
 --     Begins depth bytes before after awaited rest      where a value is awaited, it opens a list, or puts the value on
 --     GoesOn bytes before after awaited rest      behind a value of a list, it goes past a comma, or closes the list
 --     StopsAt bytes stop      there is neither, or no memory was found
+--     GoesUp outside bytes before after awaited rest      behind a value, it closes lists until no more are open than outside, or
+--         goes past a comma
+--     StopsAbove outside bytes before stop      behind that value, or a list that is closed then, there is neither
 -- before and after are the forest; awaited tells whether a value is awaited at the rest.
-use Rattle.std.specs.Prelude.{◌≡◌, ◌≢◌, ◌<◌, ◌+◌, ℕ, Bool, true, false, List, ◌∷◌, length, ⊤}
+use Rattle.std.specs.Prelude.{◌≡◌, ◌≢◌, ◌<◌, ◌≤◌, ◌+◌, ℕ, Bool, true, false, List, ◌∷◌, length, ⊤}
 use Rattle.json_spec.specs.Value.{Json}
 use Rattle.json_spec.specs.Taken.{taken}
 use Rattle.json_spec.specs.Grammar.{after_space, Reads}
@@ -61,3 +64,12 @@ abbrev pub StopsAt : List ℕ → Stop → Type 0
 StopsAt bytes (Unreadable left) = IsNeither (after_space bytes) left
 StopsAt bytes (Deep left) = ⊥
 StopsAt bytes NoMemory = ⊤
+
+pub data GoesUp (outside : ℕ) : List ℕ → Forest → Forest → Bool → List ℕ → Type 0 where
+  is_up : {bytes rest : List ℕ} {before after : Forest} → length before.above.items ≤ outside → after ≡ before → rest ≡ bytes → GoesUp outside bytes before after false rest
+  passes : {bytes rest : List ℕ} {before after : Forest} → outside < length before.above.items → PassesComma bytes before after rest → GoesUp outside bytes before after true rest
+  closes : {bytes middle rest : List ℕ} {before between after : Forest} {awaited : Bool} → outside < length before.above.items → Closes bytes before between middle → GoesUp outside middle between after awaited rest → GoesUp outside bytes before after awaited rest
+
+pub data StopsAbove (outside : ℕ) : List ℕ → Forest → Stop → Type 0 where
+  stops_here : {bytes : List ℕ} {before : Forest} {stop : Stop} → outside < length before.above.items → StopsAt bytes stop → StopsAbove outside bytes before stop
+  stops_above : {bytes middle : List ℕ} {before between : Forest} {stop : Stop} → outside < length before.above.items → Closes bytes before between middle → StopsAbove outside middle between stop → StopsAbove outside bytes before stop

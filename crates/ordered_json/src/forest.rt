@@ -1,5 +1,5 @@
 ghost use Rattle.std.specs.Prelude.{◌≡◌, ◌<◌, ◌+◌, [], ◌∷◌, ◌++◌, length, IfOk, OnOk};
-ghost use Rattle.ordered_json.specs.Forests.{IsFresh, IsClosed, GetsItems, Settles, SettlesAll, Seals, IsNext, Keeps, Shows, AddsValue, OpensList, ClosesList, TakesValue};
+ghost use Rattle.ordered_json.specs.Forests.{IsFresh, IsClosed, IsLeft, GetsItems, Settles, SettlesAll, Seals, IsNext, Keeps, Shows, AddsValue, OpensList, ClosesList, TakesValue};
 
 use crate::value::{Items, Value};
 use primitives::Memory;
@@ -11,7 +11,7 @@ use std::rc::Rc;
 const ROOM: usize = 64;
 
 /// How many values a block has at least, on the average of those that are made together.
-const FEW: usize = 16;
+const FEW: usize = 32;
 
 /// From how many values on a level is moved in any case, as its room is large.
 const MANY: usize = 1024;
@@ -19,7 +19,8 @@ const MANY: usize = 1024;
 /// From how many values on a level is full, whatever room it has.
 const MOST: usize = 8192;
 
-/// The values of one level of lists: those of lists that are closed, and then, from `start` on, those of the list that is open.
+/// The values of one level of lists: those of lists that are closed, and then, from `start` on, those of the list that is open,
+/// or the one that will be opened next.
 #[derive(Drop)]
 pub struct Level {
     values: Vec<Value>,
@@ -54,26 +55,25 @@ impl Level {
         }
     }
 
-    // Whether another list as long as the last one would not find room. Where no block is made then, the room is doubled, so
-    // this is asked for again only after as many values.
+    // Closes the list of the values from the start on, which waits for them; the next list starts behind these. Gives beside
+    // it whether the level is full. No list begins behind the last number of an `u16`, since a full level is sealed.
     #[inline(always)]
-    fn is_full(&self) -> bool {
-        let count = self.values.as_slice().len();
-        let room = self.values.capacity().saturating_sub(count);
-        count >= MOST || (count >= ROOM / 2 && count - self.start.min(count) > room)
-    }
-
-    // The list of the values from the start on, for which it waits. No list begins behind the last number of an `u16`,
-    // since room was made before it was opened.
-    fn closed(&self, alloc: Global) -> Result<Value, Memory>
-        ensures { IfOk result (λ value. IsClosed self.now value) }
+    fn close(&mut self, alloc: Global) -> Result<(Value, bool), Memory>
+        ensures closed { IfOk result (λ list. IsClosed self.old list.0) }
+        ensures left { OnOk result (IsLeft self.old self.new) }
     {
         let count = self.values.as_slice().len();
-        let len = count - self.start.min(count);
-        match (u16::try_from(self.start), u32::try_from(len)) {
-            (Ok(start), Ok(len)) => Ok(Value::List(Items::waiting(alloc, start, len))),
-            _ => Err(AllocError),
+        let start = self.start;
+        if start > u16::MAX as usize || start > count || count > u32::MAX as usize {
+            return Err(AllocError);
         }
+        let len = count - start;
+        self.start = count;
+        let full = count >= ROOM / 2 && is_full(count, len, self.values.capacity());
+        Ok((
+            Value::List(Items::waiting(alloc, start as u16, len as u32)),
+            full,
+        ))
     }
 
     // Gives each list that waits its span of the block.
@@ -113,6 +113,13 @@ impl Level {
     }
 }
 
+// Whether a level with so many values, and room for so many, has no room for another list as long as its last one. Where no
+// block is made then, the room is doubled, so this is so again only after as many values.
+#[inline(always)]
+fn is_full(count: usize, last: usize, room: usize) -> bool {
+    last > room.saturating_sub(count) || count >= MOST
+}
+
 // Whether blocks of the levels' values, from the last level up to the first one that has none, would have enough of them.
 fn have_enough(levels: &[Box<Level>]) -> bool {
     let mut values = 0usize;
@@ -135,7 +142,8 @@ fn settle_value(value: &mut Value, block: &Rc<Vec<Value>>) -> Result<(), Memory>
     match value {
         Value::List(items) => match items.settled(block)? {
             Some(list) => {
-                *value = Value::List(list);
+                // What waits has nothing to drop.
+                mem::forget(mem::replace(value, Value::List(list)));
                 Ok(())
             }
             None => Ok(()),
@@ -210,9 +218,7 @@ impl Forest {
         ensures opens { OnOk result (OpensList self.old self.new) }
         ensures depth { OnOk result (length self.new.above.items ≡ length self.old.above.items + 1) }
     {
-        self.make_room()?;
-        let mut inner = next_level(self.alloc, &mut self.below)?;
-        inner.start = inner.values.as_slice().len();
+        let inner = next_level(self.alloc, &mut self.below)?;
         let outer = mem::replace(&mut self.here, inner);
         self.above.push(outer)?;
         Ok(())
@@ -226,26 +232,37 @@ impl Forest {
         ensures depth { OnOk result (length self.old.above.items ≡ length self.new.above.items + 1) }
         ensures some { OnOk result (0 < length self.new.here.value.values.items) }
     {
-        let Some(outer) = self.above.pop() else {
-            unreachable!();
-        };
-        let inner = mem::replace(&mut self.here, outer);
-        let list = inner.closed(self.alloc)?;
-        self.here.values.push(list)?;
-        self.below.push(inner)?;
+        if self.close_innermost()? {
+            return self.make_room();
+        }
         Ok(())
     }
 
-    // Makes blocks, if there are enough values for them.
+    // The same, whatever room there is. Gives whether the level that is left is full.
     #[inline(always)]
+    fn close_innermost(&mut self) -> Result<bool, Memory>
+        requires { 0 < length self.old.above.items }
+        ensures closes { OnOk result (ClosesList self.old self.new) }
+        ensures depth { OnOk result (length self.old.above.items ≡ length self.new.above.items + 1) }
+        ensures some { OnOk result (0 < length self.new.here.value.values.items) }
+    {
+        let Some(outer) = self.above.pop() else {
+            unreachable!();
+        };
+        let mut inner = mem::replace(&mut self.here, outer);
+        let (list, full) = inner.close(self.alloc)?;
+        self.here.values.push(list)?;
+        self.below.push(inner)?;
+        Ok(full)
+    }
+
+    // Makes blocks, if there are enough values for them.
+    #[inline(never)]
     fn make_room(&mut self) -> Result<(), Memory>
         ensures kept { OnOk result (Keeps self.old self.new) }
         ensures above { OnOk result (self.new.above ≡ self.old.above) }
+        ensures count { OnOk result (length self.new.here.value.values.items ≡ length self.old.here.value.values.items) }
     {
-        match self.below.as_slice().last() {
-            Some(level) if level.is_full() => {}
-            _ => return Ok(()),
-        }
         if !have_enough(self.below.as_slice()) {
             return Ok(());
         }

@@ -1,4 +1,4 @@
-ghost use Rattle.std.specs.Prelude.{◌≡◌, ◌≢◌, ◌<◌, List, ℕ, ◌∷◌, length, MatchResult, IfOk, OnOk, Ok};
+ghost use Rattle.std.specs.Prelude.{◌≡◌, ◌≢◌, ◌<◌, ◌≤◌, List, ℕ, ◌∷◌, length, MatchResult, IfOk, OnOk, Ok};
 ghost use Rattle.json_spec.specs.Value.{HasDistinctNames};
 ghost use Rattle.json_spec.specs.Taken.{taken};
 ghost use Rattle.json_spec.specs.Grammar.{after_space, scalar_at, ReadsName, ReadsMember, a_pair, Reads, ReadsJson};
@@ -6,7 +6,7 @@ ghost use Rattle.ordered_json.specs.Lists.{pairs_of};
 ghost use Rattle.ordered_json.specs.Shown.{json_of, members_of};
 ghost use Rattle.ordered_json.specs.Outcomes.{Fails, IsFault, IsWhole, WholeFails, ReadsSettled};
 ghost use Rattle.ordered_json.specs.Forests.{IsComplete, Keeps, PutsOn};
-ghost use Rattle.ordered_json.specs.Steps.{IsShown, Begins, GoesOn, StopsAt};
+ghost use Rattle.ordered_json.specs.Steps.{IsShown, Begins, GoesOn, StopsAt, GoesUp, StopsAbove};
 
 use crate::fault::{JsonFault, Stop};
 use crate::forest::Forest;
@@ -93,21 +93,18 @@ fn read_value<'a>(
 {
     let outside = forest.depth();
     let mut rest = bytes;
-    let mut awaited = true;
     loop {
         let open = forest.depth() - outside;
+        let (awaited, behind) = begin_value(alloc, forest, depth - open, rest)?;
+        rest = behind;
         if awaited {
-            let (still, left) = begin_value(alloc, forest, depth - open, rest)?;
-            awaited = still;
-            rest = left;
             continue;
         }
-        if open == 0 {
+        let (again, behind) = go_up(forest, outside, rest)?;
+        rest = behind;
+        if !again {
             return Ok(rest);
         }
-        let (again, left) = go_on(forest, rest)?;
-        awaited = again;
-        rest = left;
     }
 }
 
@@ -140,6 +137,24 @@ fn begin_value<'a>(
     }
     forest.open()?;
     Ok((true, inner))
+}
+
+// Behind a value: goes past the brackets that close lists, until as many are open as outside, or past a comma. Gives whether a
+// value is awaited, and the bytes from there on.
+#[inline(always)]
+fn go_up<'a>(forest: &mut Forest, outside: usize, bytes: &'a [u8]) -> Result<(bool, &'a [u8]), Stop>
+    ensures goes { MatchResult result (λ x. GoesUp outside bytes.now forest.old forest.new x.0 x.1.now) (StopsAbove outside bytes.now forest.old) }
+    ensures shorter { IfOk result (λ x. length x.1.now ≤ length bytes.now) }
+{
+    let mut rest = bytes;
+    while forest.depth() > outside {
+        let (again, behind) = go_on(forest, rest)?;
+        rest = behind;
+        if again {
+            return Ok((true, rest));
+        }
+    }
+    Ok((false, rest))
 }
 
 // Behind a value of a list: goes past a comma, or past the bracket that closes the list, and closes it in the forest. Gives
@@ -182,19 +197,51 @@ fn read_other<'a>(
         return Err(Stop::Unreadable(0));
     };
     if first == b'{' {
-        if depth == 0 {
-            return Err(Stop::Deep(bytes.len()));
-        }
-        let (members, end) = read_members(alloc, forest, depth - 1, rest)?;
-        return Ok((Value::Object(members), end));
+        return read_object(alloc, forest, depth, bytes, rest);
     }
     if first == b'"' {
-        let Some((text, end)) = read_string(alloc, rest)? else {
-            return Err(Stop::Unreadable(bytes.len()));
-        };
-        return Ok((Value::Text(text), end));
+        return read_text(alloc, bytes, rest);
     }
     read_scalar(alloc, bytes)
+}
+
+// An object, whose opening bracket is the first byte, and the bytes behind that.
+#[cycle(read)]
+#[inline(always)]
+fn read_object<'a>(
+    alloc: Global,
+    forest: &mut Forest,
+    depth: usize,
+    bytes: &'a [u8],
+    inner: &'a [u8],
+) -> Result<(Value, &'a [u8]), Stop>
+    requires shown { IsShown forest.old }
+    requires bracket { bytes.now ≡ 123 ∷ inner.now }
+    ensures reads { MatchResult result (λ x. Reads depth bytes.now (taken (json_of x.0) x.1.now)) (Fails (Reads depth bytes.now)) }
+    ensures whole { IfOk result (λ x. IsComplete x.0) }
+    ensures kept { OnOk result (Keeps forest.old forest.new) }
+    ensures depth { OnOk result (length forest.new.above.items ≡ length forest.old.above.items) }
+    ensures shorter { IfOk result (λ x. length x.1.now < length bytes.now) }
+{
+    if depth == 0 {
+        return Err(Stop::Deep(bytes.len()));
+    }
+    let (members, end) = read_members(alloc, forest, depth - 1, inner)?;
+    Ok((Value::Object(members), end))
+}
+
+// A string, whose opening quote is the first byte, and the bytes behind that.
+#[inline(always)]
+fn read_text<'a>(alloc: Global, bytes: &'a [u8], inner: &'a [u8]) -> Result<(Value, &'a [u8]), Stop>
+    requires { bytes.now ≡ 34 ∷ inner.now }
+    ensures reads { MatchResult result (λ x. (depth : ℕ) → Reads depth bytes.now (taken (json_of x.0) x.1.now)) (λ stop. (depth : ℕ) → Fails (Reads depth bytes.now) stop) }
+    ensures whole { IfOk result (λ x. IsComplete x.0) }
+    ensures shorter { IfOk result (λ x. length x.1.now < length bytes.now) }
+{
+    match read_string(alloc, inner)? {
+        Some((text, end)) => Ok((Value::Text(text), end)),
+        None => Err(Stop::Unreadable(bytes.len())),
+    }
 }
 
 // A value that is no string, list or object.

@@ -1,13 +1,13 @@
-use Rattle.std.proofs.Common.{◌-◌, length, ap, refl, sym, ◌∙◌, arith}
+use Rattle.std.proofs.Common.{true, false, ◌-◌, length, ap, refl, sym, ◌∙◌, arith}
 use Rattle.std.proofs.lemmas.Result.{err_from_is_err_and}
 use Rattle.json_spec.specs.Value.{no_members}
 use Rattle.json_spec.specs.Taken.{taken}
 use Rattle.json_spec.specs.Grammar.{Reads}
 use Rattle.json_spec.specs.Shorter.{space_at_most}
 use Rattle.ordered_json.specs.Shown.{json_of, members_of}
-use Rattle.ordered_json.proofs.ShownLemmas.{json_of_text, json_of_object}
-use Rattle.ordered_json.proofs.GrammarLemmas.{no_value, text_value, bad_text, scalar_result, scalar_result_shorter, if_taken, deep_list, deep_object, not_bracket, below_depth, object_value, object_fails, no_members_read, awaits_first_member, member_read, name_fails, value_fails, members_fail, behind_one_more, awaits_next_member, last_member, no_more_members, shorter_by_close, shorter_by_member}
-use Rattle.ordered_json.proofs.NestLemmas.{empty_list, awaiting, behind_one, begins, left_is, read_fails, begun, ends, level_again, none_open, some_open, shown_now, gone_on, stops}
+use Rattle.ordered_json.proofs.ShownLemmas.{json_of_object}
+use Rattle.ordered_json.proofs.GrammarLemmas.{no_value, at_depth, scalar_result, scalar_result_shorter, if_taken, deep_list, deep_object, not_bracket, below_depth, object_value, object_fails, no_members_read, awaits_first_member, member_read, name_fails, value_fails, members_fail, behind_one_more, awaits_next_member, last_member, no_more_members, shorter_by_close, shorter_by_member}
+use Rattle.ordered_json.proofs.NestLemmas.{empty_list, begins, left_is, read_fails, begun, ends, level_again, shown_now, went_up, stopped_above}
 use Rattle.ordered_json.proofs.ForestFacts.{empty_is, empty_complete, puts_value, kept_same, kept_twice, opened_shown, taken_kept, taken_is}
 use Rattle.ordered_json.proofs.reader.+read.Goals as goal
 
@@ -95,27 +95,21 @@ read_alone-returns-clause-kept t c = taken_kept c.in_ok-open.ensures.opens c.in_
 pub read_other-returns-in_default-clause-reads : goal.read_other-returns-in_default-clause-reads
 read_other-returns-in_default-clause-reads t c = no_value _ _ c.in_default.ensures
 
-pub read_other-returns-then-depth-eq0-clause-reads : goal.read_other-returns-then-depth-eq0-clause-reads
-read_other-returns-then-depth-eq0-clause-reads t c =
-    deep_object _ _ _ _ c.if-depth-eq0.true c.in-Some.ensures c.if-first-eq123.true
+pub read_object-returns-then-depth-eq0-clause-reads : goal.read_object-returns-then-depth-eq0-clause-reads
+read_object-returns-then-depth-eq0-clause-reads t c =
+    deep_object _ _ _ _ c.if-depth-eq0.true c.requires.bracket refl
 
-pub read_other-returns-in_err-members-clause-reads : goal.read_other-returns-in_err-members-clause-reads
-read_other-returns-in_err-members-clause-reads t c =
+pub read_object-returns-in_err-members-clause-reads : goal.read_object-returns-in_err-members-clause-reads
+read_object-returns-in_err-members-clause-reads t c =
     let p = err_from_is_err_and c.from_residual.result c.from_residual.ensures.1 in
-    rw (p.1, p.2) (object_fails (c.args.depth - 1) _ _ _ _ (below_depth c.args.depth c.if-depth-eq0.false) c.in-Some.ensures c.if-first-eq123.true _ c.in_err-members.ensures.reads)
+    rw (p.1, p.2) (object_fails (c.args.depth - 1) _ _ _ _ (below_depth c.args.depth c.if-depth-eq0.false) c.requires.bracket refl _ c.in_err-members.ensures.reads)
 
-pub read_other-returns-then-first-eq123-clause-reads : goal.read_other-returns-then-first-eq123-clause-reads
-read_other-returns-then-first-eq123-clause-reads t c =
-    object_value (c.args.depth - 1) _ _ _ _ _ _ _ (below_depth c.args.depth c.if-depth-eq0.false) c.in-Some.ensures c.if-first-eq123.true c.in_ok-members.ensures.reads (json_of_object c.in_ok-members.members)
-
-pub read_other-returns-in_default-2-clause-reads : goal.read_other-returns-in_default-2-clause-reads
-read_other-returns-in_default-2-clause-reads t c =
-    bad_text _ _ _ _ c.in-Some.ensures c.if-first-eq34.true (rw c.in_default-2.is at c.in_ok-text.ensures)
+pub read_object-returns-clause-reads : goal.read_object-returns-clause-reads
+read_object-returns-clause-reads t c =
+    object_value (c.args.depth - 1) _ _ _ _ _ _ _ (below_depth c.args.depth c.if-depth-eq0.false) c.requires.bracket refl c.in_ok-members.ensures.reads (json_of_object c.in_ok-members.members)
 
 pub read_other-returns-then-first-eq34-clause-reads : goal.read_other-returns-then-first-eq34-clause-reads
-read_other-returns-then-first-eq34-clause-reads t c =
-    let found = rw c.in-Some-2.is at c.in_ok-text.ensures in
-    text_value _ _ _ _ _ _ _ c.in-Some.ensures c.if-first-eq34.true found.0 (json_of_text c.in-Some-2.text)
+read_other-returns-then-first-eq34-clause-reads t c = at_depth c.args.depth _ c.read_text.result (λ x. taken (json_of x.0) x.1.now) c.read_text.ensures.reads
 
 pub read_other-returns-clause-reads : goal.read_other-returns-clause-reads
 read_other-returns-clause-reads t c =
@@ -150,42 +144,49 @@ begin_value-returns-clause-shorter t c =
 pub read_value-loop-awaited-init : goal.read_value-loop-awaited-init
 read_value-loop-awaited-init t c = begins _ _ _
 
-pub read_value-returns-in_err-still-clause-reads : goal.read_value-returns-in_err-still-clause-reads
-read_value-returns-in_err-still-clause-reads t c =
+pub read_value-begin_value-requires : goal.read_value-begin_value-requires
+read_value-begin_value-requires t c = (omega arith, shown_now c.loop-awaited.invariant.added c.requires)
+
+pub read_value-returns-in_err-awaited-clause-reads : goal.read_value-returns-in_err-awaited-clause-reads
+read_value-returns-in_err-awaited-clause-reads t c =
     let p = err_from_is_err_and c.from_residual.result c.from_residual.ensures.1 in
-    let awaits = awaiting _ _ _ _ _ _ c.if-awaited.true c.loop-awaited.invariant in
-    rw (p.1, p.2) (read_fails awaits _ (left_is awaits _ _ c.depth.ensures c.depth-outside.ensures) _ c.in_err-still.ensures.begins)
+    let awaits = c.loop-awaited.invariant in
+    rw (p.1, p.2) (read_fails awaits _ (left_is awaits _ _ c.depth.ensures c.depth-outside.ensures) _ c.in_err-awaited.ensures.begins)
 
 pub read_value-loop-awaited-preserved-then-awaited : goal.read_value-loop-awaited-preserved-then-awaited
 read_value-loop-awaited-preserved-then-awaited t c =
-    let awaits = awaiting _ _ _ _ _ _ c.if-awaited.true c.loop-awaited.invariant in
-    begun awaits _ _ (left_is awaits _ _ c.depth.ensures c.depth-outside.ensures) _ _ c.in_ok-still.ensures.begins c.in_ok-still.ensures.shorter
-
-pub read_value-returns-then-open-eq0-clause-reads : goal.read_value-returns-then-open-eq0-clause-reads
-read_value-returns-then-open-eq0-clause-reads t c =
-    let behind = behind_one _ _ _ _ _ _ c.if-awaited.false c.loop-awaited.invariant in
-    ends behind (none_open behind _ _ c.depth.ensures c.depth-outside.ensures c.if-open-eq0.true)
-
-pub read_value-returns-then-open-eq0-clause-depth : goal.read_value-returns-then-open-eq0-clause-depth
-read_value-returns-then-open-eq0-clause-depth t c =
-    let behind = behind_one _ _ _ _ _ _ c.if-awaited.false c.loop-awaited.invariant in
-    level_again behind (none_open behind _ _ c.depth.ensures c.depth-outside.ensures c.if-open-eq0.true)
-
-pub read_value-returns-then-open-eq0-clause-some : goal.read_value-returns-then-open-eq0-clause-some
-read_value-returns-then-open-eq0-clause-some t c =
-    (behind_one _ _ _ _ _ _ c.if-awaited.false c.loop-awaited.invariant).some
-
-pub read_value-begin_value-requires : goal.read_value-begin_value-requires
-read_value-begin_value-requires t c =
-    (omega arith, shown_now (awaiting _ _ _ _ _ _ c.if-awaited.true c.loop-awaited.invariant).added c.requires)
+    let awaits = c.loop-awaited.invariant in
+    begun awaits _ _ (left_is awaits _ _ c.depth.ensures c.depth-outside.ensures) true _ (rw c.if-awaited.true at c.in_ok-awaited.ensures.begins) c.in_ok-awaited.ensures.shorter
 
 pub read_value-returns-in_err-again-clause-reads : goal.read_value-returns-in_err-again-clause-reads
 read_value-returns-in_err-again-clause-reads t c =
     let p = err_from_is_err_and c.from_residual-in_err-again.result c.from_residual-in_err-again.ensures.1 in
-    let behind = behind_one _ _ _ _ _ _ c.if-awaited.false c.loop-awaited.invariant in
-    rw (p.1, p.2) (stops behind (some_open behind _ _ c.depth.ensures c.depth-outside.ensures c.if-open-eq0.false) _ c.in_err-again.ensures.goes)
+    let awaits = c.loop-awaited.invariant in
+    let behind = begun awaits _ _ (left_is awaits _ _ c.depth.ensures c.depth-outside.ensures) false _ (rw c.if-awaited.false at c.in_ok-awaited.ensures.begins) c.in_ok-awaited.ensures.shorter in
+    rw (p.1, p.2) (stopped_above c.depth-outside.result _ c.depth-outside.ensures behind c.in_err-again.ensures.goes)
 
 pub read_value-loop-awaited-preserved : goal.read_value-loop-awaited-preserved
 read_value-loop-awaited-preserved t c =
-    let behind = behind_one _ _ _ _ _ _ c.if-awaited.false c.loop-awaited.invariant in
-    gone_on behind (some_open behind _ _ c.depth.ensures c.depth-outside.ensures c.if-open-eq0.false) _ _ _ c.in_ok-again.ensures.goes
+    let awaits = c.loop-awaited.invariant in
+    let behind = begun awaits _ _ (left_is awaits _ _ c.depth.ensures c.depth-outside.ensures) false _ (rw c.if-awaited.false at c.in_ok-awaited.ensures.begins) c.in_ok-awaited.ensures.shorter in
+    went_up c.depth-outside.result c.depth-outside.ensures behind (rw c.if-not-again.false at c.in_ok-again.ensures.goes)
+
+pub read_value-returns-then-not-again-clause-reads : goal.read_value-returns-then-not-again-clause-reads
+read_value-returns-then-not-again-clause-reads t c =
+    let awaits = c.loop-awaited.invariant in
+    let behind = begun awaits _ _ (left_is awaits _ _ c.depth.ensures c.depth-outside.ensures) false _ (rw c.if-awaited.false at c.in_ok-awaited.ensures.begins) c.in_ok-awaited.ensures.shorter in
+    let all = went_up c.depth-outside.result c.depth-outside.ensures behind (rw c.if-not-again.true at c.in_ok-again.ensures.goes) in
+    ends all.behind all.whole
+
+pub read_value-returns-then-not-again-clause-depth : goal.read_value-returns-then-not-again-clause-depth
+read_value-returns-then-not-again-clause-depth t c =
+    let awaits = c.loop-awaited.invariant in
+    let behind = begun awaits _ _ (left_is awaits _ _ c.depth.ensures c.depth-outside.ensures) false _ (rw c.if-awaited.false at c.in_ok-awaited.ensures.begins) c.in_ok-awaited.ensures.shorter in
+    let all = went_up c.depth-outside.result c.depth-outside.ensures behind (rw c.if-not-again.true at c.in_ok-again.ensures.goes) in
+    level_again all.behind all.whole
+
+pub read_value-returns-then-not-again-clause-some : goal.read_value-returns-then-not-again-clause-some
+read_value-returns-then-not-again-clause-some t c =
+    let awaits = c.loop-awaited.invariant in
+    let behind = begun awaits _ _ (left_is awaits _ _ c.depth.ensures c.depth-outside.ensures) false _ (rw c.if-awaited.false at c.in_ok-awaited.ensures.begins) c.in_ok-awaited.ensures.shorter in
+    (went_up c.depth-outside.result c.depth-outside.ensures behind (rw c.if-not-again.true at c.in_ok-again.ensures.goes)).behind.some

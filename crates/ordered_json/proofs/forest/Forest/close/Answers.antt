@@ -1,16 +1,6 @@
-use Rattle.std.proofs.Common.{ap, ◌∙◌, ◌++◌, ◌∷◌, []}
-use Rattle.ordered_json.specs.declared.forest.Level.{Level}
-use Rattle.ordered_json.specs.Forests.{Boxed}
-use Rattle.ordered_json.proofs.ForestLemmas.{list_closed}
+use Rattle.std.proofs.lemmas.Result.{on_ok_weaker}
+use Rattle.ordered_json.proofs.ForestLemmas.{closed_before}
 use Rattle.ordered_json.proofs.forest.Forest.close.Goals as goal
 
-pub returns-clause-closes : goal.returns-clause-closes
-returns-clause-closes c =
-    let here = c.deref_mut.ensures.value ∙ ap (λ (b : Boxed). b.value) c.replace-inner.ensures.after in
-    list_closed _ _ c.in-Some.outer c.in_ok-list.list
-    c.in-Some.ensures.items
-    (c.in_ok-push.ensures.items ∙ ap (λ (l : Level). l.values.items ++ c.in_ok-list.list ∷ []) here)
-    (ap (λ (l : Level). l.ready) here)
-    (ap (λ (l : Level). l.start) here)
-    (c.in_ok-push-2.ensures.items ∙ ap (λ (b : Boxed). c.args.self.now.below.items ++ b ∷ []) c.replace-inner.ensures.value)
-    (rw (c.deref.ensures, c.replace-inner.ensures.value) at c.in_ok-list.ensures)
+pub returns-then-branch-clause-closes : goal.returns-then-branch-clause-closes
+returns-then-branch-clause-closes c = on_ok_weaker c.make_room.result (closed_before _ _ _ c.in_ok-close_innermost.ensures.closes) c.make_room.ensures.kept
