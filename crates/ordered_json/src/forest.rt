@@ -16,7 +16,8 @@ const FEW: usize = 32;
 /// From how many values on a level is moved in any case, as its room is large.
 const MANY: usize = 1024;
 
-/// From how many values on a level is full, whatever room it has.
+/// From how many values on a level is full, whatever room it has. They are enough for a block of each of 256 levels, so a full
+/// level is always sealed.
 const MOST: usize = 8192;
 
 /// The values of one level of lists: those of lists that are closed, and then, from `start` on, those of the list that is open,
