@@ -65,10 +65,13 @@ impl Level {
     {
         let count = self.values.as_slice().len();
         let start = self.start;
-        if start > u16::MAX as usize || start > count || count > u32::MAX as usize {
+        if start > u16::MAX as usize || start > count {
             return Err(AllocError);
         }
         let len = count - start;
+        if len > u32::MAX as usize {
+            return Err(AllocError);
+        }
         self.start = count;
         let full = count >= ROOM / 2 && is_full(count, len, self.values.capacity());
         Ok((
