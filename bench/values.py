@@ -13,6 +13,7 @@ import shutil
 import subprocess
 import sys
 import tempfile
+import time
 
 import json_texts
 
@@ -44,6 +45,15 @@ def seconds(path, wanted):
     return after.ru_utime + after.ru_stime - before.ru_utime - before.ru_stime
 
 
+def pace():
+    """Tells how fast the machine is at this moment, by a fixed loop: a virtual one may be twice as slow an hour later."""
+    start = time.process_time()
+    total = 0
+    for i in range(5_000_000):
+        total += i
+    print(f"pace: five million additions in Python take {time.process_time() - start:.2f} s", flush=True)
+
+
 def beside(path, size):
     """Node's speed on the text, once."""
     if not shutil.which("node"):
@@ -73,11 +83,13 @@ def measure(name, text, folder, asked):
 def main():
     if not os.access(PROGRAM, os.X_OK):
         sys.exit("bench: there is no crates/value_count/out/value_count: run `rt run` in crates/value_count first")
+    pace()
     with tempfile.TemporaryDirectory(prefix="salimgub-values-") as folder:
         for name, text in json_texts.TEXTS.items():
             measure(name, text(), folder, True)
         for name, text in json_texts.TOLD.items():
             measure(name, text(), folder, False)
+    pace()
     print(f"{failures} failed" if failures else "all passed")
     sys.exit(1 if failures else 0)
 

@@ -152,11 +152,12 @@ abbrev pub Stands : ℕ → List ℕ → Forest → Forest → Bool → List ℕ
 Stands depth bytes before now true rest = AwaitsValue depth bytes before now rest
 Stands depth bytes before now false rest = BehindValue depth bytes before now rest
 
--- Behind the whole value, if none is awaited.
+-- Behind the whole value: none of its lists is open.
 pub record IsAllRead (depth : ℕ) (bytes : List ℕ) (before now : Forest) (rest : List ℕ) : Type 0 where
   pub behind : BehindValue depth bytes before now rest
   pub whole : behind.found ≡ []
 
+-- Awaiting a value, or behind the whole one, by whether one is awaited.
 abbrev pub WentUp : ℕ → List ℕ → Forest → Forest → Bool → List ℕ → Type 0
 WentUp depth bytes before now true rest = AwaitsValue depth bytes before now rest
 WentUp depth bytes before now false rest = IsAllRead depth bytes before now rest
@@ -287,6 +288,6 @@ none_passed outside bytes forest = record { goes = λ next awaited end g. g; sto
 pub bracket_passed : {outside : ℕ} {bytes rest middle : List ℕ} {before now between : Forest} → Passed outside bytes before rest now → outside < length now.above.items → Closes rest now between middle → Passed outside bytes before middle between
 bracket_passed p l c = record { goes = λ next awaited end g. p.goes next awaited end (closes l c g); stops = λ stop s. p.stops stop (stops_above l c s) }
 
--- one step of it
+-- and the comma that ends it
 pub step_passed : {outside : ℕ} {bytes rest : List ℕ} {before now : Forest} → Passed outside bytes before rest now → outside < length now.above.items → (next : Forest) (end : List ℕ) → GoesOn rest now next true end → GoesUp outside bytes before next true end
 step_passed p l next end g = p.goes next true end (passes l g)

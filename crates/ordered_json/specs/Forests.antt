@@ -4,7 +4,8 @@
 --     IsComplete value      the value waits for none
 --     Means level inner all      the values of the level are all, where those of the level within are inner and maybe more; those
 --         before `ready` wait for none
---     Deep levels all      levels without an open list, of which the last is the outermost; its values are all
+--     Deep levels all      levels without an open list, of which the last is the outermost; its values are all, and on each the next list
+--         starts behind the values
 --     Around levels inner lists      levels with open lists, of which the last is the innermost; lists has what these hold, the outermost
 --         first; the values of the closed lists within the innermost are inner and maybe more
 --     Shows forest lists items      the forest has these lists open, from the outermost on, and within them one with these items
@@ -102,7 +103,7 @@ abbrev pub block_json : Option (Rc (Vec Value Global) Global) → List Json
 block_json None = []
 block_json (Some block) = map json_of block.value.items
 
--- the level is that of the values, and the levels within are left
+-- the level is that of the values, behind which its next list starts, and the levels within are left
 pub record NextLevel (left : List Boxed) (level : Level) (all : List Json) : Type 0 where
   pub inner : List Json
   pub deeper : Deep left inner

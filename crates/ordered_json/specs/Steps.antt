@@ -5,8 +5,8 @@
 --     StopsAt bytes stop      there is neither, or no memory was found
 --     GoesUp outside bytes before after awaited rest      behind a value, it closes lists until no more are open than outside, or
 --         goes past a comma
---     StopsAbove outside bytes before stop      behind that value, or a list that is closed then, there is neither
--- before and after are the forest; awaited tells whether a value is awaited at the rest.
+--     StopsAbove outside bytes before stop      behind that value, or a list that is closed then, there is neither, or no memory was found
+-- before and after are the forest; awaited tells whether a value is awaited at the rest; outside is a number of open lists.
 use Rattle.std.specs.Prelude.{◌≡◌, ◌≢◌, ◌<◌, ◌≤◌, ◌+◌, ℕ, Bool, true, false, List, ◌∷◌, length, ⊤}
 use Rattle.json_spec.specs.Value.{Json}
 use Rattle.json_spec.specs.Taken.{taken}

@@ -7,7 +7,7 @@ use std::alloc::{AllocError, Global};
 use std::mem;
 use std::rc::Rc;
 
-/// For how many values a level has room at once.
+/// For how many values a level has room again whose values were moved.
 const ROOM: usize = 64;
 
 /// How many values a block has at least, on the average of those that are made together.
@@ -16,9 +16,11 @@ const FEW: usize = 32;
 /// From how many values on a level is moved in any case, as its room is large.
 const MANY: usize = 1024;
 
-/// From how many values on a level is full, whatever room it has. They are enough for a block of each of 256 levels, so a full
-/// level is always sealed.
+/// From how many values on a level is full, whatever room it has.
 const MOST: usize = 8192;
+
+// They are enough for a block of each of 256 levels, and there are fewer, so a level of so many is always sealed.
+const _: () = prove!(MOST / FEW >= 256);
 
 /// The values of one level of lists: those of lists that are closed, and then, from `start` on, those of the list that is open,
 /// or the one that will be opened next.
@@ -57,7 +59,8 @@ impl Level {
     }
 
     // Closes the list of the values from the start on, which waits for them; the next list starts behind these. Gives beside
-    // it whether the level is full. No list begins behind the last number of an `u16`, since a full level is sealed.
+    // it whether the level is full. No list begins behind the last number of an `u16`, since a level of `MOST`
+    // values is sealed, and none begins behind the values that are there.
     #[inline(always)]
     fn close(&mut self, alloc: Global) -> Result<(Value, bool), Memory>
         ensures closed { IfOk result (λ list. IsClosed self.old list.0) }
@@ -73,7 +76,7 @@ impl Level {
             return Err(AllocError);
         }
         self.start = count;
-        let full = count >= ROOM / 2 && is_full(count, len, self.values.capacity());
+        let full = is_full(count, len, self.values.capacity());
         Ok((
             Value::List(Items::waiting(alloc, start as u16, len as u32)),
             full,
@@ -117,11 +120,11 @@ impl Level {
     }
 }
 
-// Whether a level with so many values, and room for so many, has no room for another list as long as its last one. Where no
-// block is made then, the room is doubled, so this is so again only after as many values.
+// Whether a level with so many values, and room for so many, has enough of them for a block, and no room for another list as long
+// as its last one. Where no block is made then, this is so again a few times at most before the room is doubled.
 #[inline(always)]
 fn is_full(count: usize, last: usize, room: usize) -> bool {
-    last > room.saturating_sub(count) || count >= MOST
+    count >= FEW && (last > room.saturating_sub(count) || count >= MOST)
 }
 
 // Whether blocks of the levels' values, from the last level up to the first one that has none, would have enough of them.
@@ -242,7 +245,7 @@ impl Forest {
         Ok(())
     }
 
-    // The same, whatever room there is. Gives whether the level that is left is full.
+    // The same, without making blocks. Gives whether the level that is left is full.
     #[inline(always)]
     fn close_innermost(&mut self) -> Result<bool, Memory>
         requires { 0 < length self.old.above.items }

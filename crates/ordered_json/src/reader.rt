@@ -205,7 +205,7 @@ fn read_other<'a>(
     read_scalar(alloc, bytes)
 }
 
-// An object, whose opening bracket is the first byte, and the bytes behind that.
+// Reads the object whose opening bracket is the first of the bytes, and behind which these inner ones stand.
 #[cycle(read)]
 #[inline(always)]
 fn read_object<'a>(
@@ -230,7 +230,7 @@ fn read_object<'a>(
     Ok((Value::Object(members), end))
 }
 
-// A string, whose opening quote is the first byte, and the bytes behind that.
+// Reads the string whose opening quote is the first of the bytes, and behind which these inner ones stand.
 #[inline(always)]
 fn read_text<'a>(alloc: Global, bytes: &'a [u8], inner: &'a [u8]) -> Result<(Value, &'a [u8]), Stop>
     requires { bytes.now ≡ 34 ∷ inner.now }
