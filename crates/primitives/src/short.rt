@@ -39,7 +39,7 @@ impl Short {
     pub fn of(text: &str) -> Option<Short>
         ensures { MatchOption result (14 < length text.now) (λ copy. copy ≡ text.now) }
     {
-        if let Some(short) = Short::of_byte(text) {
+        if let Some(short) = Short::of_few(text) {
             return Some(short);
         }
         if text.len() > MOST {
@@ -53,17 +53,22 @@ impl Short {
         })
     }
 
-    // A copy of a text of one byte, written in one go: a number of one digit is kept so.
-    fn of_byte(text: &str) -> Option<Short>
+    // A copy of a text of a few bytes, as are most numbers and many keys. They go through one register: a processor that wrote
+    // them one by one waits where they are read together.
+    fn of_few(text: &str) -> Option<Short>
         ensures { IfSome result (λ copy. copy ≡ text.now) }
     {
-        let (first, rest) = text.as_bytes().split_first()?;
-        if !rest.is_empty() {
-            return None;
-        }
+        let (len, few) = match text.as_bytes() {
+            [a] => (1, u32::from_le_bytes([*a, 0, 0, 0])),
+            [a, b] => (2, u32::from_le_bytes([*a, *b, 0, 0])),
+            [a, b, c] => (3, u32::from_le_bytes([*a, *b, *c, 0])),
+            [a, b, c, d] => (4, u32::from_le_bytes([*a, *b, *c, *d])),
+            _ => return None,
+        };
+        let [a, b, c, d] = few.to_le_bytes();
         Some(Short {
-            len: 1,
-            bytes: [*first, 0, 0, 0, 0, 0, 0, 0, 0, 0, 0, 0, 0, 0],
+            len,
+            bytes: [a, b, c, d, 0, 0, 0, 0, 0, 0, 0, 0, 0, 0],
         })
     }
 

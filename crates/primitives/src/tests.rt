@@ -1,12 +1,15 @@
 use super::*;
 use std::test::Fail;
 
-/// Texts in byte order, some of as many bytes as lie in the value, and of one more.
-static TEXTS: [&str; 13] = [
+/// Texts in byte order, some of as many bytes as go through one register, or lie in the value, and of one more.
+static TEXTS: [&str; 16] = [
     "",
     "A",
     "a",
     "ab",
+    "abc",
+    "abcd",
+    "abcde",
     "abcdefghijklm",
     "abcdefghijklmn",
     "abcdefghijklmno",

@@ -71,7 +71,7 @@ impl Text {
         Ok(Text { kept })
     }
 
-    /// An equal text, which shares the memory of this one.
+    /// An equal text. A long one shares the memory of this one, a short one takes none.
     pub fn copy(&self, _alloc: Global) -> Result<Text, Memory>
         ensures { IfOk result (λ copy. copy ≡ self.now) }
     {
