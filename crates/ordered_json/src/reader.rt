@@ -55,6 +55,7 @@ fn read_whole(alloc: Global, bytes: &[u8]) -> Result<Value, Stop>
 // Reads the value at the front, in which this many brackets may be opened, and gives it with the bytes behind it. The forest
 // shows afterwards what it showed before.
 #[cycle(read)]
+#[inline(always)]
 fn read_alone<'a>(
     alloc: Global,
     forest: &mut Forest,
@@ -132,6 +133,7 @@ fn begin_value<'a>(
     }
     let inner = skip_space(inner);
     if let Some(end) = after_byte(inner, b']') {
+        // A list without values, which waits for none.
         forest.put(Value::List(Items::waiting(alloc, 0, 0)))?;
         return Ok((false, end));
     }
