@@ -10,9 +10,10 @@ use Rattle.ordered_json.specs.declared.value.Items.{Items}
 use Rattle.ordered_json.specs.declared.forest.Forest.{Forest}
 use Rattle.ordered_json.specs.Lists.{IsWaiting, values_at}
 use Rattle.ordered_json.specs.Shown.{json_of, items_of}
-use Rattle.ordered_json.specs.Forests.{IsComplete, Keeps, PutsOn, AddsValue, OpensList, TakesValue}
+use Rattle.ordered_json.specs.Forests.{IsComplete, IsInside, HoldsOne, Keeps, PutsOn, AddsValue, OpensList, TakesValue}
 use Rattle.ordered_json.specs.Steps.{IsShown, Puts}
 use Rattle.ordered_json.proofs.ShownLemmas.{json_of_list}
+use Rattle.ordered_json.proofs.ForestLemmas.{inside_is}
 
 -- a list that waits for no values
 pub empty_is : (items : Items) → IsWaiting items 0 0 → json_of (value.List items) ≡ a_list no_items
@@ -21,18 +22,23 @@ empty_is items w = json_of_list items ∙ ap (λ place. a_list (items_of (values
 pub empty_complete : (items : Items) → IsWaiting items 0 0 → IsComplete (value.List items)
 empty_complete items w inner = search (rules, the_lemmas, w)
 
-pub puts_value : {depth : ℕ} {bytes rest : List ℕ} {before middle after : Forest} (v : Value) → IsComplete v → Keeps before middle → AddsValue v middle after → Reads depth bytes (taken (json_of v) rest) → length middle.above.items ≡ length before.above.items → length after.above.items ≡ length middle.above.items → 0 < length after.here.value.values.items → Puts depth bytes before after rest
-puts_value v c k a r l m s = record {
+pub puts_value : {depth : ℕ} {bytes rest : List ℕ} {before middle after : Forest} (v : Value) → IsComplete v → Keeps before middle → AddsValue v middle after → Reads depth bytes (taken (json_of v) rest) → middle.innermost ≡ before.innermost → after.innermost ≡ middle.innermost → Puts depth bytes before after rest
+puts_value v c k a r l m = record {
   on = record { value = json_of v; puts = λ lists items shown. a.adds c lists items (k.keeps lists items shown); is = r };
   level = m ∙ l;
-  some = s;
 }
 
 pub kept_same : {before after : Forest} → after ≡ before → Keeps before after
 kept_same e = record { keeps = λ lists items s. rw e s }
 
+pub shown_inside : {forest : Forest} → IsShown forest → IsInside forest
+shown_inside s = inside_is s.shows.has
+
 pub opened_shown : {before after : Forest} → OpensList before after → IsShown before → IsShown after
 opened_shown o s = record { lists = s.lists ++ s.items ∷ []; items = []; shows = o.opens s.lists s.items s.shows }
+
+pub kept_shown : {before after : Forest} → Keeps before after → IsShown before → IsShown after
+kept_shown k s = record { lists = s.lists; items = s.items; shows = k.keeps s.lists s.items s.shows }
 
 pub kept_twice : {before middle after : Forest} → Keeps before middle → Keeps middle after → Keeps before after
 kept_twice k l = record { keeps = λ lists items s. l.keeps lists items (k.keeps lists items s) }
@@ -41,6 +47,9 @@ kept_twice k l = record { keeps = λ lists items s. l.keeps lists items (k.keeps
 module _ {before opened put after : Forest} {Is : Json → Type 0} {v : Value} (o : OpensList before opened) (p : PutsOn opened put Is) (t : TakesValue v put after) where
   pub taken_kept : Keeps before after
   taken_kept = record { keeps = λ lists items s. (t.takes lists items p.value (p.puts (lists ++ items ∷ []) [] (o.opens lists items s))).left }
+
+  pub one_put : IsShown before → HoldsOne put
+  one_put s = record { lists = s.lists; outer = s.items; json = p.value; shows = p.puts (s.lists ++ s.items ∷ []) [] (o.opens s.lists s.items s.shows) }
 
   pub taken_is : IsShown before → Is (json_of v)
   taken_is s = rw (t.takes s.lists s.items p.value (p.puts (s.lists ++ s.items ∷ []) [] (o.opens s.lists s.items s.shows))).value_is p.is

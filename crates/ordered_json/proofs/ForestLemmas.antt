@@ -5,7 +5,7 @@ use Rattle.std.specs.declared.rc.Rc.{Rc}
 use Rattle.std.proofs.Common.{rules, refl, ap, sym, subst, ◌∙◌, arith}
 use Rattle.std.proofs.lemmas.List.{map-append, take-append-le, drop-append-le, take-append-drop, length-map, append-nil, append_assoc, length-drop, length-append, same_from_push, nil_from_length, drop_more, take_more, take_more_set, drop-set-lt}
 use Rattle.std.specs.List.{take-map}
-use Rattle.std.proofs.Math.Seq.{take-append_seam, drop-append_seam, drop-length, take-length, take-nil}
+use Rattle.std.proofs.Math.Seq.{take-append_seam, drop-append_seam, get_or-append_seam, set-append_seam, drop-length, take-length, take-nil}
 use Rattle.std.proofs.Math.ListN.{drop_of_length-le}
 use Rattle.json_spec.specs.Value.{Json, a_list}
 use Rattle.ordered_json.specs.declared.value.Value as value
@@ -20,7 +20,7 @@ use Rattle.ordered_json.proofs.ShownLemmas.{json_of_list}
 use Rattle.ordered_json.specs.declared.forest.Level.{Level}
 use Rattle.ordered_json.specs.declared.forest.Forest.{Forest}
 use Rattle.ordered_json.specs.Shown.{json_of, items_from, items_of}
-use Rattle.ordered_json.specs.Forests.{place_in, level_in, json_in, IsComplete, Boxed, Means, Deep, deepest, within, Around, outermost, around, Shows, IsFresh, IsClosed, IsLeft, GetsItems, NextLevel, IsNext, IsSettled, Settles, Settling, Keeps, IsSealed, Seals, ShowsSettled, SettlesAll, AddsValue, OpensList, ClosesList, IsTaken, TakesValue}
+use Rattle.ordered_json.specs.Forests.{place_in, level_in, json_in, IsComplete, Means, Deep, deepest, within, Around, outermost, around, HasLevels, Shows, HoldsOne, IsInside, IsFresh, IsClosed, IsLeft, GetsItems, IsSettled, Settles, Settling, SettledAt, SettlesAt, Keeps, IsSealed, Seals, ShowsSettled, SettlesAll, AddsValue, OpensList, ClosesList, IsTaken, TakesValue}
 
 take_whole : {X : Type 0} (xs : List X) {n : ℕ} → length xs ≤ n → take n xs ≡ xs
 take_whole xs {n} l =
@@ -84,22 +84,6 @@ module _ {level : Level} {inner all : List Json} (means : Means level inner all)
 nil_no_push : {X : Type 0} (xs : List X) (x : X) → [] ≡ xs ++ x ∷ [] → ⊥
 nil_no_push xs x e = let l : 0 ≡ length (xs ++ x ∷ []) = ap length e in omega (arith, l, length-append xs (x ∷ []))
 
-pub no_next : (before left : List Boxed) (level : Level) → before ≡ [] → left ≡ [] → IsFresh level → IsNext before left level
-no_next before left level e l fresh = record { next = λ all deep. none all deep }
-  where
-    none : (all : List Json) → Deep before all → NextLevel left level all
-    none all (deepest _ a) = record { inner = []; deeper = deepest l refl; means = rw a (fresh_means level fresh); closed = rw a fresh.start }
-    none all (within {deeper = deeper} other _ _ _ split) = absurd (nil_no_push deeper other (sym e ∙ split))
-
-pub one_next : (before left : List Boxed) (level : Boxed) → before ≡ left ++ level ∷ [] → IsNext before left level.value
-one_next before left level e = record { next = λ all deep. next all deep }
-  where
-    next : (all : List Json) → Deep before all → NextLevel left level.value all
-    next all (deepest b _) = absurd (nil_no_push left level (sym b ∙ e))
-    next all (within {deeper = deeper} {inner = inner} other deep means closed split) =
-        let same : (deeper ≡ left) × (other ≡ level) = same_from_push deeper left other level (sym split ∙ e) in
-        record { inner = inner; deeper = subst (λ xs. Deep xs inner) same.0 deep; means = subst (λ (l : Boxed). Means l.value inner all) same.1 means; closed = subst (λ (l : Boxed). l.value.start ≡ length all) same.1 closed }
-
 -- the level of a list that was closed has its values
 module _ {before after : Level} {inner all : List Json} (means : Means before inner all) (left : IsLeft before after) where
   same_values : after.values.items ≡ before.values.items
@@ -116,69 +100,128 @@ module _ {before after : Level} {inner all : List Json} (means : Means before in
 starts_still : (n : ℕ) (all more : List Json) → n ≤ length all → n ≤ length (all ++ more)
 starts_still n all more l = omega (arith, l, length-append all more)
 
-module _ (before after : Forest) (same_above : after.above.items ≡ before.above.items) (same_below : after.below.items ≡ before.below.items) (same_start : after.here.value.start ≡ before.here.value.start) where
-  pub value_added : (value : Value) → after.here.value.values.items ≡ before.here.value.values.items ++ value ∷ [] → after.here.value.ready ≡ before.here.value.ready → AddsValue value before after
-  value_added value pushed same_ready = record {
-    adds = λ complete lists items shows. record {
-      inner = shows.inner;
-      all = shows.all ++ json_of value ∷ [];
-      below = rw same_below shows.below;
-      here = means_added shows.here after.here.value value pushed same_ready complete;
-      starts = rw same_start (starts_still _ shows.all _ shows.starts);
-      above = rw (same_above, same_start, take-append-le before.here.value.start shows.all (json_of value ∷ []) shows.starts) shows.above;
-      are = rw (shows.are, same_start, drop-append-le before.here.value.start shows.all (json_of value ∷ []) shows.starts) refl;
-    };
-  }
+module _ {forest : Forest} {outer deeper : List Level} {level : Level} (has : HasLevels forest outer level deeper) where
+  pub inside_is : IsInside forest
+  inside_is = rw (has.levels, has.number) (omega (arith, length-append outer (level ∷ deeper)))
 
-pub new_forest : (forest : Forest) → forest.above.items ≡ [] → forest.below.items ≡ [] → IsFresh forest.here.value → Shows forest [] []
-new_forest forest a b fresh = record {
+  -- the level that has the innermost list's number, and the levels with another one there
+  level_at : (found : Level) → found ≡ get_or forest.levels.items forest.innermost found → found ≡ level
+  level_at found at = at ∙ rw (has.levels, has.number) (get_or-append_seam outer level deeper found)
+
+  level_set : (other : Level) → set forest.levels.items forest.innermost other ≡ outer ++ other ∷ deeper
+  level_set other = rw (has.levels, has.number) (set-append_seam outer level deeper other)
+
+  -- the levels up to the innermost list's, and those behind it
+  next_number : forest.innermost + 1 ≡ length (outer ++ level ∷ [])
+  next_number = omega (arith, has.number, length-append outer (level ∷ []))
+
+  both_parts : forest.levels.items ≡ (outer ++ level ∷ []) ++ deeper
+  both_parts = has.levels ∙ sym (append_assoc outer (level ∷ []) deeper)
+
+pub value_added : (before after : Forest) (found pushed : Level) (value : Value) → found ≡ get_or before.levels.items before.innermost found → after.levels.items ≡ set before.levels.items before.innermost pushed → after.innermost ≡ before.innermost → pushed.values.items ≡ found.values.items ++ value ∷ [] → pushed.ready ≡ found.ready → pushed.start ≡ found.start → AddsValue value before after
+value_added before after found pushed value at stored number values ready start = record {
+  adds = λ complete lists items shows.
+      let same : found ≡ shows.level = level_at shows.has found at in
+      let start_is : pushed.start ≡ shows.level.start = start ∙ ap (λ (l : Level). l.start) same in
+      record {
+        outer = shows.outer;
+        level = pushed;
+        deeper = shows.deeper;
+        has = record { levels = stored ∙ level_set shows.has pushed; number = number ∙ shows.has.number };
+        inner = shows.inner;
+        all = shows.all ++ json_of value ∷ [];
+        below = shows.below;
+        here = means_added shows.here pushed value (values ∙ ap (λ (l : Level). l.values.items ++ value ∷ []) same) (ready ∙ ap (λ (l : Level). l.ready) same) complete;
+        starts = rw start_is (starts_still _ shows.all _ shows.starts);
+        above = rw (start_is, take-append-le shows.level.start shows.all (json_of value ∷ []) shows.starts) shows.above;
+        are = rw (shows.are, start_is, drop-append-le shows.level.start shows.all (json_of value ∷ []) shows.starts) refl;
+      };
+}
+
+pub new_forest : (forest : Forest) (level : Level) → forest.levels.items ≡ level ∷ [] → forest.innermost ≡ 0 → IsFresh level → Shows forest [] []
+new_forest forest level one number fresh = record {
+  outer = [];
+  level = level;
+  deeper = [];
+  has = record { levels = one; number = number };
   inner = [];
   all = [];
-  below = deepest b refl;
-  here = fresh_means forest.here.value fresh;
+  below = deepest refl refl;
+  here = fresh_means level fresh;
   starts = rw fresh.start (omega arith);
-  above = outermost a refl;
+  above = outermost refl refl;
   are = rw fresh.start refl;
 }
 
 -- a list is opened: its level is the next one
-pub list_opened : (before after : Forest) → after.above.items ≡ before.above.items ++ before.here ∷ [] → IsNext before.below.items after.below.items after.here.value → OpensList before after
-list_opened before after pushed next = record { opens = λ lists items shows. opened lists items shows (next.next shows.inner shows.below) }
-  where
-    opened : (lists : List (List Json)) (items : List Json) → (shows : Shows before lists items) → NextLevel after.below.items after.here.value shows.inner → Shows after (lists ++ items ∷ []) []
-    opened lists items shows n =
-        let at_end : after.here.value.start ≡ length shows.inner = n.closed in
-        let here : Means before.here.value (take (length shows.inner) shows.inner) shows.all = rw (take-length shows.inner) shows.here in
+module _ (before after : Forest) (number : after.innermost ≡ before.innermost + 1) where
+  module _ (lists : List (List Json)) (items : List Json) (shows : Shows before lists items) where
+    opened_on : (next : Level) (rest : List Level) (inner : List Json) → after.levels.items ≡ (shows.outer ++ shows.level ∷ []) ++ next ∷ rest → Deep rest inner → Means next inner shows.inner → next.start ≡ length shows.inner → Shows after (lists ++ items ∷ []) []
+    opened_on next rest inner levels deep means at_end =
+        let here : Means shows.level (take (length shows.inner) shows.inner) shows.all = rw (take-length shows.inner) shows.here in
         record {
-          inner = n.inner;
+          outer = shows.outer ++ shows.level ∷ [];
+          level = next;
+          deeper = rest;
+          has = record { levels = levels; number = number ∙ next_number shows.has };
+          inner = inner;
           all = shows.inner;
-          below = n.deeper;
-          here = n.means;
+          below = deep;
+          here = means;
           starts = rw at_end (omega arith);
-          above = rw at_end (around before.here shows.above here shows.starts pushed (ap (λ xs. lists ++ xs ∷ []) shows.are));
+          above = rw at_end (around shows.level shows.above here shows.starts refl (ap (λ xs. lists ++ xs ∷ []) shows.are));
           are = rw (at_end, drop-length shows.inner) refl;
         }
 
+    count_is : length before.levels.items ≡ before.innermost + 1 + length shows.deeper
+    count_is = omega (arith, ap length shows.has.levels, shows.has.number, length-append shows.outer (shows.level ∷ shows.deeper))
+
+    on_known : after.levels.items ≡ before.levels.items → before.innermost + 1 < length before.levels.items → Deep shows.deeper shows.inner → Shows after (lists ++ items ∷ []) []
+    on_known same more (deepest none _) = absurd (omega (arith, more, count_is, ap length none))
+    on_known same more (within {deeper = rest} {inner = inner} next deep means closed split) =
+        opened_on next rest inner (same ∙ both_parts shows.has ∙ ap (λ xs. (shows.outer ++ shows.level ∷ []) ++ xs) split) deep means closed
+
+    on_new : (fresh : Level) → IsFresh fresh → after.levels.items ≡ before.levels.items ++ fresh ∷ [] → before.innermost + 1 ≡ length before.levels.items → Deep shows.deeper shows.inner → Shows after (lists ++ items ∷ []) []
+    on_new fresh f pushed last (within {deeper = rest} next _ _ _ split) = absurd (omega (arith, last, count_is, ap length split))
+    on_new fresh f pushed last (deepest none nothing) =
+        let levels : before.levels.items ≡ shows.outer ++ shows.level ∷ [] = shows.has.levels ∙ ap (λ xs. shows.outer ++ shows.level ∷ xs) none in
+        opened_on fresh [] [] (pushed ∙ ap (λ xs. xs ++ fresh ∷ []) levels) (deepest refl refl) (rw nothing (fresh_means fresh f)) (f.start ∙ ap length (sym nothing))
+
+  pub opened_known : after.levels.items ≡ before.levels.items → before.innermost + 1 < length before.levels.items → OpensList before after
+  opened_known same more = record { opens = λ lists items shows. on_known lists items shows same more shows.below }
+
+  pub opened_new : (fresh : Level) → IsFresh fresh → after.levels.items ≡ before.levels.items ++ fresh ∷ [] → before.innermost + 1 ≡ length before.levels.items → OpensList before after
+  opened_new fresh f pushed last = record { opens = λ lists items shows. on_new lists items shows fresh f pushed last shows.below }
+
 -- the innermost list is closed, and is a value of the one around it
-pub list_closed : (before after : Forest) (outer inner : Boxed) (list : Value) → before.above.items ≡ after.above.items ++ outer ∷ [] → after.here.value.values.items ≡ outer.value.values.items ++ list ∷ [] → after.here.value.ready ≡ outer.value.ready → after.here.value.start ≡ outer.value.start → after.below.items ≡ before.below.items ++ inner ∷ [] → IsClosed before.here.value list → IsLeft before.here.value inner.value → ClosesList before after
-list_closed before after outer inner list popped pushed ready start under closed left = record { closes = λ lists others items shows. done lists others items shows shows.above }
-  where
-    done : (lists : List (List Json)) (others items : List Json) → (shows : Shows before (lists ++ others ∷ []) items) → Around before.above.items (take before.here.value.start shows.all) (lists ++ others ∷ []) → Shows after lists (others ++ a_list (items_from items) ∷ [])
-    done lists others items shows (outermost none _) = absurd (nil_no_push after.above.items outer (sym none ∙ popped))
-    done lists others items shows (around {outer = above} {all = all} {others = lists_above} level rest means starts split lists_are) =
-        let same : (above ≡ after.above.items) × (level ≡ outer) = same_from_push above after.above.items level outer (sym split ∙ popped) in
-        let same_lists : (lists ≡ lists_above) × (others ≡ drop level.value.start all) = same_from_push lists lists_above others (drop level.value.start all) lists_are in
-        let value : Json = a_list (items_from items) in
-        let start_is : after.here.value.start ≡ level.value.start = start ∙ ap (λ (l : Boxed). l.value.start) (sym same.1) in
-        record {
-          inner = shows.all;
-          all = all ++ value ∷ [];
-          below = within inner shows.below (left_means_same shows.here left) (left_closed shows.here left) under;
-          here = means_closed means after.here.value list (pushed ∙ ap (λ (l : Boxed). l.value.values.items ++ list ∷ []) (sym same.1)) (ready ∙ ap (λ (l : Boxed). l.value.ready) (sym same.1)) before.here.value shows.all items closed (means_length shows.here) shows.starts refl shows.are;
-          starts = rw start_is (starts_still _ all _ starts);
-          above = rw (start_is, take-append-le level.value.start all (value ∷ []) starts, same_lists.0, ← same.0) rest;
-          are = rw (start_is, drop-append-le level.value.start all (value ∷ []) starts, same_lists.1) refl;
-        }
+module _ (before after : Forest) (found left over pushed : Level) (middle : List Level) (list : Value) (at : found ≡ get_or before.levels.items before.innermost found) (stored : middle ≡ set before.levels.items before.innermost left) (over_at : over ≡ get_or middle (before.innermost - 1) over) (stored_over : after.levels.items ≡ set middle (before.innermost - 1) pushed) (number : after.innermost ≡ before.innermost - 1) where
+  pub list_closed : pushed.values.items ≡ over.values.items ++ list ∷ [] → pushed.ready ≡ over.ready → pushed.start ≡ over.start → IsClosed found list → IsLeft found left → ClosesList before after
+  list_closed values ready start closed is_left = record { closes = λ lists others items shows. done lists others items shows shows.above }
+    where
+      done : (lists : List (List Json)) (others items : List Json) → (shows : Shows before (lists ++ others ∷ []) items) → Around shows.outer (take shows.level.start shows.all) (lists ++ others ∷ []) → Shows after lists (others ++ a_list (items_from items) ∷ [])
+      done lists others items shows (outermost _ none) = absurd (nil_no_push lists others (sym none))
+      done lists others items shows (around {outer = above} {all = all} {others = lists_above} level rest means starts split lists_are) =
+          let found_is : found ≡ shows.level = level_at shows.has found at in
+          let middle_is : middle ≡ above ++ level ∷ left ∷ shows.deeper = stored ∙ level_set shows.has left ∙ ap (λ xs. xs ++ left ∷ shows.deeper) split ∙ append_assoc above (level ∷ []) (left ∷ shows.deeper) in
+          let above_number : before.innermost - 1 ≡ length above = omega (arith, shows.has.number, ap length split, length-append above (level ∷ [])) in
+          let over_is : over ≡ level = over_at ∙ rw (middle_is, above_number) (get_or-append_seam above level (left ∷ shows.deeper) over) in
+          let same_lists : (lists ≡ lists_above) × (others ≡ drop level.start all) = same_from_push lists lists_above others (drop level.start all) lists_are in
+          let value : Json = a_list (items_from items) in
+          let start_is : pushed.start ≡ level.start = start ∙ ap (λ (l : Level). l.start) over_is in
+          let left_of : IsLeft shows.level left = subst (λ (l : Level). IsLeft l left) found_is is_left in
+          record {
+            outer = above;
+            level = pushed;
+            deeper = left ∷ shows.deeper;
+            has = record { levels = stored_over ∙ rw (middle_is, above_number) (set-append_seam above level (left ∷ shows.deeper) pushed); number = number ∙ above_number };
+            inner = shows.all;
+            all = all ++ value ∷ [];
+            below = within left shows.below (left_means_same shows.here left_of) (left_closed shows.here left_of) refl;
+            here = means_closed means pushed list (values ∙ ap (λ (l : Level). l.values.items ++ list ∷ []) over_is) (ready ∙ ap (λ (l : Level). l.ready) over_is) shows.level shows.all items (subst (λ (l : Level). IsClosed l list) found_is closed) (means_length shows.here) shows.starts refl shows.are;
+            starts = rw start_is (starts_still _ all _ starts);
+            above = rw (start_is, take-append-le level.start all (value ∷ []) starts, same_lists.0) rest;
+            are = rw (start_is, drop-append-le level.start all (value ∷ []) starts, same_lists.1) refl;
+          }
 
 -- ---- blocks
 
@@ -271,25 +314,29 @@ nothing_waits before after same ready = record { settles = λ inner all means no
 
 -- ---- blocks of all levels without an open list
 
-pub nothing_sealed : (before after : List Boxed) → before ≡ [] → after ≡ [] → Seals None before after
+no_level : (level : Level) (levels : List Level) → [] ≡ level ∷ levels → ⊥
+no_level level levels e = let l : 0 ≡ length (level ∷ levels) = ap length e in omega (arith, l)
+
+same_levels : {one other : Level} {ones others : List Level} → one ∷ ones ≡ other ∷ others → (one ≡ other) × (ones ≡ others)
+same_levels e = ((let p = e in cc), (let p = e in cc))
+
+pub nothing_sealed : (before after : List Level) → before ≡ [] → after ≡ [] → Seals None before after
 nothing_sealed before after e l = record { seals = λ all deep. sealed all deep }
   where
     sealed : (all : List Json) → Deep before all → IsSealed None all after
     sealed all (deepest _ none) = record { block_is = sym none; left = deepest l refl }
-    sealed all (within {deeper = deeper} level _ _ _ split) = absurd (nil_no_push deeper level (sym e ∙ split))
+    sealed all (within {deeper = deeper} level _ _ _ split) = absurd (no_level level deeper (sym e ∙ split))
 
 -- a level without values has none within that are waited for
-pub empty_sealed : (before after left : List Boxed) (level : Boxed) → before ≡ left ++ level ∷ [] → after ≡ left ++ level ∷ [] → level.value.values.items ≡ [] → Seals None before after
-empty_sealed before after left level e l none = record { seals = λ all deep. sealed all deep }
+pub empty_sealed : (before after left : List Level) (level : Level) → before ≡ level ∷ left → after ≡ before → level.values.items ≡ [] → Seals None before after
+empty_sealed before after left level e same none = record { seals = λ all deep. sealed all deep }
   where
-    all_none : (all : List Json) → NextLevel left level.value all → all ≡ []
-    all_none all n = nil_from_length all (means_length n.means ∙ ap length none)
-
     sealed : (all : List Json) → Deep before all → IsSealed None all after
-    sealed all deep =
-        let n = (one_next before left level e).next all deep in
-        let nil = all_none all n in
-        record { block_is = sym nil; left = within level n.deeper (subst (λ xs. Means level.value n.inner xs) nil n.means) (n.closed ∙ ap length nil) l }
+    sealed all (deepest nil _) = absurd (no_level level left (sym nil ∙ e))
+    sealed all (within {inner = within_it} other deep means closed split) =
+        let is : other ≡ level = (same_levels (sym split ∙ e)).0 in
+        let nil : all ≡ [] = nil_from_length all (means_length means ∙ ap (λ (l : Level). length l.values.items) is ∙ ap length none) in
+        record { block_is = sym nil; left = within other deep (subst (λ xs. Means other within_it xs) nil means) (closed ∙ ap length nil) (same ∙ split) }
 
 -- the values of a level that are settled
 pub settled_json : (level : Level) (all : List Json) → IsSettled level all → map json_of level.values.items ≡ all
@@ -299,14 +346,16 @@ settled_json level all s = all_json level.values.items ∙ s.holds []
     all_json [] = refl
     all_json (v ∷ values) = rw (none_within v, all_json values) refl
 
-pub level_sealed : (before middle left after : List Boxed) (level : Boxed) (settled : Level) (last : Boxed) (inner : Option (Rc (Vec Value Global) Global)) (block : Rc (Vec Value Global) Global) → before ≡ middle ++ level ∷ [] → Seals inner middle left → Settles inner level.value settled → block.value.items ≡ settled.values.items → IsFresh last.value → after ≡ left ++ last ∷ [] → Seals (Some block) before after
-level_sealed before middle left after level settled last inner block split seals settles holds fresh pushed = record {
-  seals = λ all deep.
-      let n = (one_next before middle level split).next all deep in
-      let s = seals.seals n.inner n.deeper in
-      let done = settles.settles n.inner all n.means s.block_is in
-      record { block_is = ap (map json_of) holds ∙ settled_json settled all done; left = within last s.left (fresh_means last.value fresh) fresh.start pushed };
-}
+pub level_sealed : (before middle left after : List Level) (level settled last : Level) (inner : Option (Rc (Vec Value Global) Global)) (block : Rc (Vec Value Global) Global) → before ≡ level ∷ middle → Seals inner middle left → Settles inner level settled → block.value.items ≡ settled.values.items → IsFresh last → after ≡ last ∷ left → Seals (Some block) before after
+level_sealed before middle left after level settled last inner block e seals settles holds fresh stored = record { seals = λ all deep. sealed all deep }
+  where
+    sealed : (all : List Json) → Deep before all → IsSealed (Some block) all after
+    sealed all (deepest nil _) = absurd (no_level level middle (sym nil ∙ e))
+    sealed all (within {inner = within_it} other deep means closed split) =
+        let same = same_levels (sym split ∙ e) in
+        let s : IsSealed inner within_it left = seals.seals within_it (subst (λ xs. Deep xs within_it) same.1 deep) in
+        let done : IsSettled settled all = settles.settles within_it all (subst (λ (l : Level). Means l within_it all) same.0 means) s.block_is in
+        record { block_is = ap (map json_of) holds ∙ settled_json settled all done; left = within last s.left (fresh_means last fresh) fresh.start stored }
 
 settled_means : (level : Level) (all : List Json) → IsSettled level all → Means level [] all
 settled_means level all s = record {
@@ -317,22 +366,59 @@ settled_means level all s = record {
   fits = rw s.ready (omega arith);
 }
 
-pub all_settled : (before after : Forest) (block : Option (Rc (Vec Value Global) Global)) → after.above.items ≡ before.above.items → Seals block before.below.items after.below.items → Settles block before.here.value after.here.value → after.here.value.start ≡ before.here.value.start → SettlesAll before after
-all_settled before after block same seals settles start = record {
+-- the level with some number is settled by the block of the levels behind it
+module _ (before middle after left : List Level) (place : ℕ) (found settled : Level) (block : Option (Rc (Vec Value Global) Global)) (front : middle ≡ take (place + 1) before) (seals : Seals block (drop (place + 1) before) left) (at : found ≡ get_or middle place found) (settles : Settles block found settled) (start : settled.start ≡ found.start) (joined : after ≡ set middle place settled ++ left) where
+  module _ (outer deeper : List Level) (level : Level) (split : before ≡ outer ++ level ∷ deeper) (number : place ≡ length outer) where
+    next : place + 1 ≡ length (outer ++ level ∷ [])
+    next = omega (arith, number, length-append outer (level ∷ []))
+
+    parts_are : before ≡ (outer ++ level ∷ []) ++ deeper
+    parts_are = split ∙ sym (append_assoc outer (level ∷ []) deeper)
+
+    middle_is : middle ≡ outer ++ level ∷ []
+    middle_is = front ∙ rw (next, parts_are) (take-append_seam (outer ++ level ∷ []) deeper)
+
+    behind : drop (place + 1) before ≡ deeper
+    behind = rw (next, parts_are) (drop-append_seam (outer ++ level ∷ []) deeper)
+
+    found_is : found ≡ level
+    found_is = at ∙ rw (middle_is, number) (get_or-append_seam outer level [] found)
+
+    settled_at : SettledAt outer level deeper after
+    settled_at = record {
+      settled = settled;
+      left = left;
+      levels = joined ∙ ap (λ xs. xs ++ left) (rw (middle_is, number) (set-append_seam outer level [] settled)) ∙ append_assoc outer (settled ∷ []) left;
+      start = start ∙ ap (λ (l : Level). l.start) found_is;
+      waits = λ inner all deep means.
+          let s : IsSealed block inner left = seals.seals inner (subst (λ xs. Deep xs inner) (sym behind) deep) in
+          (settles.settles inner all (subst (λ (l : Level). Means l inner all) (sym found_is) means) s.block_is, s.left);
+    }
+
+  pub level_settled : SettlesAt place before after
+  level_settled = record { settles = λ outer deeper level split number. settled_at outer deeper level split number }
+
+pub all_settled : (before after : Forest) → SettlesAt before.innermost before.levels.items after.levels.items → after.innermost ≡ before.innermost → SettlesAll before after
+all_settled before after settles number = record {
   settles = λ lists items shows.
-      let s = seals.seals shows.inner shows.below in
+      let at = settles.settles shows.outer shows.deeper shows.level shows.has.levels shows.has.number in
+      let waits = at.waits shows.inner shows.all shows.below shows.here in
       record {
+        outer = shows.outer;
+        level = at.settled;
+        deeper = at.left;
+        has = record { levels = at.levels; number = number ∙ shows.has.number };
         all = shows.all;
-        below = s.left;
-        here = settles.settles shows.inner shows.all shows.here s.block_is;
-        starts = rw start shows.starts;
-        above = rw (same, start) shows.above;
-        are = rw start shows.are;
+        below = waits.1;
+        here = waits.0;
+        starts = rw at.start shows.starts;
+        above = rw at.start shows.above;
+        are = rw at.start shows.are;
       };
 }
 
 settled_shows : (forest : Forest) (lists : List (List Json)) (items : List Json) → ShowsSettled forest lists items → Shows forest lists items
-settled_shows forest lists items s = record { inner = []; all = s.all; below = s.below; here = settled_means forest.here.value s.all s.here; starts = s.starts; above = s.above; are = s.are }
+settled_shows forest lists items s = record { outer = s.outer; level = s.level; deeper = s.deeper; has = s.has; inner = []; all = s.all; below = s.below; here = settled_means s.level s.all s.here; starts = s.starts; above = s.above; are = s.are }
 
 pub keeps_settled : (before after : Forest) → SettlesAll before after → Keeps before after
 keeps_settled before after s = record { keeps = λ lists items shows. settled_shows after lists items (s.settles lists items shows) }
@@ -373,30 +459,58 @@ module _ (level left : Level) (value : Value) (json : Json) (all : List Json) (s
   front_length : length (take level.start all) ≡ level.start
   front_length = ap length (sym (parts []).0) ∙ sym (ends_at (map (json_in []) left.values.items) (json_in [] value) (all_is []))
 
--- the one value of the innermost list is taken, and the list is closed
-pub value_taken : (before middle after : Forest) (left outer : Boxed) (value : Value) → SettlesAll before middle → middle.above.items ≡ after.above.items ++ outer ∷ [] → middle.here.value.values.items ≡ left.value.values.items ++ value ∷ [] → left.value.ready ≡ length left.value.values.items → left.value.start ≡ middle.here.value.start → after.here ≡ outer → after.below.items ≡ middle.below.items ++ left ∷ [] → TakesValue value before after
-value_taken before middle after left outer value settles popped split ready start here under = record {
+-- the one value of the innermost list, where there is a list around it
+module _ {before : Forest} (one : HoldsOne before) where
+  pub one_inside : IsInside before
+  one_inside = inside_is one.shows.has
+
+  pub one_around : 0 < before.innermost
+  one_around = some one.shows.above
+    where
+      some : {inner : List Json} → Around one.shows.outer inner (one.lists ++ one.outer ∷ []) → 0 < before.innermost
+      some (outermost _ none) = absurd (nil_no_push one.lists one.outer (sym none))
+      some (around {outer = above} level _ _ _ split _) = omega (arith, one.shows.has.number, ap length split, length-append above (level ∷ []))
+
+  pub one_there : {middle : Forest} (found : Level) → SettlesAll before middle → found ≡ get_or middle.levels.items middle.innermost found → found.values.items ≢ []
+  one_there found settles at none =
+      let s = settles.settles (one.lists ++ one.outer ∷ []) (one.json ∷ []) one.shows in
+      let is : found ≡ s.level = level_at s.has found at in
+      let count : length s.all ≡ length s.level.values.items = rw (← s.here.holds []) (length-map s.level.values.items (json_in [])) in
+      let nothing : length s.level.values.items ≡ 0 = ap (λ (l : Level). length l.values.items) (sym is) ∙ ap length none in
+      omega (arith, ap length s.are, length-drop s.level.start s.all, count, nothing)
+
+-- it is taken, and the list is closed
+pub value_taken : (before middle after : Forest) (found left : Level) (value : Value) → SettlesAll before middle → found ≡ get_or middle.levels.items middle.innermost found → found.values.items ≡ left.values.items ++ value ∷ [] → left.ready ≡ length left.values.items → left.start ≡ found.start → after.levels.items ≡ set middle.levels.items middle.innermost left → after.innermost ≡ middle.innermost - 1 → TakesValue value before after
+value_taken before middle after found left value settles at split ready start stored number = record {
   takes = λ lists others json shows.
       let s = settles.settles (lists ++ others ∷ []) (json ∷ []) shows in
       taken lists others json s s.above;
 }
   where
-    taken : (lists : List (List Json)) (others : List Json) (json : Json) → (s : ShowsSettled middle (lists ++ others ∷ []) (json ∷ [])) → Around middle.above.items (take middle.here.value.start s.all) (lists ++ others ∷ []) → IsTaken value after lists others json
-    taken lists others json s (outermost none _) = absurd (nil_no_push after.above.items outer (sym none ∙ popped))
+    taken : (lists : List (List Json)) (others : List Json) (json : Json) → (s : ShowsSettled middle (lists ++ others ∷ []) (json ∷ [])) → Around s.outer (take s.level.start s.all) (lists ++ others ∷ []) → IsTaken value after lists others json
+    taken lists others json s (outermost _ none) = absurd (nil_no_push lists others (sym none))
     taken lists others json s (around {outer = above} {all = all} {others = lists_above} level rest means starts levels lists_are) =
-        let same : (above ≡ after.above.items) × (level ≡ outer) = same_from_push above after.above.items level outer (sym levels ∙ popped) in
-        let same_lists : (lists ≡ lists_above) × (others ≡ drop level.value.start all) = same_from_push lists lists_above others (drop level.value.start all) lists_are in
-        let here_is : after.here ≡ level = here ∙ sym same.1 in
+        let is : found ≡ s.level = level_at s.has found at in
+        let split_is : s.level.values.items ≡ left.values.items ++ value ∷ [] = ap (λ (l : Level). l.values.items) (sym is) ∙ split in
+        let start_is : left.start ≡ s.level.start = start ∙ ap (λ (l : Level). l.start) is in
+        let same_lists : (lists ≡ lists_above) × (others ≡ drop level.start all) = same_from_push lists lists_above others (drop level.start all) lists_are in
         record {
-          value_is = value_is middle.here.value left.value value json s.all s.here s.starts s.are split ready;
-          complete = value_complete middle.here.value left.value value json s.all s.here s.starts s.are split ready;
+          value_is = value_is s.level left value json s.all s.here s.starts s.are split_is ready;
+          complete = value_complete s.level left value json s.all s.here s.starts s.are split_is ready;
           left = record {
-            inner = take middle.here.value.start s.all;
+            outer = above;
+            level = level;
+            deeper = left ∷ s.deeper;
+            has = record {
+              levels = stored ∙ level_set s.has left ∙ ap (λ xs. xs ++ left ∷ s.deeper) levels ∙ append_assoc above (level ∷ []) (left ∷ s.deeper);
+              number = omega (arith, number, s.has.number, ap length levels, length-append above (level ∷ []));
+            };
+            inner = take s.level.start s.all;
             all = all;
-            below = within left s.below (left_means middle.here.value left.value value json s.all s.here s.starts s.are split ready) (start ∙ sym (front_length middle.here.value left.value value json s.all s.here s.starts s.are split ready)) under;
-            here = rw here_is means;
-            starts = rw here_is starts;
-            above = rw (here_is, same_lists.0, ← same.0) rest;
-            are = rw here_is same_lists.1;
+            below = within left s.below (left_means s.level left value json s.all s.here s.starts s.are split_is ready) (start_is ∙ sym (front_length s.level left value json s.all s.here s.starts s.are split_is ready)) refl;
+            here = means;
+            starts = starts;
+            above = rw same_lists.0 rest;
+            are = same_lists.1;
           };
         }

@@ -67,7 +67,7 @@ pub record IsOpen (forest : Forest) (levels : List (List Json)) (more : List Jso
 -- Within the innermost list that was open before, these lists are open now.
 pub record Adds (before now : Forest) (found : List (List Json)) (more : List Json) : Type 0 where
   pub adds : (lists : List (List Json)) (items : List Json) → Shows before lists items → IsOpen now (lists ++ items ∷ found) more
-  pub deeper : length now.above.items ≡ length before.above.items + length found
+  pub deeper : now.innermost ≡ before.innermost + length found
 
 same_shows : {forest : Forest} {lists others : List (List Json)} {items values : List Json} → lists ≡ others → items ≡ values → Shows forest lists items → Shows forest others values
 same_shows p q s = rw (← p, ← q) s
@@ -144,7 +144,6 @@ pub record BehindValue (depth : ℕ) (bytes : List ℕ) (before now : Forest) (a
   pub here : Reads left rest (taken item after)
   pub added : Adds before now found (item ∷ [])
   pub deep : left + length found ≡ depth
-  pub some : 0 < length now.here.value.values.items
   pub shorter : length after < length bytes
 
 -- Either, by whether a value is awaited.
@@ -174,7 +173,7 @@ begins depth bytes forest = record {
 
 module _ {depth : ℕ} {bytes rest : List ℕ} {before now : Forest} (a : AwaitsValue depth bytes before now rest) where
   -- how many brackets may still be opened, by how many lists are open and were open
-  pub left_is : (open_now open_before : ℕ) → open_now ≡ length now.above.items → open_before ≡ length before.above.items → depth - (open_now - open_before) ≡ a.left
+  pub left_is : (open_now open_before : ℕ) → open_now ≡ now.innermost → open_before ≡ before.innermost → depth - (open_now - open_before) ≡ a.left
   left_is open_now open_before n o = omega (arith, n, o, a.deep, a.added.deeper)
 
   pub read_fails : (left : ℕ) → left ≡ a.left → (stop : Stop) → Fails (Reads left rest) stop → Fails (Reads depth bytes) stop
@@ -190,7 +189,6 @@ module _ {depth : ℕ} {bytes rest : List ℕ} {before now : Forest} (a : Awaits
     here = rw (← l) p.on.is;
     added = record { adds = λ lists items shown. value_added p.on (a.added.adds lists items shown); deeper = p.level ∙ a.added.deeper };
     deep = a.deep;
-    some = p.some;
     shorter = omega (arith, s, a.shorter);
   }
 
@@ -212,16 +210,16 @@ module _ {depth : ℕ} {bytes rest : List ℕ} {before now : Forest} (a : Awaits
 
 module _ {depth : ℕ} {bytes after : List ℕ} {before now : Forest} (b : BehindValue depth bytes before now after) where
   -- whether a list is open that wasn't, by how many were open outside
-  none_open : (outside : ℕ) → outside ≡ length before.above.items → length now.above.items ≤ outside → b.found ≡ []
+  none_open : (outside : ℕ) → outside ≡ before.innermost → now.innermost ≤ outside → b.found ≡ []
   none_open outside o l = nil_from_length b.found (omega (arith, o, l, b.added.deeper))
 
-  some_open : (outside : ℕ) → outside ≡ length before.above.items → outside < length now.above.items → 0 < length b.found
+  some_open : (outside : ℕ) → outside ≡ before.innermost → outside < now.innermost → 0 < length b.found
   some_open outside o l = omega (arith, o, l, b.added.deeper)
 
   pub ends : b.found ≡ [] → PutsOn before now (λ json. Reads depth bytes (taken json after))
   ends e = record { value = b.item; puts = λ lists items shown. shown_at_end lists items b.item e (b.added.adds lists items shown); is = whole_read b.item after b.within e b.here }
 
-  pub level_again : b.found ≡ [] → length now.above.items ≡ length before.above.items
+  pub level_again : b.found ≡ [] → now.innermost ≡ before.innermost
   level_again e = omega (arith, ap length e, b.added.deeper)
 
   module _ (nested : 0 < length b.found) where
@@ -252,7 +250,6 @@ module _ {depth : ℕ} {bytes after : List ℕ} {before now : Forest} (b : Behin
           here = list_value b.left (suc b.left) 91 i.outer i.inner end (items_from (i.items ++ b.item ∷ [])) (a_list (items_from (i.items ++ b.item ∷ []))) refl i.opened refl (last_item i.awaits b.item after (after_space after) b.here refl _ end refl l.bracket) refl;
           added = record { adds = λ lists items shown. list_taken_off lists i.others items i.items b.item l.closed i.are (b.added.adds lists items shown); deeper = omega (arith, l.outer, b.added.deeper, ap length i.are, length-append i.others (i.items ∷ [])) };
           deep = omega (arith, b.deep, ap length i.are, length-append i.others (i.items ∷ []));
-          some = l.some;
           shorter = omega (arith, b.shorter, space_at_most after, ap length l.bracket);
         }
 
@@ -268,12 +265,12 @@ module _ {depth : ℕ} {bytes after : List ℕ} {before now : Forest} (b : Behin
 
 -- ---- up to a comma, or to where the whole value ends
 
-pub went_up : (outside : ℕ) {depth : ℕ} {bytes after rest : List ℕ} {before now next : Forest} {awaited : Bool} → outside ≡ length before.above.items → BehindValue depth bytes before now after → GoesUp outside after now next awaited rest → WentUp depth bytes before next awaited rest
+pub went_up : (outside : ℕ) {depth : ℕ} {bytes after rest : List ℕ} {before now next : Forest} {awaited : Bool} → outside ≡ before.innermost → BehindValue depth bytes before now after → GoesUp outside after now next awaited rest → WentUp depth bytes before next awaited rest
 went_up outside o b (is_up l same end) = rw (same, end) (record { behind = b; whole = none_open b outside o l })
 went_up outside o b (passes l p) = comma_passed b (some_open b outside o l) p
 went_up outside o b (closes l c g) = went_up outside o (list_closed b (some_open b outside o l) c) g
 
-pub stopped_above : (outside : ℕ) {depth : ℕ} {bytes after : List ℕ} {before now : Forest} (stop : Stop) → outside ≡ length before.above.items → BehindValue depth bytes before now after → StopsAbove outside after now stop → Fails (Reads depth bytes) stop
+pub stopped_above : (outside : ℕ) {depth : ℕ} {bytes after : List ℕ} {before now : Forest} (stop : Stop) → outside ≡ before.innermost → BehindValue depth bytes before now after → StopsAbove outside after now stop → Fails (Reads depth bytes) stop
 stopped_above outside stop o b (stops_here l s) = stops b (some_open b outside o l) stop s
 stopped_above outside stop o b (stops_above l c s) = stopped_above outside stop o (list_closed b (some_open b outside o l) c) s
 
@@ -285,9 +282,9 @@ pub record Passed (outside : ℕ) (bytes : List ℕ) (before : Forest) (rest : L
 pub none_passed : (outside : ℕ) (bytes : List ℕ) (forest : Forest) → Passed outside bytes forest bytes forest
 none_passed outside bytes forest = record { goes = λ next awaited end g. g; stops = λ stop s. s }
 
-pub bracket_passed : {outside : ℕ} {bytes rest middle : List ℕ} {before now between : Forest} → Passed outside bytes before rest now → outside < length now.above.items → Closes rest now between middle → Passed outside bytes before middle between
+pub bracket_passed : {outside : ℕ} {bytes rest middle : List ℕ} {before now between : Forest} → Passed outside bytes before rest now → outside < now.innermost → Closes rest now between middle → Passed outside bytes before middle between
 bracket_passed p l c = record { goes = λ next awaited end g. p.goes next awaited end (closes l c g); stops = λ stop s. p.stops stop (stops_above l c s) }
 
 -- and the comma that ends it
-pub step_passed : {outside : ℕ} {bytes rest : List ℕ} {before now : Forest} → Passed outside bytes before rest now → outside < length now.above.items → (next : Forest) (end : List ℕ) → GoesOn rest now next true end → GoesUp outside bytes before next true end
+pub step_passed : {outside : ℕ} {bytes rest : List ℕ} {before now : Forest} → Passed outside bytes before rest now → outside < now.innermost → (next : Forest) (end : List ℕ) → GoesOn rest now next true end → GoesUp outside bytes before next true end
 step_passed p l next end g = p.goes next true end (passes l g)

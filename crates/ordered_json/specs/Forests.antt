@@ -4,11 +4,15 @@
 --     IsComplete value      the value waits for none
 --     Means level inner all      the values of the level are all, where those of the level within are inner and maybe more; those
 --         before `ready` wait for none
---     Deep levels all      levels without an open list, of which the last is the outermost; its values are all, and on each the next list
---         starts behind the values
+--     Deep levels all      levels without an open list, of which the first is the outermost; its values are all, and on each the next
+--         list starts behind the values
 --     Around levels inner lists      levels with open lists, of which the last is the innermost; lists has what these hold, the outermost
 --         first; the values of the closed lists within the innermost are inner and maybe more
+--     HasLevels forest outer level deeper      the forest's levels are these: outer those of the lists around the innermost, level that of
+--         the innermost, and deeper those without an open list
 --     Shows forest lists items      the forest has these lists open, from the outermost on, and within them one with these items
+--     HoldsOne forest      the innermost list has one value, and there is a list around it
+--     IsInside forest      a list is open
 -- Of the calls of the forest:
 --     Keeps before after      what was shown is shown still
 --     AddsValue value before after      a value that waits for none is put behind the innermost list's
@@ -16,10 +20,10 @@
 --     ClosesList before after      the innermost list is a value of the one around it
 --     TakesValue value before after      where the innermost list has one value, it is this one, and that list is gone
 --     Seals block before after      the block has the values of the outermost level, and that level has none
+--     SettlesAt place before after      no list of the level with this number waits, and the levels around it are as they were
 --     SettlesAll before after      the same is shown, and no list of the innermost level waits
-use Rattle.std.specs.Prelude.{◌≡◌, ◌≤◌, ℕ, ◌-◌, List, [], ◌∷◌, ◌++◌, map, length, take, drop, Option, None, Some, Vec}
+use Rattle.std.specs.Prelude.{◌≡◌, ◌≤◌, ◌<◌, ℕ, ◌-◌, List, [], ◌∷◌, ◌++◌, map, length, take, drop, Option, None, Some, Vec}
 use Rattle.std.specs.declared.alloc.Global.{Global}
-use Rattle.std.specs.declared.boxed.Box.{Box}
 use Rattle.std.specs.declared.rc.Rc.{Rc}
 use Rattle.json_spec.specs.Value.{Json, a_list}
 use Rattle.ordered_json.specs.declared.value.Value.{Value, out-Value}
@@ -51,31 +55,44 @@ json_in inner value = level_in inner (json_of value) (out-Value value)
 abbrev pub IsComplete : Value → Type 0
 IsComplete value = (inner : List Json) → json_in inner value ≡ json_of value
 
--- a level of the code, behind its box
-abbrev pub Boxed : Type 0
-Boxed = Box Level Global
-
 pub record Means (level : Level) (inner all : List Json) : Type 0 where
   pub holds : (more : List Json) → map (json_in (inner ++ more)) level.values.items ≡ all
   pub ready : (other : List Json) → map (json_in other) (take level.ready level.values.items) ≡ take level.ready all
   pub fits : level.ready ≤ length level.values.items
 
-pub data Deep : List Boxed → List Json → Type 0 where
-  deepest : {levels : List Boxed} {all : List Json} → levels ≡ [] → all ≡ [] → Deep levels all
-  within : {levels deeper : List Boxed} {inner all : List Json} (level : Boxed) → Deep deeper inner → Means level.value inner all → level.value.start ≡ length all → levels ≡ deeper ++ level ∷ [] → Deep levels all
+pub data Deep : List Level → List Json → Type 0 where
+  deepest : {levels : List Level} {all : List Json} → levels ≡ [] → all ≡ [] → Deep levels all
+  within : {levels deeper : List Level} {inner all : List Json} (level : Level) → Deep deeper inner → Means level inner all → level.start ≡ length all → levels ≡ level ∷ deeper → Deep levels all
 
-pub data Around : List Boxed → List Json → List (List Json) → Type 0 where
-  outermost : {levels : List Boxed} {inner : List Json} {lists : List (List Json)} → levels ≡ [] → lists ≡ [] → Around levels inner lists
-  around : {levels outer : List Boxed} {inner all : List Json} {lists others : List (List Json)} (level : Boxed) → Around outer (take level.value.start all) others → Means level.value inner all → level.value.start ≤ length all → levels ≡ outer ++ level ∷ [] → lists ≡ others ++ drop level.value.start all ∷ [] → Around levels inner lists
+pub data Around : List Level → List Json → List (List Json) → Type 0 where
+  outermost : {levels : List Level} {inner : List Json} {lists : List (List Json)} → levels ≡ [] → lists ≡ [] → Around levels inner lists
+  around : {levels outer : List Level} {inner all : List Json} {lists others : List (List Json)} (level : Level) → Around outer (take level.start all) others → Means level inner all → level.start ≤ length all → levels ≡ outer ++ level ∷ [] → lists ≡ others ++ drop level.start all ∷ [] → Around levels inner lists
+
+pub record HasLevels (forest : Forest) (outer : List Level) (level : Level) (deeper : List Level) : Type 0 where
+  pub levels : forest.levels.items ≡ outer ++ level ∷ deeper
+  pub number : forest.innermost ≡ length outer
 
 pub record Shows (forest : Forest) (lists : List (List Json)) (items : List Json) : Type 0 where
+  pub outer : List Level
+  pub level : Level
+  pub deeper : List Level
+  pub has : HasLevels forest outer level deeper
   pub inner : List Json
   pub all : List Json
-  pub below : Deep forest.below.items inner
-  pub here : Means forest.here.value inner all
-  pub starts : forest.here.value.start ≤ length all
-  pub above : Around forest.above.items (take forest.here.value.start all) lists
-  pub are : items ≡ drop forest.here.value.start all
+  pub below : Deep deeper inner
+  pub here : Means level inner all
+  pub starts : level.start ≤ length all
+  pub above : Around outer (take level.start all) lists
+  pub are : items ≡ drop level.start all
+
+pub record HoldsOne (forest : Forest) : Type 0 where
+  pub lists : List (List Json)
+  pub outer : List Json
+  pub json : Json
+  pub shows : Shows forest (lists ++ outer ∷ []) (json ∷ [])
+
+abbrev pub IsInside : Forest → Type 0
+IsInside forest = forest.innermost < length forest.levels.items
 
 -- ---- what the forest's calls do
 
@@ -103,16 +120,6 @@ abbrev pub block_json : Option (Rc (Vec Value Global) Global) → List Json
 block_json None = []
 block_json (Some block) = map json_of block.value.items
 
--- the level is that of the values, behind which its next list starts, and the levels within are left
-pub record NextLevel (left : List Boxed) (level : Level) (all : List Json) : Type 0 where
-  pub inner : List Json
-  pub deeper : Deep left inner
-  pub means : Means level inner all
-  pub closed : level.start ≡ length all
-
-pub record IsNext (before left : List Boxed) (level : Level) : Type 0 where
-  pub next : (all : List Json) → Deep before all → NextLevel left level all
-
 -- no value of the level waits, and all are its values
 pub record IsSettled (level : Level) (all : List Json) : Type 0 where
   pub holds : (other : List Json) → map (json_in other) level.values.items ≡ all
@@ -126,21 +133,35 @@ pub record Settling (block : List Value) (before : Level) (now : List Value) (pl
   pub done : (inner all : List Json) → Means before inner all → map json_of block ≡ inner → (other : List Json) → map (json_in other) (take place now) ≡ take place all
   pub left : drop place now ≡ drop place before.values.items
 
-pub record IsSealed (block : Option (Rc (Vec Value Global) Global)) (all : List Json) (after : List Boxed) : Type 0 where
+pub record IsSealed (block : Option (Rc (Vec Value Global) Global)) (all : List Json) (after : List Level) : Type 0 where
   pub block_is : block_json block ≡ all
   pub left : Deep after []
 
-pub record Seals (block : Option (Rc (Vec Value Global) Global)) (before after : List Boxed) : Type 0 where
+pub record Seals (block : Option (Rc (Vec Value Global) Global)) (before after : List Level) : Type 0 where
   pub seals : (all : List Json) → Deep before all → IsSealed block all after
+
+pub record SettledAt (outer : List Level) (level : Level) (deeper after : List Level) : Type 0 where
+  pub settled : Level
+  pub left : List Level
+  pub levels : after ≡ outer ++ settled ∷ left
+  pub start : settled.start ≡ level.start
+  pub waits : (inner all : List Json) → Deep deeper inner → Means level inner all → IsSettled settled all × Deep left []
+
+pub record SettlesAt (place : ℕ) (before after : List Level) : Type 0 where
+  pub settles : (outer deeper : List Level) (level : Level) → before ≡ outer ++ level ∷ deeper → place ≡ length outer → SettledAt outer level deeper after
 
 -- as Shows, where no list of the innermost level waits, and the levels within have no values that count
 pub record ShowsSettled (forest : Forest) (lists : List (List Json)) (items : List Json) : Type 0 where
+  pub outer : List Level
+  pub level : Level
+  pub deeper : List Level
+  pub has : HasLevels forest outer level deeper
   pub all : List Json
-  pub below : Deep forest.below.items []
-  pub here : IsSettled forest.here.value all
-  pub starts : forest.here.value.start ≤ length all
-  pub above : Around forest.above.items (take forest.here.value.start all) lists
-  pub are : items ≡ drop forest.here.value.start all
+  pub below : Deep deeper []
+  pub here : IsSettled level all
+  pub starts : level.start ≤ length all
+  pub above : Around outer (take level.start all) lists
+  pub are : items ≡ drop level.start all
 
 pub record SettlesAll (before after : Forest) : Type 0 where
   pub settles : (lists : List (List Json)) (items : List Json) → Shows before lists items → ShowsSettled after lists items

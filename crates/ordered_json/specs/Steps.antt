@@ -14,7 +14,7 @@ use Rattle.json_spec.specs.Grammar.{after_space, Reads}
 use Rattle.ordered_json.specs.declared.forest.Forest.{Forest}
 use Rattle.ordered_json.specs.declared.fault.Stop.{Stop}
 use Rattle.ordered_json.specs.declared.fault.Stop.TheVariants.{Unreadable, Deep, NoMemory}
-use Rattle.ordered_json.specs.Forests.{Shows, PutsOn, OpensList, ClosesList}
+use Rattle.ordered_json.specs.Forests.{Shows, IsInside, PutsOn, OpensList, ClosesList}
 
 pub record IsShown (forest : Forest) : Type 0 where
   pub lists : List (List Json)
@@ -28,12 +28,11 @@ pub record Opens (depth : ℕ) (bytes : List ℕ) (before after : Forest) (rest 
   pub begun : rest ≡ after_space inner
   pub full : (end : List ℕ) → rest ≢ 93 ∷ end
   pub opened : OpensList before after
-  pub deeper : length after.above.items ≡ length before.above.items + 1
+  pub deeper : after.innermost ≡ before.innermost + 1
 
 pub record Puts (depth : ℕ) (bytes : List ℕ) (before after : Forest) (rest : List ℕ) : Type 0 where
   pub on : PutsOn before after (λ json. Reads depth bytes (taken json rest))
-  pub level : length after.above.items ≡ length before.above.items
-  pub some : 0 < length after.here.value.values.items
+  pub level : after.innermost ≡ before.innermost
 
 abbrev pub Begins : ℕ → List ℕ → Forest → Forest → Bool → List ℕ → Type 0
 Begins depth bytes before after true rest = Opens depth bytes before after rest
@@ -48,8 +47,8 @@ pub record PassesComma (bytes : List ℕ) (before after : Forest) (rest : List �
 pub record Closes (bytes : List ℕ) (before after : Forest) (rest : List ℕ) : Type 0 where
   pub bracket : after_space bytes ≡ 93 ∷ rest
   pub closed : ClosesList before after
-  pub outer : length before.above.items ≡ length after.above.items + 1
-  pub some : 0 < length after.here.value.values.items
+  pub outer : before.innermost ≡ after.innermost + 1
+  pub inside : IsInside after
 
 abbrev pub GoesOn : List ℕ → Forest → Forest → Bool → List ℕ → Type 0
 GoesOn bytes before after true rest = PassesComma bytes before after rest
@@ -66,10 +65,10 @@ StopsAt bytes (Deep left) = ⊥
 StopsAt bytes NoMemory = ⊤
 
 pub data GoesUp (outside : ℕ) : List ℕ → Forest → Forest → Bool → List ℕ → Type 0 where
-  is_up : {bytes rest : List ℕ} {before after : Forest} → length before.above.items ≤ outside → after ≡ before → rest ≡ bytes → GoesUp outside bytes before after false rest
-  passes : {bytes rest : List ℕ} {before after : Forest} → outside < length before.above.items → PassesComma bytes before after rest → GoesUp outside bytes before after true rest
-  closes : {bytes middle rest : List ℕ} {before between after : Forest} {awaited : Bool} → outside < length before.above.items → Closes bytes before between middle → GoesUp outside middle between after awaited rest → GoesUp outside bytes before after awaited rest
+  is_up : {bytes rest : List ℕ} {before after : Forest} → before.innermost ≤ outside → after ≡ before → rest ≡ bytes → GoesUp outside bytes before after false rest
+  passes : {bytes rest : List ℕ} {before after : Forest} → outside < before.innermost → PassesComma bytes before after rest → GoesUp outside bytes before after true rest
+  closes : {bytes middle rest : List ℕ} {before between after : Forest} {awaited : Bool} → outside < before.innermost → Closes bytes before between middle → GoesUp outside middle between after awaited rest → GoesUp outside bytes before after awaited rest
 
 pub data StopsAbove (outside : ℕ) : List ℕ → Forest → Stop → Type 0 where
-  stops_here : {bytes : List ℕ} {before : Forest} {stop : Stop} → outside < length before.above.items → StopsAt bytes stop → StopsAbove outside bytes before stop
-  stops_above : {bytes middle : List ℕ} {before between : Forest} {stop : Stop} → outside < length before.above.items → Closes bytes before between middle → StopsAbove outside middle between stop → StopsAbove outside bytes before stop
+  stops_here : {bytes : List ℕ} {before : Forest} {stop : Stop} → outside < before.innermost → StopsAt bytes stop → StopsAbove outside bytes before stop
+  stops_above : {bytes middle : List ℕ} {before between : Forest} {stop : Stop} → outside < before.innermost → Closes bytes before between middle → StopsAbove outside middle between stop → StopsAbove outside bytes before stop

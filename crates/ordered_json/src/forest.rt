@@ -1,5 +1,5 @@
-ghost use Rattle.std.specs.Prelude.{◌≡◌, ◌<◌, ◌+◌, [], ◌∷◌, ◌++◌, length, IfOk, OnOk};
-ghost use Rattle.ordered_json.specs.Forests.{IsFresh, IsClosed, IsLeft, GetsItems, Settles, SettlesAll, Seals, IsNext, Keeps, Shows, AddsValue, OpensList, ClosesList, TakesValue};
+ghost use Rattle.std.specs.Prelude.{◌≡◌, ◌<◌, ◌+◌, [], ◌++◌, length, IfOk, OnOk};
+ghost use Rattle.ordered_json.specs.Forests.{IsFresh, IsClosed, IsLeft, GetsItems, Settles, SettlesAt, SettlesAll, Seals, Keeps, Shows, IsInside, HoldsOne, AddsValue, OpensList, ClosesList, TakesValue};
 
 use crate::value::{Items, Value};
 use primitives::Memory;
@@ -38,12 +38,10 @@ pub struct Level {
 #[derive(Drop)]
 pub struct Forest {
     alloc: Global,
-    // The levels of the lists around the innermost one, the outermost first.
-    above: Vec<Box<Level>>,
-    // The level of the innermost list.
-    here: Box<Level>,
-    // The levels without an open list, the outermost last.
-    below: Vec<Box<Level>>,
+    // Each level within the one before it.
+    levels: Vec<Level>,
+    // The number of the innermost list's level. Those behind it are without an open list.
+    innermost: usize,
 }
 
 impl Level {
@@ -127,11 +125,11 @@ fn is_full(count: usize, last: usize, room: usize) -> bool {
     count >= FEW && (last > room.saturating_sub(count) || count >= MOST)
 }
 
-// Whether blocks of the levels' values, from the last level up to the first one that has none, would have enough of them.
-fn have_enough(levels: &[Box<Level>]) -> bool {
+// Whether blocks of the levels' values, from the first level up to one that has none, would have enough of them.
+fn have_enough(levels: &[Level]) -> bool {
     let mut values = 0usize;
     let mut blocks = 0usize;
-    for level in levels.iter().rev() {
+    for level in levels {
         let count = level.values.as_slice().len();
         if count == 0 {
             break;
@@ -159,33 +157,32 @@ fn settle_value(value: &mut Value, block: &Rc<Vec<Value>>) -> Result<(), Memory>
     }
 }
 
-// Makes a block of each level's values, from the outermost, which is the last, up to the first level that has none. Gives the
-// block of the outermost.
-fn seal(alloc: Global, levels: &mut Vec<Box<Level>>) -> Result<Option<Rc<Vec<Value>>>, Memory>
-    ensures { IfOk result (λ block. Seals block levels.old.items levels.new.items) }
+// Makes a block of each level's values, from the outermost, which is the first, up to one that has none. Gives the block of the
+// outermost.
+fn seal(alloc: Global, levels: &mut [Level]) -> Result<Option<Rc<Vec<Value>>>, Memory>
+    ensures { IfOk result (λ block. Seals block levels.old levels.new) }
 {
-    let Some(mut level) = levels.pop() else {
+    let Some((level, deeper)) = levels.split_first_mut() else {
         return Ok(None);
     };
     if level.values.as_slice().is_empty() {
-        levels.push(level)?;
         return Ok(None);
     }
-    let inner = seal(alloc, levels)?;
+    let inner = seal(alloc, deeper)?;
     level.settle(&inner)?;
     let block = level.take_block(alloc)?;
-    levels.push(level)?;
     Ok(Some(block))
 }
 
-// Takes off the outermost level without an open list, or makes one without values.
-fn next_level(alloc: Global, levels: &mut Vec<Box<Level>>) -> Result<Box<Level>, Memory>
-    ensures { IfOk result (λ level. IsNext levels.old.items levels.new.items level.value) }
+// Gives the lists of the level with this number their values, which become blocks.
+fn settle_at(alloc: Global, levels: &mut [Level], place: usize) -> Result<(), Memory>
+    requires { place < length levels.old }
+    ensures { OnOk result (SettlesAt place levels.old levels.new) }
 {
-    match levels.pop() {
-        Some(level) => Ok(level),
-        None => Ok(Box::new(alloc, Level::new(alloc))?),
-    }
+    let (outer, deeper) = levels.split_at_mut(place + 1);
+    let block = seal(alloc, deeper)?;
+    outer[place].settle(&block)?;
+    Ok(())
 }
 
 impl Forest {
@@ -193,51 +190,56 @@ impl Forest {
     pub fn new(alloc: Global) -> Result<Forest, Memory>
         ensures { IfOk result (λ forest. Shows forest [] []) }
     {
+        let mut levels = Vec::new(alloc);
+        levels.push(Level::new(alloc))?;
         Ok(Forest {
             alloc,
-            above: Vec::new(alloc),
-            here: Box::new(alloc, Level::new(alloc))?,
-            below: Vec::new(alloc),
+            levels,
+            innermost: 0,
         })
     }
 
     /// How many lists are open around the innermost one.
     pub fn depth(&self) -> usize
-        ensures { result ≡ length self.now.above.items }
+        ensures { result ≡ self.now.innermost }
     {
-        self.above.as_slice().len()
+        self.innermost
     }
 
     /// Puts a value behind those of the innermost list.
     #[inline(always)]
     pub fn put(&mut self, value: Value) -> Result<(), Memory>
+        requires { IsInside self.old }
         ensures adds { OnOk result (AddsValue value self.old self.new) }
-        ensures depth { OnOk result (length self.new.above.items ≡ length self.old.above.items) }
-        ensures some { OnOk result (0 < length self.new.here.value.values.items) }
+        ensures depth { OnOk result (self.new.innermost ≡ self.old.innermost) }
     {
-        self.here.values.push(value)?;
+        self.levels[self.innermost].values.push(value)?;
         Ok(())
     }
 
     /// Opens a list within the innermost one.
     #[inline(always)]
     pub fn open(&mut self) -> Result<(), Memory>
+        requires { IsInside self.old }
         ensures opens { OnOk result (OpensList self.old self.new) }
-        ensures depth { OnOk result (length self.new.above.items ≡ length self.old.above.items + 1) }
+        ensures depth { OnOk result (self.new.innermost ≡ self.old.innermost + 1) }
     {
-        let inner = next_level(self.alloc, &mut self.below)?;
-        let outer = mem::replace(&mut self.here, inner);
-        self.above.push(outer)?;
+        let inner = self.innermost + 1;
+        if inner == self.levels.as_slice().len() {
+            self.levels.push(Level::new(self.alloc))?;
+        }
+        self.innermost = inner;
         Ok(())
     }
 
     /// Closes the innermost list, which is then a value of the one around it.
     #[inline(always)]
     pub fn close(&mut self) -> Result<(), Memory>
-        requires { 0 < length self.old.above.items }
+        requires inside { IsInside self.old }
+        requires around { 0 < self.old.innermost }
         ensures closes { OnOk result (ClosesList self.old self.new) }
-        ensures depth { OnOk result (length self.old.above.items ≡ length self.new.above.items + 1) }
-        ensures some { OnOk result (0 < length self.new.here.value.values.items) }
+        ensures depth { OnOk result (self.old.innermost ≡ self.new.innermost + 1) }
+        ensures inside { OnOk result (IsInside self.new) }
     {
         if self.close_innermost()? {
             return self.make_room();
@@ -248,29 +250,29 @@ impl Forest {
     // The same, without making blocks. Gives whether the level that is left is full.
     #[inline(always)]
     fn close_innermost(&mut self) -> Result<bool, Memory>
-        requires { 0 < length self.old.above.items }
+        requires inside { IsInside self.old }
+        requires around { 0 < self.old.innermost }
         ensures closes { OnOk result (ClosesList self.old self.new) }
-        ensures depth { OnOk result (length self.old.above.items ≡ length self.new.above.items + 1) }
-        ensures some { OnOk result (0 < length self.new.here.value.values.items) }
+        ensures depth { OnOk result (self.old.innermost ≡ self.new.innermost + 1) }
+        ensures inside { OnOk result (IsInside self.new) }
     {
-        let Some(outer) = self.above.pop() else {
-            unreachable!();
-        };
-        let mut inner = mem::replace(&mut self.here, outer);
-        let (list, full) = inner.close(self.alloc)?;
-        self.here.values.push(list)?;
-        self.below.push(inner)?;
+        let inner = self.innermost;
+        let outer = inner - 1;
+        let (list, full) = self.levels[inner].close(self.alloc)?;
+        self.levels[outer].values.push(list)?;
+        self.innermost = outer;
         Ok(full)
     }
 
     // Makes blocks, if there are enough values for them.
     #[inline(never)]
     fn make_room(&mut self) -> Result<(), Memory>
+        requires { IsInside self.old }
         ensures kept { OnOk result (Keeps self.old self.new) }
-        ensures above { OnOk result (self.new.above ≡ self.old.above) }
-        ensures count { OnOk result (length self.new.here.value.values.items ≡ length self.old.here.value.values.items) }
+        ensures depth { OnOk result (self.new.innermost ≡ self.old.innermost) }
+        ensures inside { OnOk result (IsInside self.new) }
     {
-        if !have_enough(self.below.as_slice()) {
+        if !have_enough(&self.levels.as_slice()[self.innermost + 1..]) {
             return Ok(());
         }
         self.settle()
@@ -279,32 +281,27 @@ impl Forest {
     // Gives the lists of the innermost level their values, which become blocks. Lists of the levels around it may wait on.
     #[inline(never)]
     fn settle(&mut self) -> Result<(), Memory>
+        requires { IsInside self.old }
         ensures settled { OnOk result (SettlesAll self.old self.new) }
-        ensures above { OnOk result (self.new.above ≡ self.old.above) }
-        ensures count { OnOk result (length self.new.here.value.values.items ≡ length self.old.here.value.values.items) }
+        ensures depth { OnOk result (self.new.innermost ≡ self.old.innermost) }
+        ensures inside { OnOk result (IsInside self.new) }
     {
-        let block = seal(self.alloc, &mut self.below)?;
-        self.here.settle(&block)?;
-        Ok(())
+        settle_at(self.alloc, self.levels.as_mut_slice(), self.innermost)
     }
 
     /// Takes the one value of the innermost list, and closes that.
     pub fn take(&mut self) -> Result<Value, Memory>
-        requires around { 0 < length self.old.above.items }
-        requires some { 0 < length self.old.here.value.values.items }
+        requires { HoldsOne self.old }
         ensures takes { IfOk result (λ value. TakesValue value self.old self.new) }
-        ensures depth { OnOk result (length self.old.above.items ≡ length self.new.above.items + 1) }
+        ensures depth { OnOk result (self.old.innermost ≡ self.new.innermost + 1) }
     {
         self.settle()?;
-        let Some(value) = self.here.values.pop() else {
+        let here = &mut self.levels[self.innermost];
+        let Some(value) = here.values.pop() else {
             unreachable!();
         };
-        self.here.ready = self.here.values.as_slice().len();
-        let Some(outer) = self.above.pop() else {
-            unreachable!();
-        };
-        let inner = mem::replace(&mut self.here, outer);
-        self.below.push(inner)?;
+        here.ready = here.values.as_slice().len();
+        self.innermost -= 1;
         Ok(value)
     }
 }

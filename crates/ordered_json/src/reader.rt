@@ -5,7 +5,7 @@ ghost use Rattle.json_spec.specs.Grammar.{after_space, scalar_at, ReadsName, Rea
 ghost use Rattle.ordered_json.specs.Lists.{pairs_of};
 ghost use Rattle.ordered_json.specs.Shown.{json_of, members_of};
 ghost use Rattle.ordered_json.specs.Outcomes.{Fails, IsFault, IsWhole, WholeFails, ReadsSettled};
-ghost use Rattle.ordered_json.specs.Forests.{IsComplete, Keeps, PutsOn};
+ghost use Rattle.ordered_json.specs.Forests.{IsComplete, IsInside, Keeps, PutsOn};
 ghost use Rattle.ordered_json.specs.Steps.{IsShown, Begins, GoesOn, StopsAt, GoesUp, StopsAbove};
 
 use crate::fault::{JsonFault, Stop};
@@ -65,7 +65,7 @@ fn read_alone<'a>(
     requires { IsShown forest.old }
     ensures reads { MatchResult result (λ x. Reads depth bytes.now (taken (json_of x.0) x.1.now)) (Fails (Reads depth bytes.now)) }
     ensures kept { OnOk result (Keeps forest.old forest.new) }
-    ensures depth { OnOk result (length forest.new.above.items ≡ length forest.old.above.items) }
+    ensures depth { OnOk result (forest.new.innermost ≡ forest.old.innermost) }
     ensures shorter { IfOk result (λ x. length x.1.now < length bytes.now) }
 {
     if after_byte(bytes, b'[').is_none() {
@@ -88,8 +88,7 @@ fn read_value<'a>(
 ) -> Result<&'a [u8], Stop>
     requires { IsShown forest.old }
     ensures reads { MatchResult result (λ rest. PutsOn forest.old forest.new (λ json. Reads depth bytes.now (taken json rest.now))) (Fails (Reads depth bytes.now)) }
-    ensures depth { OnOk result (length forest.new.above.items ≡ length forest.old.above.items) }
-    ensures some { OnOk result (0 < length forest.new.here.value.values.items) }
+    ensures depth { OnOk result (forest.new.innermost ≡ forest.old.innermost) }
     ensures shorter { IfOk result (λ rest. length rest.now < length bytes.now) }
 {
     let outside = forest.depth();
@@ -145,6 +144,7 @@ fn begin_value<'a>(
 // value is awaited, and the bytes from there on.
 #[inline(always)]
 fn go_up<'a>(forest: &mut Forest, outside: usize, bytes: &'a [u8]) -> Result<(bool, &'a [u8]), Stop>
+    requires { IsInside forest.old }
     ensures goes { MatchResult result (λ x. GoesUp outside bytes.now forest.old forest.new x.0 x.1.now) (StopsAbove outside bytes.now forest.old) }
     ensures shorter { IfOk result (λ x. length x.1.now ≤ length bytes.now) }
 {
@@ -163,7 +163,8 @@ fn go_up<'a>(forest: &mut Forest, outside: usize, bytes: &'a [u8]) -> Result<(bo
 // whether a value is awaited, and the bytes from there on.
 #[inline(always)]
 fn go_on<'a>(forest: &mut Forest, bytes: &'a [u8]) -> Result<(bool, &'a [u8]), Stop>
-    requires { 0 < length forest.old.above.items }
+    requires inside { IsInside forest.old }
+    requires around { 0 < forest.old.innermost }
     ensures goes { MatchResult result (λ x. GoesOn bytes.now forest.old forest.new x.0 x.1.now) (StopsAt bytes.now) }
     ensures shorter { IfOk result (λ x. length x.1.now < length bytes.now) }
 {
@@ -192,7 +193,7 @@ fn read_other<'a>(
     ensures reads { MatchResult result (λ x. Reads depth bytes.now (taken (json_of x.0) x.1.now)) (Fails (Reads depth bytes.now)) }
     ensures whole { IfOk result (λ x. IsComplete x.0) }
     ensures kept { OnOk result (Keeps forest.old forest.new) }
-    ensures depth { OnOk result (length forest.new.above.items ≡ length forest.old.above.items) }
+    ensures depth { OnOk result (forest.new.innermost ≡ forest.old.innermost) }
     ensures shorter { IfOk result (λ x. length x.1.now < length bytes.now) }
 {
     let Some((first, rest)) = cut_first(bytes) else {
@@ -222,7 +223,7 @@ fn read_object<'a>(
     ensures reads { MatchResult result (λ x. Reads depth bytes.now (taken (json_of x.0) x.1.now)) (Fails (Reads depth bytes.now)) }
     ensures whole { IfOk result (λ x. IsComplete x.0) }
     ensures kept { OnOk result (Keeps forest.old forest.new) }
-    ensures depth { OnOk result (length forest.new.above.items ≡ length forest.old.above.items) }
+    ensures depth { OnOk result (forest.new.innermost ≡ forest.old.innermost) }
     ensures shorter { IfOk result (λ x. length x.1.now < length bytes.now) }
 {
     if depth == 0 {
@@ -278,7 +279,7 @@ fn read_members<'a>(
     requires { IsShown forest.old }
     ensures reads { MatchResult result (λ x. ReadsSettled (Reads depth) (after_space bytes.now) (taken (members_of (pairs_of x.0)) x.1.now)) (Fails (ReadsSettled (Reads depth) (after_space bytes.now))) }
     ensures kept { OnOk result (Keeps forest.old forest.new) }
-    ensures depth { OnOk result (length forest.new.above.items ≡ length forest.old.above.items) }
+    ensures depth { OnOk result (forest.new.innermost ≡ forest.old.innermost) }
     ensures shorter { IfOk result (λ x. length x.1.now < length bytes.now) }
 {
     let start = skip_space(bytes);
@@ -317,7 +318,7 @@ fn read_member<'a>(
     requires { IsShown forest.old }
     ensures reads { MatchResult result (λ x. ReadsMember (Reads depth) bytes.now (taken (a_pair x.0 (json_of x.1)) x.2.now)) (Fails (ReadsMember (Reads depth) bytes.now)) }
     ensures kept { OnOk result (Keeps forest.old forest.new) }
-    ensures depth { OnOk result (length forest.new.above.items ≡ length forest.old.above.items) }
+    ensures depth { OnOk result (forest.new.innermost ≡ forest.old.innermost) }
     ensures shorter { IfOk result (λ x. length x.2.now < length bytes.now) }
 {
     let (key, after) = read_name(alloc, bytes)?;

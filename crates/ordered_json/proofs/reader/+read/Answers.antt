@@ -8,7 +8,7 @@ use Rattle.ordered_json.specs.Shown.{json_of, members_of}
 use Rattle.ordered_json.proofs.ShownLemmas.{json_of_object}
 use Rattle.ordered_json.proofs.GrammarLemmas.{no_value, at_depth, scalar_result, scalar_result_shorter, if_taken, deep_list, deep_object, not_bracket, below_depth, object_value, object_fails, no_members_read, awaits_first_member, member_read, name_fails, value_fails, members_fail, behind_one_more, awaits_next_member, last_member, no_more_members, shorter_by_close, shorter_by_member}
 use Rattle.ordered_json.proofs.NestLemmas.{empty_list, begins, left_is, read_fails, begun, ends, level_again, shown_now, went_up, stopped_above}
-use Rattle.ordered_json.proofs.ForestFacts.{empty_is, empty_complete, puts_value, kept_same, kept_twice, opened_shown, taken_kept, taken_is}
+use Rattle.ordered_json.proofs.ForestFacts.{empty_is, empty_complete, puts_value, kept_same, kept_twice, kept_shown, shown_inside, opened_shown, one_put, taken_kept, taken_is}
 use Rattle.ordered_json.proofs.reader.+read.Goals as goal
 
 pub read_members-returns-in-Some-clause-reads : goal.read_members-returns-in-Some-clause-reads
@@ -125,13 +125,16 @@ read_other-returns-clause-shorter t c =
 pub begin_value-returns-then-depth-eq0-clause-begins : goal.begin_value-returns-then-depth-eq0-clause-begins
 begin_value-returns-then-depth-eq0-clause-begins t c = deep_list _ _ _ _ c.if-depth-eq0.true c.in-Some.ensures refl
 
+pub begin_value-put-requires : goal.begin_value-put-requires
+begin_value-put-requires t c = shown_inside (kept_shown c.in_ok-value.ensures.kept c.requires)
+
 pub begin_value-returns-in_default-clause-begins : goal.begin_value-returns-in_default-clause-begins
 begin_value-returns-in_default-clause-begins t c =
-    puts_value _ c.in_ok-value.ensures.whole c.in_ok-value.ensures.kept c.in_ok-put.ensures.adds c.in_ok-value.ensures.reads c.in_ok-value.ensures.depth c.in_ok-put.ensures.depth c.in_ok-put.ensures.some
+    puts_value _ c.in_ok-value.ensures.whole c.in_ok-value.ensures.kept c.in_ok-put.ensures.adds c.in_ok-value.ensures.reads c.in_ok-value.ensures.depth c.in_ok-put.ensures.depth
 
 pub begin_value-returns-in-Some-after_byte-clause-begins : goal.begin_value-returns-in-Some-after_byte-clause-begins
 begin_value-returns-in-Some-after_byte-clause-begins t c =
-    puts_value _ (empty_complete _ c.waiting.ensures) (kept_same refl) c.in_ok-put-2.ensures.adds (rw (empty_is _ c.waiting.ensures) (empty_list c.if-depth-eq0.false c.in-Some.ensures c.skip_space-inner.ensures c.in-Some-after_byte.ensures)) refl c.in_ok-put-2.ensures.depth c.in_ok-put-2.ensures.some
+    puts_value _ (empty_complete _ c.waiting.ensures) (kept_same refl) c.in_ok-put-2.ensures.adds (rw (empty_is _ c.waiting.ensures) (empty_list c.if-depth-eq0.false c.in-Some.ensures c.skip_space-inner.ensures c.in-Some-after_byte.ensures)) refl c.in_ok-put-2.ensures.depth
 
 pub begin_value-returns-in-Some-after_byte-clause-shorter : goal.begin_value-returns-in-Some-after_byte-clause-shorter
 begin_value-returns-in-Some-after_byte-clause-shorter t c =
@@ -157,6 +160,12 @@ pub read_value-loop-awaited-preserved-then-awaited : goal.read_value-loop-awaite
 read_value-loop-awaited-preserved-then-awaited t c =
     let awaits = c.loop-awaited.invariant in
     begun awaits _ _ (left_is awaits _ _ c.depth.ensures c.depth-outside.ensures) true _ (rw c.if-awaited.true at c.in_ok-awaited.ensures.begins) c.in_ok-awaited.ensures.shorter
+
+pub read_value-go_up-requires : goal.read_value-go_up-requires
+read_value-go_up-requires t c =
+    let awaits = c.loop-awaited.invariant in
+    let behind = begun awaits _ _ (left_is awaits _ _ c.depth.ensures c.depth-outside.ensures) false _ (rw c.if-awaited.false at c.in_ok-awaited.ensures.begins) c.in_ok-awaited.ensures.shorter in
+    shown_inside (shown_now behind.added c.requires)
 
 pub read_value-returns-in_err-again-clause-reads : goal.read_value-returns-in_err-again-clause-reads
 read_value-returns-in_err-again-clause-reads t c =
@@ -184,9 +193,3 @@ read_value-returns-then-not-again-clause-depth t c =
     let behind = begun awaits _ _ (left_is awaits _ _ c.depth.ensures c.depth-outside.ensures) false _ (rw c.if-awaited.false at c.in_ok-awaited.ensures.begins) c.in_ok-awaited.ensures.shorter in
     let all = went_up c.depth-outside.result c.depth-outside.ensures behind (rw c.if-not-again.true at c.in_ok-again.ensures.goes) in
     level_again all.behind all.whole
-
-pub read_value-returns-then-not-again-clause-some : goal.read_value-returns-then-not-again-clause-some
-read_value-returns-then-not-again-clause-some t c =
-    let awaits = c.loop-awaited.invariant in
-    let behind = begun awaits _ _ (left_is awaits _ _ c.depth.ensures c.depth-outside.ensures) false _ (rw c.if-awaited.false at c.in_ok-awaited.ensures.begins) c.in_ok-awaited.ensures.shorter in
-    (went_up c.depth-outside.result c.depth-outside.ensures behind (rw c.if-not-again.true at c.in_ok-again.ensures.goes)).behind.some

@@ -5,11 +5,14 @@ use Rattle.ordered_json.proofs.NestLemmas.{none_passed, bracket_passed, step_pas
 use Rattle.ordered_json.proofs.reader.go_up.Goals as goal
 
 pub loop-forest-init : goal.loop-forest-init
-loop-forest-init c = record { passed = none_passed _ _ _; shorter = omega arith }
+loop-forest-init c = record { passed = none_passed _ _ _; inside = c.requires; shorter = omega arith }
+
+pub go_on-requires-clause-inside : goal.go_on-requires-clause-inside
+go_on-requires-clause-inside c = c.loop-forest.invariant.inside
 
 pub loop-forest-preserved : goal.loop-forest-preserved
 loop-forest-preserved c =
-    record { passed = bracket_passed c.loop-forest.invariant.passed (omega (arith, c.loop-forest-test.true, c.depth.ensures)) (rw c.if-again.false at c.in_ok-again.ensures.goes); shorter = omega (arith, c.loop-forest.invariant.shorter, c.in_ok-again.ensures.shorter) }
+    record { passed = bracket_passed c.loop-forest.invariant.passed (omega (arith, c.loop-forest-test.true, c.depth.ensures)) (rw c.if-again.false at c.in_ok-again.ensures.goes); inside = (rw c.if-again.false at c.in_ok-again.ensures.goes).inside; shorter = omega (arith, c.loop-forest.invariant.shorter, c.in_ok-again.ensures.shorter) }
 
 pub returns-in_err-again-clause-goes : goal.returns-in_err-again-clause-goes
 returns-in_err-again-clause-goes c =

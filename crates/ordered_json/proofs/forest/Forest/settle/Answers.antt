@@ -1,8 +1,14 @@
-use Rattle.std.proofs.Common.{refl, ap, ◌∙◌}
+use Rattle.std.proofs.Common.{◌≡◌, ◌++◌, List, length, take, drop, refl, sym, subst, ◌∙◌}
+use Rattle.std.proofs.Math.Seq.{take-append_seam}
+use Rattle.std.proofs.lemmas.Result.{on_ok_weaker}
 use Rattle.ordered_json.specs.declared.forest.Level.{Level}
+use Rattle.ordered_json.specs.Forests.{SettlesAt}
 use Rattle.ordered_json.proofs.ForestLemmas.{all_settled}
 use Rattle.ordered_json.proofs.forest.Forest.settle.Goals as goal
 
 pub returns-clause-settled : goal.returns-clause-settled
 returns-clause-settled c =
-    all_settled _ _ c.in_ok-block.block refl c.in_ok-block.ensures (rw c.deref_mut.ensures.value at c.in_ok-settle.ensures.settled) (c.in_ok-settle.ensures.start ∙ ap (λ (l : Level). l.start) c.deref_mut.ensures.value)
+    let old : List Level = c.args.self.now.levels.items in
+    let new : List Level = c.settle_at.new.levels in
+    let are : take c.args.self.now.levels.len (new ++ drop (length new) old) ≡ new = rw (← (c.settle_at.auto.levels ∙ c.as_mut_slice.ensures.len)) (take-append_seam new (drop (length new) old)) in
+    on_ok_weaker c.settle_at.result (λ s. all_settled _ _ (subst (λ xs. SettlesAt c.args.self.now.innermost old xs) (sym are) s) refl) (rw c.as_mut_slice.ensures.value at c.settle_at.ensures)
