@@ -1,5 +1,5 @@
 -- What the reader's steps do to the forest.
-use Rattle.std.specs.Prelude.{◌≡◌, ◌<◌, ℕ, List, [], ◌∷◌, ◌++◌, length}
+use Rattle.std.specs.Prelude.{◌≡◌, ℕ, List, [], ◌∷◌, ◌++◌}
 use Rattle.std.proofs.Common.{rules, ap, ◌∙◌}
 use Rattle.json_spec.specs.Value.{Json, a_list, no_items}
 use Rattle.json_spec.specs.Taken.{taken}

@@ -1,7 +1,6 @@
-use Rattle.std.proofs.Common.{ap, sym, ◌∙◌, eqb-true, refl}
+use Rattle.std.proofs.Common.{sym, ◌∙◌, eqb-true, refl}
 use Rattle.std.proofs.lemmas.List.{nil_from_length}
-use Rattle.ordered_json.specs.declared.forest.Level.{Level}
-use Rattle.ordered_json.proofs.ForestLemmas.{nothing_sealed, empty_sealed, level_sealed}
+use Rattle.ordered_json.proofs.ForestLemmas.{empty_sealed, level_sealed}
 use Rattle.ordered_json.proofs.forest.+seal.Goals as goal
 
 pub returns-then-is_empty : goal.returns-then-is_empty

@@ -8,7 +8,7 @@ use Rattle.ordered_json.specs.Shown.{json_of, members_of}
 use Rattle.ordered_json.proofs.ShownLemmas.{json_of_object}
 use Rattle.ordered_json.proofs.GrammarLemmas.{no_value, at_depth, scalar_result, scalar_result_shorter, if_taken, deep_list, deep_object, not_bracket, below_depth, object_value, object_fails, no_members_read, awaits_first_member, member_read, name_fails, value_fails, members_fail, behind_one_more, awaits_next_member, last_member, no_more_members, shorter_by_close, shorter_by_member}
 use Rattle.ordered_json.proofs.NestLemmas.{empty_list, begins, left_is, read_fails, begun, ends, level_again, shown_now, went_up, stopped_above}
-use Rattle.ordered_json.proofs.ForestFacts.{empty_is, empty_complete, puts_value, kept_same, kept_twice, kept_shown, shown_inside, opened_shown, one_put, taken_kept, taken_is}
+use Rattle.ordered_json.proofs.ForestFacts.{empty_is, empty_complete, puts_value, kept_same, kept_twice, kept_shown, shown_inside, opened_shown, taken_kept, taken_is}
 use Rattle.ordered_json.proofs.reader.+read.Goals as goal
 
 pub read_members-returns-in-Some-clause-reads : goal.read_members-returns-in-Some-clause-reads

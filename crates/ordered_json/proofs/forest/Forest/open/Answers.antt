@@ -1,4 +1,4 @@
-use Rattle.std.proofs.Common.{refl, ap, ◌∙◌, length, arith}
+use Rattle.std.proofs.Common.{refl, ap, length, arith}
 use Rattle.ordered_json.proofs.ForestLemmas.{opened_known, opened_new}
 use Rattle.ordered_json.proofs.forest.Forest.open.Goals as goal
 use Rattle.ordered_json.proofs.forest.Forest.open.Goals.{then-inner-as_slice+in_ok-push, else-inner-as_slice}
