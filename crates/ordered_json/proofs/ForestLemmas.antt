@@ -20,7 +20,7 @@ use Rattle.ordered_json.proofs.ShownLemmas.{json_of_list}
 use Rattle.ordered_json.specs.declared.forest.Level.{Level}
 use Rattle.ordered_json.specs.declared.forest.Forest.{Forest}
 use Rattle.ordered_json.specs.Shown.{json_of, items_from, items_of}
-use Rattle.ordered_json.specs.Forests.{place_in, level_in, json_in, IsComplete, Means, Deep, deepest, within, Around, outermost, around, HasLevels, Shows, HoldsOne, IsInside, IsFresh, IsClosed, IsLeft, GetsItems, IsSettled, Settles, Settling, SettledAt, SettlesAt, Keeps, IsSealed, Seals, ShowsSettled, SettlesAll, AddsValue, OpensList, ClosesList, IsTaken, TakesValue}
+use Rattle.ordered_json.specs.Forests.{place_in, level_in, json_in, IsComplete, Means, Deep, deepest, within, Around, outermost, around, HasLevels, Shows, HoldsOne, IsInside, IsFresh, IsClosed, IsLeft, GetsItems, IsFilled, Fills, Filling, FilledAt, FillsAt, Keeps, IsSealed, Seals, ShowsFilled, FillsAll, AddsValue, OpensList, ClosesList, IsTaken, TakesValue}
 
 take_whole : {X : Type 0} (xs : List X) {n : ℕ} → length xs ≤ n → take n xs ≡ xs
 take_whole xs {n} l =
@@ -266,10 +266,10 @@ module _ (block : List Value) where
   pub stays_as_it_was : (v : Value) → ((items : Items) → v ≢ value.List items) → GetsItems block v v
   stays_as_it_was v n = record { gets = λ other. same_layer other (map json_of block) (json_of v) (out-Value v) (λ items e. n items (list_from_out v items e)) }
 
-  pub settling_begun : (before : Level) → Settling block before before.values.items before.ready
-  settling_begun before = record { done = λ inner all means e other. means.ready other; left = refl }
+  pub filling_begun : (before : Level) → Filling block before before.values.items before.ready
+  filling_begun before = record { done = λ inner all means e other. means.ready other; left = refl }
 
-  module _ (before : Level) (now : List Value) (place : ℕ) (value got : Value) (s : Settling block before now place) (l : place < length now) (count : length now ≡ length before.values.items) (at : value ≡ get_or now place value) (g : GetsItems block value got) where
+  module _ (before : Level) (now : List Value) (place : ℕ) (value got : Value) (s : Filling block before now place) (l : place < length now) (count : length now ≡ length before.values.items) (at : value ≡ get_or now place value) (g : GetsItems block value got) where
     l_before : place < length before.values.items
     l_before = omega (arith, l, count)
 
@@ -290,15 +290,15 @@ module _ (block : List Value) where
         let all_is : map (json_in inner) before.values.items ≡ all = subst (λ xs. map (json_in xs) before.values.items ≡ all) (append-nil inner) (means.holds []) in
         rw (← all_is, take-map (json_in inner) (place + 1) before.values.items, take-map (json_in inner) place before.values.items, one_more) (map-append (json_in inner) (take place before.values.items) (value ∷ []))
 
-    pub settling_next : Settling block before (set now place got) (place + 1)
-    settling_next = record {
+    pub filling_next : Filling block before (set now place got) (place + 1)
+    filling_next = record {
       done = λ inner all means inner_is other. rw (take_more_set now place got l, map-append (json_in other) (take place now) (got ∷ []), s.done inner all means inner_is other, one_got value got g inner inner_is other) (sym (all_more inner all means));
       left = rw (drop-set-lt (place + 1) now place got (omega arith)) left_after;
     }
 
-pub settling_done : (block : Rc (Vec Value Global) Global) (before after : Level) (place : ℕ) → Settling block.value.items before after.values.items place → length after.values.items ≤ place → length after.values.items ≡ length before.values.items → after.ready ≡ length after.values.items → Settles (Some block) before after
-settling_done block before after place s at_end count ready = record {
-  settles = λ inner all means inner_is. record {
+pub filling_done : (block : Rc (Vec Value Global) Global) (before after : Level) (place : ℕ) → Filling block.value.items before after.values.items place → length after.values.items ≤ place → length after.values.items ≡ length before.values.items → after.ready ≡ length after.values.items → Fills (Some block) before after
+filling_done block before after place s at_end count ready = record {
+  fills = λ inner all means inner_is. record {
     holds = λ other.
         let done : map (json_in other) (take place after.values.items) ≡ take place all = s.done inner all means inner_is other in
         let whole_all : take place all ≡ all = take_whole all (omega (arith, at_end, count, means_length means)) in
@@ -309,8 +309,8 @@ settling_done block before after place s at_end count ready = record {
 }
 
 -- a level without a block within waits for nothing
-pub nothing_waits : (before after : Level) → after.values.items ≡ before.values.items → after.ready ≡ length after.values.items → Settles None before after
-nothing_waits before after same ready = record { settles = λ inner all means none. record { holds = λ other. rw same (subst (λ xs. map (json_in (xs ++ other)) before.values.items ≡ all) (sym none) (means.holds other)); ready = ready } }
+pub nothing_waits : (before after : Level) → after.values.items ≡ before.values.items → after.ready ≡ length after.values.items → Fills None before after
+nothing_waits before after same ready = record { fills = λ inner all means none. record { holds = λ other. rw same (subst (λ xs. map (json_in (xs ++ other)) before.values.items ≡ all) (sym none) (means.holds other)); ready = ready } }
 
 -- ---- blocks of all levels without an open list
 
@@ -338,27 +338,27 @@ empty_sealed before after left level e same none = record { seals = λ all deep.
         let nil : all ≡ [] = nil_from_length all (means_length means ∙ ap (λ (l : Level). length l.values.items) is ∙ ap length none) in
         record { block_is = sym nil; left = within other deep (subst (λ xs. Means other within_it xs) nil means) (closed ∙ ap length nil) (same ∙ split) }
 
--- the values of a level that are settled
-pub settled_json : (level : Level) (all : List Json) → IsSettled level all → map json_of level.values.items ≡ all
-settled_json level all s = all_json level.values.items ∙ s.holds []
+-- the values of a level that are filled
+pub filled_json : (level : Level) (all : List Json) → IsFilled level all → map json_of level.values.items ≡ all
+filled_json level all s = all_json level.values.items ∙ s.holds []
   where
     all_json : (values : List Value) → map json_of values ≡ map (json_in []) values
     all_json [] = refl
     all_json (v ∷ values) = rw (none_within v, all_json values) refl
 
-pub level_sealed : (before middle left after : List Level) (level settled last : Level) (inner : Option (Rc (Vec Value Global) Global)) (block : Rc (Vec Value Global) Global) → before ≡ level ∷ middle → Seals inner middle left → Settles inner level settled → block.value.items ≡ settled.values.items → IsFresh last → after ≡ last ∷ left → Seals (Some block) before after
-level_sealed before middle left after level settled last inner block e seals settles holds fresh stored = record { seals = λ all deep. sealed all deep }
+pub level_sealed : (before middle left after : List Level) (level filled last : Level) (inner : Option (Rc (Vec Value Global) Global)) (block : Rc (Vec Value Global) Global) → before ≡ level ∷ middle → Seals inner middle left → Fills inner level filled → block.value.items ≡ filled.values.items → IsFresh last → after ≡ last ∷ left → Seals (Some block) before after
+level_sealed before middle left after level filled last inner block e seals fills holds fresh stored = record { seals = λ all deep. sealed all deep }
   where
     sealed : (all : List Json) → Deep before all → IsSealed (Some block) all after
     sealed all (deepest nil _) = absurd (no_level level middle (sym nil ∙ e))
     sealed all (within {inner = within_it} other deep means closed split) =
         let same = same_levels (sym split ∙ e) in
         let s : IsSealed inner within_it left = seals.seals within_it (subst (λ xs. Deep xs within_it) same.1 deep) in
-        let done : IsSettled settled all = settles.settles within_it all (subst (λ (l : Level). Means l within_it all) same.0 means) s.block_is in
-        record { block_is = ap (map json_of) holds ∙ settled_json settled all done; left = within last s.left (fresh_means last fresh) fresh.start stored }
+        let done : IsFilled filled all = fills.fills within_it all (subst (λ (l : Level). Means l within_it all) same.0 means) s.block_is in
+        record { block_is = ap (map json_of) holds ∙ filled_json filled all done; left = within last s.left (fresh_means last fresh) fresh.start stored }
 
-settled_means : (level : Level) (all : List Json) → IsSettled level all → Means level [] all
-settled_means level all s = record {
+filled_means : (level : Level) (all : List Json) → IsFilled level all → Means level [] all
+filled_means level all s = record {
   holds = λ more. s.holds more;
   ready = λ other.
       let count : length all ≡ length level.values.items = rw (← s.holds []) (length-map level.values.items (json_in [])) in
@@ -366,8 +366,8 @@ settled_means level all s = record {
   fits = rw s.ready (omega arith);
 }
 
--- the level with some number is settled by the block of the levels behind it
-module _ (before middle after left : List Level) (place : ℕ) (found settled : Level) (block : Option (Rc (Vec Value Global) Global)) (front : middle ≡ take (place + 1) before) (seals : Seals block (drop (place + 1) before) left) (at : found ≡ get_or middle place found) (settles : Settles block found settled) (start : settled.start ≡ found.start) (joined : after ≡ set middle place settled ++ left) where
+-- the level with some number is filled by the block of the levels behind it
+module _ (before middle after left : List Level) (place : ℕ) (found filled : Level) (block : Option (Rc (Vec Value Global) Global)) (front : middle ≡ take (place + 1) before) (seals : Seals block (drop (place + 1) before) left) (at : found ≡ get_or middle place found) (fills : Fills block found filled) (start : filled.start ≡ found.start) (joined : after ≡ set middle place filled ++ left) where
   module _ (outer deeper : List Level) (level : Level) (split : before ≡ outer ++ level ∷ deeper) (number : place ≡ length outer) where
     next : place + 1 ≡ length (outer ++ level ∷ [])
     next = omega (arith, number, length-append outer (level ∷ []))
@@ -384,28 +384,28 @@ module _ (before middle after left : List Level) (place : ℕ) (found settled : 
     found_is : found ≡ level
     found_is = at ∙ rw (middle_is, number) (get_or-append_seam outer level [] found)
 
-    settled_at : SettledAt outer level deeper after
-    settled_at = record {
-      settled = settled;
+    filled_at : FilledAt outer level deeper after
+    filled_at = record {
+      filled = filled;
       left = left;
-      levels = joined ∙ ap (λ xs. xs ++ left) (rw (middle_is, number) (set-append_seam outer level [] settled)) ∙ append_assoc outer (settled ∷ []) left;
+      levels = joined ∙ ap (λ xs. xs ++ left) (rw (middle_is, number) (set-append_seam outer level [] filled)) ∙ append_assoc outer (filled ∷ []) left;
       start = start ∙ ap (λ (l : Level). l.start) found_is;
       waits = λ inner all deep means.
           let s : IsSealed block inner left = seals.seals inner (subst (λ xs. Deep xs inner) (sym behind) deep) in
-          (settles.settles inner all (subst (λ (l : Level). Means l inner all) (sym found_is) means) s.block_is, s.left);
+          (fills.fills inner all (subst (λ (l : Level). Means l inner all) (sym found_is) means) s.block_is, s.left);
     }
 
-  pub level_settled : SettlesAt place before after
-  level_settled = record { settles = λ outer deeper level split number. settled_at outer deeper level split number }
+  pub level_filled : FillsAt place before after
+  level_filled = record { fills = λ outer deeper level split number. filled_at outer deeper level split number }
 
-pub all_settled : (before after : Forest) → SettlesAt before.innermost before.levels.items after.levels.items → after.innermost ≡ before.innermost → SettlesAll before after
-all_settled before after settles number = record {
-  settles = λ lists items shows.
-      let at = settles.settles shows.outer shows.deeper shows.level shows.has.levels shows.has.number in
+pub all_filled : (before after : Forest) → FillsAt before.innermost before.levels.items after.levels.items → after.innermost ≡ before.innermost → FillsAll before after
+all_filled before after fills number = record {
+  fills = λ lists items shows.
+      let at = fills.fills shows.outer shows.deeper shows.level shows.has.levels shows.has.number in
       let waits = at.waits shows.inner shows.all shows.below shows.here in
       record {
         outer = shows.outer;
-        level = at.settled;
+        level = at.filled;
         deeper = at.left;
         has = record { levels = at.levels; number = number ∙ shows.has.number };
         all = shows.all;
@@ -417,11 +417,11 @@ all_settled before after settles number = record {
       };
 }
 
-settled_shows : (forest : Forest) (lists : List (List Json)) (items : List Json) → ShowsSettled forest lists items → Shows forest lists items
-settled_shows forest lists items s = record { outer = s.outer; level = s.level; deeper = s.deeper; has = s.has; inner = []; all = s.all; below = s.below; here = settled_means s.level s.all s.here; starts = s.starts; above = s.above; are = s.are }
+filled_shows : (forest : Forest) (lists : List (List Json)) (items : List Json) → ShowsFilled forest lists items → Shows forest lists items
+filled_shows forest lists items s = record { outer = s.outer; level = s.level; deeper = s.deeper; has = s.has; inner = []; all = s.all; below = s.below; here = filled_means s.level s.all s.here; starts = s.starts; above = s.above; are = s.are }
 
-pub keeps_settled : (before after : Forest) → SettlesAll before after → Keeps before after
-keeps_settled before after s = record { keeps = λ lists items shows. settled_shows after lists items (s.settles lists items shows) }
+pub keeps_filled : (before after : Forest) → FillsAll before after → Keeps before after
+keeps_filled before after s = record { keeps = λ lists items shows. filled_shows after lists items (s.fills lists items shows) }
 
 pub keeps_same : (forest : Forest) → Keeps forest forest
 keeps_same forest = record { keeps = λ lists items shows. shows }
@@ -429,10 +429,10 @@ keeps_same forest = record { keeps = λ lists items shows. shows }
 pub closed_before : (before middle after : Forest) → ClosesList before middle → Keeps middle after → ClosesList before after
 closed_before before middle after c k = record { closes = λ lists outer items shows. k.keeps lists (outer ++ a_list (items_from items) ∷ []) (c.closes lists outer items shows) }
 
--- a settled level whose list has one value, and the level that is left without it
-module _ (level left : Level) (value : Value) (json : Json) (all : List Json) (settled : IsSettled level all) (starts : level.start ≤ length all) (are : json ∷ [] ≡ drop level.start all) (split : level.values.items ≡ left.values.items ++ value ∷ []) (ready : left.ready ≡ length left.values.items) where
+-- a filled level whose list has one value, and the level that is left without it
+module _ (level left : Level) (value : Value) (json : Json) (all : List Json) (filled : IsFilled level all) (starts : level.start ≤ length all) (are : json ∷ [] ≡ drop level.start all) (split : level.values.items ≡ left.values.items ++ value ∷ []) (ready : left.ready ≡ length left.values.items) where
   all_is : (other : List Json) → map (json_in other) left.values.items ++ json_in other value ∷ [] ≡ all
-  all_is other = sym (map-append (json_in other) left.values.items (value ∷ [])) ∙ ap (map (json_in other)) (sym split) ∙ settled.holds other
+  all_is other = sym (map-append (json_in other) left.values.items (value ∷ [])) ∙ ap (map (json_in other)) (sym split) ∙ filled.holds other
 
   ends_at : (front : List Json) (last : Json) → front ++ last ∷ [] ≡ all → level.start ≡ length front
   ends_at front last e =
@@ -448,7 +448,7 @@ module _ (level left : Level) (value : Value) (json : Json) (all : List Json) (s
       (taken_front, (let e = last in cc))
 
   left_means : Means left [] (take level.start all)
-  left_means = settled_means left (take level.start all) (record { holds = λ other. (parts other).0; ready = ready })
+  left_means = filled_means left (take level.start all) (record { holds = λ other. (parts other).0; ready = ready })
 
   value_is : json_of value ≡ json
   value_is = sym (none_within value) ∙ (parts []).1
@@ -471,23 +471,23 @@ module _ {before : Forest} (one : HoldsOne before) where
       some (outermost _ none) = absurd (nil_no_push one.lists one.outer (sym none))
       some (around {outer = above} level _ _ _ split _) = omega (arith, one.shows.has.number, ap length split, length-append above (level ∷ []))
 
-  pub one_there : {middle : Forest} (found : Level) → SettlesAll before middle → found ≡ get_or middle.levels.items middle.innermost found → found.values.items ≢ []
-  one_there found settles at none =
-      let s = settles.settles (one.lists ++ one.outer ∷ []) (one.json ∷ []) one.shows in
+  pub one_there : {middle : Forest} (found : Level) → FillsAll before middle → found ≡ get_or middle.levels.items middle.innermost found → found.values.items ≢ []
+  one_there found fills at none =
+      let s = fills.fills (one.lists ++ one.outer ∷ []) (one.json ∷ []) one.shows in
       let is : found ≡ s.level = level_at s.has found at in
       let count : length s.all ≡ length s.level.values.items = rw (← s.here.holds []) (length-map s.level.values.items (json_in [])) in
       let nothing : length s.level.values.items ≡ 0 = ap (λ (l : Level). length l.values.items) (sym is) ∙ ap length none in
       omega (arith, ap length s.are, length-drop s.level.start s.all, count, nothing)
 
 -- it is taken, and the list is closed
-pub value_taken : (before middle after : Forest) (found left : Level) (value : Value) → SettlesAll before middle → found ≡ get_or middle.levels.items middle.innermost found → found.values.items ≡ left.values.items ++ value ∷ [] → left.ready ≡ length left.values.items → left.start ≡ found.start → after.levels.items ≡ set middle.levels.items middle.innermost left → after.innermost ≡ middle.innermost - 1 → TakesValue value before after
-value_taken before middle after found left value settles at split ready start stored number = record {
+pub value_taken : (before middle after : Forest) (found left : Level) (value : Value) → FillsAll before middle → found ≡ get_or middle.levels.items middle.innermost found → found.values.items ≡ left.values.items ++ value ∷ [] → left.ready ≡ length left.values.items → left.start ≡ found.start → after.levels.items ≡ set middle.levels.items middle.innermost left → after.innermost ≡ middle.innermost - 1 → TakesValue value before after
+value_taken before middle after found left value fills at split ready start stored number = record {
   takes = λ lists others json shows.
-      let s = settles.settles (lists ++ others ∷ []) (json ∷ []) shows in
+      let s = fills.fills (lists ++ others ∷ []) (json ∷ []) shows in
       taken lists others json s s.above;
 }
   where
-    taken : (lists : List (List Json)) (others : List Json) (json : Json) → (s : ShowsSettled middle (lists ++ others ∷ []) (json ∷ [])) → Around s.outer (take s.level.start s.all) (lists ++ others ∷ []) → IsTaken value after lists others json
+    taken : (lists : List (List Json)) (others : List Json) (json : Json) → (s : ShowsFilled middle (lists ++ others ∷ []) (json ∷ [])) → Around s.outer (take s.level.start s.all) (lists ++ others ∷ []) → IsTaken value after lists others json
     taken lists others json s (outermost _ none) = absurd (nil_no_push lists others (sym none))
     taken lists others json s (around {outer = above} {all = all} {others = lists_above} level rest means starts levels lists_are) =
         let is : found ≡ s.level = level_at s.has found at in

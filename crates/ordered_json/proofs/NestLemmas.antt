@@ -99,8 +99,8 @@ module _ {forest : Forest} (lists others : List (List Json)) {found : List (List
   shown_inside : Shows forest (lists ++ items ∷ others) (own ++ item ∷ [])
   shown_inside = same_shows innermost.0 (ap (λ (xs : List Json). xs ++ item ∷ []) innermost.1) o.shows
 
-  value_settled : IsOpen forest (lists ++ items ∷ (others ++ (own ++ item ∷ []) ∷ [])) []
-  value_settled = record { lists = lists ++ items ∷ others; items = own ++ item ∷ []; shows = same_shows refl (sym (append-nil (own ++ item ∷ []))) shown_inside; are = append_assoc lists (items ∷ others) ((own ++ item ∷ []) ∷ []) }
+  value_within : IsOpen forest (lists ++ items ∷ (others ++ (own ++ item ∷ []) ∷ [])) []
+  value_within = record { lists = lists ++ items ∷ others; items = own ++ item ∷ []; shows = same_shows refl (sym (append-nil (own ++ item ∷ []))) shown_inside; are = append_assoc lists (items ∷ others) ((own ++ item ∷ []) ∷ []) }
 
 record HasLast (lists : List (List Json)) : Type 0 where
   front : List (List Json)
@@ -233,7 +233,7 @@ module _ {depth : ℕ} {bytes after : List ℕ} {before now : Forest} (b : Behin
           left = b.left;
           found = i.others ++ (i.items ++ b.item ∷ []) ∷ [];
           within = inside i.within i.opened (awaits_next_item i.awaits b.item after (after_space after) b.here refl (i.items ++ b.item ∷ []) p.more _ refl p.comma p.begun) refl;
-          added = record { adds = λ lists items shown. value_settled lists i.others items i.items b.item i.are (b.added.adds lists items shown); deeper = omega (arith, b.added.deeper, ap length i.are, length-append i.others (i.items ∷ []), length-append i.others ((i.items ++ b.item ∷ []) ∷ [])) };
+          added = record { adds = λ lists items shown. value_within lists i.others items i.items b.item i.are (b.added.adds lists items shown); deeper = omega (arith, b.added.deeper, ap length i.are, length-append i.others (i.items ∷ []), length-append i.others ((i.items ++ b.item ∷ []) ∷ [])) };
           deep = omega (arith, b.deep, ap length i.are, length-append i.others (i.items ∷ []), length-append i.others ((i.items ++ b.item ∷ []) ∷ []));
           shorter = omega (arith, b.shorter, space_at_most after, ap length p.comma, space_at_most p.more, ap length p.begun);
         })

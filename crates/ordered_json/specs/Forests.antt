@@ -20,8 +20,8 @@
 --     ClosesList before after      the innermost list is a value of the one around it
 --     TakesValue value before after      where the innermost list has one value, it is this one, and that list is gone
 --     Seals block before after      the block has the values of the outermost level, and that level has none
---     SettlesAt place before after      no list of the level with this number waits, and the levels around it are as they were
---     SettlesAll before after      the same is shown, and no list of the innermost level waits
+--     FillsAt place before after      no list of the level with this number waits, and the levels around it are as they were
+--     FillsAll before after      the same is shown, and no list of the innermost level waits
 use Rattle.std.specs.Prelude.{◌≡◌, ◌≤◌, ◌<◌, ℕ, ◌-◌, List, [], ◌∷◌, ◌++◌, map, length, take, drop, Option, None, Some, Vec}
 use Rattle.std.specs.declared.alloc.Global.{Global}
 use Rattle.std.specs.declared.rc.Rc.{Rc}
@@ -121,15 +121,15 @@ block_json None = []
 block_json (Some block) = map json_of block.value.items
 
 -- no value of the level waits, and all are its values
-pub record IsSettled (level : Level) (all : List Json) : Type 0 where
+pub record IsFilled (level : Level) (all : List Json) : Type 0 where
   pub holds : (other : List Json) → map (json_in other) level.values.items ≡ all
   pub ready : level.ready ≡ length level.values.items
 
-pub record Settles (block : Option (Rc (Vec Value Global) Global)) (before after : Level) : Type 0 where
-  pub settles : (inner all : List Json) → Means before inner all → block_json block ≡ inner → IsSettled after all
+pub record Fills (block : Option (Rc (Vec Value Global) Global)) (before after : Level) : Type 0 where
+  pub fills : (inner all : List Json) → Means before inner all → block_json block ≡ inner → IsFilled after all
 
 -- the values of a level before this place have got those of the block, and the others are as they were
-pub record Settling (block : List Value) (before : Level) (now : List Value) (place : ℕ) : Type 0 where
+pub record Filling (block : List Value) (before : Level) (now : List Value) (place : ℕ) : Type 0 where
   pub done : (inner all : List Json) → Means before inner all → map json_of block ≡ inner → (other : List Json) → map (json_in other) (take place now) ≡ take place all
   pub left : drop place now ≡ drop place before.values.items
 
@@ -140,31 +140,31 @@ pub record IsSealed (block : Option (Rc (Vec Value Global) Global)) (all : List 
 pub record Seals (block : Option (Rc (Vec Value Global) Global)) (before after : List Level) : Type 0 where
   pub seals : (all : List Json) → Deep before all → IsSealed block all after
 
-pub record SettledAt (outer : List Level) (level : Level) (deeper after : List Level) : Type 0 where
-  pub settled : Level
+pub record FilledAt (outer : List Level) (level : Level) (deeper after : List Level) : Type 0 where
+  pub filled : Level
   pub left : List Level
-  pub levels : after ≡ outer ++ settled ∷ left
-  pub start : settled.start ≡ level.start
-  pub waits : (inner all : List Json) → Deep deeper inner → Means level inner all → IsSettled settled all × Deep left []
+  pub levels : after ≡ outer ++ filled ∷ left
+  pub start : filled.start ≡ level.start
+  pub waits : (inner all : List Json) → Deep deeper inner → Means level inner all → IsFilled filled all × Deep left []
 
-pub record SettlesAt (place : ℕ) (before after : List Level) : Type 0 where
-  pub settles : (outer deeper : List Level) (level : Level) → before ≡ outer ++ level ∷ deeper → place ≡ length outer → SettledAt outer level deeper after
+pub record FillsAt (place : ℕ) (before after : List Level) : Type 0 where
+  pub fills : (outer deeper : List Level) (level : Level) → before ≡ outer ++ level ∷ deeper → place ≡ length outer → FilledAt outer level deeper after
 
 -- as Shows, where no list of the innermost level waits, and the levels within have no values that count
-pub record ShowsSettled (forest : Forest) (lists : List (List Json)) (items : List Json) : Type 0 where
+pub record ShowsFilled (forest : Forest) (lists : List (List Json)) (items : List Json) : Type 0 where
   pub outer : List Level
   pub level : Level
   pub deeper : List Level
   pub has : HasLevels forest outer level deeper
   pub all : List Json
   pub below : Deep deeper []
-  pub here : IsSettled level all
+  pub here : IsFilled level all
   pub starts : level.start ≤ length all
   pub above : Around outer (take level.start all) lists
   pub are : items ≡ drop level.start all
 
-pub record SettlesAll (before after : Forest) : Type 0 where
-  pub settles : (lists : List (List Json)) (items : List Json) → Shows before lists items → ShowsSettled after lists items
+pub record FillsAll (before after : Forest) : Type 0 where
+  pub fills : (lists : List (List Json)) (items : List Json) → Shows before lists items → ShowsFilled after lists items
 
 pub record Keeps (before after : Forest) : Type 0 where
   pub keeps : (lists : List (List Json)) (items : List Json) → Shows before lists items → Shows after lists items

@@ -1,5 +1,5 @@
 ghost use Rattle.std.specs.Prelude.{◌≡◌, ◌<◌, ◌+◌, [], ◌++◌, length, IfOk, OnOk};
-ghost use Rattle.ordered_json.specs.Forests.{IsFresh, IsClosed, IsLeft, GetsItems, Settles, SettlesAt, SettlesAll, Seals, Keeps, Shows, IsInside, HoldsOne, AddsValue, OpensList, ClosesList, TakesValue};
+ghost use Rattle.ordered_json.specs.Forests.{IsFresh, IsClosed, IsLeft, GetsItems, Fills, FillsAt, FillsAll, Seals, Keeps, Shows, IsInside, HoldsOne, AddsValue, OpensList, ClosesList, TakesValue};
 
 use crate::value::{Items, Value};
 use primitives::Memory;
@@ -82,15 +82,15 @@ impl Level {
     }
 
     // Gives each list that waits its span of the block.
-    fn settle(&mut self, block: &Option<Rc<Vec<Value>>>) -> Result<(), Memory>
-        ensures settled { OnOk result (Settles block.now self.old self.new) }
+    fn fill(&mut self, block: &Option<Rc<Vec<Value>>>) -> Result<(), Memory>
+        ensures filled { OnOk result (Fills block.now self.old self.new) }
         ensures start { OnOk result (self.new.start ≡ self.old.start) }
         ensures count { OnOk result (length self.new.values.items ≡ length self.old.values.items) }
     {
         let count = self.values.as_slice().len();
         if let Some(block) = block {
             for place in self.ready..count {
-                settle_value(&mut self.values[place], block)?;
+                fill_value(&mut self.values[place], block)?;
             }
         }
         self.ready = count;
@@ -141,11 +141,11 @@ fn have_enough(levels: &[Level]) -> bool {
 }
 
 // Gives a value its values, if it is a list that waits for them.
-fn settle_value(value: &mut Value, block: &Rc<Vec<Value>>) -> Result<(), Memory>
+fn fill_value(value: &mut Value, block: &Rc<Vec<Value>>) -> Result<(), Memory>
     ensures { OnOk result (GetsItems block.now.value.items value.old value.new) }
 {
     match value {
-        Value::List(items) => match items.settled(block)? {
+        Value::List(items) => match items.filled(block)? {
             Some(list) => {
                 // What waits has nothing to drop.
                 mem::forget(mem::replace(value, Value::List(list)));
@@ -169,19 +169,19 @@ fn seal(alloc: Global, levels: &mut [Level]) -> Result<Option<Rc<Vec<Value>>>, M
         return Ok(None);
     }
     let inner = seal(alloc, deeper)?;
-    level.settle(&inner)?;
+    level.fill(&inner)?;
     let block = level.take_block(alloc)?;
     Ok(Some(block))
 }
 
 // Gives the lists of the level with this number their values, which become blocks.
-fn settle_at(alloc: Global, levels: &mut [Level], place: usize) -> Result<(), Memory>
+fn fill_at(alloc: Global, levels: &mut [Level], place: usize) -> Result<(), Memory>
     requires { place < length levels.old }
-    ensures { OnOk result (SettlesAt place levels.old levels.new) }
+    ensures { OnOk result (FillsAt place levels.old levels.new) }
 {
     let (outer, deeper) = levels.split_at_mut(place + 1);
     let block = seal(alloc, deeper)?;
-    outer[place].settle(&block)?;
+    outer[place].fill(&block)?;
     Ok(())
 }
 
@@ -275,18 +275,18 @@ impl Forest {
         if !have_enough(&self.levels.as_slice()[self.innermost + 1..]) {
             return Ok(());
         }
-        self.settle()
+        self.fill()
     }
 
     // Gives the lists of the innermost level their values, which become blocks. Lists of the levels around it may wait on.
     #[inline(never)]
-    fn settle(&mut self) -> Result<(), Memory>
+    fn fill(&mut self) -> Result<(), Memory>
         requires { IsInside self.old }
-        ensures settled { OnOk result (SettlesAll self.old self.new) }
+        ensures filled { OnOk result (FillsAll self.old self.new) }
         ensures depth { OnOk result (self.new.innermost ≡ self.old.innermost) }
         ensures inside { OnOk result (IsInside self.new) }
     {
-        settle_at(self.alloc, self.levels.as_mut_slice(), self.innermost)
+        fill_at(self.alloc, self.levels.as_mut_slice(), self.innermost)
     }
 
     /// Takes the one value of the innermost list, and closes that.
@@ -295,7 +295,7 @@ impl Forest {
         ensures takes { IfOk result (λ value. TakesValue value self.old self.new) }
         ensures depth { OnOk result (self.old.innermost ≡ self.new.innermost + 1) }
     {
-        self.settle()?;
+        self.fill()?;
         let here = &mut self.levels[self.innermost];
         let Some(value) = here.values.pop() else {
             unreachable!();

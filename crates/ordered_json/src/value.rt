@@ -152,7 +152,7 @@ impl Items {
     }
 
     // The same list with the block in which its values lie, if it waits for one.
-    pub(crate) fn settled(&self, block: &Rc<Vec<Value>>) -> Result<Option<Items>, Memory>
+    pub(crate) fn filled(&self, block: &Rc<Vec<Value>>) -> Result<Option<Items>, Memory>
         ensures { IfOk result (λ found. MatchOption found (IsPlaced self.now) (λ list. GetsBlock block.now.value.items self.now list)) }
     {
         match &self.place {
@@ -179,10 +179,13 @@ impl Items {
                 span(block.as_slice(), *start as usize, *len as usize),
                 &[],
             ),
-            Place::Longer(parts) => (
-                span(parts.0.as_slice(), parts.1 as usize, parts.2 as usize),
-                parts.3.as_slice(),
-            ),
+            Place::Longer(parts) => {
+                let (block, start, len, more) = &**parts;
+                (
+                    span(block.as_slice(), *start as usize, *len as usize),
+                    more.as_slice(),
+                )
+            }
         }
     }
 }

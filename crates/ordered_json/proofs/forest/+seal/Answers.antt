@@ -10,4 +10,4 @@ returns-then-is_empty t c =
 
 pub returns : goal.returns
 returns t c =
-    level_sealed _ c.in-Some.deeper.now c.seal.new.levels _ c.in-Some.level.now c.settle.new.self _ c.in_ok-inner.inner c.in_ok-block.block c.in-Some.ensures.cases.0 c.in_ok-inner.ensures c.in_ok-settle.ensures.settled c.in_ok-block.ensures.taken c.in_ok-block.ensures.left refl
+    level_sealed _ c.in-Some.deeper.now c.seal.new.levels _ c.in-Some.level.now c.fill.new.self _ c.in_ok-inner.inner c.in_ok-block.block c.in-Some.ensures.cases.0 c.in_ok-inner.ensures c.in_ok-fill.ensures.filled c.in_ok-block.ensures.taken c.in_ok-block.ensures.left refl
