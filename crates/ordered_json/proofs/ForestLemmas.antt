@@ -338,7 +338,7 @@ empty_sealed before after left level e same none = record { seals = λ all deep.
         let nil : all ≡ [] = nil_from_length all (means_length means ∙ ap (λ (l : Level). length l.values.items) is ∙ ap length none) in
         record { block_is = sym nil; left = within other deep (subst (λ xs. Means other within_it xs) nil means) (closed ∙ ap length nil) (same ∙ split) }
 
--- the values of a level that are filled
+-- the ordered values of a filled level
 pub filled_json : (level : Level) (all : List Json) → IsFilled level all → map json_of level.values.items ≡ all
 filled_json level all s = all_json level.values.items ∙ s.holds []
   where
@@ -390,7 +390,7 @@ module _ (before middle after left : List Level) (place : ℕ) (found filled : L
       left = left;
       levels = joined ∙ ap (λ xs. xs ++ left) (rw (middle_is, number) (set-append_seam outer level [] filled)) ∙ append_assoc outer (filled ∷ []) left;
       start = start ∙ ap (λ (l : Level). l.start) found_is;
-      waits = λ inner all deep means.
+      done = λ inner all deep means.
           let s : IsSealed block inner left = seals.seals inner (subst (λ xs. Deep xs inner) (sym behind) deep) in
           (fills.fills inner all (subst (λ (l : Level). Means l inner all) (sym found_is) means) s.block_is, s.left);
     }
@@ -402,15 +402,15 @@ pub all_filled : (before after : Forest) → FillsAt before.innermost before.lev
 all_filled before after fills number = record {
   fills = λ lists items shows.
       let at = fills.fills shows.outer shows.deeper shows.level shows.has.levels shows.has.number in
-      let waits = at.waits shows.inner shows.all shows.below shows.here in
+      let done = at.done shows.inner shows.all shows.below shows.here in
       record {
         outer = shows.outer;
         level = at.filled;
         deeper = at.left;
         has = record { levels = at.levels; number = number ∙ shows.has.number };
         all = shows.all;
-        below = waits.1;
-        here = waits.0;
+        below = done.1;
+        here = done.0;
         starts = rw at.start shows.starts;
         above = rw at.start shows.above;
         are = rw at.start shows.are;

@@ -11,8 +11,8 @@
 --     HasLevels forest outer level deeper      the forest's levels are these: outer those of the lists around the innermost, level that of
 --         the innermost, and deeper those without an open list
 --     Shows forest lists items      the forest has these lists open, from the outermost on, and within them one with these items
---     HoldsOne forest      the innermost list has one value, and there is a list around it
---     IsInside forest      a list is open
+--     HoldsOne forest      the forest shows lists, of which the innermost has one value, and another is around it
+--     IsInside forest      the number of the innermost list is that of a level
 -- Of the calls of the forest:
 --     Keeps before after      what was shown is shown still
 --     AddsValue value before after      a value that waits for none is put behind the innermost list's
@@ -20,7 +20,9 @@
 --     ClosesList before after      the innermost list is a value of the one around it
 --     TakesValue value before after      where the innermost list has one value, it is this one, and that list is gone
 --     Seals block before after      the block has the values of the outermost level, and that level has none
---     FillsAt place before after      no list of the level with this number waits, and the levels around it are as they were
+--     Fills block before after      the values of the level are the same, and none waits, where the block has those of the level within
+--     FillsAt place before after      the values of the level with this number are the same, and none waits; the levels around it are as
+--         they were, and those within have no values that count
 --     FillsAll before after      the same is shown, and no list of the innermost level waits
 use Rattle.std.specs.Prelude.{◌≡◌, ◌≤◌, ◌<◌, ℕ, ◌-◌, List, [], ◌∷◌, ◌++◌, map, length, take, drop, Option, None, Some, Vec}
 use Rattle.std.specs.declared.alloc.Global.{Global}
@@ -140,12 +142,13 @@ pub record IsSealed (block : Option (Rc (Vec Value Global) Global)) (all : List 
 pub record Seals (block : Option (Rc (Vec Value Global) Global)) (before after : List Level) : Type 0 where
   pub seals : (all : List Json) → Deep before all → IsSealed block all after
 
+-- such a level, with the levels around it and those within
 pub record FilledAt (outer : List Level) (level : Level) (deeper after : List Level) : Type 0 where
   pub filled : Level
   pub left : List Level
   pub levels : after ≡ outer ++ filled ∷ left
   pub start : filled.start ≡ level.start
-  pub waits : (inner all : List Json) → Deep deeper inner → Means level inner all → IsFilled filled all × Deep left []
+  pub done : (inner all : List Json) → Deep deeper inner → Means level inner all → IsFilled filled all × Deep left []
 
 pub record FillsAt (place : ℕ) (before after : List Level) : Type 0 where
   pub fills : (outer deeper : List Level) (level : Level) → before ≡ outer ++ level ∷ deeper → place ≡ length outer → FilledAt outer level deeper after

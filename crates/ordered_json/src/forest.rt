@@ -1,4 +1,4 @@
-ghost use Rattle.std.specs.Prelude.{◌≡◌, ◌<◌, ◌+◌, [], ◌++◌, length, IfOk, OnOk};
+ghost use Rattle.std.specs.Prelude.{◌≡◌, ◌<◌, ◌+◌, [], length, IfOk, OnOk};
 ghost use Rattle.ordered_json.specs.Forests.{IsFresh, IsClosed, IsLeft, GetsItems, Fills, FillsAt, FillsAll, Seals, Keeps, Shows, IsInside, HoldsOne, AddsValue, OpensList, ClosesList, TakesValue};
 
 use crate::value::{Items, Value};
@@ -16,7 +16,7 @@ const FEW: usize = 32;
 /// From how many values on a level is moved in any case, as its room is large.
 const MANY: usize = 1024;
 
-/// From how many values on a level is full, whatever room it has.
+/// From how many values on a level lacks room, whatever it has.
 const MOST: usize = 8192;
 
 // They are enough for a block of each of 256 levels, and there are fewer, so a level of so many is always sealed.
@@ -40,7 +40,7 @@ pub struct Forest {
     alloc: Global,
     // Each level within the one before it.
     levels: Vec<Level>,
-    // The number of the innermost list's level. Those behind it are without an open list.
+    // The number of the innermost list's level. The levels behind it are without an open list.
     innermost: usize,
 }
 
@@ -57,7 +57,7 @@ impl Level {
     }
 
     // Closes the list of the values from the start on, which waits for them; the next list starts behind these. Gives beside
-    // it whether the level is full. No list begins behind the last number of an `u16`, since a level of `MOST`
+    // it whether the level lacks room. No list begins behind the last number of a `u16`, since a level of `MOST`
     // values is sealed, and none begins behind the values that are there.
     #[inline(always)]
     fn close(&mut self, alloc: Global) -> Result<(Value, bool), Memory>
@@ -74,10 +74,10 @@ impl Level {
             return Err(AllocError);
         }
         self.start = count;
-        let full = is_full(count, len, self.values.capacity());
+        let lacks = lacks_room(count, len, self.values.capacity());
         Ok((
             Value::List(Items::waiting(alloc, start as u16, len as u32)),
-            full,
+            lacks,
         ))
     }
 
@@ -97,8 +97,8 @@ impl Level {
         Ok(())
     }
 
-    // Takes the values off, as a block with little more room than they need: a level that is about full is moved, and so is a
-    // large one; from any other they are copied out, and it keeps its room.
+    // Takes the values off, as a block with little more room than they need: a level with about no room left is moved, and so
+    // is a large one; from any other they are copied out, and it keeps its room.
     fn take_block(&mut self, alloc: Global) -> Result<Rc<Vec<Value>>, Memory>
         ensures taken { IfOk result (λ block. block.value.items ≡ self.old.values.items) }
         ensures left { OnOk result (IsFresh self.new) }
@@ -121,11 +121,11 @@ impl Level {
 // Whether a level with so many values, and room for so many, has enough of them for a block, and no room for another list as long
 // as its last one. Where no block is made then, this is so again a few times at most before the room is doubled.
 #[inline(always)]
-fn is_full(count: usize, last: usize, room: usize) -> bool {
+fn lacks_room(count: usize, last: usize, room: usize) -> bool {
     count >= FEW && (last > room.saturating_sub(count) || count >= MOST)
 }
 
-// Whether blocks of the levels' values, from the first level up to one that has none, would have enough of them.
+// Whether blocks of the levels' values, from the first level up to the first that has none, would have enough of them.
 fn have_enough(levels: &[Level]) -> bool {
     let mut values = 0usize;
     let mut blocks = 0usize;
@@ -145,7 +145,7 @@ fn fill_value(value: &mut Value, block: &Rc<Vec<Value>>) -> Result<(), Memory>
     ensures { OnOk result (GetsItems block.now.value.items value.old value.new) }
 {
     match value {
-        Value::List(items) => match items.filled(block)? {
+        Value::List(items) => match items.with_block(block)? {
             Some(list) => {
                 // What waits has nothing to drop.
                 mem::forget(mem::replace(value, Value::List(list)));
@@ -157,8 +157,8 @@ fn fill_value(value: &mut Value, block: &Rc<Vec<Value>>) -> Result<(), Memory>
     }
 }
 
-// Makes a block of each level's values, from the outermost, which is the first, up to one that has none. Gives the block of the
-// outermost.
+// Makes a block of each level's values, from the outermost, which is the first, up to the first that has none. Gives the block
+// of the outermost.
 fn seal(alloc: Global, levels: &mut [Level]) -> Result<Option<Rc<Vec<Value>>>, Memory>
     ensures { IfOk result (λ block. Seals block levels.old levels.new) }
 {
@@ -212,6 +212,7 @@ impl Forest {
         requires { IsInside self.old }
         ensures adds { OnOk result (AddsValue value self.old self.new) }
         ensures depth { OnOk result (self.new.innermost ≡ self.old.innermost) }
+        ensures inside { OnOk result (IsInside self.new) }
     {
         self.levels[self.innermost].values.push(value)?;
         Ok(())
@@ -223,6 +224,7 @@ impl Forest {
         requires { IsInside self.old }
         ensures opens { OnOk result (OpensList self.old self.new) }
         ensures depth { OnOk result (self.new.innermost ≡ self.old.innermost + 1) }
+        ensures inside { OnOk result (IsInside self.new) }
     {
         let inner = self.innermost + 1;
         if inner == self.levels.as_slice().len() {
@@ -247,7 +249,7 @@ impl Forest {
         Ok(())
     }
 
-    // The same, without making blocks. Gives whether the level that is left is full.
+    // The same, without making blocks. Gives whether the level that is left lacks room.
     #[inline(always)]
     fn close_innermost(&mut self) -> Result<bool, Memory>
         requires inside { IsInside self.old }
@@ -258,10 +260,10 @@ impl Forest {
     {
         let inner = self.innermost;
         let outer = inner - 1;
-        let (list, full) = self.levels[inner].close(self.alloc)?;
+        let (list, lacks) = self.levels[inner].close(self.alloc)?;
         self.levels[outer].values.push(list)?;
         self.innermost = outer;
-        Ok(full)
+        Ok(lacks)
     }
 
     // Makes blocks, if there are enough values for them.

@@ -1,4 +1,4 @@
-ghost use Rattle.std.specs.Prelude.{◌≡◌, ◌==◌, if◌then◌else◌, List, [], ◌∷◌, ◌++◌, ℕ, ◌≤◌, length, take, drop, vec_capacity, slice_get, option_copied, option_map, is_ok, IfOk, MatchOption};
+ghost use Rattle.std.specs.Prelude.{◌≡◌, ◌==◌, if◌then◌else◌, List, [], ◌∷◌, ◌++◌, ◌≤◌, length, take, drop, vec_capacity, slice_get, option_copied, option_map, is_ok, IfOk, MatchOption};
 ghost use Rattle.ordered_json.specs.Lists.{place_values, values_of, pairs_of, IsWaiting, IsPlaced, GetsBlock};
 
 use primitives::{Memory, Text};
@@ -152,7 +152,7 @@ impl Items {
     }
 
     // The same list with the block in which its values lie, if it waits for one.
-    pub(crate) fn filled(&self, block: &Rc<Vec<Value>>) -> Result<Option<Items>, Memory>
+    pub(crate) fn with_block(&self, block: &Rc<Vec<Value>>) -> Result<Option<Items>, Memory>
         ensures { IfOk result (λ found. MatchOption found (IsPlaced self.now) (λ list. GetsBlock block.now.value.items self.now list)) }
     {
         match &self.place {

@@ -15,8 +15,7 @@ pub use pairs::Pairs;
 pub use step_count::Steps;
 pub use text::Text;
 
-/// Want of memory: an allocation that was refused, or a number that outgrew the room in which it is counted, as that of the
-/// copies of one text.
+/// Want of memory: an allocation that was refused, or a count or a length that the number kept for it can't hold.
 pub type Memory = std::alloc::AllocError;
 
 /// A list of bytes, as the content of a file.

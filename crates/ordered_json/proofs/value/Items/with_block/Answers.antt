@@ -2,7 +2,7 @@ use Rattle.std.proofs.Common.{ap, ◌∙◌, rules}
 use Rattle.ordered_json.specs.declared.value.Value.{the_lemmas}
 use Rattle.ordered_json.specs.declared.value.Place.{out-Place}
 use Rattle.ordered_json.proofs.ListLemmas.{within_placed, longer_placed}
-use Rattle.ordered_json.proofs.value.Items.filled.Goals as goal
+use Rattle.ordered_json.proofs.value.Items.with_block.Goals as goal
 
 pub returns-in-Within : goal.returns-in-Within
 returns-in-Within c = within_placed c.args.self.now c.in-Within.start c.in-Within.len c.in-Within.block c.in-Within.is
