@@ -7,6 +7,7 @@ stands Node's `JSON.parse` of the same text alone, where Node is installed.
 """
 
 import json
+import math
 import os
 import resource
 import shutil
@@ -62,15 +63,27 @@ def beside(path, size):
     return f"; Node {size / float(run.stdout) / 1e6:.0f} MB/s" if run.returncode == 0 else "; Node failed"
 
 
-def measure(name, text, folder, asked):
-    """The fastest of a few runs over one text, judged where a speed is asked for."""
-    global failures
-    path = os.path.join(folder, f"{name}.json")
+def written(text, path):
+    """Writes the text to the path, and gives the line that the program must print for it."""
     with open(path, "w", encoding="utf-8") as file:
         file.write(text)
     value = json.loads(text)
-    count = len(value) if isinstance(value, (list, dict)) else 1
-    best = min(seconds(path, f"{count} values\n") for _ in range(TRIES))
+    return f"{len(value) if isinstance(value, (list, dict)) else 1} values\n"
+
+
+def fastest(wanted):
+    """The fastest of a few runs over each text. Each round goes over all texts, so that a slow moment of the machine falls on
+    one run of several texts, and not on all runs of one."""
+    best = {}
+    for _ in range(TRIES):
+        for path, line in wanted.items():
+            best[path] = min(best.get(path, math.inf), seconds(path, line))
+    return best
+
+
+def tell(name, path, best, asked):
+    """Prints the speed of a text, which is judged where one is asked for."""
+    global failures
     size = os.path.getsize(path)
     told = f"{name}: {best:.3f} s, {size / best / 1e6:.0f} MB/s"
     if asked:
@@ -83,13 +96,14 @@ def measure(name, text, folder, asked):
 def main():
     if not os.access(PROGRAM, os.X_OK):
         sys.exit("bench: there is no crates/value_count/out/value_count: run `rt run` in crates/value_count first")
-    pace()
     with tempfile.TemporaryDirectory(prefix="salimgub-values-") as folder:
-        for name, text in json_texts.TEXTS.items():
-            measure(name, text(), folder, True)
-        for name, text in json_texts.TOLD.items():
-            measure(name, text(), folder, False)
-    pace()
+        paths = {name: os.path.join(folder, f"{name}.json") for name in json_texts.TEXTS | json_texts.TOLD}
+        wanted = {paths[name]: written(text(), paths[name]) for name, text in (json_texts.TEXTS | json_texts.TOLD).items()}
+        pace()
+        best = fastest(wanted)
+        pace()
+        for name, path in paths.items():
+            tell(name, path, best[path], name in json_texts.TEXTS)
     print(f"{failures} failed" if failures else "all passed")
     sys.exit(1 if failures else 0)
 
