@@ -51,9 +51,10 @@ pub bytes_there : (trace : Trace) (number : ℕ) (asker : Module) (name path : L
 bytes_there trace number asker name path found kept e same is =
     some_from found (ap is_some is ∙ subst (λ p. Has trace.files p) (sym same) (entry_of (λ entry. Has trace.files entry.0.path) trace.modules.entries number (asker, name) kept e))
 
-pub asker_is : (config : Config) (trace : Trace) (number : ℕ) (asker : Module) (as_asker : Asker) → AllNamed config trace.modules.entries → slice_get trace.modules.entries number ≡ Some (asker, as_asker.url) → parse_alone (file_text asker.path false) ≡ Some as_asker.file → as_asker.shown ≡ asker.path ++ asker.suffix → IsAsker config (a_module asker) as_asker
-asker_is config trace number asker as_asker named e file is_shown = record {
+pub asker_is : (config : Config) (trace : Trace) (number : ℕ) (asker : Module) (as_asker : Asker) → AllNamed config trace.modules.entries → slice_get trace.modules.entries number ≡ Some (asker, as_asker.url) → as_asker.text ≡ as_asker.url → parse_alone (file_text asker.path false) ≡ Some as_asker.file → as_asker.shown ≡ asker.path ++ asker.suffix → IsAsker config (a_module asker) as_asker
+asker_is config trace number asker as_asker named e text file is_shown = record {
   name = (entry_of (λ entry. IsServable config entry.0.path entry.0.suffix entry.1) trace.modules.entries number (asker, as_asker.url) named e).name;
+  text = text;
   file = file;
   is_shown = is_shown;
 }

@@ -21,9 +21,10 @@ use Rattle.indexmap.specs.IndexMap.{keys}
 abbrev pub AllNamed : Config → List (Module × List ℕ) → Type 0
 AllNamed config modules = All (λ entry. IsServable config entry.0.path entry.0.suffix entry.1) modules
 
--- this is the referrer's web name, its URL as a file, and how it is shown
+-- this is the referrer's web name, also as a text, its URL as a file, and how it is shown
 pub record IsAsker (config : Config) (referrer : Referrer) (asker : Asker) : Type 0 where
   pub name : web_name config referrer ≡ Some asker.url
+  pub text : asker.text ≡ asker.url
   pub file : parse_alone (file_text (path_of config referrer) false) ≡ Some asker.file
   pub is_shown : asker.shown ≡ shown config referrer
 

@@ -46,10 +46,12 @@ pub struct Trace {
     pub requests: usize,
 }
 
-/// The page or a module as it asks: its web name, its URL as a file, and its path and suffix as they are shown.
+/// The page or a module as it asks: its web name, the text of that, which its needs share, its URL as a file, and its path and
+/// suffix as they are shown.
 #[derive(Drop)]
 pub struct Asker {
     pub url: WebUrl,
+    pub text: Text,
     pub file: FileUrl,
     pub shown: Text,
 }
@@ -97,7 +99,7 @@ impl Trace {
         let target = answer(alloc, folder, &mut self.files, &asker.file, specifier)?;
         let name = target_name(alloc, config, &target)?;
         let need = Need {
-            referrer: Text::of(alloc, asker.url.as_str())?,
+            referrer: asker.text.copy(alloc)?,
             asked: asked.into_text(alloc)?,
             target: Text::of(alloc, name.as_str())?,
         };

@@ -67,6 +67,7 @@ fn page_asker(alloc: Global, config: &Config) -> Result<Asker, Stop>
 
 fn asker_of(alloc: Global, url: WebUrl, path: &Path, suffix: &Suffix) -> Result<Asker, Memory>
     ensures url { IfOk result (λ asker. asker.url ≡ url) }
+    ensures text { IfOk result (λ asker. asker.text ≡ url) }
     ensures shown { IfOk result (λ asker. asker.shown ≡ path.now ++ suffix.now) }
     ensures file { IfOk result (λ asker. parse_alone (file_text path.now false) ≡ Some asker.file) }
 {
@@ -74,8 +75,10 @@ fn asker_of(alloc: Global, url: WebUrl, path: &Path, suffix: &Suffix) -> Result<
     shown.push_str(suffix.as_str())?;
     let file = file_url(alloc, path, false)?;
     let _text = file.as_str();
+    let name = Text::of(alloc, url.as_str())?;
     Ok(Asker {
         url,
+        text: name,
         file,
         shown: Text::from_string(alloc, shown)?,
     })
@@ -242,6 +245,7 @@ fn not_built(asker: Text) -> Stop
 fn asker_at(alloc: Global, trace: &Trace, number: usize) -> Result<(Module, Asker), Memory>
     requires { number < length trace.now.modules.entries }
     ensures entry { IfOk result (λ found. slice_get trace.now.modules.entries number ≡ Some (found.0, found.1.url)) }
+    ensures text { IfOk result (λ found. found.1.text ≡ found.1.url) }
     ensures file { IfOk result (λ found. parse_alone (file_text found.0.path false) ≡ Some found.1.file) }
     ensures shown { IfOk result (λ found. found.1.shown ≡ found.0.path ++ found.0.suffix) }
 {

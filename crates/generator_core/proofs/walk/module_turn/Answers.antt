@@ -28,7 +28,7 @@ returns-clause-turned g c =
     module_turned tree c.args.config.now c.args.number c.args.trace.now c.turn.new.trace asker c.in_ok-module.asker.url bytes c.as_slice.result.now c.in_ok-module.ensures.entry
     (record { stored = (knows.each asker.path bytes found).stored; name = name })
     (subst (Requests bytes) (sym c.as_slice.ensures) reads)
-    (turned (a_module asker) (asker_is c.args.config.now c.args.trace.now c.args.number asker c.in_ok-module.asker named c.in_ok-module.ensures.entry c.in_ok-module.ensures.file c.in_ok-module.ensures.shown) knows))
+    (turned (a_module asker) (asker_is c.args.config.now c.args.trace.now c.args.number asker c.in_ok-module.asker named c.in_ok-module.ensures.entry c.in_ok-module.ensures.text c.in_ok-module.ensures.file c.in_ok-module.ensures.shown) knows))
     c.in_ok-turn.ensures.turned
 
 pub returns-in_err-turn-clause-refused : goal.returns-in_err-turn-clause-refused
@@ -46,7 +46,7 @@ returns-in_err-turn-clause-refused g c =
     module_refused.request asker c.as_slice.result.now
     (key_of c.args.trace.now.modules.entries c.args.number (asker, c.in_ok-module.asker.url) c.in_ok-module.ensures.entry)
     (requests asker bytes c.as_slice.result.now (record { stored = (knows.each asker.path bytes found).stored; name = name }) (subst (Requests bytes) (sym c.as_slice.ensures) reads))
-    (turned (a_module asker) (asker_is c.args.config.now c.args.trace.now c.args.number asker c.in_ok-module.asker named c.in_ok-module.ensures.entry c.in_ok-module.ensures.file c.in_ok-module.ensures.shown) knows clear))
+    (turned (a_module asker) (asker_is c.args.config.now c.args.trace.now c.args.number asker c.in_ok-module.asker named c.in_ok-module.ensures.entry c.in_ok-module.ensures.text c.in_ok-module.ensures.file c.in_ok-module.ensures.shown) knows clear))
     here)
     c.in_err-turn.ensures.refused
 

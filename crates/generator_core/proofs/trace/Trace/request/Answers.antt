@@ -15,9 +15,8 @@ use Rattle.generator_core.proofs.trace.Trace.request.Goals as goal
 
 pub returns-clause-takes : goal.returns-clause-takes
 returns-clause-takes g c =
-    let need : Need = record { referrer = c.in_ok-of.field-0; asked = c.in_ok-into_text.field-0; target = c.in_ok-of-2.field-0 } in
-    let referrer_is : need.referrer ≡ c.args.asker.now.url = c.in_ok-of.ensures ∙ c.as_str.ensures.text in
-    let target_is : need.target ≡ c.in_ok-name.name = c.in_ok-of-2.ensures ∙ c.as_str-2.ensures.text in
+    let need : Need = record { referrer = c.in_ok-copy.field-0; asked = c.in_ok-into_text.field-0; target = c.in_ok-of.field-0 } in
+    let target_is : need.target ≡ c.in_ok-name.name = c.in_ok-of.ensures ∙ c.as_str.ensures.text in
     if_some (g.F.Folder.holds c.args.folder.now)
     (λ tree found referrer is knows. record {
       needs = need ∷ [];
@@ -25,7 +24,7 @@ returns-clause-takes g c =
       passes = a_request c.args.specifier.now need c.in_ok-target.target [] [] []
           (passes tree c.args.config.now referrer c.args.asker.now c.args.specifier.now need c.in_ok-target.target is
           (sym c.is_relative.ensures ∙ c.if-not-is_relative.false)
-          referrer_is
+          (c.in_ok-copy.ensures ∙ is.text)
           (c.in_ok-asked.ensures.url.0 ∙ ap Some (sym c.in_ok-into_text.ensures))
           (ap ends_in_slash c.in_ok-into_text.ensures ∙ c.in_ok-asked.ensures.url.1)
           (found knows).0
@@ -87,9 +86,8 @@ returns-in_err-name-clause-refused g c =
 
 pub returns-in_err-add_need-clause-refused : goal.returns-in_err-add_need-clause-refused
 returns-in_err-add_need-clause-refused g c =
-    let need : Need = record { referrer = c.in_ok-of.field-0; asked = c.in_ok-into_text.field-0; target = c.in_ok-of-2.field-0 } in
-    let referrer_is : need.referrer ≡ c.args.asker.now.url = c.in_ok-of.ensures ∙ c.as_str.ensures.text in
-    let target_is : need.target ≡ c.in_ok-name.name = c.in_ok-of-2.ensures ∙ c.as_str-2.ensures.text in
+    let need : Need = record { referrer = c.in_ok-copy.field-0; asked = c.in_ok-into_text.field-0; target = c.in_ok-of.field-0 } in
+    let target_is : need.target ≡ c.in_ok-name.name = c.in_ok-of.ensures ∙ c.as_str.ensures.text in
     request_passed c.from_residual-in_err-add_need.result c.in_err-add_need.field-0.0 c.from_residual-in_err-add_need.ensures.1
     (λ why clash.
     if_some (g.F.Folder.holds c.args.folder.now)
@@ -98,7 +96,7 @@ returns-in_err-add_need-clause-refused g c =
     (refuses.clash need c.in_ok-target.target
     (passes tree c.args.config.now referrer c.args.asker.now c.args.specifier.now need c.in_ok-target.target is
     (sym c.is_relative.ensures ∙ c.if-not-is_relative.false)
-    referrer_is
+    (c.in_ok-copy.ensures ∙ is.text)
     (c.in_ok-asked.ensures.url.0 ∙ ap Some (sym c.in_ok-into_text.ensures))
     (ap ends_in_slash c.in_ok-into_text.ensures ∙ c.in_ok-asked.ensures.url.1)
     (found knows).0
@@ -111,9 +109,8 @@ returns-in_err-add_need-clause-refused g c =
 
 pub returns-in_err-add_module-clause-refused : goal.returns-in_err-add_module-clause-refused
 returns-in_err-add_module-clause-refused g c =
-    let need : Need = record { referrer = c.in_ok-of.field-0; asked = c.in_ok-into_text.field-0; target = c.in_ok-of-2.field-0 } in
-    let referrer_is : need.referrer ≡ c.args.asker.now.url = c.in_ok-of.ensures ∙ c.as_str.ensures.text in
-    let target_is : need.target ≡ c.in_ok-name.name = c.in_ok-of-2.ensures ∙ c.as_str-2.ensures.text in
+    let need : Need = record { referrer = c.in_ok-copy.field-0; asked = c.in_ok-into_text.field-0; target = c.in_ok-of.field-0 } in
+    let target_is : need.target ≡ c.in_ok-name.name = c.in_ok-of.ensures ∙ c.as_str.ensures.text in
     request_passed c.from_residual-in_err-add_module.result c.in_err-add_module.field-0.0 c.from_residual-in_err-add_module.ensures.1
     (λ why full.
     if_some (g.F.Folder.holds c.args.folder.now)
@@ -122,7 +119,7 @@ returns-in_err-add_module-clause-refused g c =
     (refuses.one_too_many need c.in_ok-target.target
     (passes tree c.args.config.now referrer c.args.asker.now c.args.specifier.now need c.in_ok-target.target is
     (sym c.is_relative.ensures ∙ c.if-not-is_relative.false)
-    referrer_is
+    (c.in_ok-copy.ensures ∙ is.text)
     (c.in_ok-asked.ensures.url.0 ∙ ap Some (sym c.in_ok-into_text.ensures))
     (ap ends_in_slash c.in_ok-into_text.ensures ∙ c.in_ok-asked.ensures.url.1)
     (found knows).0
