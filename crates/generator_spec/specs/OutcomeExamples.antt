@@ -18,7 +18,7 @@ use Rattle.tree_spec.specs.declared.Entry.TheVariants.{Stored}
 use Rattle.tree_spec.specs.declared.LimitName.TheVariants.{File}
 use Rattle.tree_spec.specs.Paths.{IsParent}
 use Rattle.tree_spec.specs.Trees.{Tree, IsTree, Places}
-use Rattle.tree_spec.specs.TreeLaws.{in_root}
+use Rattle.tree_spec.proofs.Placings.{in_root}
 use Rattle.url_spec.specs.Parsing.{text_of, parse_alone, parse_against, base_of}
 use Rattle.url_spec.specs.Specifiers.{as_url}
 use Rattle.url_spec.specs.WebNames.{escaped, web, holds_escape}

@@ -7,7 +7,7 @@ use mathlib.Core.Logic.{inl, inr}
 use Rattle.std.proofs.lemmas.Str.{IsUtf8-from_is_utf8, is_utf8-from_IsUtf8}
 use Rattle.tree_spec.specs.declared.Entry.{Entry}
 use Rattle.tree_spec.specs.declared.Entry.TheVariants.{Stored, Directory}
-use Rattle.tree_spec.specs.Decided.{path_or_not}
+use Rattle.tree_spec.proofs.DecidedTrees.{path_or_not}
 use Rattle.tree_spec.specs.Paths.{IsPath}
 use Rattle.tree_spec.specs.Trees.{Tree}
 use Rattle.url_spec.specs.FileUrls.{names_host, url_path, escapes_separator, spelled_path, NamesPath}

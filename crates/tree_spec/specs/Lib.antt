@@ -1,6 +1,6 @@
 pub mod Paths
-pub mod PathLaws
 pub mod Trees
-pub mod TreeLaws
-pub mod Decided
+pub mod Looks
+pub mod Limits
 pub mod Counts
+pub mod Laws

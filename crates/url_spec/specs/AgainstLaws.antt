@@ -1,7 +1,7 @@
 -- The text of a URL, parsed against a base, is that URL.
 use Rattle.std.proofs.Common.{◌≡◌, ◌≢◌, ℕ, ◌≤◌, ◌+◌, ◌-◌, Bool, true, false, not, cond, ◌==◌, ◌&&◌, ◌||◌, List, [], ◌∷◌, ◌++◌, length, take, drop, reverse, Option, Some, None, All, sym, refl, ap, ◌∙◌, subst, append_assoc, arith}
 use Rattle.std.specs.Prelude.{codes, unwrap_or, nat_lt, slice_index, filter, is_some, bytes_eq, Ok, Err}
-use Rattle.std.specs.List.{prefix_len, suffix_len}
+use Rattle.std.specs.List.{prefix_len, suffix_len, concat}
 use Rattle.std.proofs.lemmas.Bool.{cond-true, cond-false, cond_both, true≢false, ne_eqb, and_parts, ltb-true}
 use Rattle.std.proofs.lemmas.Bool.Decides.{nat_tests}
 use Rattle.std.proofs.lemmas.List.{length-append, reverse-append, length-reverse}
@@ -15,7 +15,6 @@ use Rattle.url.specs.Parser.{Parsed, and_then, parse_url, parse_by_scheme, parse
 use Rattle.url.specs.Host.{parse_host, parse_file_host}
 use Rattle.url.specs.Path.{segment_len, is_windows_drive_letter, escape_end}
 use Rattle.url.specs.declared.scheme.SchemeType.TheVariants.{File}
-use Rattle.std.specs.List.{concat}
 use Rattle.url.proofs.InputLemmas.{IsNot, Passes, filter_all}
 use Rattle.url.proofs.SchemeLemmas.{scheme_bytes, scheme_at_front, file_from_scheme_type, file_from_is_file}
 use Rattle.url.proofs.RoundTrip.{split_own_scheme}

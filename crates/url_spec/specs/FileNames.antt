@@ -19,7 +19,7 @@ use Rattle.url.specs.Parser.{Parsed, and_then, parse_body, with_tail, before_tai
 use Rattle.url.proofs.InputLemmas.{IsNot, Passes, split_once_none, prefix_len_at, All-take-prefix_len}
 use Rattle.url.proofs.RoundTrip.{split_fragment, split_query}
 use Rattle.tree_spec.specs.Paths.{IsPath}
-use Rattle.tree_spec.specs.PathLaws.{last_of}
+use Rattle.tree_spec.proofs.PathParts.{last_of}
 use Rattle.url_spec.specs.Parsing.{text_of}
 use Rattle.url_spec.specs.WebNames.{is_plain, escaped, is_suffix_mark, before_suffix, segments, read_segment, IsServed}
 use Rattle.url_spec.specs.FileUrlLaws.{All_escaped}

@@ -1,10 +1,10 @@
--- What follows of paths: where their last segment begins, and that a path has one parent.
-use Rattle.std.specs.Prelude.{◌≡◌, ◌≢◌, ◌+◌, ℕ, Bool, true, false, List, [], ◌∷◌, ◌++◌, codes, bytes_eq, if◌then◌else◌, All, refl}
-use Rattle.std.specs.Bool.{Decides}
-use Rattle.std.proofs.Common.{sym, ◌∙◌, ap, subst, arith}
+-- The parts of a path: where its last segment begins, and that it has one parent.
+use Rattle.std.proofs.Common.{sym, ap, subst, ◌∙◌, arith}
 use Rattle.std.proofs.lemmas.List.Elements.{All-head, All-tail, All-same}
 use Rattle.std.proofs.lemmas.Slice.Eq.{bytes_eq-Decides}
-use Rattle.tree_spec.specs.Paths.{IsSegment, joined, HasDepth, root, child}
+use Rattle.std.specs.Bool.{Decides}
+use Rattle.std.specs.Prelude.{◌≡◌, ◌≢◌, ℕ, List, [], codes, ◌∷◌, ◌++◌, Bool, true, false, if◌then◌else◌, refl, bytes_eq, All, ◌+◌}
+use Rattle.tree_spec.specs.Paths.{joined, IsSegment, HasDepth, root, child, IsParent}
 
 -- what stands before the `/` behind a path: nothing at the root, else the path
 pub data IsFront : List ℕ → List ℕ → Type 0 where
@@ -85,3 +85,20 @@ pub not_root : (text front name : List ℕ) → text ≡ front ++ 47 ∷ name �
 not_root text front name e is r =
     let same : front ++ 47 ∷ name ≡ [] ++ 47 ∷ [] = sym e ∙ r in
     is.nonempty (one_split front [] name [] same is.no_slash (λ k d l. absurd (omega arith))).1
+
+-- ---- a path has one parent
+
+one_front : (front path other : List ℕ) (depth : ℕ) (deeper : ℕ) → HasDepth depth path → HasDepth deeper other → IsFront path front → IsFront other front → path ≡ other
+one_front front path other depth deeper d e (at_root _ _ a b) (at_root _ _ f g) = a ∙ sym f
+one_front front path other depth deeper d e (at_root _ _ a b) (at_other _ _ f g) = absurd (not_empty deeper other e (sym g ∙ b))
+one_front front path other depth deeper d e (at_other _ _ a b) (at_root _ _ f g) = absurd (not_empty depth path d (sym b ∙ g))
+one_front front path other depth deeper d e (at_other _ _ a b) (at_other _ _ f g) = sym b ∙ g
+
+pub one_parent : (parent other path : List ℕ) → IsParent parent path → IsParent other path → parent ≡ other
+one_parent parent other path p q =
+    let has = front_of parent p.name in
+    let also = front_of other q.name in
+    let same : has.front ++ 47 ∷ p.name ≡ also.front ++ 47 ∷ q.name = sym has.text_is ∙ sym p.text ∙ q.text ∙ also.text_is in
+    let fronts : has.front ≡ also.front = (one_split has.front also.front p.name q.name same p.segment.no_slash q.segment.no_slash).0 in
+    let P : List ℕ → Type 0 = λ x. IsFront parent x in
+    one_front also.front parent other p.is_path.depth q.is_path.depth p.is_path.segments q.is_path.segments (subst P fronts has.is_front) also.is_front

@@ -1,17 +1,17 @@
--- Whether a text is a path is decided, so a tree that is known to be one without a proof at hand has its proof.
-use Rattle.std.specs.Prelude.{◌≡◌, ◌≢◌, ◌≤◌, ◌<◌, ◌+◌, ◌⊎◌, ◌==◌, ℕ, zero, suc, Bool, true, false, List, [], ◌∷◌, ◌++◌, length, codes, Option, Some, None, All, refl}
+-- Whether a text is a path is decided, so a map that is known to be a tree without a proof at hand has its proof.
+use Rattle.std.proofs.Common.{inl, inr, ap, sym, ◌∙◌, subst, arith}
+use Rattle.std.proofs.lemmas.Bool.Decides.{Decides-eqb, Decides-ltb}
+use Rattle.std.proofs.lemmas.List.Elements.{All-cons, All-nil, All-head, All-tail}
 use Rattle.std.specs.Bool.{Decides}
 use Rattle.std.specs.FinMap.{get}
-use Rattle.std.proofs.Common.{sym, ◌∙◌, ap, subst, inl, inr, arith}
-use Rattle.std.proofs.lemmas.Bool.Decides.{Decides-eqb, Decides-ltb}
-use Rattle.std.proofs.lemmas.List.Elements.{All-nil, All-cons, All-head, All-tail}
+use Rattle.std.specs.Prelude.{◌≡◌, ◌⊎◌, Bool, true, false, refl, ◌≢◌, ◌==◌, ℕ, List, ◌∷◌, ◌++◌, All, [], codes, ◌≤◌, ◌+◌, suc, zero, ◌<◌, length, Option, Some, None}
 use mathlib.Core.Logic.{∥∥₁_elim, ∥∥₁_map}
+use Rattle.tree_spec.proofs.PathParts.{IsFront, at_root, at_other, HasLast, last_of, joined_at, no_depth}
+use Rattle.tree_spec.proofs.PathsAbove.{text_same_or_not}
+use Rattle.tree_spec.specs.Paths.{IsSegment, HasDepth, joined, root, child, IsPath}
+use Rattle.tree_spec.specs.Trees.{Tree, IsTree}
 use Rattle.tree_spec.specs.declared.Entry.{Entry}
 use Rattle.tree_spec.specs.declared.Entry.TheVariants.{Stored, Directory}
-use Rattle.tree_spec.specs.Paths.{IsSegment, joined, HasDepth, root, child, IsPath}
-use Rattle.tree_spec.specs.PathLaws.{IsFront, at_root, at_other, joined_at, HasLast, last_of, no_depth}
-use Rattle.tree_spec.specs.TreeLaws.{text_same_or_not}
-use Rattle.tree_spec.specs.Trees.{Tree, IsTree}
 
 by_test : {P : Type 0} (b : Bool) → Decides b P → P ⊎ (P → ⊥)
 by_test true d = inl (d.0 refl)
