@@ -15,7 +15,7 @@ use Rattle.url_spec.specs.Specifiers.{as_url, normalized}
 use Rattle.url_spec.specs.WebNames.{escaped, web, holds_escape}
 use Rattle.url_spec.specs.FileUrls.{file_text, names_host, url_path, spelled_path}
 use Rattle.json_spec.specs.Grammar.{most_brackets}
-use Rattle.json_spec.specs.Reader.{read_json, json_sound}
+use Rattle.json_spec.proofs.PlainReader.{read_json, json_sound}
 use Rattle.import_map_spec.specs.Parsing.{parsed_map, map_from}
 use Rattle.import_map_spec.specs.Literals.{Lists, map_of_lists}
 use Rattle.node_spec.specs.declared.Cause.TheVariants.{NotFound, DirectoryImport}

@@ -2,7 +2,7 @@
 use Rattle.std.specs.Prelude.{ℕ, ◌-◌, List, [], ◌∷◌, ◌++◌, length, flat_map, codes}
 use Rattle.std.specs.Fmt.{decimal}
 pub use Rattle.tree_spec.specs.Limits.{limit_name, limit_number}
-use Rattle.json_spec.specs.Printed.{quoted}
+use Rattle.json_spec.specs.PrintedString.{quoted}
 use Rattle.layout_spec.specs.Layout.{layout}
 use Rattle.layout_spec.specs.Counting.{mapping_count}
 use Rattle.generator_spec.specs.declared.Refusal.{Refusal}

@@ -14,7 +14,7 @@ use Rattle.import_map_spec.specs.Parsing.{in_property_order, parsed_map, ParsesM
 use Rattle.std.specs.Char.{encode_utf8}
 use Rattle.std.specs.Str.{is_utf8, chars}
 use Rattle.json_spec.specs.Grammar.{NotJson, most_brackets}
-use Rattle.json_spec.specs.Reader.{json_sound}
+use Rattle.json_spec.proofs.PlainReader.{json_sound}
 use Rattle.import_map_spec.specs.Entries.{insert_again}
 use Rattle.import_map_spec.specs.Printing.{map_text}
 use Rattle.import_map_spec.specs.PrintedLists.{lists_text}

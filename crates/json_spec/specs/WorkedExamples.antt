@@ -1,25 +1,21 @@
 -- Worked examples.
-use Rattle.std.specs.Prelude.{◌≡◌, ℕ, true, List, [], ◌∷◌, ◌++◌, codes, replicate, Result, Ok, Err}
-use Rattle.std.specs.Char.{encode_utf8}
-use Rattle.std.specs.Str.{is_utf8, chars}
-use Rattle.std.proofs.Common.{refl}
-use Rattle.json_spec.specs.Value.{Json, a_null, a_bool, a_text, a_list, an_object, no_items, an_item, no_members, a_member}
-use Rattle.json_spec.specs.Taken.{taken, refused}
-use Rattle.json_spec.specs.Strings.{escape_at}
+--     PrintedExamples      strings and values as they are printed
+--     TokenExamples      numbers and escapes at the front of bytes
+--     TextExamples, ByteExamples      texts, each with its value or its first fault
+use Rattle.std.specs.Prelude.{◌≡◌, true, [], ◌∷◌, codes, ℕ, List, Err, replicate, Ok, ◌++◌}
+use Rattle.json_spec.specs.Grammar.{NotJson, ReadsJson, TooDeep}
 use Rattle.json_spec.specs.Numbers.{number_at}
-use Rattle.json_spec.specs.Printed.{quoted}
+use Rattle.json_spec.specs.PrintedString.{quoted}
 use Rattle.json_spec.specs.PrintedValue.{printed_text}
-use Rattle.json_spec.specs.Grammar.{Fault, NotJson, TooDeep, ReadsJson, most_brackets}
-use Rattle.json_spec.specs.Reader.{read_json, json_sound}
+use Rattle.json_spec.specs.Strings.{escape_at}
+use Rattle.json_spec.specs.Taken.{taken, refused}
+use Rattle.json_spec.specs.Value.{a_null, a_bool, a_text, a_list, an_object, no_items, an_item, no_members, a_member}
 
 pub record PrintedExamples : Type 0 where
   pub string : quoted (97 ∷ 34 ∷ 60 ∷ 10 ∷ []) ≡ codes "\"a\\\"\\u003c\\u000a\""
   pub value :
       printed_text (an_object (a_member (codes "a") (a_list no_items) (a_member (codes "b") (an_object (a_member (codes "c") a_null no_members)) (a_member (codes "d") (a_list (an_item (a_text (codes "e")) (an_item (a_bool true) no_items))) no_members))))
       ≡ codes "{\n  \"a\": [],\n  \"b\": {\n    \"c\": null\n  },\n  \"d\": [\n    \"e\",\n    true\n  ]\n}\n"
-
-printed_examples : PrintedExamples
-printed_examples = record { string = refl; value = refl }
 
 -- the longest number stands; a surrogate pair is one character, and half of one is none
 pub record TokenExamples : Type 0 where
@@ -34,10 +30,6 @@ pub record TokenExamples : Type 0 where
   pub lone_low : escape_at (codes "ude00") ≡ refused tt
   pub slash : escape_at (codes "/") ≡ taken (codes "/") []
   pub quote : escape_at (codes "'") ≡ refused tt
-
-token_examples : TokenExamples
-unfolding encode_utf8
-token_examples = record { number = refl; zero = refl; point = refl; exponent = refl; minus = refl; pair = refl; lone_high = refl; two_high = refl; lone_low = refl; slash = refl; quote = refl }
 
 -- a text, and its value or its first fault
 abbrev pub Fails : List ℕ → ℕ → Type 0
@@ -63,32 +55,6 @@ pub record TextExamples : Type 0 where
   pub point : Fails (codes "[1.]") 2
   pub not_too_deep : Fails (replicate 128 91) 128
 
-reads : (bytes : List ℕ) (out : Result Json Fault) → read_json bytes ≡ out → ReadsJson bytes out
-reads bytes out e = rw (← e) (json_sound bytes)
-
-text_examples : TextExamples
-unfolding most_brackets is_utf8 chars encode_utf8
-text_examples = record {
-  repeated = reads _ _ refl;
-  spaced = reads _ _ refl;
-  comma = reads _ _ refl;
-  empty = reads _ _ refl;
-  leading_zero = reads _ _ refl;
-  deep = reads _ _ refl;
-  byte_order_mark = reads _ _ refl;
-  word = reads _ _ refl;
-  open_string = reads _ _ refl;
-  bad_escape = reads _ _ refl;
-  control = reads _ _ refl;
-  no_colon = reads _ _ refl;
-  no_name = reads _ _ refl;
-  name_after_comma = reads _ _ refl;
-  second_value = reads _ _ refl;
-  cut_off = reads _ _ refl;
-  point = reads _ _ refl;
-  not_too_deep = reads _ _ refl;
-}
-
 -- bytes that no character has: within a string the string fails, at its opening quote, and elsewhere they begin no token
 pub record ByteExamples : Type 0 where
   pub in_string : Fails (34 ∷ 255 ∷ 34 ∷ []) 0
@@ -98,12 +64,5 @@ pub record ByteExamples : Type 0 where
   pub no_token : Fails (91 ∷ 255 ∷ 93 ∷ []) 1
   pub after_deep : ReadsJson (replicate 129 91 ++ 255 ∷ []) (Err (TooDeep 128))
 
-byte_examples : ByteExamples
-unfolding most_brackets is_utf8 chars encode_utf8
-byte_examples = record { in_string = reads _ _ refl; in_name = reads _ _ refl; cut_character = reads _ _ refl; after_fault = reads _ _ refl; no_token = reads _ _ refl; after_deep = reads _ _ refl }
-
 abbrev pub WorkedExamples : Type 0
 WorkedExamples = PrintedExamples × TokenExamples × TextExamples × ByteExamples
-
-pub worked_examples : WorkedExamples
-worked_examples = (printed_examples, token_examples, text_examples, byte_examples)

@@ -1,12 +1,12 @@
 -- What readers leave is no longer than what they began with.
-use Rattle.std.specs.Prelude.{ℕ, zero, suc, ◌+◌, ◌*◌, ◌<◌, ◌≤◌, Bool, true, false, cond, ◌==◌, List, [], ◌∷◌, length, ⊤, codes, Option, Some, None, encode_utf8}
 use Rattle.std.proofs.Common.{arith}
 use Rattle.std.proofs.lemmas.Bool.{cond_both}
+use Rattle.std.specs.Prelude.{ℕ, ◌≤◌, length, ⊤, ◌<◌, suc, List, Option, Some, None, zero, ◌+◌, ◌*◌, [], ◌∷◌, ◌==◌, Bool, true, false, cond, encode_utf8, codes}
+use Rattle.json_spec.specs.Grammar.{is_space, after_space, as_number, Reading, word_else, scalar_at}
+use Rattle.json_spec.specs.Numbers.{maybe, joined, one_of, is_digit, after_digits, leading_digits, some_digits, digits_at, int_at, frac_at, exp_at, number_at}
+use Rattle.json_spec.specs.Strings.{taken_from, hex_value, hex_digits, behind, is_low_surrogate, pair_character, second_half, four_digits, is_high_surrogate, unicode_character, short_escape, escape_at}
+use Rattle.json_spec.specs.Taken.{Taken, taken, refused, and_then, Read, behind_piece, or_else}
 use Rattle.json_spec.specs.Value.{Json, a_null, a_bool}
-use Rattle.json_spec.specs.Taken.{Taken, taken, refused, Read, and_then, or_else, behind_piece}
-use Rattle.json_spec.specs.Strings.{short_escape, hex_value, taken_from, hex_digits, four_digits, behind, is_high_surrogate, is_low_surrogate, pair_character, second_half, unicode_character, escape_at}
-use Rattle.json_spec.specs.Numbers.{is_digit, leading_digits, after_digits, some_digits, digits_at, joined, maybe, one_of, int_at, frac_at, exp_at, number_at}
-use Rattle.json_spec.specs.Grammar.{Reading, is_space, after_space, word_else, as_number, scalar_at}
 
 -- what is left has at most n bytes, and fewer
 abbrev pub AtMost : {A E : Type 0} → ℕ → Taken A E → Type 0

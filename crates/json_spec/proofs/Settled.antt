@@ -1,9 +1,9 @@
 -- What `settled` does: distinct names stay as they are written, and what comes out has distinct names.
-use Rattle.std.specs.Prelude.{◌≡◌, ℕ, ◌≢◌, true, false, List, ⊤, bytes_eq}
-use Rattle.std.proofs.Common.{refl, ap, sym, ◌∙◌}
-use Rattle.std.proofs.lemmas.Bool.{cond_both, cond-false, false_from_ne_true}
+use Rattle.std.proofs.Common.{refl, ap, ◌∙◌, sym}
+use Rattle.std.proofs.lemmas.Bool.{false_from_ne_true, cond-false, cond_both}
 use Rattle.std.proofs.lemmas.Slice.Eq.{bytes_eq-Decides}
-use Rattle.json_spec.specs.Value.{Json, Members, no_members, a_member, put, settled_onto, settled, IsNewName, AreDistinct}
+use Rattle.std.specs.Prelude.{◌≡◌, ℕ, ◌≢◌, false, List, bytes_eq, ⊤, true}
+use Rattle.json_spec.specs.Value.{Members, no_members, a_member, Json, put, IsNewName, settled_onto, AreDistinct, settled}
 
 pub other_name : (a b : List ℕ) → a ≢ b → bytes_eq a b ≡ false
 other_name a b n = false_from_ne_true _ (λ e. n ((bytes_eq-Decides a b).0 e))

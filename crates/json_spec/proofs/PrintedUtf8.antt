@@ -1,16 +1,15 @@
 -- What is printed is UTF-8 where its texts are.
-use Rattle.std.specs.Prelude.{◌≡◌, ℕ, zero, suc, ◌+◌, ◌/◌, ◌%◌, ◌<◌, ◌≤◌, true, false, ◌||◌, ◌==◌, nat_lt, List, [], ◌∷◌, ◌++◌, codes, IsUtf8, encode_utf8_all}
-use Rattle.std.specs.Char.{encode_utf8}
-use Rattle.std.proofs.Common.{refl, ap, arith}
-use Rattle.std.proofs.Math.Utf8.{scalar, scalars, low_scalar}
-use mathlib.Core.Logic.{inl, inr}
-use Rattle.std.proofs.lemmas.Bool.{cases_lt, cond_both, and_from, and_parts, or_cases, ltb-true, eqb-true}
-use Rattle.std.proofs.lemmas.Str.{encode_ascii, IsUtf8-append, IsUtf8-encode, IsUtf8-nil}
+use Rattle.std.proofs.Common.{ap, arith, refl}
+use Rattle.std.proofs.Math.Utf8.{low_scalar, scalar, scalars}
+use Rattle.std.proofs.lemmas.Bool.{and_from, cond_both, or_cases, ltb-true, eqb-true, cases_lt, and_parts}
 use Rattle.std.proofs.lemmas.Grind.{flat_map-append}
+use Rattle.std.proofs.lemmas.Str.{encode_ascii, IsUtf8-encode, IsUtf8-nil, IsUtf8-append}
+use Rattle.std.specs.Char.{encode_utf8}
+use Rattle.std.specs.Prelude.{ℕ, ◌<◌, List, ◌∷◌, IsUtf8, ◌+◌, nat_lt, ◌/◌, ◌%◌, ◌||◌, ◌==◌, ◌++◌, ◌≡◌, ◌≤◌, [], true, encode_utf8_all, zero, suc, codes, false}
+use mathlib.Core.Logic.{inl, inr}
+use Rattle.json_spec.specs.PrintedString.{hex_digit, unicode_escape, escaped_byte, escaped, quoted}
+use Rattle.json_spec.specs.PrintedValue.{margin, line, printed, printed_items, printed_members, IsPrintable, ArePrintable, MembersArePrintable, printed_text}
 use Rattle.json_spec.specs.Value.{Json, a_null, a_bool, a_number, a_text, a_list, an_object, Items, no_items, an_item, Members, no_members, a_member}
-use Rattle.json_spec.specs.Printed.{hex_digit, unicode_escape, escaped_byte, escaped, quoted}
-use Rattle.json_spec.specs.PrintedValue.{margin, line, printed, printed_items, printed_members, printed_text}
-use Rattle.json_spec.specs.ValueBack.{IsPrintable, ArePrintable, MembersArePrintable}
 
 pub ascii_first : (b : ℕ) (bytes : List ℕ) → b < 128 → IsUtf8 bytes → IsUtf8 (b ∷ bytes)
 ascii_first b bytes l u = (b ∷ u.0, (and_from _ _ (low_scalar b (omega arith)) u.1.0, rw (encode_ascii b l) (ap (λ (xs : List ℕ). b ∷ xs) u.1.1)))

@@ -1,7 +1,8 @@
 -- The printed form of a string. RFC 8259, 7, leaves a choice of spelling, and this is the one that is written.
---     quoted text      the printed string with its quotes;        escaped text      without them
-use Rattle.std.specs.Prelude.{ℕ, ◌+◌, ◌/◌, ◌%◌, List, [], ◌∷◌, ◌++◌, ◌||◌, ◌==◌, nat_lt, if◌then◌else◌}
+--     quoted text      the printed string with its quotes
+--     escaped text      the printed string without them
 use Rattle.std.specs.List.{flat_map}
+use Rattle.std.specs.Prelude.{ℕ, ◌+◌, nat_lt, if◌then◌else◌, ◌/◌, ◌%◌, List, [], ◌∷◌, ◌||◌, ◌==◌, ◌++◌}
 
 -- own: a hexadecimal digit is a lower case one
 abbrev pub hex_digit : ℕ → ℕ

@@ -1,16 +1,14 @@
 -- A plain reader: each text has an outcome. Its first argument bounds how many bytes it reads.
-use Rattle.std.specs.Prelude.{◌≡◌, ℕ, zero, suc, ◌<◌, ◌≤◌, ◌≢◌, Bool, true, false, ◌==◌, nat_lt, List, [], ◌∷◌, length, if◌then◌else◌, Result, IsUtf8}
 use Rattle.std.proofs.Common.{refl, arith}
-use Rattle.std.specs.Str.{is_utf8}
-use Rattle.std.proofs.lemmas.Str.{IsUtf8-from_is_utf8, is_utf8-from_IsUtf8}
 use Rattle.std.proofs.lemmas.Bool.{eqb-true, eqb-false, ltb-true, ltb-false}
-use Rattle.json_spec.specs.Value.{Json, Items, no_items, Members, no_members}
-use Rattle.json_spec.specs.Taken.{taken, refused, Read, and_then, behind_piece}
-use Rattle.json_spec.specs.Strings.{ReadsText, close, plain, escape, no_escape, control, text_ends, escape_at, ReadsString, in_utf8, no_utf8, no_string}
-use Rattle.json_spec.specs.Grammar.{Fault, TooDeep, Reading, after_space, fault_here, text_behind, colon_at, scalar_at, ReadsName, name_text, no_name, name_ends, Member, a_pair, paired, ReadsMember, member_value, member_name, behind_member, behind_item, MoreMembers, members_close, members_next, members_fault, members_other, members_end, ReadsMembers, no_member, first_member, member_fault, object_ends, MoreItems, items_close, items_next, items_fault, items_other, items_end, ReadsItems, no_item, first_item, item_fault, list_ends, as_text, as_list, as_object, ReadsWith, reads_text, reads_list, reads_object, reads_scalar, value_ends, IsTooDeep, Reads, ReadsJson, json_text, most_brackets, whole_text, with_offset}
-use Rattle.json_spec.specs.Shorter.{AtMost, Below, more_room, less_room, escape_at_most, space_at_most, scalar_below}
-
--- ---- strings
+use Rattle.std.proofs.lemmas.Str.{is_utf8-from_IsUtf8, IsUtf8-from_is_utf8}
+use Rattle.std.specs.Prelude.{ℕ, Bool, true, false, List, [], ◌∷◌, nat_lt, ◌==◌, zero, suc, length, ◌≡◌, ◌≤◌, ◌≢◌, ◌<◌, IsUtf8, if◌then◌else◌, Result}
+use Rattle.std.specs.Str.{is_utf8}
+use Rattle.json_spec.proofs.Shorter.{AtMost, more_room, escape_at_most, Below, space_at_most, less_room, scalar_below}
+use Rattle.json_spec.specs.Grammar.{Reading, after_space, fault_here, text_behind, colon_at, ReadsName, name_text, no_name, name_ends, Member, paired, a_pair, behind_member, behind_item, ReadsMember, member_value, member_name, MoreMembers, members_close, members_next, members_fault, members_other, members_end, ReadsMembers, no_member, first_member, member_fault, object_ends, MoreItems, items_close, items_next, items_fault, items_other, items_end, ReadsItems, no_item, first_item, item_fault, list_ends, scalar_at, as_object, as_list, as_text, TooDeep, ReadsWith, reads_text, reads_list, reads_object, reads_scalar, value_ends, IsTooDeep, Reads, Fault, most_brackets, whole_text, with_offset, ReadsJson, json_text}
+use Rattle.json_spec.specs.Strings.{escape_at, ReadsText, close, plain, escape, no_escape, control, text_ends, ReadsString, in_utf8, no_utf8, no_string}
+use Rattle.json_spec.specs.Taken.{refused, Read, behind_piece, and_then, taken}
+use Rattle.json_spec.specs.Value.{Json, Members, no_members, Items, no_items}
 
 abbrev text_plain : (List ℕ → Read (List ℕ)) → ℕ → List ℕ → Bool → Read (List ℕ)
 text_plain next b bytes true = refused tt

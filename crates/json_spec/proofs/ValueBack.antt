@@ -1,36 +1,15 @@
 -- What is printed reads back.
-use Rattle.std.specs.Prelude.{◌≡◌, ℕ, zero, suc, ◌≢◌, true, false, List, [], ◌∷◌, ◌++◌, ⊤, codes, IsUtf8}
-use Rattle.std.proofs.Common.{refl, ◌∙◌, append_assoc}
-use Rattle.json_spec.specs.Value.{Json, a_null, a_bool, a_number, a_text, a_list, an_object, Items, no_items, an_item, Members, no_members, a_member, settled, AreDistinct}
-use Rattle.std.proofs.Common.{arith}
+use Rattle.std.proofs.Common.{refl, arith, ◌∙◌, append_assoc}
 use Rattle.std.proofs.lemmas.Bool.{cond-false}
-use Rattle.json_spec.specs.Settled.{settled_distinct}
-use Rattle.json_spec.specs.Taken.{taken}
+use Rattle.std.specs.Prelude.{◌≡◌, ℕ, zero, suc, List, ◌≢◌, false, ◌∷◌, true, ◌++◌, IsUtf8, codes, []}
+use Rattle.json_spec.proofs.Settled.{settled_distinct}
+use Rattle.json_spec.proofs.TextBack.{text_back}
+use Rattle.json_spec.specs.Grammar.{after_space, is_space, Reading, a_pair, ReadsMember, MoreMembers, ReadsMembers, first_member, MoreItems, ReadsItems, first_item, ReadsWith, Reads, ReadsName, name_text, reads_text, member_value, reads_list, reads_object, members_close, members_next, no_member, items_close, items_next, no_item, reads_scalar}
+use Rattle.json_spec.specs.PrintedString.{quoted}
+use Rattle.json_spec.specs.PrintedValue.{margin, printed, IsPrintable, line, printed_items, printed_members, ArePrintable, MembersArePrintable, printed_text}
 use Rattle.json_spec.specs.Strings.{in_utf8}
-use Rattle.json_spec.specs.Printed.{quoted}
-use Rattle.json_spec.specs.PrintedValue.{margin, line, printed, printed_items, printed_members, printed_text}
-use Rattle.json_spec.specs.TextBack.{text_back}
-use Rattle.json_spec.specs.Grammar.{Reading, is_space, after_space, ReadsName, name_text, a_pair, ReadsMember, member_value, MoreMembers, members_close, members_next, ReadsMembers, no_member, first_member, MoreItems, items_close, items_next, ReadsItems, no_item, first_item, ReadsWith, reads_text, reads_list, reads_object, reads_scalar, Reads}
-
--- a value that is read back: no number, distinct names, texts in UTF-8, and no more than depth brackets open at once
-abbrev mutual
-  pub IsPrintable : ℕ → Json → Type 0
-  IsPrintable depth a_null = ⊤
-  IsPrintable depth (a_bool b) = ⊤
-  IsPrintable depth (a_number number) = ⊥
-  IsPrintable depth (a_text text) = IsUtf8 text
-  IsPrintable zero (a_list vs) = ⊥
-  IsPrintable (suc depth) (a_list vs) = ArePrintable depth vs
-  IsPrintable zero (an_object ms) = ⊥
-  IsPrintable (suc depth) (an_object ms) = AreDistinct ms × MembersArePrintable depth ms
-
-  pub ArePrintable : ℕ → Items → Type 0
-  ArePrintable depth no_items = ⊤
-  ArePrintable depth (an_item value more) = IsPrintable depth value × ArePrintable depth more
-
-  pub MembersArePrintable : ℕ → Members → Type 0
-  MembersArePrintable depth no_members = ⊤
-  MembersArePrintable depth (a_member name value more) = IsUtf8 name × IsPrintable depth value × MembersArePrintable depth more
+use Rattle.json_spec.specs.Taken.{taken}
+use Rattle.json_spec.specs.Value.{Json, a_null, a_bool, a_number, a_text, a_list, an_object, no_items, an_item, no_members, a_member, Items, Members, settled, AreDistinct}
 
 after_margin : (n : ℕ) (rest : List ℕ) → after_space (margin n rest) ≡ after_space rest
 after_margin zero rest = refl

@@ -1,12 +1,12 @@
 -- A printed string reads back as its text, and is UTF-8 where its text is.
-use Rattle.std.specs.Prelude.{◌≡◌, ℕ, ◌+◌, ◌*◌, ◌/◌, ◌%◌, ◌<◌, ◌≤◌, ◌⊎◌, true, false, cond, ◌||◌, ◌==◌, ◌&&◌, nat_lt, nat_le, List, [], ◌∷◌, ◌++◌, Some}
-use Rattle.std.proofs.Common.{refl, ap, ◌∙◌, arith, append_assoc}
-use mathlib.Core.Logic.{inl, inr}
-use Rattle.std.proofs.lemmas.Bool.{cond_both, cond-true, cond-false, or_cases, or_parts, eqb-true, eqb-false, ltb-true, ltb-false, le-leb, lt-leb, and_from, and_left, and_right}
+use Rattle.std.proofs.Common.{ap, ◌∙◌, arith, refl, append_assoc}
+use Rattle.std.proofs.lemmas.Bool.{le-leb, and_from, lt-leb, and_right, cond_both, cond-true, cond-false, ltb-true, ltb-false, and_left, or_cases, or_parts, eqb-true, eqb-false}
 use Rattle.std.proofs.lemmas.Str.{encode_ascii}
-use Rattle.json_spec.specs.Printed.{hex_digit, unicode_escape, escaped_byte, escaped}
+use Rattle.std.specs.Prelude.{◌≡◌, ℕ, ◌≤◌, true, ◌&&◌, nat_le, ◌<◌, false, ◌+◌, nat_lt, Some, ◌*◌, List, ◌∷◌, [], ◌/◌, ◌%◌, ◌⊎◌, cond, ◌||◌, ◌==◌, ◌++◌}
+use mathlib.Core.Logic.{inl, inr}
+use Rattle.json_spec.specs.PrintedString.{hex_digit, unicode_escape, escaped_byte, escaped}
+use Rattle.json_spec.specs.Strings.{hex_value, four_digits, unicode_character, escape_at, ReadsText, plain, escape, close}
 use Rattle.json_spec.specs.Taken.{taken, and_then}
-use Rattle.json_spec.specs.Strings.{ReadsText, close, plain, escape, escape_at, hex_value, four_digits, unicode_character}
 
 within : (low high x : ℕ) → low ≤ x → x ≤ high → (nat_le low x && nat_le x high) ≡ true
 within low high x l h = and_from _ _ (le-leb low x l) (le-leb x high h)

@@ -1,12 +1,13 @@
 -- In each object of a value that a text has, at every level, no name stands twice.
-use Rattle.std.specs.Prelude.{ℕ, zero, suc, List, [], ◌∷◌, ⊤, codes, Option, Some, None, Result, bytes_eq, IfOk}
 use Rattle.std.proofs.lemmas.Bool.{cond_both}
-use Rattle.json_spec.specs.Value.{Json, an_object, Items, Members, no_members, a_member, put, settled_onto, settled, HasDistinctNames, ItemsHaveDistinctNames, MembersHaveDistinctNames}
-use Rattle.json_spec.specs.Settled.{distinct_settled}
-use Rattle.json_spec.specs.Taken.{Taken, taken, refused, Read}
-use Rattle.json_spec.specs.Strings.{behind}
+use Rattle.std.specs.Prelude.{⊤, ℕ, List, bytes_eq, Option, Some, None, codes, ◌∷◌, zero, suc, [], IfOk}
+use Rattle.json_spec.proofs.Settled.{distinct_settled}
+use Rattle.json_spec.specs.Grammar.{Reading, behind_item, behind_member, as_list, as_object, as_text, as_number, word_else, scalar_at, Member, a_pair, paired, ReadsMember, member_value, member_name, MoreMembers, members_close, members_next, members_fault, members_other, members_end, ReadsMembers, no_member, first_member, member_fault, object_ends, MoreItems, items_close, items_next, items_fault, items_other, items_end, ReadsItems, no_item, first_item, item_fault, list_ends, ReadsWith, reads_text, reads_list, reads_object, reads_scalar, value_ends, IsTooDeep, after_space, Reads, alone, whole_text, with_offset, json_text, most_brackets}
+use Rattle.json_spec.specs.Laws.{NamesAreDistinct}
 use Rattle.json_spec.specs.Numbers.{number_at}
-use Rattle.json_spec.specs.Grammar.{Fault, Reading, after_space, Member, a_pair, ReadsMember, member_value, member_name, paired, MoreMembers, members_close, members_next, members_fault, members_other, members_end, ReadsMembers, no_member, first_member, member_fault, object_ends, MoreItems, items_close, items_next, items_fault, items_other, items_end, ReadsItems, no_item, first_item, item_fault, list_ends, behind_member, behind_item, as_text, as_list, as_object, as_number, word_else, scalar_at, ReadsWith, reads_text, reads_list, reads_object, reads_scalar, value_ends, IsTooDeep, Reads, ReadsJson, json_text, most_brackets, alone, whole_text, with_offset}
+use Rattle.json_spec.specs.Strings.{behind}
+use Rattle.json_spec.specs.Taken.{Taken, taken, refused, Read}
+use Rattle.json_spec.specs.Value.{Json, Members, no_members, a_member, put, HasDistinctNames, MembersHaveDistinctNames, settled_onto, an_object, settled, Items, ItemsHaveDistinctNames}
 
 abbrev IfTaken : {A E : Type 0} → (A → Type 0) → Taken A E → Type 0
 IfTaken P (taken x rest) = P x
@@ -119,10 +120,6 @@ whole_names n (taken v rest) d = alone_names (after_space rest)
     alone_names [] = d
     alone_names (b ∷ more) = tt
 whole_names n (refused f) d = tt
-
--- own law: a value that a text has holds no name twice in one object
-abbrev pub NamesAreDistinct : Type 0
-NamesAreDistinct = (bytes : List ℕ) (out : Result Json Fault) → ReadsJson bytes out → IfOk out HasDistinctNames
 
 pub names_are_distinct : NamesAreDistinct
 names_are_distinct bytes out (json_text o r) = whole_names _ o (reads_names most_brackets _ o r)
