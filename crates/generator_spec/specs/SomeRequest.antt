@@ -16,7 +16,9 @@ use Rattle.tree_spec.specs.Trees.{Tree}
 use Rattle.tree_spec.proofs.PathsAbove.{text_same_or_not}
 use Rattle.url_spec.specs.FileUrls.{names_host, url_path, escapes_separator, spelled_path, NamesPath}
 use Rattle.url_spec.specs.Specifiers.{as_url, is_relative}
-use Rattle.url_spec.specs.WebNames.{web, before_suffix, holds_escape, read_segment, segments, IsServed}
+use Rattle.url_spec.specs.WebNames.{web}
+use Rattle.url_spec.specs.Suffixes.{before_suffix}
+use Rattle.url_spec.specs.ServedPaths.{holds_escape, read_segment, segments, IsServed}
 use Rattle.node_spec.specs.declared.Cause.{Cause}
 use Rattle.node_spec.specs.declared.Cause.TheVariants as cause
 use Rattle.node_spec.specs.Resolution.{Answer, Resolved, Refused, joined_url, Resolves}

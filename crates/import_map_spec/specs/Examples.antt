@@ -7,7 +7,8 @@ use Rattle.import_map_spec.specs.declared.MapPart.{MapPart}
 use Rattle.import_map_spec.specs.ParsedMap.{Texts, Addresses, ParsedMap, NoJson, NotObject}
 use Rattle.url.proofs.OnLiterals.{url_on_literals}
 use Rattle.json_spec.specs.Value.{Json, a_null, a_bool, a_number, a_text, a_list, an_object, no_items, Members, no_members, a_member}
-use Rattle.url_spec.specs.Parsing.{text_of, parse_alone, parse_against, has_special_scheme}
+use Rattle.url_spec.specs.Parsing.{text_of, parse_alone, parse_against}
+use Rattle.url_spec.specs.Schemes.{has_special_scheme}
 use Rattle.url_spec.specs.Specifiers.{as_url, normalized}
 use Rattle.import_map_spec.specs.declared.MapPart.TheVariants.{Top, Imports, Scopes, Scope, Integrity}
 use Rattle.import_map_spec.specs.Parsing.{in_property_order, parsed_map, ParsesMap}

@@ -1,11 +1,10 @@
 pub mod Parsing
 pub mod Schemes
+pub mod Bases
 pub mod Specifiers
 pub mod WebNames
+pub mod Suffixes
+pub mod ServedPaths
 pub mod FileUrls
-pub mod UrlLaws
-pub mod FileUrlLaws
-pub mod AgainstLaws
-pub mod OwnTexts
-pub mod FileNames
-pub mod Examples
+pub mod Laws
+pub mod WorkedExamples

@@ -1,6 +1,6 @@
 ghost use Rattle.std.specs.Prelude.{◌≡◌, IfOk, IfSome, IsAscii};
-ghost use Rattle.url_spec.specs.Parsing.{parse_alone, parse_against, has_special_scheme, IsUrl};
-ghost use Rattle.url_spec.specs.Schemes.{url_scheme};
+ghost use Rattle.url_spec.specs.Parsing.{parse_alone, parse_against, IsUrl};
+ghost use Rattle.url_spec.specs.Schemes.{has_special_scheme, url_scheme};
 ghost use Rattle.web_url.specs.Written.{IsParsedAs};
 
 use crate::url_text;

@@ -1,30 +1,31 @@
 -- The web name of a file's path ends in no `/`.
-use Rattle.std.proofs.Common.{◌≡◌, ◌≢◌, ℕ, ◌-◌, ◌<◌, true, false, not, ◌==◌, List, [], ◌∷◌, ◌++◌, length, take, drop, reverse, Option, Some, None, All, sym, refl, ap, ◌∙◌, subst, arith, append_assoc, append-nil}
-use Rattle.std.specs.Prelude.{◌⊎◌, flat_map, codes, nat_eq, Ok, Err}
-use Rattle.std.specs.List.{prefix_len, suffix_len, ends_with, onto_first}
-use mathlib.Core.Logic.{inl, inr}
-use Rattle.std.proofs.lemmas.Bool.{cond-true, cond-false, cases_Bool, true≢false, ne_eqb}
+use Rattle.std.proofs.Common.{◌≡◌, ℕ, false, not, List, ◌++◌, length, All, sym, ap, ◌∙◌, subst, ◌≢◌, ◌<◌, arith, [], drop, ◌-◌, take, None, refl, Option, Some, true, ◌==◌, ◌∷◌, append-nil, reverse, append_assoc}
+use Rattle.std.proofs.Math.Seq.{take-append_seam, take-length}
+use Rattle.std.proofs.lemmas.Bool.{true≢false, cond-true, cond-false, cases_Bool, ne_eqb}
 use Rattle.std.proofs.lemmas.Bool.Decides.{nat_tests}
-use Rattle.std.specs.Cmp.Lexicographic.{same_text}
 use Rattle.std.proofs.lemmas.Grind.{flat_map-append}
 use Rattle.std.proofs.lemmas.List.{take-append-drop, reverse-append}
-use Rattle.std.proofs.lemmas.List.Elements.{All-nil, All-cons, All-append, All-take, All-drop, All-filter, All-weaker}
-use Rattle.std.proofs.Math.Seq.{take-append_seam, take-length}
-use Rattle.percent_encoding.specs.Percent.{percent_decode}
+use Rattle.std.proofs.lemmas.List.Elements.{All-take, All-weaker, All-nil, All-append, All-drop, All-filter, All-cons}
+use Rattle.std.specs.Cmp.Lexicographic.{same_text}
+use Rattle.std.specs.List.{prefix_len, suffix_len, ends_with, onto_first}
+use Rattle.std.specs.Prelude.{Ok, Err, codes, nat_eq, ◌⊎◌, flat_map}
+use mathlib.Core.Logic.{inl, inr}
 use Rattle.percent_encoding.proofs.PercentLemmas.{IsEscapeByte}
-use Rattle.url.specs.Input.{lowercase, trim_start, is_c0_control_or_space, trim_c0_control_and_space, strip_tabs_and_new_lines, is_tab_or_new_line, split_once}
-use Rattle.url.specs.declared.slicing.Position.TheVariants.{AfterQuery}
-use Rattle.url.specs.Parts.{Parts, IsValid, serialize, text_before}
-use Rattle.url.specs.Parser.{Parsed, and_then, parse_body, with_tail, before_tail, parse_parts, split_scheme, parse_by_scheme, parse_url}
-use Rattle.url.proofs.InputLemmas.{IsNot, Passes, split_once_none, prefix_len_at, All-take-prefix_len}
+use Rattle.percent_encoding.specs.Percent.{percent_decode}
+use Rattle.url.proofs.InputLemmas.{IsNot, Passes, All-take-prefix_len, split_once_none, prefix_len_at}
 use Rattle.url.proofs.RoundTrip.{split_fragment, split_query}
-use Rattle.tree_spec.specs.Paths.{IsPath}
+use Rattle.url.specs.Input.{trim_start, is_c0_control_or_space, trim_c0_control_and_space, strip_tabs_and_new_lines, is_tab_or_new_line, lowercase, split_once}
+use Rattle.url.specs.Parser.{Parsed, and_then, with_tail, before_tail, parse_body, parse_parts, parse_by_scheme, split_scheme, parse_url}
+use Rattle.url.specs.Parts.{Parts, IsValid, serialize, text_before}
+use Rattle.url.specs.declared.slicing.Position.TheVariants.{AfterQuery}
 use Rattle.tree_spec.proofs.PathParts.{last_of}
+use Rattle.tree_spec.specs.Paths.{IsPath}
+use Rattle.url_spec.proofs.FileUrls.{All_escaped}
+use Rattle.url_spec.specs.Laws.{FilesEndInNoSlash}
 use Rattle.url_spec.specs.Parsing.{text_of}
-use Rattle.url_spec.specs.WebNames.{is_plain, escaped, is_suffix_mark, before_suffix, segments, read_segment, IsServed}
-use Rattle.url_spec.specs.FileUrlLaws.{All_escaped}
-
--- ---- no `?` and no `#` is parsed
+use Rattle.url_spec.specs.ServedPaths.{IsServed, segments, read_segment}
+use Rattle.url_spec.specs.Suffixes.{is_suffix_mark, before_suffix}
+use Rattle.url_spec.specs.WebNames.{is_plain, escaped}
 
 -- a base under which a URL is served has none
 served_base : (mark : ℕ) (base url path : List ℕ) → not (is_suffix_mark mark) ≡ false → IsServed base url path → All (IsNot mark) base
@@ -184,13 +185,6 @@ slash_serves_folder base url path front served not_root whole ends =
           no_final_slash path (flat_map read_segment (segments some.0)) served.is_path not_root
           (served.spelled ∙ (ap (λ rest. flat_map read_segment (segments rest)) (some.2 ∙ ap (λ c. some.0 ++ c ∷ []) b) ∙ slash_spelled some.0))
     ]
-
--- own law: where the parse of a path's web name without a suffix is valid, as that of each URL is, and the path is served
--- there and isn't the root, the web name ends in no `/`
-abbrev pub FilesEndInNoSlash : Type 0
-FilesEndInNoSlash =
-    (base path : List ℕ) (url : Parts) → parse_url None (base ++ (drop 1 (escaped path) ++ [])) ≡ Ok url → IsValid url → All (λ b. b < 256) path → IsServed base (text_of url) path → path ≢ codes "/"
-    → ends_with nat_eq (text_of url) (codes "/") ≡ false
 
 pub files_end_in_no_slash : FilesEndInNoSlash
 unfolding text_of

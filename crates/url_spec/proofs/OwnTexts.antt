@@ -1,21 +1,22 @@
 -- The texts of URLs: they are ASCII, and each URL that the parser writes counts.
-use Rattle.std.proofs.Common.{◌≡◌, ℕ, suc, true, List, [], ◌∷◌, Some, None, refl, ap, ◌∙◌}
-use Rattle.std.specs.Prelude.{Ok}
-use Rattle.std.specs.Char.{is_ascii}
-use Rattle.std.specs.List.{list_all}
-use Rattle.std.specs.Str.{IsAscii, IsUtf8}
-use Rattle.std.proofs.lemmas.Bool.{cond-true, and_parts, and_from, ltb-true, lt-ltb}
+use Rattle.std.proofs.Common.{◌≡◌, ℕ, suc, true, List, [], ◌∷◌, refl, None, Some, ap, ◌∙◌}
+use Rattle.std.proofs.lemmas.Bool.{and_from, lt-ltb, and_parts, ltb-true, cond-true}
 use Rattle.std.proofs.lemmas.Slice.Eq.{bytes_eq-Decides}
 use Rattle.std.proofs.lemmas.Str.{IsUtf8-from_ascii}
 use Rattle.std.proofs.lemmas.Str.Ascii.{IsAscii-nil, IsAscii-cons}
-use Rattle.url.specs.Parts.{Parts, IsValid}
-use Rattle.url.specs.Parser.{parse_url}
-use Rattle.url.specs.Canonical.{IsCanonical}
-use Rattle.url.proofs.ValidLemmas.{IsAscii-serialize}
-use Rattle.url.proofs.Theorems.{parse_url-serialize}
+use Rattle.std.specs.Char.{is_ascii}
+use Rattle.std.specs.List.{list_all}
+use Rattle.std.specs.Prelude.{Ok}
+use Rattle.std.specs.Str.{IsAscii, IsUtf8}
 use Rattle.url.proofs.ParsedCanonical.{parse_url_canonical}
-use Rattle.url_spec.specs.Parsing.{text_of, url_text, is_text, is_own_text, kept, parse_alone, parse_onto, parse_against, IsUrl}
-use Rattle.url_spec.specs.UrlLaws.{kept_some, url_from_test}
+use Rattle.url.proofs.Theorems.{parse_url-serialize}
+use Rattle.url.proofs.ValidLemmas.{IsAscii-serialize}
+use Rattle.url.specs.Canonical.{IsCanonical}
+use Rattle.url.specs.Parser.{parse_url}
+use Rattle.url.specs.Parts.{Parts, IsValid}
+use Rattle.url_spec.proofs.KeptUrls.{kept_some, url_from_test}
+use Rattle.url_spec.specs.Laws.{AsciiUrls, KeptWhole}
+use Rattle.url_spec.specs.Parsing.{url_text, parse_alone, IsUrl, is_text, is_own_text, kept, text_of, parse_onto, parse_against}
 
 all_pass : (text : List ℕ) → IsAscii text → list_all is_ascii text ≡ true
 all_pass [] ascii = refl
@@ -24,11 +25,6 @@ all_pass (b ∷ text) ascii = and_from _ _ (lt-ltb b 128 (ascii 0)) (all_pass te
 all_below : (text : List ℕ) → list_all is_ascii text ≡ true → IsAscii text
 all_below [] e = IsAscii-nil
 all_below (b ∷ text) e = let p = and_parts _ _ e in IsAscii-cons b text (ltb-true b 128 p.0) (all_below text p.1)
-
--- ---- a URL's text is ASCII, and so UTF-8
-
-abbrev pub AsciiUrls : Type 0
-AsciiUrls = (url : List ℕ) → IsUrl url → IsAscii url
 
 pub ascii_urls : AsciiUrls
 unfolding parse_alone
@@ -69,15 +65,6 @@ unfolding parse_against
 against_whole base url text valid_base canonical e valid =
     ap (λ parsed. parse_onto parsed text) (text_of_back base valid_base canonical)
     ∙ (ap (λ parsed. kept (url_text parsed)) e ∙ kept_text url valid (parse_url_canonical (Some base) text url (valid_base, canonical) valid e))
-
-abbrev pub WholeAlone : Type 0
-WholeAlone = (text : List ℕ) (url : Parts) → parse_url None text ≡ Ok url → IsValid url → parse_alone text ≡ Some (text_of url)
-
-abbrev pub WholeAgainst : Type 0
-WholeAgainst = (base url : Parts) (text : List ℕ) → IsValid base → IsCanonical base → parse_url (Some base) text ≡ Ok url → IsValid url → parse_against (text_of base) text ≡ Some (text_of url)
-
-abbrev pub KeptWhole : Type 0
-KeptWhole = WholeAlone × WholeAgainst
 
 pub kept_whole : KeptWhole
 kept_whole = (alone_whole, against_whole)

@@ -1,35 +1,34 @@
 -- The URL of a path is a URL, without a host, and its path is the escaped path.
-use Rattle.std.proofs.Common.{◌≡◌, IsAscii, ◌≢◌, ℕ, suc, ◌<◌, ◌≤◌, ◌/◌, ◌%◌, Bool, true, false, not, cond, ◌==◌, ◌&&◌, ◌||◌, List, [], ◌∷◌, ◌++◌, length, take, drop, codes, Some, None, All, sym, refl, ap, ◌∙◌, subst, inl, ⊎_elim, append-nil, arith}
-use Rattle.std.specs.Prelude.{bytes_eq, slice_index, if◌then◌else◌, Ok}
-use Rattle.std.specs.Fmt.{digit_glyph}
-use Rattle.std.proofs.lemmas.Bool.{cond-true, cond-false, cases_Bool, cases_eq, cases_lt, true≢false, eqb-true, ne_eqb, and_parts, or_cases}
+use Rattle.std.proofs.Common.{ℕ, List, [], ◌∷◌, ◌≡◌, ◌++◌, refl, true, ap, ◌∙◌, false, All, sym, subst, ⊎_elim, ◌<◌, length, arith, ◌≤◌, ◌≢◌, ◌/◌, ◌%◌, Bool, ◌==◌, ◌&&◌, ◌||◌, not, suc, codes, append-nil, cond, Some, None, inl, take, drop, IsAscii}
+use Rattle.std.proofs.lemmas.Bool.{cond-true, cond-false, cases_Bool, cases_lt, true≢false, cases_eq, ne_eqb, eqb-true, and_parts, or_cases}
 use Rattle.std.proofs.lemmas.Bool.Decides.{nat_tests}
 use Rattle.std.proofs.lemmas.Grind.{flat_map-append}
 use Rattle.std.proofs.lemmas.List.{length-append}
 use Rattle.std.proofs.lemmas.List.Elements.{All-nil, All-cons, All-head, All-tail, All-append, All-weaker, All-push, All-take, All-drop}
-use Rattle.percent_encoding.specs.Percent.{IsKept, percent_encode_byte}
+use Rattle.std.specs.Fmt.{digit_glyph}
+use Rattle.std.specs.Prelude.{if◌then◌else◌, bytes_eq, slice_index, Ok}
+use Rattle.std.specs.Result.{result_ok}
 use Rattle.percent_encoding.proofs.PercentLemmas.{IsEscapeByte, All-percent_encode_byte}
-use Rattle.url.specs.declared.sets.TheConstants.{PATH}
-use Rattle.url.specs.declared.host.Host.TheVariants.{Domain}
-use Rattle.url.specs.declared.scheme.SchemeType.TheVariants.{File}
-use Rattle.url.specs.Scheme.{is_slash, scheme_type}
-use Rattle.url.specs.Path.{IsSegment, join_segments, dot_len, dot_count, segment_len, is_windows_drive_letter}
-use Rattle.url.specs.Parts.{Parts, serialize, IsValid}
-use Rattle.url.specs.Parser.{parse_url}
-use Rattle.url.specs.Canonical.{IsCanonical}
-use Rattle.url.proofs.SetLemmas.{checked, kept_from_passes, kept_from_escape}
+use Rattle.percent_encoding.specs.Percent.{percent_encode_byte, IsKept}
 use Rattle.url.proofs.SchemeLemmas.{IsScheme_file}
+use Rattle.url.proofs.SetLemmas.{kept_from_passes, checked, kept_from_escape}
 use Rattle.url.proofs.SetterLemmas.{empty_domain}
 use Rattle.url.proofs.Theorems.{parse_url-serialize}
-use Rattle.tree_spec.specs.Paths.{IsPath, HasDepth, root, child, IsSegment as IsName}
-use Rattle.std.specs.Result.{result_ok}
-use Rattle.url_spec.specs.Parsing.{text_of, url_text, IsUrl}
-use Rattle.url_spec.specs.OwnTexts.{url_from_parse}
 use Rattle.url.proofs.ValidLemmas.{IsAscii-serialize}
-use Rattle.url_spec.specs.WebNames.{is_plain, escaped}
+use Rattle.url.specs.Canonical.{IsCanonical}
+use Rattle.url.specs.Parser.{parse_url}
+use Rattle.url.specs.Parts.{Parts, serialize, IsValid}
+use Rattle.url.specs.Path.{dot_len, dot_count, IsSegment, join_segments, is_windows_drive_letter, segment_len}
+use Rattle.url.specs.Scheme.{is_slash, scheme_type}
+use Rattle.url.specs.declared.host.Host.TheVariants.{Domain}
+use Rattle.url.specs.declared.scheme.SchemeType.TheVariants.{File}
+use Rattle.url.specs.declared.sets.TheConstants.{PATH}
+use Rattle.tree_spec.specs.Paths.{IsSegment as IsName, HasDepth, root, child, IsPath}
+use Rattle.url_spec.proofs.OwnTexts.{url_from_parse}
 use Rattle.url_spec.specs.FileUrls.{file_text, with_host, names_host, path_or_empty, url_path}
-
--- ---- the bytes of an escaped path
+use Rattle.url_spec.specs.Laws.{FileUrls}
+use Rattle.url_spec.specs.Parsing.{text_of, url_text, IsUrl}
+use Rattle.url_spec.specs.WebNames.{is_plain, escaped}
 
 abbrev escaped_byte : ℕ → List ℕ
 escaped_byte b = if is_plain b then b ∷ [] else percent_encode_byte b
@@ -238,8 +237,6 @@ file_canonical path no_bar = record {
   drive = drive_colon (take (segment_len File (drop 1 path)) (drop 1 path)) (All-take (λ b. b ≢ 124) _ _ (All-drop (λ b. b ≢ 124) 1 path no_bar));
 }
 
--- ---- the law
-
 abbrev folder_slash : List ℕ → Bool → List ℕ
 folder_slash path folder = if folder && not (bytes_eq path (codes "/")) then codes "/" else []
 
@@ -279,9 +276,6 @@ file_path_ascii : (path : List ℕ) (folder : Bool) → IsPath path → All (λ 
 unfolding file_text
 file_path_ascii path folder is small =
     subst IsAscii (file_serialized (escaped path ++ folder_slash path folder)) (IsAscii-serialize (file_parts (escaped path ++ folder_slash path folder)) (file_path_valid path folder is small))
-
-abbrev pub FileUrls : Type 0
-FileUrls = (path : List ℕ) (folder : Bool) → IsPath path → All (λ b. b < 256) path → IsUrl (file_text path folder) × (names_host (file_text path folder) ≡ false) × (file_text path folder ≡ codes "file://" ++ url_path (file_text path folder))
 
 file_is_url : (text : List ℕ) (path : List ℕ) → IsAscii text → text ≡ codes "file://" ++ path → parse_url None text ≡ Ok (file_parts path) → IsUrl text × (names_host text ≡ false) × (text ≡ codes "file://" ++ url_path text)
 unfolding text_of file_parts names_host url_path

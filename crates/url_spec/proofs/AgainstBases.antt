@@ -1,26 +1,25 @@
 -- The text of a URL, parsed against a base, is that URL.
-use Rattle.std.proofs.Common.{◌≡◌, ◌≢◌, ℕ, ◌≤◌, ◌+◌, ◌-◌, Bool, true, false, not, cond, ◌==◌, ◌&&◌, ◌||◌, List, [], ◌∷◌, ◌++◌, length, take, drop, reverse, Option, Some, None, All, sym, refl, ap, ◌∙◌, subst, append_assoc, arith}
-use Rattle.std.specs.Prelude.{codes, unwrap_or, nat_lt, slice_index, filter, is_some, bytes_eq, Ok, Err}
-use Rattle.std.specs.List.{prefix_len, suffix_len, concat}
-use Rattle.std.proofs.lemmas.Bool.{cond-true, cond-false, cond_both, true≢false, ne_eqb, and_parts, ltb-true}
-use Rattle.std.proofs.lemmas.Bool.Decides.{nat_tests}
-use Rattle.std.proofs.lemmas.List.{length-append, reverse-append, length-reverse}
+use Rattle.std.proofs.Common.{◌≡◌, ℕ, true, List, Bool, false, cond, refl, subst, take, ◌==◌, drop, None, [], sym, ◌∙◌, Option, not, ◌&&◌, ◌||◌, ◌++◌, ap, append_assoc, ◌≤◌, ◌+◌, ◌∷◌, length, arith, reverse, ◌-◌, All, ◌≢◌, Some}
 use Rattle.std.proofs.Math.Seq.{take-append-add}
-use Rattle.std.proofs.lemmas.List.Elements.{All-nil, All-cons, All-head, All-tail, All-append, All-weaker, filter-append}
+use Rattle.std.proofs.lemmas.Bool.{true≢false, cond-true, cond_both, cond-false, ne_eqb, and_parts, ltb-true}
+use Rattle.std.proofs.lemmas.Bool.Decides.{nat_tests}
+use Rattle.std.proofs.lemmas.List.{reverse-append, length-reverse, length-append}
+use Rattle.std.proofs.lemmas.List.Elements.{filter-append, All-head, All-tail, All-nil, All-cons, All-append, All-weaker}
 use Rattle.std.proofs.lemmas.Slice.Eq.{bytes_eq-Decides}
-use Rattle.url.specs.Input.{trim_c0_control_and_space, strip_tabs_and_new_lines, split_once, is_c0_control_or_space, is_tab_or_new_line, lowercase, rsplit_once, trim_start, trim_end}
-use Rattle.url.specs.Scheme.{IsScheme, scheme_type, is_special, is_file, scheme_len, is_scheme_byte}
-use Rattle.url.specs.Parts.{Parts, kind_of, pieces}
-use Rattle.url.specs.Parser.{Parsed, and_then, parse_url, parse_by_scheme, parse_parts, parse_body, parse_not_file, parse_file, parse_relative, parse_authority, after_double_slash, after_file_double_slash, leading_slashes, split_scheme, with_tail, before_tail, with_path, split_port, lacks_host, parse_port, skip_slashes}
-use Rattle.url.specs.Host.{parse_host, parse_file_host}
-use Rattle.url.specs.Path.{segment_len, is_windows_drive_letter, escape_end}
-use Rattle.url.specs.declared.scheme.SchemeType.TheVariants.{File}
-use Rattle.url.proofs.InputLemmas.{IsNot, Passes, filter_all}
-use Rattle.url.proofs.SchemeLemmas.{scheme_bytes, scheme_at_front, file_from_scheme_type, file_from_is_file}
+use Rattle.std.specs.List.{concat, prefix_len, suffix_len}
+use Rattle.std.specs.Prelude.{is_some, Ok, Err, codes, unwrap_or, filter, nat_lt, slice_index, bytes_eq}
+use Rattle.url.proofs.InputLemmas.{filter_all, IsNot, Passes}
 use Rattle.url.proofs.RoundTrip.{split_own_scheme}
-use Rattle.url_spec.specs.Parsing.{text_of, url_text, is_own_text, kept, parse_alone, parse_onto, parse_against, IsUrl}
-
--- ---- a special URL has its scheme and a host
+use Rattle.url.proofs.SchemeLemmas.{file_from_scheme_type, file_from_is_file, scheme_bytes, scheme_at_front}
+use Rattle.url.specs.Host.{parse_file_host, parse_host}
+use Rattle.url.specs.Input.{rsplit_once, trim_start, trim_end, trim_c0_control_and_space, is_c0_control_or_space, strip_tabs_and_new_lines, is_tab_or_new_line, split_once, lowercase}
+use Rattle.url.specs.Parser.{Parsed, and_then, after_file_double_slash, parse_file, leading_slashes, parse_authority, split_port, lacks_host, parse_port, after_double_slash, parse_not_file, skip_slashes, parse_body, with_tail, parse_parts, with_path, split_scheme, parse_relative, before_tail, parse_by_scheme, parse_url}
+use Rattle.url.specs.Parts.{Parts, kind_of, pieces}
+use Rattle.url.specs.Path.{segment_len, is_windows_drive_letter, escape_end}
+use Rattle.url.specs.Scheme.{scheme_type, is_special, is_file, is_scheme_byte, IsScheme, scheme_len}
+use Rattle.url.specs.declared.scheme.SchemeType.TheVariants.{File}
+use Rattle.url_spec.specs.Laws.{SameAgainst}
+use Rattle.url_spec.specs.Parsing.{text_of, url_text, is_own_text, kept, parse_alone, IsUrl, parse_onto, parse_against}
 
 abbrev Has : List ℕ → Parts → Type 0
 Has scheme url = (url.scheme ≡ scheme) × (is_some url.host ≡ true)
@@ -150,8 +149,6 @@ head_split : (mark : ℕ) (front text : List ℕ) → All (IsNot mark) front →
 head_split mark front text none s =
     record { rest = (split_once mark s.rest).0; split = ap (λ xs. (split_once mark xs).0) s.split ∙ split_front mark front s.rest none }
 
--- ---- the law
-
 -- a byte of a scheme, `:` or `/` is neither trimmed, dropped nor a mark
 record IsPlainByte (b : ℕ) : Type 0 where
   no_space : is_c0_control_or_space b ≡ false
@@ -268,9 +265,6 @@ kept_parsed text (Err fault) e = absurd (cc)
 pub url_parsed : (text : List ℕ) → IsUrl text → IsParsed text (parse_url None text)
 unfolding parse_alone
 url_parsed text is = kept_parsed text (parse_url None text) is
-
-abbrev pub SameAgainst : Type 0
-SameAgainst = (base url : List ℕ) → IsUrl base → IsUrl url → parse_against base url ≡ Some url
 
 pub urls_against : SameAgainst
 unfolding parse_against parse_alone
