@@ -3,6 +3,8 @@ pub mod Settled
 pub mod DistinctNames
 pub mod OneJson
 pub mod Shorter
+pub mod LongestNumber
+pub mod MembersInOrder
 pub mod PlainReader
 pub mod SomeJson
 pub mod TextBack

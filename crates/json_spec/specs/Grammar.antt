@@ -5,6 +5,8 @@
 --     most_brackets      how many brackets may be open at once
 -- A fault's place is counted from the end while the text is read, and is turned into an offset once, in `ReadsJson`.
 use Rattle.std.specs.Prelude.{ℕ, Bool, ◌||◌, ◌==◌, List, [], ◌∷◌, if◌then◌else◌, length, Option, Some, None, true, false, codes, suc, ◌≢◌, ◌≡◌, zero, Result, Ok, Err, ◌-◌}
+use Rattle.tree_spec.specs.declared.LimitName.TheVariants.{Depth}
+use Rattle.tree_spec.specs.Limits.{limit_number}
 use Rattle.json_spec.specs.Numbers.{number_at}
 use Rattle.json_spec.specs.Strings.{behind, ReadsString}
 use Rattle.json_spec.specs.Taken.{Taken, refused, taken, Read, and_then}
@@ -138,7 +140,7 @@ Reads (suc depth) = ReadsWith (λ bytes. ReadsItems (Reads depth) (after_space b
 
 -- own: how many brackets may be open at once
 unfoldable pub most_brackets : ℕ
-most_brackets = 128
+most_brackets = limit_number Depth
 
 -- RFC 8259, 2: nothing but white space stands behind the value
 abbrev pub alone : Json → List ℕ → Result Json Fault

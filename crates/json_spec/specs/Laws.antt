@@ -1,11 +1,14 @@
 -- The laws of JSON texts and of their printed form. Each is the contract of a function of this crate.
-use Rattle.std.specs.Prelude.{◌≡◌, ℕ, List, Result, IfOk, ◌∷◌, ◌++◌, Ok, IsUtf8}
+use Rattle.std.specs.Prelude.{◌≡◌, ◌≤◌, ℕ, true, not, List, ◌∷◌, ◌++◌, length, filter, Result, IfOk, Ok, IsUtf8, All}
+use Rattle.std.specs.List.Sorted.{IsPermutation, IsNonDecreasingBy}
 use Rattle.json_spec.specs.Grammar.{Fault, ReadsJson, most_brackets}
+use Rattle.json_spec.specs.Numbers.{IsNumber, number_at}
+use Rattle.json_spec.specs.PropertyOrder.{Pair, pairs_of, is_array_index, number_of, index_members, other_members, in_property_order}
 use Rattle.json_spec.specs.PrintedString.{escaped, quoted}
 use Rattle.json_spec.specs.PrintedValue.{printed_text, IsPrintable}
 use Rattle.json_spec.specs.Strings.{ReadsText}
-use Rattle.json_spec.specs.Taken.{taken}
-use Rattle.json_spec.specs.Value.{Json, HasDistinctNames, a_text}
+use Rattle.json_spec.specs.Taken.{taken, refused}
+use Rattle.json_spec.specs.Value.{Json, a_text, Members, HasDistinctNames}
 
 -- own law: one text has one outcome
 abbrev pub OneJson : Type 0
@@ -18,6 +21,24 @@ SomeJson = (bytes : List ℕ) → (out : Result Json Fault) × ReadsJson bytes o
 -- own law: a value that a text has holds no name twice in one object
 abbrev pub NamesAreDistinct : Type 0
 NamesAreDistinct = (bytes : List ℕ) (out : Result Json Fault) → ReadsJson bytes out → IfOk out HasDistinctNames
+
+-- RFC 8259, 6: what is read at the front of the bytes is a number, and no longer front of them is one; where nothing is read, no
+-- front is a number
+pub record LongestNumber : Type 0 where
+  pub is_number : (bytes number rest : List ℕ) → number_at bytes ≡ taken number rest → IsNumber number × (bytes ≡ number ++ rest)
+  pub longest :
+      (bytes number rest front back : List ℕ) → number_at bytes ≡ taken number rest → bytes ≡ front ++ back → IsNumber front
+      → length front ≤ length number
+  pub none : (bytes front back : List ℕ) → number_at bytes ≡ refused tt → bytes ≡ front ++ back → IsNumber front → ⊥
+
+-- ECMA-262, OrdinaryOwnPropertyKeys: the members in an object's order are its members in another order: first those whose names
+-- are array indices, by ascending number, and then the others, as they are written
+pub record MembersInOrder : Type 0 where
+  pub all_members : (ms : Members) → IsPermutation (pairs_of ms) (pairs_of (in_property_order ms))
+  pub indices_first : (ms : Members) → pairs_of (in_property_order ms) ≡ pairs_of (index_members ms) ++ pairs_of (other_members ms)
+  pub are_indices : (ms : Members) → All (λ (pair : Pair). is_array_index pair.0 ≡ true) (pairs_of (index_members ms))
+  pub ascending : (ms : Members) → IsNonDecreasingBy (λ (pair : Pair). number_of pair.0) (pairs_of (index_members ms))
+  pub others_as_written : (ms : Members) → pairs_of (other_members ms) ≡ filter (λ (pair : Pair). not (is_array_index pair.0)) (pairs_of ms)
 
 -- own law: a printed string, behind its opening quote and before any bytes, reads back as its text
 abbrev pub TextsReadBack : Type 0

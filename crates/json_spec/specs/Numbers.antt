@@ -1,10 +1,56 @@
 -- Numbers. RFC 8259, 6.
+--     IsNumber text      the text is a number
 --     number_at bytes      the number that the bytes begin with, the longest one, as it is written
-use Rattle.std.specs.Prelude.{ℕ, Bool, ◌&&◌, nat_le, List, [], ◌∷◌, if◌then◌else◌, ◌==◌, ◌||◌}
+use Rattle.std.specs.Prelude.{◌≡◌, ◌≢◌, ◌⊎◌, ℕ, Bool, true, ◌&&◌, nat_le, List, [], ◌∷◌, ◌++◌, if◌then◌else◌, ◌==◌, ◌||◌, All}
 use Rattle.json_spec.specs.Taken.{taken, refused, Read, and_then, behind_piece, or_else}
 
 abbrev pub is_digit : ℕ → Bool
 is_digit b = nat_le 48 b && nat_le b 57
+
+-- ---- the grammar
+
+abbrev pub AreDigits : List ℕ → Type 0
+AreDigits text = (text ≢ []) × All (λ b. is_digit b ≡ true) text
+
+-- RFC 8259, 6: int, a zero or digits that begin with no zero
+abbrev pub IsInt : List ℕ → Type 0
+IsInt [] = ⊥
+IsInt (b ∷ digits) = ((b ≡ 48) × (digits ≡ [])) ⊎ ((b ≢ 48) × AreDigits (b ∷ digits))
+
+-- RFC 8259, 6: frac, a point and digits
+abbrev pub IsFrac : List ℕ → Type 0
+IsFrac [] = ⊥
+IsFrac (b ∷ digits) = (b ≡ 46) × AreDigits digits
+
+-- RFC 8259, 6: exp, an `e` in either case, a sign or none, and digits
+pub record IsExp (text : List ℕ) : Type 0 where
+  pub mark : ℕ
+  pub sign : List ℕ
+  pub digits : List ℕ
+  pub parts : text ≡ mark ∷ (sign ++ digits)
+  pub is_mark : (mark ≡ 101) ⊎ (mark ≡ 69)
+  pub is_sign : (sign ≡ []) ⊎ ((sign ≡ 43 ∷ []) ⊎ (sign ≡ 45 ∷ []))
+  pub are_digits : AreDigits digits
+
+-- RFC 8259, 6: frac and exp, where each may be missing
+pub record IsTail (text : List ℕ) : Type 0 where
+  pub frac : List ℕ
+  pub exp : List ℕ
+  pub parts : text ≡ frac ++ exp
+  pub is_frac : (frac ≡ []) ⊎ IsFrac frac
+  pub is_exp : (exp ≡ []) ⊎ IsExp exp
+
+-- RFC 8259, 6: number, a minus or none, int, and what may stand behind it
+pub record IsNumber (text : List ℕ) : Type 0 where
+  pub minus : List ℕ
+  pub int : List ℕ
+  pub tail : List ℕ
+  pub parts : text ≡ minus ++ (int ++ tail)
+  pub is_minus : (minus ≡ []) ⊎ (minus ≡ 45 ∷ [])
+  pub is_int : IsInt int
+  pub is_tail : IsTail tail
+
+-- ---- the number at the front of some bytes
 
 -- the digits that the bytes begin with, and the bytes after them
 abbrev pub leading_digits : List ℕ → List ℕ
@@ -35,19 +81,15 @@ abbrev pub one_of : (ℕ → Bool) → List ℕ → Read (List ℕ)
 one_of test [] = refused tt
 one_of test (b ∷ bytes) = if test b then taken (b ∷ []) bytes else refused tt
 
--- RFC 8259, 6: int, a zero or digits that begin with no zero
 abbrev pub int_at : List ℕ → Read (List ℕ)
 int_at [] = refused tt
 int_at (b ∷ bytes) = if b == 48 then taken (b ∷ []) bytes else digits_at (b ∷ bytes)
 
--- RFC 8259, 6: frac, a point and digits
 abbrev pub frac_at : List ℕ → Read (List ℕ)
 frac_at bytes = joined (one_of (λ b. b == 46)) digits_at bytes
 
--- RFC 8259, 6: exp, an `e` in either case, a sign or none, and digits
 abbrev pub exp_at : List ℕ → Read (List ℕ)
 exp_at bytes = joined (one_of (λ b. b == 101 || b == 69)) (joined (maybe (one_of (λ b. b == 43 || b == 45))) digits_at) bytes
 
--- RFC 8259, 6: number
 abbrev pub number_at : List ℕ → Read (List ℕ)
 number_at bytes = joined (maybe (one_of (λ b. b == 45))) (joined int_at (joined (maybe frac_at) (maybe exp_at))) bytes

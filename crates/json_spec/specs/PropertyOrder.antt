@@ -2,6 +2,7 @@
 --     in_property_order members      those whose names are array indices by number, and then the others as they are written
 --     is_array_index text      the text is the decimal form of a number below 2^32 - 1 (ECMA-262, object type)
 --     number_of digits      the number that decimal digits spell
+--     pairs_of members      the members as a list
 use Rattle.std.specs.Prelude.{ℕ, ◌+◌, ◌-◌, ◌*◌, Bool, not, ◌&&◌, ◌==◌, nat_lt, nat_le, true, false, List, [], ◌∷◌, if◌then◌else◌}
 use Rattle.std.specs.List.{list_all}
 use Rattle.std.specs.Char.{is_ascii_digit}
@@ -24,6 +25,14 @@ has_no_leading_zero (b ∷ c ∷ digits) = not (b == 48)
 -- ECMA-262, object type: an array index
 unfoldable pub is_array_index : List ℕ → Bool
 is_array_index text = list_all is_ascii_digit text && (has_no_leading_zero text && nat_le (number_of text) 4294967294)
+
+-- a name with its value
+abbrev pub Pair : Type 0
+Pair = List ℕ × Json
+
+abbrev pub pairs_of : Members → List Pair
+pairs_of no_members = []
+pairs_of (a_member key value more) = (key, value) ∷ pairs_of more
 
 -- a member before those of greater numbers
 abbrev pub by_number : List ℕ → Json → Members → Members

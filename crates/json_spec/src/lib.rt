@@ -3,7 +3,7 @@
 //! Definitions and laws alone: each function here is empty, and its contract is a law.
 #![tactic(auto)]
 
-ghost use Rattle.json_spec.specs.Laws.{NamesAreDistinct, PrintsUtf8, StringsReadBack, TextsReadBack, ValuesReadBack, OneJson, SomeJson};
+ghost use Rattle.json_spec.specs.Laws.{LongestNumber, MembersInOrder, NamesAreDistinct, OneJson, PrintsUtf8, SomeJson, StringsReadBack, TextsReadBack, ValuesReadBack};
 ghost use Rattle.json_spec.specs.WorkedExamples.{WorkedExamples};
 
 /// A text has at most one outcome, a value or a first fault.
@@ -22,6 +22,19 @@ pub fn some_json()
 #[tactic(auto, using(crate::proofs::DistinctNames::names_are_distinct))]
 pub fn names_are_distinct()
     ensures { NamesAreDistinct }
+{}
+
+/// The number that is read at the front of some bytes is the longest front that the grammar of numbers has.
+#[tactic(auto, using(crate::proofs::LongestNumber::longest_number))]
+pub fn longest_number()
+    ensures { LongestNumber }
+{}
+
+/// The order in which an object gives its members leaves none out and adds none: array indices by ascending number, and then the
+/// others as they are written.
+#[tactic(auto, using(crate::proofs::MembersInOrder::members_in_order))]
+pub fn members_in_order()
+    ensures { MembersInOrder }
 {}
 
 /// A printed string reads back as its text.

@@ -17,9 +17,7 @@ use crate::strings::read_string;
 use crate::value::{Items, Members, Value};
 use primitives::{Memory, Text};
 use std::alloc::Global;
-
-/// How many brackets may be open at once.
-const MOST_BRACKETS: usize = 128;
+use tree_spec::MOST_DEPTH;
 
 /// The value of a JSON text (RFC 8259), or its first fault.
 pub fn read(alloc: Global, bytes: &[u8]) -> Result<Value, JsonFault>
@@ -43,7 +41,7 @@ fn read_whole(alloc: Global, bytes: &[u8]) -> Result<Value, Stop>
     ensures { MatchResult result (λ value. IsWhole bytes.now (Ok (json_of value))) (WholeFails bytes.now) }
 {
     let mut forest = Forest::new(alloc)?;
-    let (value, rest) = read_alone(alloc, &mut forest, MOST_BRACKETS, skip_space(bytes))?;
+    let (value, rest) = read_alone(alloc, &mut forest, MOST_DEPTH, skip_space(bytes))?;
     let rest = skip_space(rest);
     if rest.is_empty() {
         Ok(value)

@@ -2,10 +2,16 @@
 #![tactic(auto)]
 
 mod laws;
+mod limits;
 
 pub use laws::{
     one_look, one_parent, one_placing, placing_in_folder, placing_in_root, placing_keeps_tree,
     root_alone,
+};
+pub use limits::{
+    MOST_BRACKETS, MOST_BYTES, MOST_CHOICES, MOST_DEPTH, MOST_ENTRIES, MOST_FILE_BYTES, MOST_LOOKS,
+    MOST_MAP_BYTES, MOST_MODULE_REQUESTS, MOST_MODULES, MOST_REQUESTS, MOST_SESSION_BYTES,
+    MOST_SPECIFIER_BYTES,
 };
 use primitives::Bytes;
 use std::alloc::AllocError;
@@ -55,17 +61,30 @@ impl From<AllocError> for LookFault {
 /// The quantities that have a limit, in the order in which they are listed to a user.
 #[derive(Clone, Copy, Debug, PartialEq, Eq)]
 pub enum LimitName {
+    /// Bytes of one file that is looked at.
     File,
+    /// Bytes of all files that a generation looks at.
     Bytes,
+    /// Paths that a generation looks at.
     Looks,
+    /// Modules of a trace, without the page.
     Modules,
+    /// Requests of one module.
     ModuleRequests,
+    /// Requests of the page and of all modules.
     Requests,
+    /// Bytes of one specifier.
     Specifier,
+    /// Entries of a project.
     Entries,
+    /// Brackets that are open at once in a module.
     Brackets,
+    /// Brackets that are open at once in a JSON text.
     Depth,
+    /// Bytes of the input of a session.
     Session,
+    /// Bytes of a printed map.
     Map,
+    /// Choices among layouts.
     Choices,
 }
