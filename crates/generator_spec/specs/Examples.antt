@@ -17,6 +17,7 @@ use Rattle.url_spec.specs.WebNames.{escaped, web}
 use Rattle.url_spec.specs.ServedPaths.{holds_escape}
 use Rattle.url_spec.specs.FileUrls.{file_text, names_host, url_path, spelled_path}
 use Rattle.json_spec.specs.Grammar.{most_brackets}
+use Rattle.json_spec.specs.PropertyOrder.{is_array_index}
 use Rattle.json_spec.proofs.PlainReader.{read_json, json_sound}
 use Rattle.import_map_spec.specs.Parsing.{parsed_map, map_from}
 use Rattle.import_map_spec.specs.WrittenMaps.{Lists, map_of_lists}
@@ -150,7 +151,7 @@ pub record GenerationExamples : Type 0 where
       IsExample (folder "/" ∷ file "/app.mjs" "" ∷ []) (record { base = codes "https://app.test/"; page = codes "/app.mjs"; entries = codes "./app.mjs" ∷ [] }) (the_page ∷ at "/app.mjs" "" ∷ []) no_mappings
 
 generation_examples : GenerationExamples
-unfolding as_url normalized web escaped holds_escape percent_encode_byte percent_decode file_text names_host url_path spelled_path parse_alone parse_against has_special_scheme text_of url_on_literals parsed_map most_brackets is_utf8 chars encode_utf8
+unfolding is_array_index as_url normalized web escaped holds_escape percent_encode_byte percent_decode file_text names_host url_path spelled_path parse_alone parse_against has_special_scheme text_of url_on_literals parsed_map most_brackets is_utf8 chars encode_utf8
 generation_examples = record {
   nothing_asked = worked (folder "/" ∷ []) (asking []) _ _ page_name (scoped []) refl refl refl refl refl refl refl;
   one_module = worked (folder "/" ∷ file "/app.mjs" "" ∷ []) (asking ("./app.mjs" ∷ [])) _ _ page_name (scoped []) refl refl refl refl refl refl refl;
