@@ -7,7 +7,7 @@ use Rattle.node_spec.specs.Resolution.{Resolves}
 use Rattle.node_spec.specs.Resolution as node
 use Rattle.import_map_spec.specs.ParsedMap.{ParsedMap}
 use Rattle.import_map_spec.specs.Parsing.{ParsesMap}
-use Rattle.import_map_spec.specs.Resolving.{resolve_in}
+use Rattle.import_map_spec.specs.LookUps.{resolve_in}
 use Rattle.import_map_spec.specs.Resolving as html
 use Rattle.generator_spec.specs.Modules.{Config, Module, Referrer, the_page, a_module, path_of, web_name, Asks}
 

@@ -5,16 +5,13 @@ use Rattle.std.specs.FinMap.{get}
 use Rattle.tree_spec.specs.declared.Entry.TheVariants.{Stored}
 use Rattle.tree_spec.specs.Trees.{Tree}
 use Rattle.url_spec.specs.Specifiers.{as_url, is_relative}
+pub use Rattle.url_spec.specs.Specifiers.{ends_in_slash}
 use Rattle.url_spec.specs.WebNames.{web}
 use Rattle.url_spec.specs.ServedPaths.{IsServed}
 use Rattle.node_spec.specs.Resolution.{Resolved, Resolves}
 use Rattle.layout_spec.specs.declared.Need.{Need}
 use Rattle.layout_spec.specs.Needs.{counted}
 use Rattle.generator_spec.specs.Modules.{Config, Module, is_module, Referrer, the_page, a_module, path_of, web_name, Asks}
-
--- the text ends in `/`
-abbrev pub ends_in_slash : List ℕ → Bool
-ends_in_slash url = ends_with nat_eq url (codes "/")
 
 -- own: a looked-at file has at most 16 MiB
 abbrev pub FitsFile : Tree → List ℕ → Type 0

@@ -11,7 +11,7 @@ use Rattle.std.specs.declared.cmp.Ordering.{Ordering}
 use Rattle.std.specs.declared.cmp.Ordering.TheVariants.{Less, Equal, Greater}
 use mathlib.Core.Logic.{inl, inr}
 use Rattle.import_map_spec.specs.ParsedMap.{Texts}
-use Rattle.import_map_spec.specs.Resolving.{first_answer}
+use Rattle.import_map_spec.specs.LookUps.{first_answer}
 use Rattle.import_map_spec.specs.WrittenMaps.{insert_all}
 
 -- the same text, as the order of keys has it

@@ -3,4 +3,6 @@ pub mod WrittenMaps
 pub mod OneMap
 pub mod SameQuestion
 pub mod LongestKey
+pub mod ResolvesByCases
+pub mod ParsedMaps
 pub mod examples

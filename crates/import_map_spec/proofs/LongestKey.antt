@@ -3,9 +3,17 @@ use Rattle.std.proofs.Common.{refl, ap, ◌∙◌, arith, subst, sym}
 use Rattle.std.proofs.lemmas.Bool.{cases_eq, cond-true, cond-false, cases_Bool}
 use Rattle.std.specs.Prelude.{◌≡◌, ℕ, zero, suc, ◌<◌, ◌≤◌, List, take, drop, Option, Some, None, length, if◌then◌else◌, Bool, true, false}
 use mathlib.Core.Logic.{inl, inr}
+use Rattle.std.specs.Prelude.{◌↔◌, [], ◌∷◌, ◌++◌}
+use Rattle.std.specs.declared.cmp.Ordering.TheVariants.{Less, Equal, Greater}
+use Rattle.std.specs.Ordering.{nat_cmp, ordering_then}
+use Rattle.std.specs.Cmp.Lexicographic.{slice_cmp}
+use Rattle.std.proofs.Common.{append-nil}
+use Rattle.std.proofs.lemmas.Cmp.{tied_itself, nat_cmp_total}
+use Rattle.import_map_spec.specs.Resolving.{KeyApplies, itself, prefix, ScopeApplies, own, above}
 use Rattle.import_map_spec.specs.Laws.{NoneAbove, IsFolderFront, KeyOrder}
-use Rattle.import_map_spec.specs.Parsing.{ends_in_slash}
-use Rattle.import_map_spec.specs.Resolving.{first_answer, longest_front, Resolution, prefix_match, exact_match, Lookup, prefix_key, takes_prefixes, scope_match, prefix_scope}
+use Rattle.url_spec.specs.Specifiers.{ends_in_slash}
+use Rattle.import_map_spec.specs.LookUps.{first_answer, longest_front, prefix_match, exact_match, Lookup, prefix_key, scope_match, prefix_scope}
+use Rattle.import_map_spec.specs.Resolving.{Resolution, takes_prefixes}
 
 module _ {A : Type 0} (answer : List ℕ → List ℕ → Option A) (text : List ℕ) where
   abbrev At : ℕ → Option A
@@ -57,6 +65,36 @@ module _ (addresses : Lookup (Option (List ℕ))) (text : List ℕ) where
       let here : prefix_key addresses (take k text) (drop k text) ≡ Some match.0 = cond-true _ _ _ front.slash ∙ (ap (λ o. prefix_match o (drop k text)) found ∙ match.1) in
       longest_some (prefix_key addresses) text (length text) k match.0 front.some front.within here (no_longer k none) ∙ sym match.1
 
+-- ---- fronts of one text, and their order
+
+in_order : (one other more rest : List ℕ) → one ++ more ≡ other ++ rest → (slice_cmp nat_cmp one other ≡ Less) ↔ (length one < length other)
+in_order [] [] more rest e = ((λ (l : Equal ≡ Less). absurd (cc)), (λ l. absurd (omega arith)))
+in_order [] (y ∷ ys) more rest e = ((λ l. omega arith), (λ l. refl))
+in_order (x ∷ xs) [] more rest e = ((λ (l : Greater ≡ Less). absurd (cc)), (λ l. absurd (omega arith)))
+in_order (x ∷ xs) (y ∷ ys) more rest e =
+    let same : x ≡ y = cc in
+    let tails : xs ++ more ≡ ys ++ rest = cc in
+    let tie : nat_cmp x y ≡ Equal = ap (nat_cmp x) (sym same) ∙ tied_itself nat_cmp_total x in
+    let tail = in_order xs ys more rest tails in
+    subst (λ o. (ordering_then o (slice_cmp nat_cmp xs ys) ≡ Less) ↔ (length (x ∷ xs) < length (y ∷ ys))) (sym tie)
+    ((λ l. let m = tail.0 l in omega arith), (λ l. tail.1 (omega arith)))
+
+-- of two fronts of one text the lesser one is the shorter
+fronts_in_order : (text one other more rest : List ℕ) → text ≡ one ++ more → text ≡ other ++ rest → (slice_cmp nat_cmp one other ≡ Less) ↔ (length one < length other)
+fronts_in_order text one other more rest e f = in_order one other more rest (sym e ∙ f)
+
+record IsFront (text front : List ℕ) : Type 0 where
+  rest : List ℕ
+  parts : text ≡ front ++ rest
+
+key_front : (url : Option (List ℕ)) (text key : List ℕ) → KeyApplies url text key → IsFront text key
+key_front url text key (itself e) = record { rest = []; parts = sym e ∙ sym (append-nil key) }
+key_front url text key (prefix rest takes slash parts) = record { rest = rest; parts = parts }
+
+scope_front : (referrer key : List ℕ) → ScopeApplies referrer key → IsFront referrer key
+scope_front referrer key (own e) = record { rest = []; parts = sym e ∙ sym (append-nil key) }
+scope_front referrer key (above rest slash parts) = record { rest = rest; parts = parts }
+
 pub key_order : KeyOrder
 key_order = record {
   exact = λ addresses url text address e. ap (λ o. first_answer (exact_match o) (if takes_prefixes url then longest_front (prefix_key addresses) text (length text) else None)) e ∙ first_exact address _;
@@ -64,6 +102,10 @@ key_order = record {
       ∙ (cond-true _ _ _ p ∙ prefix_answers addresses text k address front found none);
   no_key = λ addresses url text e none. ap (λ o. first_answer (exact_match o) (if takes_prefixes url then longest_front (prefix_key addresses) text (length text) else None)) e
       ∙ none_either (takes_prefixes url) (longest_front (prefix_key addresses) text (length text)) (longest_none (prefix_key addresses) text (length text) (λ j l m. no_longer addresses text 0 none j l m));
+  no_prefix = λ addresses url text e f. ap (λ o. first_answer (exact_match o) (if takes_prefixes url then longest_front (prefix_key addresses) text (length text) else None)) e ∙ cond-false _ _ _ f;
+  own_scope = λ scopes url text referrer answer e. ap (λ (o : Option Resolution). first_answer o (longest_front (prefix_scope url text scopes) referrer (length referrer))) e;
+  keys_descend = λ url text one other a b. let p = key_front url text one a in let q = key_front url text other b in fronts_in_order text one other p.rest q.rest p.parts q.parts;
+  scopes_descend = λ referrer one other a b. let p = scope_front referrer one a in let q = scope_front referrer other b in fronts_in_order referrer one other p.rest q.rest p.parts q.parts;
   scope = λ scopes url text referrer k answer e front found none. ap (λ o. first_answer o (longest_front (prefix_scope url text scopes) referrer (length referrer))) e
       ∙ longest_some (prefix_scope url text scopes) referrer (length referrer) k answer front.some front.within (cond-true _ _ _ front.slash ∙ found) (λ j l m. slash_only (λ key. scope_match url text (scopes key)) referrer k j none l m);
   no_scope = λ scopes url text referrer e none. ap (λ o. first_answer o (longest_front (prefix_scope url text scopes) referrer (length referrer))) e

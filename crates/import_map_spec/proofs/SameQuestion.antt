@@ -6,7 +6,7 @@ use Rattle.url_spec.proofs.OwnUrls.{own_urls}
 use Rattle.url_spec.specs.Parsing.{parse_alone, IsUrl}
 use Rattle.url_spec.specs.Specifiers.{as_url, normalized}
 use Rattle.import_map_spec.specs.Laws.{SameQuestion}
-use Rattle.import_map_spec.specs.Resolving.{scope_addresses, resolve_normalized, resolve_in}
+use Rattle.import_map_spec.specs.LookUps.{scope_addresses, resolve_normalized, resolve_in}
 
 -- the URL of a specifier is told by the normalized specifier, where the other has none
 same_url : (s t : List ℕ) (u v : Option (List ℕ)) → ((url : List ℕ) → u ≡ Some url → IsUrl url) → ((url : List ℕ) → v ≡ Some url → IsUrl url) → parse_alone s ≡ None → parse_alone t ≡ None → unwrap_or u s ≡ unwrap_or v t → u ≡ v

@@ -3,13 +3,12 @@
 --     ParsesMap base bytes out      the same of a text
 --     normalized_addresses, normalized_scopes, normalized_integrity      the three parts of a map
 use Rattle.std.specs.FinMap.{insert, empty}
-use Rattle.std.specs.List.{ends_with}
-use Rattle.std.specs.Prelude.{ℕ, Bool, true, false, List, [], ◌∷◌, nat_eq, codes, not, ◌&&◌, if◌then◌else◌, Option, Some, None, Result, Ok, Err, bytes_eq, ◌≡◌}
+use Rattle.std.specs.Prelude.{ℕ, Bool, true, false, List, [], ◌∷◌, not, ◌&&◌, if◌then◌else◌, Option, Some, None, Result, Ok, Err, bytes_eq, codes, ◌≡◌}
 use Rattle.json_spec.specs.Grammar.{Fault, ReadsJson}
 use Rattle.json_spec.specs.PropertyOrder.{in_property_order}
 use Rattle.json_spec.specs.Value.{Json, a_null, a_bool, a_number, a_text, a_list, an_object, Members, no_members, a_member}
 use Rattle.url_spec.specs.Parsing.{parse_against}
-use Rattle.url_spec.specs.Specifiers.{as_url, normalized}
+use Rattle.url_spec.specs.Specifiers.{ends_in_slash, as_url, normalized}
 use Rattle.import_map_spec.specs.ParsedMap.{Addresses, Texts, ParsedMap, MapFault, NotObject, NoJson}
 use Rattle.import_map_spec.specs.declared.MapPart.{MapPart}
 use Rattle.import_map_spec.specs.declared.MapPart.TheVariants.{Scope, Imports, Scopes, Integrity, Top}
@@ -17,9 +16,6 @@ use Rattle.import_map_spec.specs.declared.MapPart.TheVariants.{Scope, Imports, S
 abbrev pub is_empty : List ℕ → Bool
 is_empty [] = true
 is_empty (b ∷ text) = false
-
-abbrev pub ends_in_slash : List ℕ → Bool
-ends_in_slash text = ends_with nat_eq text (codes "/")
 
 -- a URL that ends in no `/` is no address of a key that does (HTML, import maps: sorting and normalizing a module specifier map)
 abbrev pub fitting : List ℕ → Option (List ℕ) → Option (List ℕ)

@@ -1,14 +1,19 @@
 -- Resolving a specifier through an import map (HTML, import maps: resolve a module specifier).
---     resolve_in map referrer specifier      the URL that the specifier has in the module or page at the referrer, or why it has none
---     resolve_imports_match url text addresses      what a module specifier map answers for a normalized specifier
---     resolve_scopes_match url text referrer scopes      what the scopes answer
+--     Resolves map referrer specifier resolution      what the specifier comes to in the module or page at the referrer
+--     ResolvesAs map referrer url text resolution      the same, by the URL of the specifier and its normalized form
+--     MatchesImports addresses url text answer      what a module specifier map answers for a normalized specifier, or that it has no answer
+--     MatchesScopes scopes referrer url text answer      the same of the scopes of a map
+--     KeyApplies url text key      the key is tried for the normalized specifier
+--     ScopeApplies referrer key      the scope with this key is tried for the referrer
+--     Resolution      a URL, or one of the ways to fail
+-- The Standard tries keys in descending order. Keys that apply to one text are fronts of it, so that the first of them is the longest
+-- (law `key_order`).
+use Rattle.std.specs.Prelude.{◌≡◌, ◌≢◌, ◌≤◌, ℕ, Bool, true, false, List, [], ◌++◌, length, Option, Some, None}
 use Rattle.std.specs.FinMap.{get}
-use Rattle.std.specs.Prelude.{ℕ, List, Option, Some, None, zero, suc, take, drop, if◌then◌else◌, Bool, true, length, option_map}
 use Rattle.url_spec.specs.Parsing.{parse_against}
 use Rattle.url_spec.specs.Schemes.{has_special_scheme}
-use Rattle.url_spec.specs.Specifiers.{begins, as_url, normalized}
+use Rattle.url_spec.specs.Specifiers.{begins, ends_in_slash, as_url, normalized}
 use Rattle.import_map_spec.specs.ParsedMap.{Texts, Addresses, ParsedMap}
-use Rattle.import_map_spec.specs.Parsing.{ends_in_slash}
 
 -- a URL, or one of the ways to fail: a null address, no URL at all, a URL out of the address of its folder, a rest that doesn't parse
 pub data Resolution : Type 0 where
@@ -18,75 +23,55 @@ pub data Resolution : Type 0 where
   Backtrack : Resolution
   BadRest : Resolution
 
-abbrev pub first_answer : {A : Type 0} → Option A → Option A → Option A
-first_answer None other = other
-first_answer (Some x) other = Some x
-
--- what the longest front of the text answers, of those of at most n bytes that answer. A front is asked with what follows it
-abbrev pub longest_front : {A : Type 0} → (List ℕ → List ℕ → Option A) → List ℕ → ℕ → Option A
-longest_front answer text zero = None
-longest_front answer text (suc n) = first_answer (answer (take (suc n) text) (drop (suc n) text)) (longest_front answer text n)
-
--- a key that is the normalized specifier (HTML, import maps: resolve an imports match)
-abbrev pub exact_match : Option (Option (List ℕ)) → Option Resolution
-exact_match None = None
-exact_match (Some None) = Some Blocked
-exact_match (Some (Some url)) = Some (Resolved url)
-
-abbrev pub below_address : List ℕ → Option (List ℕ) → Resolution
-below_address address None = BadRest
-below_address address (Some url) = if begins url address then Resolved url else Backtrack
-
--- a key that is a prefix of the normalized specifier, with what follows it (HTML, import maps: resolve an imports match)
-abbrev pub prefix_match : Option (Option (List ℕ)) → List ℕ → Option Resolution
-prefix_match None rest = None
-prefix_match (Some None) rest = Some Blocked
-prefix_match (Some (Some address)) rest = Some (below_address address (parse_against address rest))
-
--- what a map has at a key
-abbrev pub Lookup : Type 0 → Type 0
-Lookup X = List ℕ → Option X
-
--- a prefix is a key that ends in `/` (HTML, import maps: resolve an imports match)
-abbrev pub prefix_key : Lookup (Option (List ℕ)) → List ℕ → List ℕ → Option Resolution
-prefix_key addresses front rest = if ends_in_slash front then prefix_match (addresses front) rest else None
-
 -- prefixes count for what is no URL, and for URLs of a special scheme (HTML, import maps: resolve an imports match)
 abbrev pub takes_prefixes : Option (List ℕ) → Bool
 takes_prefixes None = true
 takes_prefixes (Some url) = has_special_scheme url
 
--- the keys are tried in descending order, so that of those that match the longest one answers (HTML, import maps: resolve an imports match)
-abbrev pub resolve_imports_match : Option (List ℕ) → List ℕ → Lookup (Option (List ℕ)) → Option Resolution
-resolve_imports_match url text addresses = first_answer (exact_match (addresses text)) (if takes_prefixes url then longest_front (prefix_key addresses) text (length text) else None)
+-- HTML, import maps, resolve an imports match: the key is the normalized specifier, or a prefix of it
+pub data KeyApplies (url : Option (List ℕ)) (text key : List ℕ) : Type 0 where
+  itself : key ≡ text → KeyApplies url text key
+  prefix : (rest : List ℕ) → takes_prefixes url ≡ true → ends_in_slash key ≡ true → text ≡ key ++ rest → KeyApplies url text key
 
-abbrev pub scope_match : Option (List ℕ) → List ℕ → Option (Lookup (Option (List ℕ))) → Option Resolution
-scope_match url text None = None
-scope_match url text (Some addresses) = resolve_imports_match url text addresses
+-- the key that answers, with its address: of those that apply the longest
+pub record Answers (addresses : Addresses) (url : Option (List ℕ)) (text key : List ℕ) (address : Option (List ℕ)) : Type 0 where
+  pub stands : get addresses key ≡ Some address
+  pub applies : KeyApplies url text key
+  pub longest : (other : List ℕ) (found : Option (List ℕ)) → get addresses other ≡ Some found → KeyApplies url text other → length other ≤ length key
 
--- a scope whose key is a prefix of the referrer and ends in `/` (HTML, import maps: resolve a module specifier)
-abbrev pub prefix_scope : Option (List ℕ) → List ℕ → Lookup (Lookup (Option (List ℕ))) → List ℕ → List ℕ → Option Resolution
-prefix_scope url text scopes front rest = if ends_in_slash front then scope_match url text (scopes front) else None
+-- HTML, import maps, resolve an imports match: what is at a key that is the specifier, and what a key that is a prefix of it comes to
+-- with what follows it
+pub data MatchesImports (addresses : Addresses) (url : Option (List ℕ)) (text : List ℕ) : Option Resolution → Type 0 where
+  no_key : ((key : List ℕ) (address : Option (List ℕ)) → get addresses key ≡ Some address → KeyApplies url text key → ⊥) → MatchesImports addresses url text None
+  null_address : (key : List ℕ) → Answers addresses url text key None → MatchesImports addresses url text (Some Blocked)
+  at_key : (address : List ℕ) → Answers addresses url text text (Some address) → MatchesImports addresses url text (Some (Resolved address))
+  bad_rest : (key rest address : List ℕ) → Answers addresses url text key (Some address) → text ≡ key ++ rest → rest ≢ [] → parse_against address rest ≡ None → MatchesImports addresses url text (Some BadRest)
+  backtrack : (key rest address below : List ℕ) → Answers addresses url text key (Some address) → text ≡ key ++ rest → rest ≢ [] → parse_against address rest ≡ Some below → begins below address ≡ false → MatchesImports addresses url text (Some Backtrack)
+  below_key : (key rest address below : List ℕ) → Answers addresses url text key (Some address) → text ≡ key ++ rest → rest ≢ [] → parse_against address rest ≡ Some below → begins below address ≡ true → MatchesImports addresses url text (Some (Resolved below))
 
--- the scope of the referrer itself, and then the others from the longest key to the shortest (HTML, import maps: resolve a module specifier)
-abbrev pub resolve_scopes_match : Option (List ℕ) → List ℕ → List ℕ → Lookup (Lookup (Option (List ℕ))) → Option Resolution
-resolve_scopes_match url text referrer scopes = first_answer (scope_match url text (scopes referrer)) (longest_front (prefix_scope url text scopes) referrer (length referrer))
+-- HTML, import maps, resolve a module specifier: the scope of the referrer itself, or of a folder above it
+pub data ScopeApplies (referrer key : List ℕ) : Type 0 where
+  own : key ≡ referrer → ScopeApplies referrer key
+  above : (rest : List ℕ) → ends_in_slash key ≡ true → referrer ≡ key ++ rest → ScopeApplies referrer key
 
--- a URL that no key matches stands for itself
-abbrev pub unmatched : Option (List ℕ) → Resolution
-unmatched None = Bare
-unmatched (Some url) = Resolved url
+-- a scope that applies and has an answer
+pub record AnswersInScope (scopes : Texts Addresses) (referrer : List ℕ) (url : Option (List ℕ)) (text key : List ℕ) (answer : Resolution) : Type 0 where
+  pub addresses : Addresses
+  pub stands : get scopes key ≡ Some addresses
+  pub applies : ScopeApplies referrer key
+  pub matches : MatchesImports addresses url text (Some answer)
 
-abbrev pub answer_or : Option Resolution → Resolution → Resolution
-answer_or None other = other
-answer_or (Some answer) other = answer
+-- HTML, import maps, resolve a module specifier: of the scopes that apply and have an answer, the longest key's
+pub data MatchesScopes (scopes : Texts Addresses) (referrer : List ℕ) (url : Option (List ℕ)) (text : List ℕ) : Option Resolution → Type 0 where
+  no_scope : ((key : List ℕ) (answer : Resolution) → AnswersInScope scopes referrer url text key answer → ⊥) → MatchesScopes scopes referrer url text None
+  in_scope : (key : List ℕ) (answer : Resolution) → AnswersInScope scopes referrer url text key answer → ((other : List ℕ) (found : Resolution) → AnswersInScope scopes referrer url text other found → length other ≤ length key) → MatchesScopes scopes referrer url text (Some answer)
 
--- the scopes, then the imports, then the URL (HTML, import maps: resolve a module specifier)
-abbrev pub resolve_normalized : Lookup (Option (List ℕ)) → Lookup (Lookup (Option (List ℕ))) → List ℕ → Option (List ℕ) → List ℕ → Resolution
-resolve_normalized imports scopes referrer url text = answer_or (first_answer (resolve_scopes_match url text referrer scopes) (resolve_imports_match url text imports)) (unmatched url)
+-- HTML, import maps, resolve a module specifier: the scopes, then the imports, then the URL that the specifier is
+pub data ResolvesAs (map : ParsedMap) (referrer : List ℕ) (url : Option (List ℕ)) (text : List ℕ) : Resolution → Type 0 where
+  by_scopes : (answer : Resolution) → MatchesScopes map.scopes referrer url text (Some answer) → ResolvesAs map referrer url text answer
+  by_imports : (answer : Resolution) → MatchesScopes map.scopes referrer url text None → MatchesImports map.imports url text (Some answer) → ResolvesAs map referrer url text answer
+  by_url : (own : List ℕ) → MatchesScopes map.scopes referrer url text None → MatchesImports map.imports url text None → url ≡ Some own → ResolvesAs map referrer url text (Resolved own)
+  bare : MatchesScopes map.scopes referrer url text None → MatchesImports map.imports url text None → url ≡ None → ResolvesAs map referrer url text Bare
 
-abbrev pub scope_addresses : Texts Addresses → Lookup (Lookup (Option (List ℕ)))
-scope_addresses scopes key = option_map get (get scopes key)
-
-unfoldable pub resolve_in : ParsedMap → List ℕ → List ℕ → Resolution
-resolve_in m referrer specifier = resolve_normalized (get m.imports) (scope_addresses m.scopes) referrer (as_url referrer specifier) (normalized referrer specifier)
+abbrev pub Resolves : ParsedMap → List ℕ → List ℕ → Resolution → Type 0
+Resolves map referrer specifier resolution = ResolvesAs map referrer (as_url referrer specifier) (normalized referrer specifier) resolution

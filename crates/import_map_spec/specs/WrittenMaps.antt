@@ -4,7 +4,8 @@
 use Rattle.std.specs.FinMap.{insert, empty}
 use Rattle.std.specs.Prelude.{ℕ, List, [], ◌∷◌, Option, map, ◌≡◌, codes, ⊤}
 use Rattle.import_map_spec.specs.ParsedMap.{Texts, Addresses, ParsedMap}
-use Rattle.import_map_spec.specs.Resolving.{Resolution, resolve_in}
+use Rattle.import_map_spec.specs.Resolving.{Resolution}
+use Rattle.import_map_spec.specs.LookUps.{resolve_in}
 use Prim.Native.String.{String}
 
 -- the entries, inserted one after another

@@ -4,7 +4,7 @@
 #![tactic(auto)]
 
 ghost use Rattle.import_map_spec.specs.WorkedExamples.{WorkedExamples};
-ghost use Rattle.import_map_spec.specs.Laws.{KeyOrder, OneMap, SameQuestion, SomeMap};
+ghost use Rattle.import_map_spec.specs.Laws.{KeyOrder, OneMap, ParsedMapsAreNormal, ResolvesByCases, SameQuestion, SomeMap};
 
 /// What must be an object in the text of an import map.
 #[derive(Clone, Copy, Debug, PartialEq, Eq)]
@@ -31,6 +31,18 @@ pub fn one_map()
 #[tactic(auto, using(crate::proofs::OneMap::some_map))]
 pub fn some_map()
     ensures { SomeMap }
+{}
+
+/// In a parsed map each key of a module specifier map is normalized and isn't empty, and addresses, the keys of scopes and those of
+/// the integrity are URLs.
+pub fn parsed_maps_are_normal()
+    ensures { ParsedMapsAreNormal }
+{}
+
+/// What look-ups come to is what the cases of resolution say: of the keys that apply the longest answers.
+#[tactic(auto, using(crate::proofs::ResolvesByCases::resolves_by_cases))]
+pub fn resolves_by_cases()
+    ensures { ResolvesByCases }
 {}
 
 /// Two specifiers that are no URLs and that normalize alike have one answer, in every map.

@@ -5,7 +5,7 @@ use Rattle.std.specs.Prelude.{ℕ, List, Option, [], ◌∷◌, ◌++◌, bytes_
 use Rattle.import_map_spec.proofs.Entries.{same_key}
 use Rattle.import_map_spec.proofs.WrittenMaps.{looked, looked_onto, nowhere, get_map_of}
 use Rattle.import_map_spec.specs.ParsedMap.{Texts, Addresses}
-use Rattle.import_map_spec.specs.Resolving.{Lookup}
+use Rattle.import_map_spec.specs.LookUps.{Lookup}
 use Rattle.import_map_spec.specs.WrittenMaps.{Lists, insert_all, scope_of, map_of, map_of_lists}
 use Rattle.layout_spec.specs.Layout.{with_need, scopes_onto, layout}
 use Rattle.layout_spec.specs.declared.Need.{Need}

@@ -6,7 +6,7 @@
 use Rattle.std.specs.List.{list_any}
 use Rattle.std.specs.Prelude.{Bool, ◌&&◌, bytes_eq, List, [], ◌∷◌, ◌++◌, if◌then◌else◌, ◌≡◌, Contains, ⊤, false}
 use Rattle.url_spec.specs.Parsing.{IsUrl}
-use Rattle.import_map_spec.specs.Parsing.{ends_in_slash}
+use Rattle.url_spec.specs.Specifiers.{ends_in_slash}
 use Rattle.layout_spec.specs.declared.Need.{Need}
 
 -- the same need

@@ -7,11 +7,11 @@ use Rattle.std.specs.Cmp.Lexicographic.{slice_cmp}
 use Rattle.std.specs.FinMap.{get, empty}
 use Rattle.std.proofs.lemmas.Bool.{cases_Bool, true≢false}
 use Rattle.std.proofs.lemmas.Slice.Eq.{bytes_eq-Decides}
-use Rattle.url_spec.specs.Specifiers.{as_url, normalized}
+use Rattle.url_spec.specs.Specifiers.{as_url, normalized, ends_in_slash}
 use Rattle.import_map_spec.specs.ParsedMap.{Texts, Addresses, ParsedMap}
-use Rattle.import_map_spec.specs.Parsing.{ends_in_slash}
 use Rattle.import_map_spec.proofs.Entries.{get_nowhere}
-use Rattle.import_map_spec.specs.Resolving.{Resolution, Resolved, first_answer, answer_or, unmatched, Lookup, resolve_imports_match, scope_match, longest_front, prefix_scope, resolve_scopes_match, scope_addresses, resolve_normalized, resolve_in}
+use Rattle.import_map_spec.specs.Resolving.{Resolution, Resolved}
+use Rattle.import_map_spec.specs.LookUps.{first_answer, answer_or, unmatched, Lookup, resolve_imports_match, scope_match, longest_front, prefix_scope, resolve_scopes_match, scope_addresses, resolve_normalized, resolve_in}
 use Rattle.import_map_spec.proofs.LongestKey.{key_order}
 use Rattle.layout_spec.specs.declared.Need.{Need}
 use Rattle.layout_spec.specs.Needs.{NoClash, NamesFiles}

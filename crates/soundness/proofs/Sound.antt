@@ -6,7 +6,7 @@ use Rattle.url_spec.specs.Parsing.{IsUrl}
 use Rattle.url_spec.proofs.KeptUrls.{kept_urls}
 use Rattle.import_map_spec.specs.Parsing.{ParsesMap}
 use Rattle.layout_spec.proofs.TextBack.{texts_read_back}
-use Rattle.import_map_spec.specs.Resolving.{resolve_in}
+use Rattle.import_map_spec.specs.LookUps.{resolve_in}
 use Rattle.import_map_spec.specs.Resolving as html
 use Rattle.layout_spec.specs.declared.Need.{Need}
 use Rattle.layout_spec.specs.Layout.{layout, Lays}

@@ -2,14 +2,17 @@
 --     is_relative text      the text begins with `/`, `./` or `../`
 --     as_url base text      the URL of a specifier
 --     normalized base text      the normalized specifier
---     begins text front      the text begins with this one
-use Rattle.std.specs.List.{starts_with}
-use Rattle.std.specs.Prelude.{nat_eq, ℕ, Bool, List, ◌||◌, codes, Option, if◌then◌else◌, unwrap_or}
+--     begins text front, ends_in_slash text      the text begins with this one, and ends in `/`
+use Rattle.std.specs.List.{starts_with, ends_with}
+use Rattle.std.specs.Prelude.{nat_eq, ℕ, Bool, List, codes, ◌||◌, Option, if◌then◌else◌, unwrap_or}
 use Rattle.url_spec.specs.Parsing.{parse_alone, parse_against}
 
 -- the text begins with this one
 abbrev pub begins : List ℕ → List ℕ → Bool
 begins text front = starts_with nat_eq text front
+
+abbrev pub ends_in_slash : List ℕ → Bool
+ends_in_slash text = ends_with nat_eq text (codes "/")
 
 -- the text begins with `/`, `./` or `../`
 abbrev pub is_relative : List ℕ → Bool
