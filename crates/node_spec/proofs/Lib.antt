@@ -6,6 +6,8 @@ pub mod PlacesInPackage
 pub mod SomeOutcome
 pub mod AnswersInTurn
 pub mod ConditionSets
+pub mod DecidingCall
+pub mod PatternSlices
 pub mod PatternParts
 pub mod PatternOrder
 pub mod PatternChoice

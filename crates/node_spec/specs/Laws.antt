@@ -4,14 +4,15 @@
 --     under_conditions conditions rules      the same rules under other conditions
 --     IsSameSet conditions others      the same names stand in both lists
 --     PartStands asked base trailer      a part that isn't empty stands between the base and the trailer
-use Rattle.std.specs.Prelude.{true, [], ◌≡◌, ℕ, List, Result, IfOk, ⊤, codes, ◌↔◌, ◌<◌, ◌++◌, length, ◌⊎◌}
+--     IsPatternMatch asked key from to      the pattern match is the slice of the asked text between the key's base and trailer
+use Rattle.std.specs.Prelude.{◌≡◌, ◌≢◌, ◌⊎◌, ◌↔◌, ◌<◌, ◌+◌, ◌-◌, ℕ, true, false, List, [], ◌++◌, length, take, drop, codes, Result, IfOk, ⊤}
 use Rattle.std.specs.List.{Contains}
 use Rattle.tree_spec.specs.Trees.{Tree}
 use Rattle.json_spec.specs.Value.{HasDistinctNames, Json}
 use Rattle.url_spec.specs.Specifiers.{is_relative, begins}
-use Rattle.node_spec.specs.BareCalls.{Alike, IsSame, answers_of, Tells, AnswersBehind, TellsBehind}
+use Rattle.node_spec.specs.BareCalls.{IsDecided, Alike, IsSame, answers_of, Tells, AnswersBehind, TellsBehind}
 use Rattle.node_spec.specs.PackageTargets.{Rules, Call, ResolvesTarget, Answers, ResolvesUnder}
-use Rattle.node_spec.specs.PatternKeys.{IsPattern, FitsPattern, KeyMatch, Matches, Precedes, IsChoice, MatchesNone}
+use Rattle.node_spec.specs.PatternKeys.{IsPattern, FitsPattern, KeyMatch, PatternMatch, Matches, Precedes, IsChoice, MatchesNone}
 use Rattle.node_spec.specs.Records.{Record, RecordFault, ReadsRecord}
 use Rattle.node_spec.specs.Resolution.{Answer, Resolves}
 use Rattle.node_spec.specs.declared.BareAnswer.{BareAnswer}
@@ -64,6 +65,16 @@ IsInPackage InvalidTarget = ⊤
 IsInPackage InvalidSpecifier = ⊤
 IsInPackage InvalidConfig = ⊤
 
+-- own law: the deciding call is the last one: no text is asked for behind one that was found or refused
+abbrev pub DecidingCallIsLast : Type 0
+DecidingCallIsLast = (rules : Rules) (target : Json) (asked : List Call) (out : Outcome) → ResolvesTarget rules target asked out → IsDecided asked out
+
+-- PACKAGE_TARGET_RESOLVE: a target in `exports` asks for no bare text, and so has no outcome of one
+abbrev pub ExportsAskNothing : Type 0
+ExportsAskNothing =
+    (rules : Rules) (target : Json) (asked : List Call) (out : Outcome) → rules.is_imports ≡ false → ResolvesTarget rules target asked out
+    → (asked ≡ []) × (out ≢ Bare) × (out ≢ Stopped)
+
 -- own law: a target comes to no place but one that begins with `./`
 abbrev pub PlacesInPackage : Type 0
 PlacesInPackage = (rules : Rules) (target : Json) (asked : List Call) (out : Outcome) → ResolvesTarget rules target asked out → IsInPackage out
@@ -97,6 +108,22 @@ pub record PartStands (asked base trailer : List ℕ) : Type 0 where
 -- own law: a pattern fits a text exactly where something that isn't empty stands between its base and its trailer
 abbrev pub PatternMatchStands : Type 0
 PatternMatchStands = (asked key base trailer : List ℕ) → IsPattern key base trailer → (FitsPattern asked key base trailer ↔ PartStands asked base trailer)
+
+pub record IsPatternMatch (asked key : List ℕ) (from to : ℕ) : Type 0 where
+  pub base : List ℕ
+  pub part : List ℕ
+  pub trailer : List ℕ
+  pub pattern : IsPattern key base trailer
+  pub stands : asked ≡ base ++ (part ++ trailer)
+  pub some : 0 < length part
+  pub begins : from ≡ length base
+  pub ends : to ≡ length base + length part
+  pub slice : take (to - from) (drop from asked) ≡ part
+
+-- PACKAGE_IMPORTS_EXPORTS_RESOLVE, patternMatch: where a pattern key matches, what stands for its `*` is what stands in the asked text
+-- from the first place to before the second
+abbrev pub PatternMatchIsSlice : Type 0
+PatternMatchIsSlice = (asked key : List ℕ) (from to : ℕ) → Matches asked key (PatternMatch from to) → IsPatternMatch asked key from to
 
 -- own law: the order among the keys that match is total
 pub record KeysAreInOrder : Type 0 where

@@ -2,7 +2,7 @@
 //! comes to: definitions and their laws.
 #![tactic(auto)]
 
-ghost use Rattle.node_spec.specs.Laws.{SomeOutcomeInTurn, ConditionsAreASet, OneAnswer, OneChoice, SomeChoice, KeysAreInOrder, PatternMatchStands, OneRecord, RecordNamesAreDistinct, SomeRecord, SomeAnswer, AnswersDetermine, OneOutcome, OneUnder, PlacesInPackage, SomeOutcome};
+ghost use Rattle.node_spec.specs.Laws.{AnswersDetermine, ConditionsAreASet, DecidingCallIsLast, ExportsAskNothing, KeysAreInOrder, OneAnswer, OneChoice, OneOutcome, OneRecord, OneUnder, PatternMatchIsSlice, PatternMatchStands, PlacesInPackage, RecordNamesAreDistinct, SomeAnswer, SomeChoice, SomeOutcome, SomeOutcomeInTurn, SomeRecord};
 ghost use Rattle.node_spec.specs.WorkedExamples.{WorkedExamples};
 ghost use Rattle.node_spec.specs.PatternExamples.{PatternExamples};
 ghost use Rattle.node_spec.specs.RecordExamples.{RecordExamples};
@@ -121,6 +121,18 @@ pub fn one_under()
     ensures { OneUnder }
 {}
 
+/// No text is asked for behind one that was found or refused: the call that decides is the last one.
+#[tactic(auto, using(crate::proofs::DecidingCall::deciding_call_is_last))]
+pub fn deciding_call_is_last()
+    ensures { DecidingCallIsLast }
+{}
+
+/// A target in `exports` asks for no bare text, and so comes to neither of the outcomes that such a text has.
+#[tactic(auto, using(crate::proofs::DecidingCall::exports_ask_nothing))]
+pub fn exports_ask_nothing()
+    ensures { ExportsAskNothing }
+{}
+
 /// A target comes to no place but one that begins with `./`.
 #[tactic(auto, using(crate::proofs::PlacesInPackage::places_in_package))]
 pub fn places_in_package()
@@ -165,6 +177,12 @@ pub fn worked_examples()
 /// A pattern key fits a text exactly where a part that isn't empty stands between its base and its trailer.
 pub fn pattern_match_stands()
     ensures { PatternMatchStands }
+{}
+
+/// What stands for the `*` of a pattern key is the slice of the text between the key's base and trailer.
+#[tactic(auto, using(crate::proofs::PatternSlices::pattern_match_is_slice))]
+pub fn pattern_match_is_slice()
+    ensures { PatternMatchIsSlice }
 {}
 
 /// The order among the keys that match one text is total.
