@@ -1,5 +1,5 @@
--- Resolving a specifier by look-ups: what the map has at a text, and at its fronts from the longest to the shortest. It is what
--- `Resolving` says (law `resolves_by_cases`).
+-- Resolving a specifier by look-ups: what the map has at a text, and at its fronts from the longest to the shortest. It
+-- is what `Resolving` says (law `resolves_by_cases`).
 --     resolve_in map referrer specifier      what the specifier comes to in the module or page at the referrer
 --     resolve_imports_match url text addresses      what a module specifier map answers for a normalized specifier
 --     resolve_scopes_match url text referrer scopes      what the scopes answer
@@ -14,10 +14,12 @@ abbrev pub first_answer : {A : Type 0} → Option A → Option A → Option A
 first_answer None other = other
 first_answer (Some x) other = Some x
 
--- what the longest front of the text answers, of those of at most n bytes that answer. A front is asked with what follows it
+-- what the longest front of the text answers, of those of at most n bytes that answer. A front is asked with what
+-- follows it
 abbrev pub longest_front : {A : Type 0} → (List ℕ → List ℕ → Option A) → List ℕ → ℕ → Option A
 longest_front answer text zero = None
-longest_front answer text (suc n) = first_answer (answer (take (suc n) text) (drop (suc n) text)) (longest_front answer text n)
+longest_front answer text (suc n) =
+    first_answer (answer (take (suc n) text) (drop (suc n) text)) (longest_front answer text n)
 
 -- a key that is the normalized specifier (HTML, import maps: resolve an imports match)
 abbrev pub exact_match : Option (Option (List ℕ)) → Option Resolution
@@ -29,7 +31,8 @@ abbrev pub below_address : List ℕ → Option (List ℕ) → Resolution
 below_address address None = BadRest
 below_address address (Some url) = if begins url address then Resolved url else Backtrack
 
--- a key that is a prefix of the normalized specifier, with what follows it (HTML, import maps: resolve an imports match)
+-- a key that is a prefix of the normalized specifier, with what follows it (HTML, import maps: resolve an imports
+-- match)
 abbrev pub prefix_match : Option (Option (List ℕ)) → List ℕ → Option Resolution
 prefix_match None rest = None
 prefix_match (Some None) rest = Some Blocked
@@ -43,21 +46,29 @@ Lookup X = List ℕ → Option X
 abbrev pub prefix_key : Lookup (Option (List ℕ)) → List ℕ → List ℕ → Option Resolution
 prefix_key addresses front rest = if ends_in_slash front then prefix_match (addresses front) rest else None
 
--- the keys are tried in descending order, so that of those that match the longest one answers (HTML, import maps: resolve an imports match)
+-- the keys are tried in descending order, so that of those that match the longest one answers (HTML, import maps:
+-- resolve an imports match)
 abbrev pub resolve_imports_match : Option (List ℕ) → List ℕ → Lookup (Option (List ℕ)) → Option Resolution
-resolve_imports_match url text addresses = first_answer (exact_match (addresses text)) (if takes_prefixes url then longest_front (prefix_key addresses) text (length text) else None)
+resolve_imports_match url text addresses =
+    first_answer (exact_match (addresses text))
+    (if takes_prefixes url then longest_front (prefix_key addresses) text (length text) else None)
 
 abbrev pub scope_match : Option (List ℕ) → List ℕ → Option (Lookup (Option (List ℕ))) → Option Resolution
 scope_match url text None = None
 scope_match url text (Some addresses) = resolve_imports_match url text addresses
 
 -- a scope whose key is a prefix of the referrer and ends in `/` (HTML, import maps: resolve a module specifier)
-abbrev pub prefix_scope : Option (List ℕ) → List ℕ → Lookup (Lookup (Option (List ℕ))) → List ℕ → List ℕ → Option Resolution
+abbrev pub prefix_scope :
+    Option (List ℕ) → List ℕ → Lookup (Lookup (Option (List ℕ))) → List ℕ → List ℕ → Option Resolution
 prefix_scope url text scopes front rest = if ends_in_slash front then scope_match url text (scopes front) else None
 
--- the scope of the referrer itself, and then the others from the longest key to the shortest (HTML, import maps: resolve a module specifier)
-abbrev pub resolve_scopes_match : Option (List ℕ) → List ℕ → List ℕ → Lookup (Lookup (Option (List ℕ))) → Option Resolution
-resolve_scopes_match url text referrer scopes = first_answer (scope_match url text (scopes referrer)) (longest_front (prefix_scope url text scopes) referrer (length referrer))
+-- the scope of the referrer itself, and then the others from the longest key to the shortest (HTML, import maps:
+-- resolve a module specifier)
+abbrev pub resolve_scopes_match :
+    Option (List ℕ) → List ℕ → List ℕ → Lookup (Lookup (Option (List ℕ))) → Option Resolution
+resolve_scopes_match url text referrer scopes =
+    first_answer (scope_match url text (scopes referrer))
+    (longest_front (prefix_scope url text scopes) referrer (length referrer))
 
 -- a URL that no key matches stands for itself
 abbrev pub unmatched : Option (List ℕ) → Resolution
@@ -69,11 +80,16 @@ answer_or None other = other
 answer_or (Some answer) other = answer
 
 -- the scopes, then the imports, then the URL (HTML, import maps: resolve a module specifier)
-abbrev pub resolve_normalized : Lookup (Option (List ℕ)) → Lookup (Lookup (Option (List ℕ))) → List ℕ → Option (List ℕ) → List ℕ → Resolution
-resolve_normalized imports scopes referrer url text = answer_or (first_answer (resolve_scopes_match url text referrer scopes) (resolve_imports_match url text imports)) (unmatched url)
+abbrev pub resolve_normalized :
+    Lookup (Option (List ℕ)) → Lookup (Lookup (Option (List ℕ))) → List ℕ → Option (List ℕ) → List ℕ → Resolution
+resolve_normalized imports scopes referrer url text =
+    answer_or (first_answer (resolve_scopes_match url text referrer scopes) (resolve_imports_match url text imports))
+    (unmatched url)
 
 abbrev pub scope_addresses : Texts Addresses → Lookup (Lookup (Option (List ℕ)))
 scope_addresses scopes key = option_map get (get scopes key)
 
 unfoldable pub resolve_in : ParsedMap → List ℕ → List ℕ → Resolution
-resolve_in m referrer specifier = resolve_normalized (get m.imports) (scope_addresses m.scopes) referrer (as_url referrer specifier) (normalized referrer specifier)
+resolve_in m referrer specifier =
+    resolve_normalized (get m.imports) (scope_addresses m.scopes) referrer (as_url referrer specifier)
+    (normalized referrer specifier)

@@ -17,12 +17,14 @@ abbrev pub is_empty : List ℕ → Bool
 is_empty [] = true
 is_empty (b ∷ text) = false
 
--- a URL that ends in no `/` is no address of a key that does (HTML, import maps: sorting and normalizing a module specifier map)
+-- a URL that ends in no `/` is no address of a key that does (HTML, import maps: sorting and normalizing a module
+-- specifier map)
 abbrev pub fitting : List ℕ → Option (List ℕ) → Option (List ℕ)
 fitting key None = None
 fitting key (Some url) = if ends_in_slash key && not (ends_in_slash url) then None else Some url
 
--- the address of a key, null where the value is no string or no URL (HTML, import maps: sorting and normalizing a module specifier map)
+-- the address of a key, null where the value is no string or no URL (HTML, import maps: sorting and normalizing a
+-- module specifier map)
 abbrev pub address_of : List ℕ → List ℕ → Json → Option (List ℕ)
 address_of base key (a_text text) = fitting key (as_url base text)
 address_of base key a_null = None
@@ -35,7 +37,8 @@ address_of base key (an_object ms) = None
 abbrev pub with_address : List ℕ → List ℕ → Json → Addresses → Addresses
 with_address base key value m = if is_empty key then m else insert m (normalized base key) (address_of base key value)
 
--- in written order, so that a later key replaces an earlier one (HTML, import maps: sorting and normalizing a module specifier map)
+-- in written order, so that a later key replaces an earlier one (HTML, import maps: sorting and normalizing a module
+-- specifier map)
 abbrev pub addresses_onto : List ℕ → Addresses → Members → Addresses
 addresses_onto base m no_members = m
 addresses_onto base m (a_member key value more) = addresses_onto base (with_address base key value m) more
@@ -48,16 +51,19 @@ abbrev pub with_scope : Option (List ℕ) → Addresses → Texts Addresses → 
 with_scope None addresses m = m
 with_scope (Some url) addresses m = insert m url addresses
 
--- a later key replaces an earlier one, and a scope that is no object is a fault (HTML, import maps: sorting and normalizing scopes)
+-- a later key replaces an earlier one, and a scope that is no object is a fault (HTML, import maps: sorting and
+-- normalizing scopes)
 abbrev pub scopes_onto : List ℕ → Texts Addresses → Members → Result (Texts Addresses) MapPart
 scopes_onto base m no_members = Ok m
-scopes_onto base m (a_member key (an_object ms) more) = scopes_onto base (with_scope (parse_against base key) (normalized_addresses base ms) m) more
+scopes_onto base m (a_member key (an_object ms) more) =
+    scopes_onto base (with_scope (parse_against base key) (normalized_addresses base ms) m) more
 scopes_onto base m (a_member key _ more) = Err Scope
 
 abbrev pub normalized_scopes : List ℕ → Members → Result (Texts Addresses) MapPart
 normalized_scopes base members = scopes_onto base empty (in_property_order members)
 
--- a key that is no URL is dropped, and so is a value that is no string (HTML, import maps: normalizing a module integrity map)
+-- a key that is no URL is dropped, and so is a value that is no string (HTML, import maps: normalizing a module
+-- integrity map)
 abbrev pub with_integrity : Option (List ℕ) → Json → Texts (List ℕ) → Texts (List ℕ)
 with_integrity (Some url) (a_text text) m = insert m url text
 with_integrity _ _ m = m
@@ -92,7 +98,11 @@ map_of_members base top = do
   scopes ← object_in Scopes (member (codes "scopes") top)
   normal_scopes ← normalized_scopes base scopes
   integrity ← object_in Integrity (member (codes "integrity") top)
-  Ok (record { imports = normalized_addresses base imports; scopes = normal_scopes; integrity = normalized_integrity base integrity })
+  Ok (record {
+    imports = normalized_addresses base imports;
+    scopes = normal_scopes;
+    integrity = normalized_integrity base integrity;
+  })
 
 unfoldable pub parsed_map : List ℕ → Json → Result ParsedMap MapPart
 parsed_map base (an_object ms) = map_of_members base ms

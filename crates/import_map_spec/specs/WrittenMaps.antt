@@ -27,7 +27,8 @@ pub record Lists : Type 0 where
   pub integrity : List (List ℕ × List ℕ)
 
 abbrev pub map_of_lists : Lists → ParsedMap
-map_of_lists l = record { imports = map_of l.imports; scopes = map_of (map scope_of l.scopes); integrity = map_of l.integrity }
+map_of_lists l =
+    record { imports = map_of l.imports; scopes = map_of (map scope_of l.scopes); integrity = map_of l.integrity }
 
 -- a table of referrers, specifiers and answers
 abbrev pub Questions : Type 0

@@ -22,23 +22,27 @@ SomeJson = (bytes : List ℕ) → (out : Result Json Fault) × ReadsJson bytes o
 abbrev pub NamesAreDistinct : Type 0
 NamesAreDistinct = (bytes : List ℕ) (out : Result Json Fault) → ReadsJson bytes out → IfOk out HasDistinctNames
 
--- RFC 8259, 6: what is read at the front of the bytes is a number, and no longer front of them is one; where nothing is read, no
--- front is a number
+-- RFC 8259, 6: what is read at the front of the bytes is a number, and no longer front of them is one; where nothing is
+-- read, no front is a number
 pub record LongestNumber : Type 0 where
-  pub is_number : (bytes number rest : List ℕ) → number_at bytes ≡ taken number rest → IsNumber number × (bytes ≡ number ++ rest)
+  pub is_number :
+      (bytes number rest : List ℕ) → number_at bytes ≡ taken number rest → IsNumber number × (bytes ≡ number ++ rest)
   pub longest :
-      (bytes number rest front back : List ℕ) → number_at bytes ≡ taken number rest → bytes ≡ front ++ back → IsNumber front
+      (bytes number rest front back : List ℕ) → number_at bytes ≡ taken number rest → bytes ≡ front ++ back
+      → IsNumber front
       → length front ≤ length number
   pub none : (bytes front back : List ℕ) → number_at bytes ≡ refused tt → bytes ≡ front ++ back → IsNumber front → ⊥
 
--- ECMA-262, OrdinaryOwnPropertyKeys: the members in an object's order are its members in another order: first those whose names
--- are array indices, by ascending number, and then the others, as they are written
+-- ECMA-262, OrdinaryOwnPropertyKeys: the members in an object's order are its members in another order: first those
+-- whose names are array indices, by ascending number, and then the others, as they are written
 pub record MembersInOrder : Type 0 where
   pub all_members : (ms : Members) → IsPermutation (pairs_of ms) (pairs_of (in_property_order ms))
-  pub indices_first : (ms : Members) → pairs_of (in_property_order ms) ≡ pairs_of (index_members ms) ++ pairs_of (other_members ms)
+  pub indices_first :
+      (ms : Members) → pairs_of (in_property_order ms) ≡ pairs_of (index_members ms) ++ pairs_of (other_members ms)
   pub are_indices : (ms : Members) → All (λ (pair : Pair). is_array_index pair.0 ≡ true) (pairs_of (index_members ms))
   pub ascending : (ms : Members) → IsNonDecreasingBy (λ (pair : Pair). number_of pair.0) (pairs_of (index_members ms))
-  pub others_as_written : (ms : Members) → pairs_of (other_members ms) ≡ filter (λ (pair : Pair). not (is_array_index pair.0)) (pairs_of ms)
+  pub others_as_written :
+      (ms : Members) → pairs_of (other_members ms) ≡ filter (λ (pair : Pair). not (is_array_index pair.0)) (pairs_of ms)
 
 -- own law: a printed string, behind its opening quote and before any bytes, reads back as its text
 abbrev pub TextsReadBack : Type 0

@@ -89,7 +89,8 @@ abbrev pub frac_at : List ℕ → Read (List ℕ)
 frac_at bytes = joined (one_of (λ b. b == 46)) digits_at bytes
 
 abbrev pub exp_at : List ℕ → Read (List ℕ)
-exp_at bytes = joined (one_of (λ b. b == 101 || b == 69)) (joined (maybe (one_of (λ b. b == 43 || b == 45))) digits_at) bytes
+exp_at bytes =
+    joined (one_of (λ b. b == 101 || b == 69)) (joined (maybe (one_of (λ b. b == 43 || b == 45))) digits_at) bytes
 
 abbrev pub number_at : List ℕ → Read (List ℕ)
 number_at bytes = joined (maybe (one_of (λ b. b == 45))) (joined int_at (joined (maybe frac_at) (maybe exp_at))) bytes

@@ -1,7 +1,8 @@
 -- The printed form of a value. RFC 8259, 2, leaves white space free, and this is the layout that is written.
 --     printed_text v      the whole text of v
 --     printed n v rest      v at depth n, and then rest
---     IsPrintable depth v      v is read back: no number, distinct names, texts in UTF-8, and no more than depth brackets open at once
+--     IsPrintable depth v      v is read back: no number, distinct names, texts in UTF-8, and no more than depth
+--         brackets open at once
 use Rattle.std.specs.Prelude.{ℕ, zero, suc, List, ◌∷◌, true, false, ◌++◌, codes, [], ⊤, IsUtf8}
 use Rattle.json_spec.specs.PrintedString.{quoted}
 use Rattle.json_spec.specs.Value.{Json, a_null, a_bool, a_number, a_text, a_list, an_object, Items, no_items, an_item, Members, no_members, a_member, AreDistinct}
@@ -15,8 +16,8 @@ margin (suc n) rest = 32 ∷ 32 ∷ margin n rest
 abbrev pub line : ℕ → List ℕ → List ℕ
 line n rest = 10 ∷ margin n rest
 
--- own: a list or an object that isn't empty has a line for each item or member, a level further in. A `,` ends such a line if another
--- follows, and `: ` parts a name from its value
+-- own: a list or an object that isn't empty has a line for each item or member, a level further in. A `,` ends such a
+-- line if another follows, and `: ` parts a name from its value
 abbrev mutual
   pub printed : ℕ → Json → List ℕ → List ℕ
   printed n a_null rest = codes "null" ++ rest
@@ -25,9 +26,12 @@ abbrev mutual
   printed n (a_number number) rest = number ++ rest
   printed n (a_text text) rest = quoted text ++ rest
   printed n (a_list no_items) rest = codes "[]" ++ rest
-  printed n (a_list (an_item v more)) rest = 91 ∷ line (suc n) (printed (suc n) v (printed_items (suc n) more (line n (93 ∷ rest))))
+  printed n (a_list (an_item v more)) rest =
+      91 ∷ line (suc n) (printed (suc n) v (printed_items (suc n) more (line n (93 ∷ rest))))
   printed n (an_object no_members) rest = codes "{}" ++ rest
-  printed n (an_object (a_member name v more)) rest = 123 ∷ line (suc n) (quoted name ++ (codes ": " ++ printed (suc n) v (printed_members (suc n) more (line n (125 ∷ rest)))))
+  printed n (an_object (a_member name v more)) rest =
+      123 ∷ line (suc n)
+      (quoted name ++ (codes ": " ++ printed (suc n) v (printed_members (suc n) more (line n (125 ∷ rest)))))
 
   -- what stands behind an item, and behind a member
   pub printed_items : ℕ → Items → List ℕ → List ℕ
@@ -36,7 +40,8 @@ abbrev mutual
 
   pub printed_members : ℕ → Members → List ℕ → List ℕ
   printed_members n no_members rest = rest
-  printed_members n (a_member name v more) rest = 44 ∷ line n (quoted name ++ (codes ": " ++ printed n v (printed_members n more rest)))
+  printed_members n (a_member name v more) rest =
+      44 ∷ line n (quoted name ++ (codes ": " ++ printed n v (printed_members n more rest)))
 
 -- own: a single LF stands behind the value
 abbrev pub printed_text : Json → List ℕ
@@ -60,4 +65,5 @@ abbrev mutual
 
   pub MembersArePrintable : ℕ → Members → Type 0
   MembersArePrintable depth no_members = ⊤
-  MembersArePrintable depth (a_member name value more) = IsUtf8 name × IsPrintable depth value × MembersArePrintable depth more
+  MembersArePrintable depth (a_member name value more) =
+      IsUtf8 name × IsPrintable depth value × MembersArePrintable depth more

@@ -1,5 +1,6 @@
 -- The order in which an object gives its members (ECMA-262, OrdinaryOwnPropertyKeys).
---     in_property_order members      those whose names are array indices by number, and then the others as they are written
+--     in_property_order members      those whose names are array indices by number, and then the others as they are
+--         written
 --     is_array_index text      the text is the decimal form of a number below 2^32 - 1 (ECMA-262, object type)
 --     number_of digits      the number that decimal digits spell
 --     pairs_of members      the members as a list
@@ -38,7 +39,8 @@ pairs_of (a_member key value more) = (key, value) ∷ pairs_of more
 abbrev pub by_number : List ℕ → Json → Members → Members
 by_number key value no_members = a_member key value no_members
 by_number key value (a_member k v more) =
-    if nat_lt (number_of key) (number_of k) then a_member key value (a_member k v more) else a_member k v (by_number key value more)
+    if nat_lt (number_of key) (number_of k) then a_member key value (a_member k v more)
+    else a_member k v (by_number key value more)
 
 -- the members whose names are array indices, by ascending number
 abbrev pub index_members : Members → Members

@@ -57,11 +57,13 @@ pair_character high low = 65536 + (high - 55296) * 1024 + (low - 56320)
 
 -- own: a surrogate that is no half of a pair is refused
 abbrev pub second_half : ℕ → ℕ → List ℕ → Read (List ℕ)
-second_half high low rest = if is_low_surrogate low then taken (encode_utf8 (pair_character high low)) rest else refused tt
+second_half high low rest =
+    if is_low_surrogate low then taken (encode_utf8 (pair_character high low)) rest else refused tt
 
 abbrev pub unicode_character : ℕ → List ℕ → Read (List ℕ)
 unicode_character n rest =
-    if is_high_surrogate n then taken_from (behind (92 ∷ 117 ∷ []) rest) (λ more. and_then (four_digits more) (second_half n))
+    if is_high_surrogate n
+    then taken_from (behind (92 ∷ 117 ∷ []) rest) (λ more. and_then (four_digits more) (second_half n))
     else if is_low_surrogate n then refused tt
     else taken (encode_utf8 n) rest
 
@@ -75,15 +77,22 @@ escape_at (b ∷ bytes) =
 -- RFC 8259, 7: a string up to its closing quote, where each other byte from U+0020 on but `\` stands for itself
 pub data ReadsText : List ℕ → Read (List ℕ) → Type 0 where
   close : {rest : List ℕ} → ReadsText (34 ∷ rest) (taken [] rest)
-  plain : {b : ℕ} {bytes : List ℕ} {out : Read (List ℕ)} → b ≢ 34 → b ≢ 92 → 32 ≤ b → ReadsText bytes out → ReadsText (b ∷ bytes) (behind_piece (b ∷ []) out)
-  escape : {bytes piece middle : List ℕ} {out : Read (List ℕ)} → escape_at bytes ≡ taken piece middle → ReadsText middle out → ReadsText (92 ∷ bytes) (behind_piece piece out)
+  plain :
+      {b : ℕ} {bytes : List ℕ} {out : Read (List ℕ)} → b ≢ 34 → b ≢ 92 → 32 ≤ b → ReadsText bytes out
+      → ReadsText (b ∷ bytes) (behind_piece (b ∷ []) out)
+  escape :
+      {bytes piece middle : List ℕ} {out : Read (List ℕ)} → escape_at bytes ≡ taken piece middle → ReadsText middle out
+      → ReadsText (92 ∷ bytes) (behind_piece piece out)
   no_escape : {bytes : List ℕ} → escape_at bytes ≡ refused tt → ReadsText (92 ∷ bytes) (refused tt)
   control : {b : ℕ} {bytes : List ℕ} → b < 32 → ReadsText (b ∷ bytes) (refused tt)
   text_ends : ReadsText [] (refused tt)
 
--- RFC 8259, 7 and 8.1: a string whose text is UTF-8. An escape gives whole characters, so the text is UTF-8 exactly where the bytes
--- between the quotes are
+-- RFC 8259, 7 and 8.1: a string whose text is UTF-8. An escape gives whole characters, so the text is UTF-8 exactly
+-- where the bytes between the quotes are
 pub data ReadsString : List ℕ → Read (List ℕ) → Type 0 where
-  in_utf8 : {bytes text rest : List ℕ} → ReadsText bytes (taken text rest) → IsUtf8 text → ReadsString bytes (taken text rest)
-  no_utf8 : {bytes text rest : List ℕ} → ReadsText bytes (taken text rest) → (IsUtf8 text → ⊥) → ReadsString bytes (refused tt)
+  in_utf8 :
+      {bytes text rest : List ℕ} → ReadsText bytes (taken text rest) → IsUtf8 text → ReadsString bytes (taken text rest)
+  no_utf8 :
+      {bytes text rest : List ℕ} → ReadsText bytes (taken text rest) → (IsUtf8 text → ⊥)
+      → ReadsString bytes (refused tt)
   no_string : {bytes : List ℕ} → ReadsText bytes (refused tt) → ReadsString bytes (refused tt)

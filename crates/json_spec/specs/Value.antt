@@ -23,7 +23,8 @@ mutual
     no_members : Members
     a_member : List ℕ → Json → Members → Members
 
--- own: the members, and one more that is written behind them: a name that is there gets this value, a new one stands at the end
+-- own: the members, and one more that is written behind them: a name that is there gets this value, a new one stands at
+-- the end
 abbrev pub put : List ℕ → Json → Members → Members
 put key value no_members = a_member key value no_members
 put key value (a_member k v more) = if bytes_eq key k then a_member k value more else a_member k v (put key value more)
@@ -32,8 +33,8 @@ abbrev pub settled_onto : Members → Members → Members
 settled_onto ms no_members = ms
 settled_onto ms (a_member key value more) = settled_onto (put key value ms) more
 
--- own: RFC 8259, 4, leaves open what a repeated name means. Here it is one member, where the name is written first, with the value
--- that is written last
+-- own: RFC 8259, 4, leaves open what a repeated name means. Here it is one member, where the name is written first,
+-- with the value that is written last
 abbrev pub settled : Members → Members
 settled ms = settled_onto no_members ms
 

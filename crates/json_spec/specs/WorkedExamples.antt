@@ -14,7 +14,8 @@ use Rattle.json_spec.specs.Value.{a_null, a_bool, a_text, a_list, an_object, no_
 pub record PrintedExamples : Type 0 where
   pub string : quoted (97 ∷ 34 ∷ 60 ∷ 10 ∷ []) ≡ codes "\"a\\\"\\u003c\\u000a\""
   pub value :
-      printed_text (an_object (a_member (codes "a") (a_list no_items) (a_member (codes "b") (an_object (a_member (codes "c") a_null no_members)) (a_member (codes "d") (a_list (an_item (a_text (codes "e")) (an_item (a_bool true) no_items))) no_members))))
+      printed_text
+      (an_object (a_member (codes "a") (a_list no_items) (a_member (codes "b") (an_object (a_member (codes "c") a_null no_members)) (a_member (codes "d") (a_list (an_item (a_text (codes "e")) (an_item (a_bool true) no_items))) no_members))))
       ≡ codes "{\n  \"a\": [],\n  \"b\": {\n    \"c\": null\n  },\n  \"d\": [\n    \"e\",\n    true\n  ]\n}\n"
 
 -- the longest number stands; a surrogate pair is one character, and half of one is none
@@ -36,8 +37,12 @@ abbrev pub Fails : List ℕ → ℕ → Type 0
 Fails bytes at = ReadsJson bytes (Err (NotJson at))
 
 pub record TextExamples : Type 0 where
-  pub repeated : ReadsJson (codes "{\"a\":1,\"b\":[],\"a\":null}") (Ok (an_object (a_member (codes "a") a_null (a_member (codes "b") (a_list no_items) no_members))))
-  pub spaced : ReadsJson (codes " [ true , \"\\u003c\" ]\n") (Ok (a_list (an_item (a_bool true) (an_item (a_text (codes "<")) no_items))))
+  pub repeated :
+      ReadsJson (codes "{\"a\":1,\"b\":[],\"a\":null}")
+      (Ok (an_object (a_member (codes "a") a_null (a_member (codes "b") (a_list no_items) no_members))))
+  pub spaced :
+      ReadsJson (codes " [ true , \"\\u003c\" ]\n")
+      (Ok (a_list (an_item (a_bool true) (an_item (a_text (codes "<")) no_items))))
   pub comma : Fails (codes "[1,]") 3
   pub empty : Fails [] 0
   pub leading_zero : Fails (codes "01") 1
@@ -55,7 +60,8 @@ pub record TextExamples : Type 0 where
   pub point : Fails (codes "[1.]") 2
   pub not_too_deep : Fails (replicate 128 91) 128
 
--- bytes that no character has: within a string the string fails, at its opening quote, and elsewhere they begin no token
+-- bytes that no character has: within a string the string fails, at its opening quote, and elsewhere they begin no
+-- token
 pub record ByteExamples : Type 0 where
   pub in_string : Fails (34 ∷ 255 ∷ 34 ∷ []) 0
   pub in_name : Fails (123 ∷ 34 ∷ 97 ∷ 255 ∷ 34 ∷ codes ":1}") 1

@@ -1,6 +1,7 @@
 -- The layout of a map for needs.
 --     layout needs      the map with the mappings that the needs want
---     Lays needs map      the map has the mappings that the needs want, each in the scope of its referrer, and nothing else
+--     Lays needs map      the map has the mappings that the needs want, each in the scope of its referrer, and
+--         nothing else
 --     WantsMapping need      the URL of the target doesn't serve the need by itself
 use Rattle.std.specs.FinMap.{get, empty, insert}
 use Rattle.std.specs.Prelude.{ℕ, List, unwrap_or, bytes_eq, if◌then◌else◌, Some, [], ◌∷◌, Option, ◌≢◌, ◌≡◌, Contains}
@@ -14,7 +15,8 @@ scope_of scopes key = unwrap_or (get scopes key) empty
 -- own: a specifier that leads to its target by itself needs no mapping; any other has one in the scope of its referrer
 abbrev pub with_need : Need → Texts Addresses → Texts Addresses
 with_need need scopes =
-    if bytes_eq need.asked need.target then scopes else insert scopes need.referrer (insert (scope_of scopes need.referrer) need.asked (Some need.target))
+    if bytes_eq need.asked need.target then scopes
+    else insert scopes need.referrer (insert (scope_of scopes need.referrer) need.asked (Some need.target))
 
 abbrev pub scopes_onto : Texts Addresses → List Need → Texts Addresses
 scopes_onto scopes [] = scopes
@@ -33,7 +35,8 @@ abbrev pub WantsMapping : Need → Type 0
 WantsMapping need = need.asked ≢ need.target
 
 -- the need of a mapping
-pub record StandsFor (needs : List Need) (referrer asked : List ℕ) (address : Option (List ℕ)) (need : Need) : Type 0 where
+pub record StandsFor (needs : List Need) (referrer asked : List ℕ) (address : Option (List ℕ)) (need : Need)
+    : Type 0 where
   pub is_need : Contains needs need
   pub referrer_is : need.referrer ≡ referrer
   pub asked_is : need.asked ≡ asked
@@ -50,6 +53,12 @@ pub record ScopesFor (needs : List Need) (referrer : List ℕ) (need : Need) : T
 pub record Lays (needs : List Need) (m : ParsedMap) : Type 0 where
   pub imports : m.imports ≡ empty
   pub integrity : m.integrity ≡ empty
-  pub holds : (need : Need) → Contains needs need → WantsMapping need → mapped m.scopes need.referrer need.asked ≡ Some (Some need.target)
-  pub only : (referrer asked : List ℕ) (address : Option (List ℕ)) → mapped m.scopes referrer asked ≡ Some address → (need : Need) × StandsFor needs referrer asked address need
-  pub scopes : (referrer : List ℕ) (scope : Addresses) → get m.scopes referrer ≡ Some scope → (need : Need) × ScopesFor needs referrer need
+  pub holds :
+      (need : Need) → Contains needs need → WantsMapping need
+      → mapped m.scopes need.referrer need.asked ≡ Some (Some need.target)
+  pub only :
+      (referrer asked : List ℕ) (address : Option (List ℕ)) → mapped m.scopes referrer asked ≡ Some address
+      → (need : Need) × StandsFor needs referrer asked address need
+  pub scopes :
+      (referrer : List ℕ) (scope : Addresses) → get m.scopes referrer ≡ Some scope
+      → (need : Need) × ScopesFor needs referrer need

@@ -61,5 +61,6 @@ pub record IsKeptIntegrity (base key text : List ℕ) : Type 0 where
 
 pub record IsKept (base : List ℕ) (m : ParsedMap) : Type 0 where
   pub imports : AreKept base m.imports
-  pub scopes : (key : List ℕ) (addresses : Addresses) → get m.scopes key ≡ Some addresses → IsKeptScope base key addresses
+  pub scopes :
+      (key : List ℕ) (addresses : Addresses) → get m.scopes key ≡ Some addresses → IsKeptScope base key addresses
   pub integrity : (key text : List ℕ) → get m.integrity key ≡ Some text → IsKeptIntegrity base key text

@@ -32,8 +32,8 @@ home_id = need "https://app.test/pages/home.mjs" "https://app.test/pages/[id].mj
 abbrev pub app_ab : Need
 app_ab = need "https://app.test/app.mjs" "https://app.test/a%62.mjs" "https://app.test/ab.mjs"
 
--- under the base `https://app.test/app/` both `../app/x.mjs` and `./x.mjs` have the URL `https://app.test/app/x.mjs` in the file
--- `/m.mjs`, whose web name is `https://app.test/app/m.mjs`; the files are `/app/x.mjs` and `/x.mjs`
+-- under the base `https://app.test/app/` both `../app/x.mjs` and `./x.mjs` have the URL `https://app.test/app/x.mjs` in
+-- the file `/m.mjs`, whose web name is `https://app.test/app/m.mjs`; the files are `/app/x.mjs` and `/x.mjs`
 abbrev pub below_app : Need
 below_app = need "https://app.test/app/m.mjs" "https://app.test/app/x.mjs" "https://app.test/app/app/x.mjs"
 
@@ -52,7 +52,9 @@ pub record LayoutExamples : Type 0 where
   pub itself : layout (page_app ∷ []) ≡ no_mappings
   pub no_mapping : PrintsAs (page_app ∷ app_home ∷ []) "{\n  \"imports\": {}\n}\n"
   -- any other has a mapping in the scope of its referrer
-  pub one_mapping : PrintsAs (page_app ∷ app_ab ∷ []) "{\n  \"imports\": {},\n  \"scopes\": {\n    \"https://app.test/app.mjs\": {\n      \"https://app.test/a%62.mjs\": \"https://app.test/ab.mjs\"\n    }\n  }\n}\n"
+  pub one_mapping :
+      PrintsAs (page_app ∷ app_ab ∷ [])
+      "{\n  \"imports\": {},\n  \"scopes\": {\n    \"https://app.test/app.mjs\": {\n      \"https://app.test/a%62.mjs\": \"https://app.test/ab.mjs\"\n    }\n  }\n}\n"
   pub two_referrers :
       PrintsAs (page_app ∷ app_home ∷ app_id ∷ home_id ∷ [])
       "{\n  \"imports\": {},\n  \"scopes\": {\n    \"https://app.test/app.mjs\": {\n      \"https://app.test/pages/[id].mjs\": \"https://app.test/pages/%5Bid%5D.mjs\"\n    },\n    \"https://app.test/pages/home.mjs\": {\n      \"https://app.test/pages/[id].mjs\": \"https://app.test/pages/%5Bid%5D.mjs\"\n    }\n  }\n}\n"
@@ -76,13 +78,17 @@ abbrev pub only_integrity : Lists
 only_integrity = record { imports = []; scopes = []; integrity = pair "https://app.test/app.mjs" "sha384-x" ∷ [] }
 
 abbrev pub several : Lists
-several = record { imports = to_url "b" "https://app.test/b" ∷ to_null "a" ∷ []; scopes = scope "https://app.test/x/" (to_url "#<" "https://app.test/y" ∷ []) ∷ []; integrity = [] }
+several =
+    record { imports = to_url "b" "https://app.test/b" ∷ to_null "a" ∷ []; scopes = scope "https://app.test/x/" (to_url "#<" "https://app.test/y" ∷ []) ∷ []; integrity = [] }
 
 pub record TextExamples : Type 0 where
-  pub no_scopes : map_text (map_of_lists only_integrity) ≡ codes "{\n  \"imports\": {},\n  \"integrity\": {\n    \"https://app.test/app.mjs\": \"sha384-x\"\n  }\n}\n"
+  pub no_scopes :
+      map_text (map_of_lists only_integrity)
+      ≡ codes "{\n  \"imports\": {},\n  \"integrity\": {\n    \"https://app.test/app.mjs\": \"sha384-x\"\n  }\n}\n"
   pub sorted :
       map_text (map_of_lists several)
-      ≡ codes "{\n  \"imports\": {\n    \"a\": null,\n    \"b\": \"https://app.test/b\"\n  },\n  \"scopes\": {\n    \"https://app.test/x/\": {\n      \"#\\u003c\": \"https://app.test/y\"\n    }\n  }\n}\n"
+      ≡ codes
+      "{\n  \"imports\": {\n    \"a\": null,\n    \"b\": \"https://app.test/b\"\n  },\n  \"scopes\": {\n    \"https://app.test/x/\": {\n      \"#\\u003c\": \"https://app.test/y\"\n    }\n  }\n}\n"
 
 abbrev pub WorkedExamples : Type 0
 WorkedExamples = LayoutExamples × CountExamples × ClashExamples × TextExamples

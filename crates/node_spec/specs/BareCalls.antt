@@ -36,14 +36,21 @@ AnswersBehind = List Call → List ℕ → BareAnswer
 
 abbrev pub TellsBehind : AnswersBehind → List Call → List Call → Type 0
 TellsBehind answer before [] = ⊤
-TellsBehind answer before (call ∷ more) = (call.1 ≡ answer before call.0) × TellsBehind answer (before ++ call ∷ []) more
+TellsBehind answer before (call ∷ more) =
+    (call.1 ≡ answer before call.0) × TellsBehind answer (before ++ call ∷ []) more
 
 -- own: a call that names a target that isn't well formed, so that a list goes on behind it
 abbrev pub WasInvalid : Call → Type 0
 WasInvalid call = call.1 ≡ bare_answer.InvalidTarget
 
--- own: the calls before the last one were all answered so. The last one has the URL, or the refusal, or the outcome is the target's own
+-- own: the calls before the last one were all answered so. The last one has the URL, or the refusal, or the outcome is
+-- the target's own
 pub data IsDecided : List Call → Outcome → Type 0 where
-  by_found : (before : List Call) (text : List ℕ) → All WasInvalid before → IsDecided (before ++ (text, bare_answer.Found) ∷ []) Bare
-  by_stop : (before : List Call) (text : List ℕ) → All WasInvalid before → IsDecided (before ++ (text, bare_answer.Stop) ∷ []) Stopped
-  by_target : (asked : List Call) (out : Outcome) → All WasInvalid asked → out ≢ Bare → out ≢ Stopped → IsDecided asked out
+  by_found :
+      (before : List Call) (text : List ℕ) → All WasInvalid before
+      → IsDecided (before ++ (text, bare_answer.Found) ∷ []) Bare
+  by_stop :
+      (before : List Call) (text : List ℕ) → All WasInvalid before
+      → IsDecided (before ++ (text, bare_answer.Stop) ∷ []) Stopped
+  by_target :
+      (asked : List Call) (out : Outcome) → All WasInvalid asked → out ≢ Bare → out ≢ Stopped → IsDecided asked out

@@ -1,6 +1,9 @@
--- Package targets: what a target in `exports` or `imports` comes to (Node.js, ECMAScript modules: PACKAGE_TARGET_RESOLVE).
---     ResolvesTarget rules target asked out      the target comes to out, and asks for these bare texts in this order, each with its answer
---     ResolvesText, ResolvesMembers, ResolvesItems      the same of a string, of the members of an object, of the items of a list
+-- Package targets: what a target in `exports` or `imports` comes to (Node.js, ECMAScript modules:
+-- PACKAGE_TARGET_RESOLVE).
+--     ResolvesTarget rules target asked out      the target comes to out, and asks for these bare texts in this
+--         order, each with its answer
+--     ResolvesText, ResolvesMembers, ResolvesItems      the same of a string, of the members of an object, of the
+--         items of a list
 --     ResolvesUnder answers rules target out      the same where a map answers each text
 use Rattle.std.specs.Cmp.Lexicographic.{slice_cmp}
 use Rattle.std.specs.FinMap.{FinMap, get}
@@ -18,8 +21,8 @@ use Rattle.node_spec.specs.declared.BareAnswer.TheVariants as bare_answer
 use Rattle.node_spec.specs.declared.Outcome.{Outcome}
 use Rattle.node_spec.specs.declared.Outcome.TheVariants.{Place, InvalidTarget, InvalidSpecifier, Bare, Stopped, Undefined, Null, InvalidConfig}
 
--- what a target is judged by, beside the package: the names of the conditions, which count as a set, what stands for each `*`
--- (Node's patternMatch), and whether the target stands in `imports`
+-- what a target is judged by, beside the package: the names of the conditions, which count as a set, what stands for
+-- each `*` (Node's patternMatch), and whether the target stands in `imports`
 pub record Rules : Type 0 where
   pub conditions : List (List ℕ)
   pub pattern_match : Option (List ℕ)
@@ -37,7 +40,9 @@ segments text = slice_split (λ b. b == 47 || b == 92) text
 
 -- one of "", ".", ".." and "node_modules", without regard to case and with percent encoded variants
 unfoldable pub is_invalid_segment : List ℕ → Bool
-is_invalid_segment segment = list_any (bytes_eq (lowercase (percent_decode segment))) (codes "" ∷ codes "." ∷ codes ".." ∷ codes "node_modules" ∷ [])
+is_invalid_segment segment =
+    list_any (bytes_eq (lowercase (percent_decode segment)))
+    (codes "" ∷ codes "." ∷ codes ".." ∷ codes "node_modules" ∷ [])
 
 -- a segment after the first `.` is invalid. own: TAB, LF and CR are passed over, since URL parsing drops them
 abbrev pub leaves_package : List ℕ → Bool
@@ -56,11 +61,14 @@ with_match (Some text) target = flat_map (λ b. if b == 42 then text else b ∷ 
 -- a target that begins with `./`
 abbrev pub own_outcome : Option (List ℕ) → List ℕ → Outcome
 own_outcome pattern_match target =
-    if leaves_package target then InvalidTarget else if is_invalid_match pattern_match then InvalidSpecifier else Place (with_match pattern_match target)
+    if leaves_package target then InvalidTarget else if is_invalid_match pattern_match then InvalidSpecifier
+    else Place (with_match pattern_match target)
 
 -- any other target may be a bare specifier: in `imports`, where it begins with neither `../` nor `/` and is no URL
 unfoldable pub names_package : Bool → List ℕ → Bool
-names_package is_imports target = is_imports && (not (begins target (codes "../")) && (not (begins target (codes "/")) && is_none (parse_alone target)))
+names_package is_imports target =
+    is_imports
+    && (not (begins target (codes "../")) && (not (begins target (codes "/")) && is_none (parse_alone target)))
 
 abbrev pub bare_outcome : BareAnswer → Outcome
 bare_outcome bare_answer.Found = Bare
@@ -69,8 +77,12 @@ bare_outcome bare_answer.Stop = Stopped
 
 pub data ResolvesText (rules : Rules) (target : List ℕ) : List Call → Outcome → Type 0 where
   own_place : begins target (codes "./") ≡ true → ResolvesText rules target [] (own_outcome rules.pattern_match target)
-  bare : (answer : BareAnswer) → begins target (codes "./") ≡ false → names_package rules.is_imports target ≡ true → ResolvesText rules target ((with_match rules.pattern_match target, answer) ∷ []) (bare_outcome answer)
-  no_target : begins target (codes "./") ≡ false → names_package rules.is_imports target ≡ false → ResolvesText rules target [] InvalidTarget
+  bare :
+      (answer : BareAnswer) → begins target (codes "./") ≡ false → names_package rules.is_imports target ≡ true
+      → ResolvesText rules target ((with_match rules.pattern_match target, answer) ∷ []) (bare_outcome answer)
+  no_target :
+      begins target (codes "./") ≡ false → names_package rules.is_imports target ≡ false
+      → ResolvesText rules target [] InvalidTarget
 
 -- ---- objects and lists
 
@@ -110,11 +122,19 @@ last_of first rest = if is_undefined rest then first else rest
 
 mutual
   pub data ResolvesTarget (rules : Rules) : Json → List Call → Outcome → Type 0 where
-    text_target : (text : List ℕ) (asked : List Call) (out : Outcome) → ResolvesText rules text asked out → ResolvesTarget rules (a_text text) asked out
-    index_key : (members : Members) → has_index_key members ≡ true → ResolvesTarget rules (an_object members) [] InvalidConfig
-    object_target : (members : Members) (asked : List Call) (out : Outcome) → has_index_key members ≡ false → ResolvesMembers rules members asked out → ResolvesTarget rules (an_object members) asked out
+    text_target :
+        (text : List ℕ) (asked : List Call) (out : Outcome) → ResolvesText rules text asked out
+        → ResolvesTarget rules (a_text text) asked out
+    index_key :
+        (members : Members) → has_index_key members ≡ true → ResolvesTarget rules (an_object members) [] InvalidConfig
+    object_target :
+        (members : Members) (asked : List Call) (out : Outcome) → has_index_key members ≡ false
+        → ResolvesMembers rules members asked out → ResolvesTarget rules (an_object members) asked out
     empty_list : ResolvesTarget rules (a_list no_items) [] Null
-    list_target : (item : Json) (more : Items) (asked : List Call) (out : Outcome) → ResolvesItems rules (an_item item more) asked out → ResolvesTarget rules (a_list (an_item item more)) asked out
+    list_target :
+        (item : Json) (more : Items) (asked : List Call) (out : Outcome)
+        → ResolvesItems rules (an_item item more) asked out
+        → ResolvesTarget rules (a_list (an_item item more)) asked out
     null_target : ResolvesTarget rules a_null [] Null
     bool_target : (b : Bool) → ResolvesTarget rules (a_bool b) [] InvalidTarget
     number_target : (number : List ℕ) → ResolvesTarget rules (a_number number) [] InvalidTarget
@@ -122,15 +142,29 @@ mutual
   -- the members of an object in their order: the first tried one that isn't undefined
   pub data ResolvesMembers (rules : Rules) : Members → List Call → Outcome → Type 0 where
     no_member : ResolvesMembers rules no_members [] Undefined
-    untried : (key : List ℕ) (value : Json) (more : Members) (asked : List Call) (out : Outcome) → is_tried rules.conditions key ≡ false → ResolvesMembers rules more asked out → ResolvesMembers rules (a_member key value more) asked out
-    defined : (key : List ℕ) (value : Json) (more : Members) (asked : List Call) (out : Outcome) → is_tried rules.conditions key ≡ true → ResolvesTarget rules value asked out → is_undefined out ≡ false → ResolvesMembers rules (a_member key value more) asked out
-    undefined : (key : List ℕ) (value : Json) (more : Members) (front back : List Call) (out : Outcome) → is_tried rules.conditions key ≡ true → ResolvesTarget rules value front Undefined → ResolvesMembers rules more back out → ResolvesMembers rules (a_member key value more) (front ++ back) out
+    untried :
+        (key : List ℕ) (value : Json) (more : Members) (asked : List Call) (out : Outcome)
+        → is_tried rules.conditions key ≡ false → ResolvesMembers rules more asked out
+        → ResolvesMembers rules (a_member key value more) asked out
+    defined :
+        (key : List ℕ) (value : Json) (more : Members) (asked : List Call) (out : Outcome)
+        → is_tried rules.conditions key ≡ true → ResolvesTarget rules value asked out → is_undefined out ≡ false
+        → ResolvesMembers rules (a_member key value more) asked out
+    undefined :
+        (key : List ℕ) (value : Json) (more : Members) (front back : List Call) (out : Outcome)
+        → is_tried rules.conditions key ≡ true → ResolvesTarget rules value front Undefined
+        → ResolvesMembers rules more back out → ResolvesMembers rules (a_member key value more) (front ++ back) out
 
   -- the items of a list in their order: the first that isn't passed
   pub data ResolvesItems (rules : Rules) : Items → List Call → Outcome → Type 0 where
     no_item : ResolvesItems rules no_items [] Undefined
-    decided : (item : Json) (more : Items) (asked : List Call) (out : Outcome) → ResolvesTarget rules item asked out → is_passed out ≡ false → ResolvesItems rules (an_item item more) asked out
-    passed : (item : Json) (more : Items) (front back : List Call) (first rest : Outcome) → ResolvesTarget rules item front first → is_passed first ≡ true → ResolvesItems rules more back rest → ResolvesItems rules (an_item item more) (front ++ back) (last_of first rest)
+    decided :
+        (item : Json) (more : Items) (asked : List Call) (out : Outcome) → ResolvesTarget rules item asked out
+        → is_passed out ≡ false → ResolvesItems rules (an_item item more) asked out
+    passed :
+        (item : Json) (more : Items) (front back : List Call) (first rest : Outcome)
+        → ResolvesTarget rules item front first → is_passed first ≡ true → ResolvesItems rules more back rest
+        → ResolvesItems rules (an_item item more) (front ++ back) (last_of first rest)
 
 -- ---- answers given beforehand
 

@@ -1,5 +1,5 @@
--- The record of a package.json: the fields that decide how a package is resolved (Node.js, Packages: Node.js package.json field
--- definitions).
+-- The record of a package.json: the fields that decide how a package is resolved (Node.js, Packages: Node.js
+-- package.json field definitions).
 --     ReadsRecord bytes out      the file's bytes have the record, or the reason for having none, out
 --     record_of members      the record of an object with these members
 use Rattle.std.specs.Prelude.{ℕ, List, Option, bytes_eq, if◌then◌else◌, Some, None, codes, Result, Ok, Err, [], ◌∷◌, unwrap_or}
@@ -17,7 +17,8 @@ pub record Record : Type 0 where
   pub exports : Json
   pub imports : Json
 
--- the value of an object's field (ECMAScript modules: PACKAGE_RESOLVE and others, which read a missing field and null alike)
+-- the value of an object's field (ECMAScript modules: PACKAGE_RESOLVE and others, which read a missing field and null
+-- alike)
 abbrev pub field : List ℕ → Members → Json
 field key no_members = a_null
 field key (a_member name value more) = if bytes_eq key name then value else field key more
@@ -34,7 +35,8 @@ text_in (an_object fields) = None
 -- Packages, "type": `module` and `commonjs` alone have a meaning
 abbrev pub kind_of : Option (List ℕ) → PackageKind
 kind_of None = Unstated
-kind_of (Some text) = if bytes_eq text (codes "module") then Module else if bytes_eq text (codes "commonjs") then CommonJs else Unstated
+kind_of (Some text) =
+    if bytes_eq text (codes "module") then Module else if bytes_eq text (codes "commonjs") then CommonJs else Unstated
 
 abbrev pub record_of : Members → Record
 record_of fields = record {
@@ -45,8 +47,9 @@ record_of fields = record {
   imports = field (codes "imports") fields;
 }
 
--- why a file has no record. `InvalidRecord`: it is no JSON text, or its value is no object (ECMAScript modules: READ_PACKAGE_JSON, which
--- speaks of JSON alone; own: the object). `DeepRecord`, own: more brackets are open at once than a reader takes
+-- why a file has no record. `InvalidRecord`: it is no JSON text, or its value is no object (ECMAScript modules:
+-- READ_PACKAGE_JSON, which speaks of JSON alone; own: the object). `DeepRecord`, own: more brackets are open at once
+-- than a reader takes
 pub data RecordFault : Type 0 where
   InvalidRecord : RecordFault
   DeepRecord : RecordFault
@@ -70,4 +73,6 @@ after_mark bytes = unwrap_or (behind (239 ∷ 187 ∷ 191 ∷ []) bytes) bytes
 
 -- ECMAScript modules: READ_PACKAGE_JSON
 pub data ReadsRecord : List ℕ → Result Record RecordFault → Type 0 where
-  reads_record : {bytes : List ℕ} (out : Result Json Fault) → ReadsJson (after_mark bytes) out → ReadsRecord bytes (record_outcome out)
+  reads_record :
+      {bytes : List ℕ} (out : Result Json Fault) → ReadsJson (after_mark bytes) out
+      → ReadsRecord bytes (record_outcome out)

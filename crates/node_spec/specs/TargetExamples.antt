@@ -47,27 +47,40 @@ pub record StringExamples : Type 0 where
   pub both_invalid : silently (matching (codes "..")) (a_text (codes "./../*")) InvalidTarget
   pub bare_export : silently exporting (a_text (codes "a")) InvalidTarget
   pub bare_import : ResolvesTarget importing (a_text (codes "a")) ((codes "a", bare_answer.Found) ∷ []) Bare
-  pub bare_star : ResolvesTarget (importing_with (codes "../q")) (a_text (codes "a/*")) ((codes "a/../q", bare_answer.Found) ∷ []) Bare
+  pub bare_star :
+      ResolvesTarget (importing_with (codes "../q")) (a_text (codes "a/*")) ((codes "a/../q", bare_answer.Found) ∷ []) Bare
   pub url_import : silently importing (a_text (codes "node:fs")) InvalidTarget
   pub above_import : silently importing (a_text (codes "../a")) InvalidTarget
 
 pub record NestedExamples : Type 0 where
   pub null_ends : silently exporting (of_two (codes "import") a_null (codes "default") (a_text (codes "./d"))) Null
   pub no_condition : silently exporting (of_one (codes "node") (a_text (codes "./n"))) Undefined
-  pub falls_through : silently exporting (of_two (codes "import") (of_one (codes "node") (a_text (codes "./n"))) (codes "default") (a_text (codes "./d"))) (Place (codes "./d"))
-  pub first_default : silently exporting (of_two (codes "default") (a_text (codes "./d")) (codes "import") (a_text (codes "./i"))) (Place (codes "./d"))
+  pub falls_through :
+      silently exporting
+      (of_two (codes "import") (of_one (codes "node") (a_text (codes "./n"))) (codes "default") (a_text (codes "./d")))
+      (Place (codes "./d"))
+  pub first_default :
+      silently exporting (of_two (codes "default") (a_text (codes "./d")) (codes "import") (a_text (codes "./i")))
+      (Place (codes "./d"))
   pub zero_key : silently exporting (of_one (codes "0") (a_text (codes "./x"))) InvalidConfig
-  pub greatest_index : silently exporting (of_two (codes "import") (a_text (codes "./x")) (codes "4294967294") a_null) InvalidConfig
+  pub greatest_index :
+      silently exporting (of_two (codes "import") (a_text (codes "./x")) (codes "4294967294") a_null) InvalidConfig
   pub past_indices : silently exporting (of_one (codes "4294967295") (a_text (codes "./x"))) Undefined
   pub leading_zero : silently exporting (of_one (codes "00") (a_text (codes "./x"))) Undefined
   pub empty_list : silently exporting (a_list no_items) Null
   pub a_bool : silently exporting (a_bool true) InvalidTarget
-  pub passes_invalid : ResolvesTarget importing (two (a_text (codes "x")) (a_text (codes "./f"))) ((codes "x", bare_answer.InvalidTarget) ∷ []) (Place (codes "./f"))
-  pub stops : ResolvesTarget importing (two (a_text (codes "s")) (a_text (codes "./f"))) ((codes "s", bare_answer.Stop) ∷ []) Stopped
-  pub last_invalid : ResolvesTarget importing (two a_null (a_text (codes "x"))) ((codes "x", bare_answer.InvalidTarget) ∷ []) InvalidTarget
+  pub passes_invalid :
+      ResolvesTarget importing (two (a_text (codes "x")) (a_text (codes "./f")))
+      ((codes "x", bare_answer.InvalidTarget) ∷ []) (Place (codes "./f"))
+  pub stops :
+      ResolvesTarget importing (two (a_text (codes "s")) (a_text (codes "./f"))) ((codes "s", bare_answer.Stop) ∷ []) Stopped
+  pub last_invalid :
+      ResolvesTarget importing (two a_null (a_text (codes "x"))) ((codes "x", bare_answer.InvalidTarget) ∷ []) InvalidTarget
   pub last_null : silently exporting (two (a_text (codes "x")) a_null) Null
   pub null_kept : silently exporting (two a_null (of_one (codes "node") (a_text (codes "./n")))) Null
-  pub asked_twice : ResolvesTarget importing (two (a_text (codes "x")) (a_text (codes "x"))) ((codes "x", bare_answer.InvalidTarget) ∷ (codes "x", bare_answer.InvalidTarget) ∷ []) InvalidTarget
+  pub asked_twice :
+      ResolvesTarget importing (two (a_text (codes "x")) (a_text (codes "x")))
+      ((codes "x", bare_answer.InvalidTarget) ∷ (codes "x", bare_answer.InvalidTarget) ∷ []) InvalidTarget
 
 abbrev pub TargetExamples : Type 0
 TargetExamples = StringExamples × NestedExamples

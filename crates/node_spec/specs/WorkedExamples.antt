@@ -1,4 +1,5 @@
--- Worked examples: what the file `/a/main.mjs` gets for a specifier, in each tree in which an entry stands at a path, or nothing does.
+-- Worked examples: what the file `/a/main.mjs` gets for a specifier, in each tree in which an entry stands at a path,
+-- or nothing does.
 --     FileExamples, RefusedExamples      modules, and refusals
 use Rattle.std.specs.FinMap.{get}
 use Rattle.std.specs.Prelude.{ℕ, List, codes, ◌≡◌, Option, [], Some, None}
@@ -13,14 +14,18 @@ abbrev pub main : List ℕ
 main = codes "/a/main.mjs"
 
 abbrev Gets : String → Option Entry → String → Answer → Type 0
-Gets path found specifier answer = (tree : Tree) → get tree (codes path) ≡ found → Resolves tree main (codes specifier) answer
+Gets path found specifier answer =
+    (tree : Tree) → get tree (codes path) ≡ found → Resolves tree main (codes specifier) answer
 
 pub record FileExamples : Type 0 where
   pub beside : (bytes : List ℕ) → Gets "/a/b.mjs" (Some (Stored bytes)) "./b.mjs" (Resolved (codes "/a/b.mjs") [])
   pub above : (bytes : List ℕ) → Gets "/c.mjs" (Some (Stored bytes)) "../c.mjs" (Resolved (codes "/c.mjs") [])
   pub from_root : (bytes : List ℕ) → Gets "/c.mjs" (Some (Stored bytes)) "/c.mjs" (Resolved (codes "/c.mjs") [])
-  pub with_suffix : (bytes : List ℕ) → Gets "/a/b.mjs" (Some (Stored bytes)) "./b.mjs?q#f" (Resolved (codes "/a/b.mjs") (codes "?q#f"))
-  pub with_escape : (bytes : List ℕ) → Gets "/a/b.mjs" (Some (Stored bytes)) "./%62.mjs" (Resolved (codes "/a/b.mjs") [])
+  pub with_suffix :
+      (bytes : List ℕ)
+      → Gets "/a/b.mjs" (Some (Stored bytes)) "./b.mjs?q#f" (Resolved (codes "/a/b.mjs") (codes "?q#f"))
+  pub with_escape :
+      (bytes : List ℕ) → Gets "/a/b.mjs" (Some (Stored bytes)) "./%62.mjs" (Resolved (codes "/a/b.mjs") [])
 
 pub record RefusedExamples : Type 0 where
   pub a_folder : Gets "/a/c" (Some Directory) "./c" (Refused DirectoryImport)

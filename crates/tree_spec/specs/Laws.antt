@@ -14,19 +14,27 @@ OneParent = (parent other path : List ℕ) → IsParent parent path → IsParent
 
 -- two outcomes of one placing are the same map
 abbrev pub OnePlacing : Type 0
-OnePlacing = (tree : Tree) (path : List ℕ) (entry : Entry) (a b : Tree) → IsPath path → Places tree path entry a → Places tree path entry b → a ≡ b
+OnePlacing =
+    (tree : Tree) (path : List ℕ) (entry : Entry) (a b : Tree) → IsPath path → Places tree path entry a
+    → Places tree path entry b → a ≡ b
 
 -- a placing where no folder stands leaves a tree
 abbrev pub PlacingKeepsTree : Type 0
-PlacingKeepsTree = (tree : Tree) (path : List ℕ) (entry : Entry) (after : Tree) → IsTree tree → IsPath path → get tree path ≢ Some Directory → Places tree path entry after → IsTree after
+PlacingKeepsTree =
+    (tree : Tree) (path : List ℕ) (entry : Entry) (after : Tree) → IsTree tree → IsPath path
+    → get tree path ≢ Some Directory → Places tree path entry after → IsTree after
 
 -- in a tree, to place an entry in a folder that is there is to insert it
 abbrev pub PlacingInFolder : Type 0
-PlacingInFolder = (tree : Tree) (parent path : List ℕ) (entry : Entry) (after : Tree) → IsTree tree → IsParent parent path → get tree parent ≡ Some Directory → Places tree path entry after ↔ (after ≡ insert tree path entry)
+PlacingInFolder =
+    (tree : Tree) (parent path : List ℕ) (entry : Entry) (after : Tree) → IsTree tree → IsParent parent path
+    → get tree parent ≡ Some Directory → Places tree path entry after ↔ (after ≡ insert tree path entry)
 
 -- in a tree, to place an entry in the root is to insert it
 abbrev pub PlacingInRoot : Type 0
-PlacingInRoot = (tree : Tree) (path : List ℕ) (entry : Entry) (after : Tree) → IsTree tree → IsParent (codes "/") path → Places tree path entry after ↔ (after ≡ insert tree path entry)
+PlacingInRoot =
+    (tree : Tree) (path : List ℕ) (entry : Entry) (after : Tree) → IsTree tree → IsParent (codes "/") path
+    → Places tree path entry after ↔ (after ≡ insert tree path entry)
 
 -- the root alone is a tree
 abbrev pub RootAlone : Type 0
@@ -34,4 +42,6 @@ RootAlone = (tree : Tree) → tree ≡ bare_tree → IsTree tree
 
 -- a look has one answer
 abbrev pub OneLook : Type 0
-OneLook = (tree : Tree) (path : List ℕ) (limit : ℕ) (look other : Look) → IsLook tree path limit look → IsLook tree path limit other → look ≡ other
+OneLook =
+    (tree : Tree) (path : List ℕ) (limit : ℕ) (look other : Look) → IsLook tree path limit look
+    → IsLook tree path limit other → look ≡ other

@@ -22,10 +22,12 @@ joined path rest = (if bytes_eq path (codes "/") then [] else path) ++ 47 ∷ re
 -- own: the root has depth 0, and a segment below a path is one deeper
 pub data HasDepth : ℕ → List ℕ → Type 0 where
   root : (text : List ℕ) → text ≡ codes "/" → HasDepth 0 text
-  child : (depth deeper : ℕ) (parent name text : List ℕ) → HasDepth depth parent → IsSegment name → deeper ≡ depth + 1 → text ≡ joined parent name → HasDepth deeper text
+  child :
+      (depth deeper : ℕ) (parent name text : List ℕ) → HasDepth depth parent → IsSegment name → deeper ≡ depth + 1
+      → text ≡ joined parent name → HasDepth deeper text
 
--- own: a path is the root or a text of segments, at most 64 of them in at most 1,024 bytes. That the bytes are UTF-8 isn't said
--- here: a `Path` holds a text, and where bytes alone are at hand it is said beside this
+-- own: a path is the root or a text of segments, at most 64 of them in at most 1,024 bytes. That the bytes are UTF-8
+-- isn't said here: a `Path` holds a text, and where bytes alone are at hand it is said beside this
 pub record IsPath (text : List ℕ) : Type 0 where
   pub depth : ℕ
   pub segments : HasDepth depth text

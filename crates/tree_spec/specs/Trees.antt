@@ -19,15 +19,19 @@ Tree = FinMap (slice_cmp nat_cmp) Entry
 pub record IsTree (tree : Tree) : Type 0 where
   pub paths : (path : List ℕ) (entry : Entry) → get tree path ≡ Some entry → IsPath path
   pub root : get tree (codes "/") ≡ Some Directory
-  pub parents : (parent path : List ℕ) (entry : Entry) → get tree path ≡ Some entry → IsParent parent path → get tree parent ≡ Some Directory
+  pub parents :
+      (parent path : List ℕ) (entry : Entry) → get tree path ≡ Some entry → IsParent parent path
+      → get tree parent ≡ Some Directory
 
 -- own: the tree that holds the root alone
 abbrev pub bare_tree : Tree
 bare_tree = insert empty (codes "/") Directory
 
--- own: what a tree holds after an entry was placed at a path: the entry there, a folder at each path above, elsewhere what it held
+-- own: what a tree holds after an entry was placed at a path: the entry there, a folder at each path above, elsewhere
+-- what it held
 pub record Places (tree : Tree) (path : List ℕ) (entry : Entry) (after : Tree) : Type 0 where
   pub here : get after path ≡ Some entry
   pub above : (folder : List ℕ) → IsAbove folder path → get after folder ≡ Some Directory
   pub stays : (other : List ℕ) (old : Entry) → other ≢ path → get tree other ≡ Some old → get after other ≡ Some old
-  pub no_more : (other : List ℕ) → other ≢ path → (IsAbove other path → ⊥) → get tree other ≡ None → get after other ≡ None
+  pub no_more :
+      (other : List ℕ) → other ≢ path → (IsAbove other path → ⊥) → get tree other ≡ None → get after other ≡ None

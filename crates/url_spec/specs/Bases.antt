@@ -6,10 +6,12 @@ use Rattle.std.specs.Prelude.{◌&&◌, ◌||◌, not, nat_eq, Bool, codes, byte
 use Rattle.url.specs.Parts.{Parts, has_credentials}
 use Rattle.url_spec.specs.Parsing.{parts_of, parse_alone}
 
--- own: the URL of a folder on the web: http or https, a path that ends in `/`, and no user name, password, query or fragment
+-- own: the URL of a folder on the web: http or https, a path that ends in `/`, and no user name, password, query or
+-- fragment
 abbrev pub names_web_folder : Parts → Bool
 names_web_folder url =
-    (bytes_eq url.scheme (codes "http") || bytes_eq url.scheme (codes "https")) && ends_with nat_eq url.path (codes "/") && not (has_credentials url) && not (is_some url.query) && not (is_some url.fragment)
+    (bytes_eq url.scheme (codes "http") || bytes_eq url.scheme (codes "https")) && ends_with nat_eq url.path (codes "/")
+    && not (has_credentials url) && not (is_some url.query) && not (is_some url.fragment)
 
 abbrev pub is_web_folder : Option Parts → Bool
 is_web_folder None = false

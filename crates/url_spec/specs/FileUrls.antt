@@ -17,7 +17,8 @@ use Rattle.url_spec.specs.WebNames.{escaped}
 
 -- own: the URL of a file or a folder. A folder's ends in one `/`, so the root's is `file:///`
 unfoldable pub file_text : List ℕ → Bool → List ℕ
-file_text path folder = codes "file://" ++ (escaped path ++ (if folder && not (bytes_eq path (codes "/")) then codes "/" else []))
+file_text path folder =
+    codes "file://" ++ (escaped path ++ (if folder && not (bytes_eq path (codes "/")) then codes "/" else []))
 
 -- the parts have a host that isn't empty (URL Standard, URL representation)
 abbrev pub with_host : Option Parts → Bool
@@ -55,8 +56,8 @@ pub record NamesPath (text path : List ℕ) : Type 0 where
   pub utf8 : IsUtf8 path
   pub is_path : IsPath path
 
--- own: the place that a file URL names: a path or none, whether only a folder may stand there, whether an escape gives a
--- separator, and the suffix
+-- own: the place that a file URL names: a path or none, whether only a folder may stand there, whether an escape gives
+-- a separator, and the suffix
 pub record IsPlace (url : List ℕ) (path : Option (List ℕ)) (folder_only escaped : Bool) (suffix : List ℕ) : Type 0 where
   pub named : MatchOption path ((any : List ℕ) → NamesPath (url_path url) any → ⊥) (NamesPath (url_path url))
   pub ends_in_slash : folder_only ≡ ends_with nat_eq (url_path url) (codes "/")

@@ -1,7 +1,8 @@
 -- Served paths: what a base serves at a URL.
 --     IsServed base url path      the base serves this path there
 --     holds_escape escape text      the percent-escape stands in the text
---     segments text, read_segment segment      what stands between slashes, and a slash with the bytes that a segment spells
+--     segments text, read_segment segment      what stands between slashes, and a slash with the bytes that a
+--         segment spells
 use Rattle.std.specs.List.{slice_split}
 use Rattle.std.specs.Prelude.{◌||◌, ℕ, Bool, false, List, [], ◌∷◌, take, bytes_eq, ◌==◌, ◌≡◌, ◌++◌, codes, flat_map}
 use Rattle.std.specs.Str.{IsUtf8}

@@ -38,8 +38,12 @@ pub record SpecifierExamples : Type 0 where
 
 -- `é` is the bytes 195 and 169
 pub record WebExamples : Type 0 where
-  pub web : web (codes "https://app.test/") (codes "/a b/" ++ (195 ∷ 169 ∷ codes ".mjs")) (codes "?q") ≡ Some (codes "https://app.test/a%20b/%C3%A9.mjs?q")
-  pub before : before_suffix (codes "https://app.test/a%20b/%C3%A9.mjs?q") ≡ codes "https://app.test/" ++ codes "a%20b/%C3%A9.mjs"
+  pub web :
+      web (codes "https://app.test/") (codes "/a b/" ++ (195 ∷ 169 ∷ codes ".mjs")) (codes "?q")
+      ≡ Some (codes "https://app.test/a%20b/%C3%A9.mjs?q")
+  pub before :
+      before_suffix (codes "https://app.test/a%20b/%C3%A9.mjs?q") ≡ codes "https://app.test/"
+      ++ codes "a%20b/%C3%A9.mjs"
   pub served : flat_map read_segment (segments (codes "a%20b/%C3%A9.mjs")) ≡ codes "/a b/" ++ (195 ∷ 169 ∷ codes ".mjs")
   pub no_slash : holds_escape (codes "%2f") (codes "a%20b/%C3%A9.mjs") ≡ false
   pub same : parse_alone (codes "https://h/a") ≡ Some (codes "https://h/a")
