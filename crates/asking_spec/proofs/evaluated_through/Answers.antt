@@ -1,0 +1,5 @@
+use Rattle.asking_spec.proofs.EvaluationLemmas as lemma
+use Rattle.asking_spec.proofs.evaluated_through.Goals as goal
+
+pub returns : goal.returns
+returns g c = lemma.evaluated_through

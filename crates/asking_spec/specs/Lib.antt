@@ -1,0 +1,3 @@
+pub mod Askings
+pub mod Evaluation
+pub mod Laws
