@@ -13,7 +13,7 @@ use Rattle.tree_spec.specs.declared.LimitName.TheVariants.{File, Modules}
 use Rattle.tree_spec.proofs.DecidedTrees.{path_or_not}
 use Rattle.tree_spec.specs.Paths.{IsPath}
 use Rattle.tree_spec.specs.Trees.{Tree}
-use Rattle.tree_spec.proofs.PathsAbove.{text_same_or_not}
+use Rattle.tree_spec.proofs.ByteLists.{text_same_or_not}
 use Rattle.url_spec.specs.FileUrls.{names_host, url_path, escapes_separator, spelled_path, NamesPath}
 use Rattle.url_spec.specs.Specifiers.{as_url, is_relative}
 use Rattle.url_spec.specs.WebNames.{web}

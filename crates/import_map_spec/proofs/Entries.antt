@@ -3,10 +3,11 @@ use Rattle.std.proofs.Common.{refl, ap, sym, ◌∙◌}
 use Rattle.std.proofs.lemmas.Bool.{cond-true, cond-false, cases_Bool}
 use Rattle.std.proofs.lemmas.Cmp.{tied_itself}
 use Rattle.std.specs.Cmp.Lexicographic.{slice_cmp, nat_list_cmp_total}
-use Rattle.std.specs.FinMap.{slice_cmp-IsAntisymmetric, nat_cmp-IsAntisymmetric, get, insert, get-insert, empty, get-empty, same_map, entries, find, is_sorted, get-entries, entries_sorted}
+use Rattle.std.specs.FinMap.{slice_cmp-IsAntisymmetric, nat_cmp-IsAntisymmetric, get, insert, get-insert, empty, get-empty, same_map, entries, find, is_sorted, get-entries, entries_sorted, len-entries, len-empty}
+use Rattle.std.proofs.lemmas.List.{nil_from_length}
 use Rattle.std.specs.FinMap.Entries.{below_all}
 use Rattle.std.specs.Ordering.{nat_cmp, eq_by_cmp, is_eq, is_lt}
-use Rattle.std.specs.Prelude.{ℕ, Bool, List, ◌≡◌, true, false, ◌&&◌, T, Option, Some, None, cond, [], ◌∷◌, ⊤}
+use Rattle.std.specs.Prelude.{◌⊎◌, ℕ, Bool, List, ◌≡◌, true, false, ◌&&◌, T, Option, Some, None, cond, [], ◌∷◌, ⊤}
 use Rattle.std.specs.declared.cmp.Ordering.{Ordering}
 use Rattle.std.specs.declared.cmp.Ordering.TheVariants.{Less, Equal, Greater}
 use mathlib.Core.Logic.{inl, inr}
@@ -42,6 +43,11 @@ none_after : {X : Type 0} (o : Option X) → first_answer o None ≡ o
 none_after None = refl
 none_after (Some x) = refl
 
+-- what is looked up is there or not
+pub cases_option : {A : Type 0} (found : Option A) → (found ≡ None) ⊎ ((x : A) × (found ≡ Some x))
+cases_option None = inl refl
+cases_option (Some x) = inr (x, refl)
+
 -- what an insert and the empty map answer
 pub get_inserted : {X : Type 0} (m : Texts X) (key : List ℕ) (x : X) (q : List ℕ) → get (insert m key x) q ≡ cond (same_key q key) (Some x) (get m q)
 get_inserted m key x q = get-insert nat_list_cmp_total m key x q
@@ -52,6 +58,9 @@ get_nowhere q = get-empty (slice_cmp nat_cmp) q
 again : {X : Type 0} (b : Bool) (x y : X) (o : Option X) → cond b (Some y) (cond b (Some x) o) ≡ cond b (Some y) o
 again true x y o = refl
 again false x y o = refl
+
+pub no_entries : (X : Type 0) → entries (empty {X = X} {R = slice_cmp nat_cmp}) ≡ []
+no_entries X = nil_from_length _ (sym (len-entries (empty {X = X} {R = slice_cmp nat_cmp})) ∙ len-empty (slice_cmp nat_cmp) X)
 
 -- an insert at a key replaces what stood there
 pub insert_again : {X : Type 0} (m : Texts X) (key : List ℕ) (x y : X) → insert (insert m key x) key y ≡ insert m key y

@@ -1,4 +1,5 @@
 -- What look-ups come to is what the cases of resolution say.
+use Rattle.import_map_spec.proofs.Entries.{cases_option}
 use Rattle.std.specs.Prelude.{◌≡◌, ◌≢◌, ◌≤◌, ◌<◌, ◌⊎◌, ℕ, zero, suc, true, false, List, [], ◌∷◌, ◌++◌, take, drop, length, Option, Some, None, option_map, if◌then◌else◌}
 use Rattle.std.specs.FinMap.{get}
 use Rattle.std.proofs.Common.{refl, ap, sym, ◌∙◌, subst, arith, append-nil, length-append}
@@ -13,10 +14,6 @@ use Rattle.import_map_spec.specs.Resolving.{Resolution, Blocked, takes_prefixes,
 use Rattle.import_map_spec.specs.LookUps.{first_answer, longest_front, exact_match, below_address, prefix_match, prefix_key, resolve_imports_match, scope_match, prefix_scope, resolve_scopes_match, unmatched, answer_or, resolve_normalized, scope_addresses, resolve_in}
 use Rattle.import_map_spec.specs.Laws.{IsFolderFront, NoneAbove, ResolvesByCases}
 use Rattle.import_map_spec.proofs.LongestKey.{key_order}
-
-cases_option : {A : Type 0} (found : Option A) → (found ≡ None) ⊎ ((x : A) × (found ≡ Some x))
-cases_option None = inl refl
-cases_option (Some x) = inr (x, refl)
 
 none_or_some : {A : Type 0} (found : Option A) (x : A) → found ≡ None → found ≡ Some x → ⊥
 none_or_some found x e f = let wrong : None ≡ Some x = sym e ∙ f in cc

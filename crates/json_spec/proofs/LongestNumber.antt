@@ -1,4 +1,5 @@
 -- The number that is read is a number, and no longer front of the bytes is one.
+use Rattle.std.specs.Char.{is_ascii_digit}
 use Rattle.std.specs.Prelude.{◌≡◌, ◌≢◌, ◌≤◌, ◌+◌, ◌⊎◌, ℕ, Bool, true, false, ◌==◌, ◌||◌, List, [], ◌∷◌, ◌++◌, length, cond, ⊤, All}
 use Rattle.std.proofs.Common.{refl, ap, sym, ◌∙◌, subst, arith, append_assoc, length-append}
 use Rattle.std.proofs.lemmas.Bool.{cond-true, cond-false, cases_Bool, ne_eqb, eqb-true, true≢false}
@@ -6,11 +7,11 @@ use Rattle.std.proofs.lemmas.List.{append-nil}
 use Rattle.std.proofs.lemmas.List.Elements.{All-nil, All-cons, All-head, All-tail}
 use mathlib.Core.Logic.{inl, inr}
 use Rattle.json_spec.specs.Taken.{taken, refused, Read, and_then, or_else, behind_piece}
-use Rattle.json_spec.specs.Numbers.{is_digit, AreDigits, IsInt, IsFrac, IsExp, IsTail, IsNumber, leading_digits, after_digits, some_digits, digits_at, joined, maybe, one_of, int_at, frac_at, exp_at, number_at}
+use Rattle.json_spec.specs.Numbers.{AreDigits, IsInt, IsFrac, IsExp, IsTail, IsNumber, leading_digits, after_digits, some_digits, digits_at, joined, maybe, one_of, int_at, frac_at, exp_at, number_at}
 use Rattle.json_spec.specs.Laws.{LongestNumber}
 
 abbrev IsDigit : ℕ → Type 0
-IsDigit b = is_digit b ≡ true
+IsDigit b = is_ascii_digit b ≡ true
 
 abbrev Reader : Type 0
 Reader = List ℕ → Read (List ℕ)
@@ -54,9 +55,10 @@ one_fits Is test (b ∷ bytes) is =
       | inr f ↦ subst (Fits Is (b ∷ bytes)) (sym (cond-false _ _ _ f)) tt
     ]
 
-lead_split : (bytes : List ℕ) → bytes ≡ leading_digits bytes ++ after_digits bytes
+-- the digits at the front, and what is left
+pub lead_split : (bytes : List ℕ) → bytes ≡ leading_digits bytes ++ after_digits bytes
 lead_split [] = refl
-lead_split (b ∷ bytes) = go (is_digit b) (lead_split bytes)
+lead_split (b ∷ bytes) = go (is_ascii_digit b) (lead_split bytes)
   where
     go : (t : Bool) → bytes ≡ leading_digits bytes ++ after_digits bytes → b ∷ bytes ≡ cond t (b ∷ leading_digits bytes) [] ++ cond t (after_digits bytes) (b ∷ bytes)
     go true e = ap (λ (xs : List ℕ). b ∷ xs) e
@@ -64,9 +66,9 @@ lead_split (b ∷ bytes) = go (is_digit b) (lead_split bytes)
 
 lead_digits : (bytes : List ℕ) → All IsDigit (leading_digits bytes)
 lead_digits [] = All-nil IsDigit
-lead_digits (b ∷ bytes) = go (is_digit b) refl (lead_digits bytes)
+lead_digits (b ∷ bytes) = go (is_ascii_digit b) refl (lead_digits bytes)
   where
-    go : (t : Bool) → is_digit b ≡ t → All IsDigit (leading_digits bytes) → All IsDigit (cond t (b ∷ leading_digits bytes) [])
+    go : (t : Bool) → is_ascii_digit b ≡ t → All IsDigit (leading_digits bytes) → All IsDigit (cond t (b ∷ leading_digits bytes) [])
     go true e all = All-cons IsDigit b (leading_digits bytes) e all
     go false e all = All-nil IsDigit
 
@@ -218,7 +220,7 @@ maybe_any one bytes = go (one bytes)
 -- no digit stands there
 abbrev Stops : List ℕ → Type 0
 Stops [] = ⊤
-Stops (b ∷ bytes) = is_digit b ≡ false
+Stops (b ∷ bytes) = is_ascii_digit b ≡ false
 
 leading_stop : (bytes : List ℕ) → Stops bytes → leading_digits bytes ≡ []
 leading_stop [] s = refl
@@ -250,10 +252,10 @@ digits_least digits back are =
 -- ---- frac and exp
 
 -- a digit is none of these marks
-no_mark : (b c : ℕ) → is_digit c ≡ false → is_digit b ≡ true → (b == c) ≡ false
+no_mark : (b c : ℕ) → is_ascii_digit c ≡ false → is_ascii_digit b ≡ true → (b == c) ≡ false
 no_mark b c f t =
     elim (cases_Bool (b == c)) [
-      | inl e ↦ absurd (true≢false (sym t ∙ (ap is_digit (eqb-true b c e) ∙ f)))
+      | inl e ↦ absurd (true≢false (sym t ∙ (ap is_ascii_digit (eqb-true b c e) ∙ f)))
       | inr n ↦ n
     ]
 
@@ -359,7 +361,7 @@ tail_stops tail back is = by_frac is.frac is.exp is.parts is.is_frac is.is_exp
     by_frac frac exp e (inl none) (inl none_too) = inl (e ∙ (λ i. none i ++ none_too i))
     by_frac frac exp e (inl none) (inr mark) = inr (subst (λ text. Stops (text ++ back)) (sym (e ∙ ap (λ (xs : List ℕ). xs ++ exp) none)) (exp_first exp back mark).0)
     by_frac [] exp e (inr point) x = absurd point
-    by_frac (b ∷ digits) exp e (inr point) x = inr (subst (λ text. Stops (text ++ back)) (sym e) (ap is_digit point.0))
+    by_frac (b ∷ digits) exp e (inr point) x = inr (subst (λ text. Stops (text ++ back)) (sym e) (ap is_ascii_digit point.0))
 
 -- ---- the whole
 

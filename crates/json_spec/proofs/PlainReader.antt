@@ -1,10 +1,11 @@
 -- A plain reader: each text has an outcome. Its first argument bounds how many bytes it reads.
+use Rattle.json_spec.proofs.Shorter.{piece_at_most, AtMost, more_room, escape_at_most, Below, space_at_most, less_room, scalar_below}
+use Rattle.tree_spec.proofs.ByteLists.{no_utf8_text}
 use Rattle.std.proofs.Common.{refl, arith}
 use Rattle.std.proofs.lemmas.Bool.{eqb-true, eqb-false, ltb-true, ltb-false}
-use Rattle.std.proofs.lemmas.Str.{is_utf8-from_IsUtf8, IsUtf8-from_is_utf8}
-use Rattle.std.specs.Prelude.{ℕ, Bool, true, false, List, [], ◌∷◌, nat_lt, ◌==◌, zero, suc, length, ◌≡◌, ◌≤◌, ◌≢◌, ◌<◌, IsUtf8, if◌then◌else◌, Result}
+use Rattle.std.proofs.lemmas.Str.{IsUtf8-from_is_utf8}
+use Rattle.std.specs.Prelude.{ℕ, Bool, true, false, List, [], ◌∷◌, nat_lt, ◌==◌, zero, suc, length, ◌≡◌, ◌≤◌, ◌≢◌, ◌<◌, if◌then◌else◌, Result}
 use Rattle.std.specs.Str.{is_utf8}
-use Rattle.json_spec.proofs.Shorter.{AtMost, more_room, escape_at_most, Below, space_at_most, less_room, scalar_below}
 use Rattle.json_spec.specs.Grammar.{Reading, after_space, fault_here, text_behind, colon_at, ReadsName, name_text, no_name, name_ends, Member, paired, a_pair, behind_member, behind_item, ReadsMember, member_value, member_name, MoreMembers, members_close, members_next, members_fault, members_other, members_end, ReadsMembers, no_member, first_member, member_fault, object_ends, MoreItems, items_close, items_next, items_fault, items_other, items_end, ReadsItems, no_item, first_item, item_fault, list_ends, scalar_at, as_object, as_list, as_text, TooDeep, ReadsWith, reads_text, reads_list, reads_object, reads_scalar, value_ends, IsTooDeep, Reads, Fault, most_brackets, whole_text, with_offset, ReadsJson, json_text}
 use Rattle.json_spec.specs.Strings.{escape_at, ReadsText, close, plain, escape, no_escape, control, text_ends, ReadsString, in_utf8, no_utf8, no_string}
 use Rattle.json_spec.specs.Taken.{refused, Read, behind_piece, and_then, taken}
@@ -30,21 +31,17 @@ read_text (suc n) (b ∷ bytes) = text_quote (λ more. read_text n more) b bytes
 abbrev SoundText : List ℕ → Read (List ℕ) → Type 0
 SoundText bytes out = ReadsText bytes out × AtMost (length bytes) out
 
-piece_room : (n : ℕ) (piece : List ℕ) (out : Read (List ℕ)) → AtMost n out → AtMost n (behind_piece piece out)
-piece_room n piece (taken x rest) l = l
-piece_room n piece (refused e) l = tt
-
 module _ (next : List ℕ → Read (List ℕ)) (b : ℕ) (bytes : List ℕ) (sound : (more : List ℕ) → length more ≤ length bytes → SoundText more (next more)) where
   plain_sound : (t : Bool) → b ≢ 34 → b ≢ 92 → nat_lt b 32 ≡ t → SoundText (b ∷ bytes) (text_plain next b bytes t)
   plain_sound true q s e = (control (ltb-true b 32 e), tt)
   plain_sound false q s e =
       let rest = sound bytes (omega arith) in
-      (plain q s (ltb-false b 32 e) rest.0, more_room (length bytes) _ (behind_piece (b ∷ []) (next bytes)) (omega arith) (piece_room _ (b ∷ []) (next bytes) rest.1))
+      (plain q s (ltb-false b 32 e) rest.0, more_room (length bytes) _ (behind_piece (b ∷ []) (next bytes)) (omega arith) (piece_at_most _ (b ∷ []) (next bytes) rest.1))
 
   escaped_sound : (out : Read (List ℕ)) → escape_at bytes ≡ out → AtMost (length bytes) out → SoundText (92 ∷ bytes) (and_then out (λ piece middle. behind_piece piece (next middle)))
   escaped_sound (taken piece middle) e l =
       let rest = sound middle l in
-      (escape e rest.0, more_room (length middle) _ (behind_piece piece (next middle)) (omega arith) (piece_room _ piece (next middle) rest.1))
+      (escape e rest.0, more_room (length middle) _ (behind_piece piece (next middle)) (omega arith) (piece_at_most _ piece (next middle) rest.1))
   escaped_sound (refused tt) e l = (no_escape e, tt)
 
   escape_sound : (t : Bool) → b ≢ 34 → (b == 92) ≡ t → SoundText (b ∷ bytes) (text_escape next b bytes t)
@@ -74,15 +71,9 @@ read_string n bytes = string_of (read_text n bytes)
 abbrev SoundString : List ℕ → Read (List ℕ) → Type 0
 SoundString bytes out = ReadsString bytes out × AtMost (length bytes) out
 
-is_no_utf8 : (bytes : List ℕ) → is_utf8 bytes ≡ false → IsUtf8 bytes → ⊥
-is_no_utf8 bytes f u = let t = is_utf8-from_IsUtf8 bytes u in never t f
-  where
-    never : is_utf8 bytes ≡ true → is_utf8 bytes ≡ false → ⊥
-    never p q = cc
-
 checked_sound : (bytes text rest : List ℕ) → SoundText bytes (taken text rest) → (t : Bool) → is_utf8 text ≡ t → SoundString bytes (checked t text rest)
 checked_sound bytes text rest s true e = (in_utf8 s.0 (IsUtf8-from_is_utf8 text e), s.1)
-checked_sound bytes text rest s false e = (no_utf8 s.0 (is_no_utf8 text e), tt)
+checked_sound bytes text rest s false e = (no_utf8 s.0 (no_utf8_text text e), tt)
 
 string_from : (bytes : List ℕ) (out : Read (List ℕ)) → SoundText bytes out → SoundString bytes (string_of out)
 string_from bytes (taken text rest) s = checked_sound bytes text rest s (is_utf8 text) refl

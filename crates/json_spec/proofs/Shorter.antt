@@ -1,9 +1,10 @@
 -- What readers leave is no longer than what they began with.
+use Rattle.std.specs.Char.{is_ascii_digit}
 use Rattle.std.proofs.Common.{arith}
 use Rattle.std.proofs.lemmas.Bool.{cond_both}
 use Rattle.std.specs.Prelude.{ℕ, ◌≤◌, length, ⊤, ◌<◌, suc, List, Option, Some, None, zero, ◌+◌, ◌*◌, [], ◌∷◌, ◌==◌, Bool, true, false, cond, encode_utf8, codes}
 use Rattle.json_spec.specs.Grammar.{is_space, after_space, as_number, Reading, word_else, scalar_at}
-use Rattle.json_spec.specs.Numbers.{maybe, joined, one_of, is_digit, after_digits, leading_digits, some_digits, digits_at, int_at, frac_at, exp_at, number_at}
+use Rattle.json_spec.specs.Numbers.{maybe, joined, one_of, after_digits, leading_digits, some_digits, digits_at, int_at, frac_at, exp_at, number_at}
 use Rattle.json_spec.specs.Strings.{taken_from, hex_value, hex_digits, behind, is_low_surrogate, pair_character, second_half, four_digits, is_high_surrogate, unicode_character, short_escape, escape_at}
 use Rattle.json_spec.specs.Taken.{Taken, taken, refused, and_then, Read, behind_piece, or_else}
 use Rattle.json_spec.specs.Value.{Json, a_null, a_bool}
@@ -92,7 +93,7 @@ less_room n m (refused e) l a = tt
 keeps : (read : List ℕ → Read (List ℕ)) → Takes read → Keeps read
 keeps read t bytes = below_at_most _ (read bytes) (t bytes)
 
-piece_at_most : (n : ℕ) (piece : List ℕ) (out : Read (List ℕ)) → AtMost n out → AtMost n (behind_piece piece out)
+pub piece_at_most : (n : ℕ) (piece : List ℕ) (out : Read (List ℕ)) → AtMost n out → AtMost n (behind_piece piece out)
 piece_at_most n piece (taken x rest) l = l
 piece_at_most n piece (refused e) l = tt
 
@@ -133,11 +134,11 @@ takes_one_of test (b ∷ bytes) = go (test b)
 
 after_digits_at_most : (bytes : List ℕ) → length (after_digits bytes) ≤ length bytes
 after_digits_at_most [] = omega arith
-after_digits_at_most (b ∷ bytes) = let l = after_digits_at_most bytes in cond_both (is_digit b) _ _ (λ (xs : List ℕ). length xs ≤ length (b ∷ bytes)) (λ e. omega arith) (λ e. omega arith)
+after_digits_at_most (b ∷ bytes) = let l = after_digits_at_most bytes in cond_both (is_ascii_digit b) _ _ (λ (xs : List ℕ). length xs ≤ length (b ∷ bytes)) (λ e. omega arith) (λ e. omega arith)
 
 takes_digits : Takes digits_at
 takes_digits [] = tt
-takes_digits (b ∷ bytes) = go (is_digit b)
+takes_digits (b ∷ bytes) = go (is_ascii_digit b)
   where
     go : (t : Bool) → Below (length (b ∷ bytes)) (some_digits (cond t (b ∷ leading_digits bytes) []) (cond t (after_digits bytes) (b ∷ bytes)))
     go true = let l = after_digits_at_most bytes in omega arith

@@ -1,16 +1,14 @@
 -- Numbers. RFC 8259, 6.
 --     IsNumber text      the text is a number
 --     number_at bytes      the number that the bytes begin with, the longest one, as it is written
-use Rattle.std.specs.Prelude.{◌≡◌, ◌≢◌, ◌⊎◌, ℕ, Bool, true, ◌&&◌, nat_le, List, [], ◌∷◌, ◌++◌, if◌then◌else◌, ◌==◌, ◌||◌, All}
+use Rattle.std.specs.Char.{is_ascii_digit}
+use Rattle.std.specs.Prelude.{◌≡◌, ◌≢◌, ◌⊎◌, ℕ, Bool, true, List, [], ◌∷◌, ◌++◌, if◌then◌else◌, ◌==◌, ◌||◌, All}
 use Rattle.json_spec.specs.Taken.{taken, refused, Read, and_then, behind_piece, or_else}
-
-abbrev pub is_digit : ℕ → Bool
-is_digit b = nat_le 48 b && nat_le b 57
 
 -- ---- the grammar
 
 abbrev pub AreDigits : List ℕ → Type 0
-AreDigits text = (text ≢ []) × All (λ b. is_digit b ≡ true) text
+AreDigits text = (text ≢ []) × All (λ b. is_ascii_digit b ≡ true) text
 
 -- RFC 8259, 6: int, a zero or digits that begin with no zero
 abbrev pub IsInt : List ℕ → Type 0
@@ -55,11 +53,11 @@ pub record IsNumber (text : List ℕ) : Type 0 where
 -- the digits that the bytes begin with, and the bytes after them
 abbrev pub leading_digits : List ℕ → List ℕ
 leading_digits [] = []
-leading_digits (b ∷ bytes) = if is_digit b then b ∷ leading_digits bytes else []
+leading_digits (b ∷ bytes) = if is_ascii_digit b then b ∷ leading_digits bytes else []
 
 abbrev pub after_digits : List ℕ → List ℕ
 after_digits [] = []
-after_digits (b ∷ bytes) = if is_digit b then after_digits bytes else b ∷ bytes
+after_digits (b ∷ bytes) = if is_ascii_digit b then after_digits bytes else b ∷ bytes
 
 -- one digit or more
 abbrev pub some_digits : List ℕ → List ℕ → Read (List ℕ)

@@ -1,18 +1,14 @@
 -- Needs have one layout.
-use Rattle.std.proofs.Common.{refl, ap, sym, ◌∙◌, subst}
+use Rattle.import_map_spec.proofs.Entries.{cases_option, get_nowhere}
+use Rattle.std.proofs.Common.{ap, sym, ◌∙◌, subst}
 use Rattle.std.specs.Cmp.Lexicographic.{nat_list_cmp_total}
 use Rattle.std.specs.FinMap.{get, empty, same_map, slice_cmp-IsAntisymmetric, nat_cmp-IsAntisymmetric}
-use Rattle.std.specs.Prelude.{◌≡◌, ◌⊎◌, Option, Some, None, ℕ, List, unwrap_or}
+use Rattle.std.specs.Prelude.{◌≡◌, Option, Some, None, ℕ, List, unwrap_or}
 use mathlib.Core.Logic.{inl, inr}
-use Rattle.import_map_spec.proofs.Entries.{get_nowhere}
 use Rattle.import_map_spec.specs.ParsedMap.{Addresses, ParsedMap}
 use Rattle.layout_spec.specs.Laws.{OneLayout}
 use Rattle.layout_spec.specs.Layout.{mapped, Lays}
 use Rattle.layout_spec.specs.declared.Need.{Need}
-
-none_or_some : {X : Type 0} (o : Option X) → (o ≡ None) ⊎ ((x : X) × (o ≡ Some x))
-none_or_some None = inl refl
-none_or_some (Some x) = inr (x, refl)
 
 module _ (needs : List Need) where
   -- what one of them maps, the other maps alike
@@ -37,9 +33,9 @@ module _ (needs : List Need) where
   module _ (m n : ParsedMap) (a : Lays needs m) (b : Lays needs n) (referrer : List ℕ) where
     same_mapping : (asked : List ℕ) → mapped m.scopes referrer asked ≡ mapped n.scopes referrer asked
     same_mapping asked =
-        elim (none_or_some (mapped m.scopes referrer asked)) [
+        elim (cases_option (mapped m.scopes referrer asked)) [
           | inr some ↦ some.1 ∙ sym (mapped_too m n a b referrer asked some.0 some.1)
-          | inl none ↦ elim (none_or_some (mapped n.scopes referrer asked)) [
+          | inl none ↦ elim (cases_option (mapped n.scopes referrer asked)) [
             | inl none_too ↦ none ∙ sym none_too
             | inr some ↦ absurd (let e = mapped_too n m b a referrer asked some.0 some.1 in cc)
           ]
@@ -52,12 +48,12 @@ module _ (needs : List Need) where
 
     same_scope : get m.scopes referrer ≡ get n.scopes referrer
     same_scope =
-        elim (none_or_some (get m.scopes referrer)) [
-          | inl none ↦ elim (none_or_some (get n.scopes referrer)) [
+        elim (cases_option (get m.scopes referrer)) [
+          | inl none ↦ elim (cases_option (get n.scopes referrer)) [
             | inl none_too ↦ none ∙ sym none_too
             | inr some ↦ absurd (scope_too n m b a referrer some.0 some.1 none)
           ]
-          | inr some ↦ elim (none_or_some (get n.scopes referrer)) [
+          | inr some ↦ elim (cases_option (get n.scopes referrer)) [
             | inl none ↦ absurd (scope_too m n a b referrer some.0 some.1 none)
             | inr some_too ↦ some.1 ∙ (ap Some (same_addresses some.0 some_too.0 some.1 some_too.1) ∙ sym some_too.1)
           ]

@@ -1,10 +1,11 @@
 -- The text of a map that is written out as lists, for the worked examples.
-use Rattle.std.proofs.Common.{refl, ap, ◌∙◌, arith, sym}
+use Rattle.import_map_spec.proofs.Entries.{no_entries}
+use Rattle.std.proofs.Common.{refl, ap, ◌∙◌}
 use Rattle.std.specs.Cmp.Lexicographic.{slice_cmp, nat_list_cmp_total}
-use Rattle.std.specs.FinMap.{put, insert, entries, entries-insert, empty, len-entries, len-empty}
+use Rattle.std.specs.FinMap.{put, insert, entries, entries-insert, empty}
 use Rattle.std.specs.FinMap.Entries.{by_order}
 use Rattle.std.specs.Ordering.{nat_cmp}
-use Rattle.std.specs.Prelude.{ℕ, List, [], ◌∷◌, ◌≡◌, length, Option, map, codes}
+use Rattle.std.specs.Prelude.{ℕ, List, [], ◌∷◌, ◌≡◌, Option, map, codes}
 use Rattle.std.specs.declared.cmp.Ordering.{Ordering}
 use Rattle.std.specs.declared.cmp.Ordering.TheVariants.{Less, Equal, Greater}
 use Rattle.json_spec.specs.PrintedValue.{printed_text}
@@ -25,15 +26,8 @@ entries_onto : {X : Type 0} (es : List (List ℕ × X)) (m : Texts X) → entrie
 entries_onto [] m = refl
 entries_onto (e ∷ es) m = entries_onto es (insert m e.0 e.1) ∙ ap (λ done. put_onto done es) (entries-insert nat_list_cmp_total m e.0 e.1)
 
-no_entries : {X : Type 0} (es : List (List ℕ × X)) → length es ≡ 0 → es ≡ []
-no_entries [] e = refl
-no_entries (x ∷ es) e = absurd (omega arith)
-
-entries_empty : (X : Type 0) → entries (empty {X = X} {R = slice_cmp nat_cmp}) ≡ []
-entries_empty X = no_entries _ (sym (len-entries (empty {X = X} {R = slice_cmp nat_cmp})) ∙ len-empty (slice_cmp nat_cmp) X)
-
 entries_map_of : {X : Type 0} (es : List (List ℕ × X)) → entries (map_of es) ≡ in_key_order es
-entries_map_of {X} es = entries_onto es empty ∙ ap (λ done. put_onto done es) (entries_empty X)
+entries_map_of {X} es = entries_onto es empty ∙ ap (λ done. put_onto done es) (no_entries X)
 
 abbrev Entry : Type 0
 Entry = List ℕ × List (List ℕ × Option (List ℕ))

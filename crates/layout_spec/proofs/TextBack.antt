@@ -1,9 +1,9 @@
 -- The text of a map is read as that map.
+use Rattle.tree_spec.proofs.ByteLists.{texts_differ}
 use Rattle.std.proofs.Common.{refl, ap, sym}
-use Rattle.std.proofs.lemmas.Slice.Eq.{bytes_eq-Decides}
 use Rattle.std.specs.Char.{encode_utf8}
 use Rattle.std.specs.FinMap.{entries}
-use Rattle.std.specs.Prelude.{ℕ, List, Option, Some, None, [], ◌∷◌, suc, ◌≡◌, ◌≢◌, true, false, bytes_eq, IsUtf8, codes, Ok}
+use Rattle.std.specs.Prelude.{ℕ, List, Option, Some, None, [], ◌∷◌, suc, ◌≡◌, false, bytes_eq, IsUtf8, codes, Ok}
 use Rattle.json_spec.proofs.ReadBack.{values_read_back}
 use Rattle.json_spec.specs.Grammar.{most_brackets}
 use Rattle.json_spec.specs.PrintedValue.{IsPrintable, MembersArePrintable}
@@ -36,15 +36,9 @@ integrity_printable : (depth : ℕ) (base : List ℕ) (es : List (List ℕ × Li
 integrity_printable depth base [] k = tt
 integrity_printable depth base (e ∷ es) k = (k.0.key_utf8, k.0.text_utf8, integrity_printable depth base es k.1)
 
-different : (a b : List ℕ) → bytes_eq a b ≡ false → a ≢ b
-different a b e same = let t : bytes_eq a b ≡ true = (bytes_eq-Decides a b).1 same in never t e
-  where
-    never : bytes_eq a b ≡ true → bytes_eq a b ≡ false → ⊥
-    never p q = cc
-
 new_part : (key name : List ℕ) (part more : Members) → bytes_eq key name ≡ false → IsNewName key more → IsNewName key (with_part name part more)
 new_part key name no_members more e n = n
-new_part key name (a_member k v ms) more e n = (different key name e, n)
+new_part key name (a_member k v ms) more e n = (texts_differ key name e, n)
 
 distinct_part : (name : List ℕ) (part more : Members) → IsNewName name more → AreDistinct more → AreDistinct (with_part name part more)
 distinct_part name no_members more n d = d

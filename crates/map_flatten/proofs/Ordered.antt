@@ -1,4 +1,5 @@
 -- Lists in key order are the entries of their finite map.
+use Rattle.import_map_spec.proofs.Entries.{no_entries}
 use Rattle.std.proofs.Common.{◌≡◌, ℕ, Bool, true, false, List, [], ◌∷◌, ◌++◌, Option, Some, refl, sym, ap, subst, ◌∙◌, append_assoc}
 use Rattle.std.specs.Prelude.{◌&&◌, T, map, All}
 use Rattle.std.specs.List.{AllByRecursion}
@@ -37,9 +38,6 @@ entries_mapped f es h =
     (same_map nat_list_cmp_total (slice_cmp-IsAntisymmetric nat_cmp-IsAntisymmetric) (from_entries (mapped f es)) (from_sorted (mapped f es))
     (λ q. get-from_entries nat_list_cmp_total (mapped f es) q ∙ sym (get-from_sorted (slice_cmp nat_cmp) (mapped f es) q t)))
     ∙ entries-from_sorted (slice_cmp nat_cmp) (mapped f es) t
-
-no_entries : (X : Type 0) → entries (empty {X = X} {R = slice_cmp nat_cmp}) ≡ []
-no_entries X = nil_from_length _ (sym (len-entries (empty {X = X} {R = slice_cmp nat_cmp})) ∙ len-empty (slice_cmp nat_cmp) X)
 
 scopes_listed : (es : List (List ℕ × Scope)) → All (λ scope. InKeyOrder scope.1) (map listed_scope es) → map scope_entries (map scope_of es) ≡ map scope_entry (map listed_scope es)
 scopes_listed [] each = refl

@@ -1,4 +1,5 @@
 -- Among a set of keys one is the choice, unless none of them matches.
+use Rattle.tree_spec.proofs.ByteLists.{text_same_or_not}
 use Rattle.std.proofs.Common.{sym, subst, ap, refl, ◌∙◌, arith, append_assoc}
 use Rattle.std.proofs.lemmas.Bool.{cases_eq}
 use Rattle.std.proofs.lemmas.List.{append_cancel_left, append_cancel_right, append-nil}
@@ -74,16 +75,6 @@ star_or_not (b ∷ text) = elim (cases_eq b 42) [ inl e ↦ inr ([], text, ap (�
     later d (inl none) = inl (All-cons (λ c. c ≢ 42) b text d none)
     later d (inr found) = inr (b ∷ found.0, found.1, ap (λ rest. b ∷ rest) found.2, All-cons (λ c. c ≢ 42) b found.0 d found.3)
 
-same_or_not : (text other : List ℕ) → (text ≡ other) ⊎ (text ≢ other)
-same_or_not [] [] = inl refl
-same_or_not [] (c ∷ other) = inr (λ e. cc)
-same_or_not (b ∷ text) [] = inr (λ e. cc)
-same_or_not (b ∷ text) (c ∷ other) = elim (cases_eq b c) [ inl e ↦ later e (same_or_not text other) | inr d ↦ inr (λ e. d cc) ]
-  where
-    later : b ≡ c → (text ≡ other) ⊎ (text ≢ other) → (b ∷ text ≡ c ∷ other) ⊎ (b ∷ text ≢ c ∷ other)
-    later e (inl s) = inl cc
-    later e (inr d) = inr (λ s. d cc)
-
 front_or_not : (text front : List ℕ) → StartsWith text front ⊎ ((rest : List ℕ) → text ≢ front ++ rest)
 front_or_not text [] = inl (text, refl)
 front_or_not [] (c ∷ front) = inr (λ rest e. cc)
@@ -94,12 +85,12 @@ front_or_not (b ∷ text) (c ∷ front) = elim (cases_eq b c) [ inl e ↦ later 
     later e (inr d) = inr (λ rest t. d rest cc)
 
 end_or_not : (text end : List ℕ) → EndsWith text end ⊎ ((front : List ℕ) → text ≢ front ++ end)
-end_or_not [] end = elim (same_or_not [] end) [ inl e ↦ inl ([], e) | inr d ↦ inr (never d) ]
+end_or_not [] end = elim (text_same_or_not [] end) [ inl e ↦ inl ([], e) | inr d ↦ inr (never d) ]
   where
     never : [] ≢ end → (front : List ℕ) → [] ≢ front ++ end
     never d [] e = d e
     never d (c ∷ front) e = cc
-end_or_not (b ∷ text) end = elim (same_or_not (b ∷ text) end) [ inl e ↦ inl ([], e) | inr d ↦ later d (end_or_not text end) ]
+end_or_not (b ∷ text) end = elim (text_same_or_not (b ∷ text) end) [ inl e ↦ inl ([], e) | inr d ↦ later d (end_or_not text end) ]
   where
     never : b ∷ text ≢ end → ((front : List ℕ) → text ≢ front ++ end) → (front : List ℕ) → b ∷ text ≢ front ++ end
     never d none [] e = d e
@@ -145,7 +136,7 @@ module _ (asked key : List ℕ) where
 
   match_or_not : Decided
   match_or_not = elim (star_or_not key) [
-    | inl none ↦ by_key none (same_or_not key asked)
+    | inl none ↦ by_key none (text_same_or_not key asked)
     | inr found ↦ by_trailer found.0 found.1 found.2 found.3 (star_or_not found.1)
   ]
 

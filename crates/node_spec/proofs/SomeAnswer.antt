@@ -1,6 +1,7 @@
 -- Each relative specifier has an answer.
+use Rattle.tree_spec.proofs.ByteLists.{no_utf8_text}
 use Rattle.std.proofs.Common.{refl, subst}
-use Rattle.std.proofs.lemmas.Str.{is_utf8-from_IsUtf8, IsUtf8-from_is_utf8}
+use Rattle.std.proofs.lemmas.Str.{IsUtf8-from_is_utf8}
 use Rattle.std.specs.FinMap.{get}
 use Rattle.std.specs.Prelude.{ℕ, List, ◌≡◌, Bool, true, false, Option, Some, None, IsUtf8, ◌⊎◌}
 use Rattle.std.specs.Str.{is_utf8}
@@ -29,15 +30,12 @@ by_entry tree url path names (Some Directory) e slash s = (Refused DirectoryImpo
 by_entry tree url path names (Some (Stored bytes)) e true s = (Refused NotFound, no_folder path bytes names e s)
 by_entry tree url path names (Some (Stored bytes)) e false s = (Resolved path (suffix_of url), file path bytes names e s)
 
-no_utf8 : (bytes : List ℕ) → is_utf8 bytes ≡ false → IsUtf8 bytes → ⊥
-no_utf8 bytes f u = let t : is_utf8 bytes ≡ true = is_utf8-from_IsUtf8 bytes u in cc
-
 -- by whether the spelled bytes are a path, and UTF-8
 by_path : (tree : Tree) (url : List ℕ) → escapes_separator (url_path url) ≡ false → IsPath (spelled_path (url_path url)) ⊎ (IsPath (spelled_path (url_path url)) → ⊥) → (utf8 : Bool) → is_utf8 (spelled_path (url_path url)) ≡ utf8 → Judged tree url
 by_path tree url e (inl is) true u =
     let path : List ℕ = spelled_path (url_path url) in
     by_entry tree url path (record { no_separator = e; spelled = refl; utf8 = IsUtf8-from_is_utf8 path u; is_path = is }) (get tree path) refl (is_folder_path (url_path url)) refl
-by_path tree url e (inl is) false u = (Refused NotFound, nameless e (λ path names. no_utf8 _ u (subst IsUtf8 names.spelled names.utf8)))
+by_path tree url e (inl is) false u = (Refused NotFound, nameless e (λ path names. no_utf8_text _ u (subst IsUtf8 names.spelled names.utf8)))
 by_path tree url e (inr other) utf8 u = (Refused NotFound, nameless e (λ path names. other (subst IsPath names.spelled names.is_path)))
 
 by_separator : (tree : Tree) (url : List ℕ) (escaped : Bool) → escapes_separator (url_path url) ≡ escaped → Judged tree url

@@ -3,13 +3,12 @@
 --     Judges tree url answer      what stands at a file URL
 --     joined_url parent specifier      the URL of a relative specifier in that file
 use Rattle.std.specs.FinMap.{get}
-use Rattle.std.specs.List.{ends_with}
-use Rattle.std.specs.Prelude.{ℕ, List, Bool, codes, nat_eq, ◌≡◌, true, false, Some, None, Option}
+use Rattle.std.specs.Prelude.{ℕ, List, Bool, ◌≡◌, true, false, Some, None, Option}
 use Rattle.tree_spec.specs.Trees.{Tree}
 use Rattle.tree_spec.specs.declared.Entry.TheVariants.{Stored, Directory}
 use Rattle.url_spec.specs.FileUrls.{url_path, escapes_separator, NamesPath, file_text, names_host}
 use Rattle.url_spec.specs.Parsing.{parse_against, parse_alone}
-use Rattle.url_spec.specs.Specifiers.{is_relative}
+use Rattle.url_spec.specs.Specifiers.{is_relative, ends_in_slash}
 use Rattle.url_spec.specs.Suffixes.{suffix_of}
 use Rattle.node_spec.specs.declared.Cause.{Cause}
 use Rattle.node_spec.specs.declared.Cause.TheVariants.{InvalidSpecifier, NotFound, DirectoryImport}
@@ -21,7 +20,7 @@ pub data Answer : Type 0 where
 
 -- only a folder may stand at this URL path
 abbrev pub is_folder_path : List ℕ → Bool
-is_folder_path path = ends_with nat_eq path (codes "/")
+is_folder_path path = ends_in_slash path
 
 -- what stands at a file URL (Node.js, ECMAScript modules: ESM_RESOLVE, from "If resolved is a file: URL" on). own:
 -- where the URL's path spells no path, nothing stands there

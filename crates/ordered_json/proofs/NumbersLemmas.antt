@@ -1,4 +1,6 @@
 -- Numbers, part by part.
+use Rattle.json_spec.proofs.LongestNumber.{lead_split}
+use Rattle.std.specs.Char.{is_ascii_digit}
 use Rattle.std.specs.Prelude.{◌≡◌, ◌≢◌, ℕ, ◌<◌, ◌≤◌, nat_le, Bool, true, false, cond, ◌==◌, ◌||◌, List, [], ◌∷◌, ◌++◌, length, IsUtf8, Option, Some, None, MatchOption}
 use Rattle.std.specs.Borrow.{Bor}
 use Rattle.std.proofs.Common.{refl, ap, sym, ◌∙◌, arith, append_assoc, length-append}
@@ -6,7 +8,7 @@ use Rattle.std.proofs.lemmas.Bool.{cond-true, cond-false, leb-true, and_parts, f
 use Rattle.std.proofs.lemmas.Str.{IsUtf8-append, IsUtf8-nil}
 use Rattle.json_spec.proofs.PrintedUtf8.{ascii_first}
 use Rattle.json_spec.specs.Taken.{taken, refused, Read, and_then, or_else, behind_piece}
-use Rattle.json_spec.specs.Numbers.{is_digit, leading_digits, after_digits, some_digits, digits_at, int_at, frac_at, exp_at, number_at, joined, maybe, one_of}
+use Rattle.json_spec.specs.Numbers.{leading_digits, after_digits, some_digits, digits_at, int_at, frac_at, exp_at, number_at, joined, maybe, one_of}
 use Rattle.ordered_json.specs.Scanned.{Cut}
 
 one_of_cut : (test : ℕ → Bool) (b : ℕ) (rest bytes : List ℕ) → bytes ≡ b ∷ rest → test b ≡ true → b < 128 → Cut (one_of test bytes) bytes rest
@@ -36,24 +38,16 @@ differs b c n = false_from_ne_true _ (λ t. n (eqb-true b c t))
 or_from : (x y : Bool) → x ≡ false → y ≡ false → (x || y) ≡ false
 or_from x y p q = rw (p, q) refl
 
-digit_low : (b : ℕ) → is_digit b ≡ true → b < 128
+digit_low : (b : ℕ) → is_ascii_digit b ≡ true → b < 128
 digit_low b t = let l : b ≤ 57 = leb-true b 57 (and_parts (nat_le 48 b) (nat_le b 57) t).1 in omega arith
 
-split_first : (b : ℕ) (bytes front after : List ℕ) (t : Bool) → bytes ≡ front ++ after → b ∷ bytes ≡ cond t (b ∷ front) [] ++ cond t after (b ∷ bytes)
-split_first b bytes front after true e = ap (λ (xs : List ℕ). b ∷ xs) e
-split_first b bytes front after false e = refl
-
-digits_split : (bytes : List ℕ) → bytes ≡ leading_digits bytes ++ after_digits bytes
-digits_split [] = refl
-digits_split (b ∷ bytes) = split_first b bytes _ _ (is_digit b) (digits_split bytes)
-
-utf8_first : (b : ℕ) (front : List ℕ) (t : Bool) → is_digit b ≡ t → IsUtf8 front → IsUtf8 (cond t (b ∷ front) [])
+utf8_first : (b : ℕ) (front : List ℕ) (t : Bool) → is_ascii_digit b ≡ t → IsUtf8 front → IsUtf8 (cond t (b ∷ front) [])
 utf8_first b front true e u = ascii_first b front (digit_low b e) u
 utf8_first b front false e u = IsUtf8-nil
 
 digits_utf8 : (bytes : List ℕ) → IsUtf8 (leading_digits bytes)
 digits_utf8 [] = IsUtf8-nil
-digits_utf8 (b ∷ bytes) = utf8_first b _ (is_digit b) refl (digits_utf8 bytes)
+digits_utf8 (b ∷ bytes) = utf8_first b _ (is_ascii_digit b) refl (digits_utf8 bytes)
 
 some_from : (digits after bytes : List ℕ) → bytes ≡ digits ++ after → IsUtf8 digits → length after < length bytes → Cut (some_digits digits after) bytes after
 some_from [] after bytes e u l = absurd (omega (arith, ap length e))
@@ -64,10 +58,10 @@ none_from [] after bytes e l = refl
 none_from (d ∷ digits) after bytes e l = absurd (omega (arith, ap length e, length-append digits after))
 
 pub digits_cut : (bytes : List ℕ) → length (after_digits bytes) < length bytes → Cut (digits_at bytes) bytes (after_digits bytes)
-digits_cut bytes l = some_from _ _ bytes (digits_split bytes) (digits_utf8 bytes) l
+digits_cut bytes l = some_from _ _ bytes (lead_split bytes) (digits_utf8 bytes) l
 
 pub no_digits : (bytes : List ℕ) → length bytes ≤ length (after_digits bytes) → digits_at bytes ≡ refused tt
-no_digits bytes l = none_from _ _ bytes (digits_split bytes) l
+no_digits bytes l = none_from _ _ bytes (lead_split bytes) l
 
 pub minus_cut : (bytes rest : List ℕ) → bytes ≡ 45 ∷ rest → Cut (maybe (one_of (λ b. b == 45)) bytes) bytes rest
 minus_cut bytes rest e = some_cut (one_of (λ b. b == 45)) bytes rest (one_of_cut (λ b. b == 45) 45 rest bytes e refl (omega arith))

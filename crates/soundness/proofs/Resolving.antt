@@ -1,4 +1,5 @@
 -- Through a map that has the mappings of needs without a clash, each need leads to its target.
+use Rattle.import_map_spec.proofs.Entries.{cases_option, get_nowhere}
 use Rattle.std.proofs.Common.{◌≡◌, ℕ, true, List, length, take, Option, Some, None, refl, sym, ap, ◌∙◌}
 use Rattle.std.specs.Prelude.{◌⊎◌, Contains, unwrap_or, option_map, bytes_eq}
 use mathlib.Core.Logic.{inl, inr}
@@ -9,17 +10,12 @@ use Rattle.std.proofs.lemmas.Bool.{cases_Bool, true≢false}
 use Rattle.std.proofs.lemmas.Slice.Eq.{bytes_eq-Decides}
 use Rattle.url_spec.specs.Specifiers.{as_url, normalized, ends_in_slash}
 use Rattle.import_map_spec.specs.ParsedMap.{Texts, Addresses, ParsedMap}
-use Rattle.import_map_spec.proofs.Entries.{get_nowhere}
 use Rattle.import_map_spec.specs.Resolving.{Resolution, Resolved}
 use Rattle.import_map_spec.specs.LookUps.{first_answer, answer_or, unmatched, Lookup, resolve_imports_match, scope_match, longest_front, prefix_scope, resolve_scopes_match, scope_addresses, resolve_normalized, resolve_in}
 use Rattle.import_map_spec.proofs.LongestKey.{key_order}
 use Rattle.layout_spec.specs.declared.Need.{Need}
 use Rattle.layout_spec.specs.Needs.{NoClash, NamesFiles}
 use Rattle.layout_spec.specs.Layout.{mapped, WantsMapping, Lays}
-
-cases_option : {A : Type 0} (found : Option A) → (found ≡ None) ⊎ ((x : A) × (found ≡ Some x))
-cases_option None = inl refl
-cases_option (Some x) = inr (x, refl)
 
 pub nothing_there : {A : Type 0} (key : List ℕ) (x : A) → get {X = A} {R = slice_cmp nat_cmp} empty key ≡ Some x → ⊥
 nothing_there {A} key x e = let none = get_nowhere {X = A} key in let same : ◌≡◌ {A = Option A} None (Some x) = sym none ∙ e in cc

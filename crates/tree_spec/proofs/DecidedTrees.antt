@@ -1,24 +1,16 @@
 -- Whether a text is a path is decided, so a map that is known to be a tree without a proof at hand has its proof.
+use Rattle.tree_spec.proofs.ByteLists.{by_test, number_same_or_not, text_same_or_not}
 use Rattle.std.proofs.Common.{inl, inr, ap, sym, ◌∙◌, subst, arith}
-use Rattle.std.proofs.lemmas.Bool.Decides.{Decides-eqb, Decides-ltb}
+use Rattle.std.proofs.lemmas.Bool.Decides.{Decides-ltb}
 use Rattle.std.proofs.lemmas.List.Elements.{All-cons, All-nil, All-head, All-tail}
-use Rattle.std.specs.Bool.{Decides}
 use Rattle.std.specs.FinMap.{get}
-use Rattle.std.specs.Prelude.{◌≡◌, ◌⊎◌, Bool, true, false, refl, ◌≢◌, ◌==◌, ℕ, List, ◌∷◌, ◌++◌, All, [], codes, ◌≤◌, ◌+◌, suc, zero, ◌<◌, length, Option, Some, None}
+use Rattle.std.specs.Prelude.{◌≡◌, ◌⊎◌, refl, ◌≢◌, ℕ, List, ◌∷◌, ◌++◌, All, [], codes, ◌≤◌, ◌+◌, suc, zero, ◌<◌, length, Option, Some, None}
 use mathlib.Core.Logic.{∥∥₁_elim, ∥∥₁_map}
 use Rattle.tree_spec.proofs.PathParts.{IsFront, at_root, at_other, HasLast, last_of, joined_at, no_depth}
-use Rattle.tree_spec.proofs.PathsAbove.{text_same_or_not}
 use Rattle.tree_spec.specs.Paths.{IsSegment, HasDepth, joined, root, child, IsPath}
 use Rattle.tree_spec.specs.Trees.{Tree, IsTree}
 use Rattle.tree_spec.specs.declared.Entry.{Entry}
 use Rattle.tree_spec.specs.declared.Entry.TheVariants.{Stored, Directory}
-
-by_test : {P : Type 0} (b : Bool) → Decides b P → P ⊎ (P → ⊥)
-by_test true d = inl (d.0 refl)
-by_test false d = inr (λ p. let wrong : false ≡ true = d.1 p in cc)
-
-number_same_or_not : (a b : ℕ) → (a ≡ b) ⊎ (a ≢ b)
-number_same_or_not a b = by_test (a == b) (Decides-eqb a b)
 
 -- ---- the last `/`
 

@@ -1,3 +1,4 @@
+pub mod ByteLists
 pub mod PathParts
 pub mod PathsAbove
 pub mod Insertion

@@ -1,8 +1,7 @@
 -- What stands above a path.
+use Rattle.tree_spec.proofs.ByteLists.{text_same_or_not}
 use Rattle.std.proofs.Common.{arith, ap, length-append, ◌∙◌, subst, inl, inr, sym}
-use Rattle.std.proofs.lemmas.Slice.Eq.{bytes_eq-Decides}
-use Rattle.std.specs.Bool.{Decides}
-use Rattle.std.specs.Prelude.{◌≢◌, ◌<◌, ℕ, List, [], ◌∷◌, length, refl, ◌≡◌, ◌++◌, codes, ◌⊎◌, ◌≤◌, ◌+◌, Bool, true, false, bytes_eq}
+use Rattle.std.specs.Prelude.{◌≢◌, ◌<◌, ℕ, List, [], ◌∷◌, length, refl, ◌≡◌, ◌++◌, codes, ◌⊎◌, ◌≤◌, ◌+◌}
 use Rattle.tree_spec.proofs.PathParts.{IsFront, at_root, at_other, front_of, not_root, one_parent}
 use Rattle.tree_spec.specs.Paths.{IsSegment, joined, IsParent, IsAbove, parent_of, further, IsPath, HasDepth, root, child}
 
@@ -65,13 +64,6 @@ parent_in depth parent name text segments segment e few short =
     let longer : length parent < length (joined parent name) = joined_longer parent name segment in
     let same : length text ≡ length (joined parent name) = ap length e in
     record { name = name; segment = segment; is_path = record { depth = depth; segments = segments; few = omega arith; short = omega arith }; text = e }
-
-same_or_not : (b : Bool) (xs ys : List ℕ) → Decides b (xs ≡ ys) → (xs ≡ ys) ⊎ (xs ≢ ys)
-same_or_not true xs ys d = inl (d.0 refl)
-same_or_not false xs ys d = inr (λ e. let wrong : false ≡ true = d.1 e in cc)
-
-pub text_same_or_not : (xs ys : List ℕ) → (xs ≡ ys) ⊎ (xs ≢ ys)
-text_same_or_not xs ys = same_or_not (bytes_eq xs ys) xs ys (bytes_eq-Decides xs ys)
 
 neither : (other parent text : List ℕ) → other ≢ parent → (IsAbove other parent → ⊥) → (other ≡ parent) ⊎ IsAbove other parent → ⊥
 neither other parent text n m (inl e) = n e

@@ -3,7 +3,8 @@ use Rattle.std.proofs.Common.{sym, ◌∙◌, ap, inl, inr, subst}
 use Rattle.std.specs.FinMap.{get, insert}
 use Rattle.std.specs.Prelude.{◌≡◌, ◌≢◌, ◌⊎◌, ℕ, List, Some, None, Option, codes, ◌↔◌}
 use Rattle.tree_spec.proofs.Insertion.{same_tree, found_or_not, get_here, get_other}
-use Rattle.tree_spec.proofs.PathsAbove.{text_same_or_not, above_or_not, above_is_path, parent_above, above_other, above_by_parent}
+use Rattle.tree_spec.proofs.PathsAbove.{above_or_not, above_is_path, parent_above, above_other, above_by_parent}
+use Rattle.tree_spec.proofs.ByteLists.{text_same_or_not}
 use Rattle.tree_spec.specs.Laws.{PlacingInRoot}
 use Rattle.tree_spec.specs.Paths.{IsAbove, IsPath, IsParent, parent_of, further}
 use Rattle.tree_spec.specs.Trees.{Tree, Places, IsTree}

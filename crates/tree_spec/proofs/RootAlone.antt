@@ -5,7 +5,8 @@ use Rattle.std.specs.FinMap.{get, empty, get-empty}
 use Rattle.std.specs.Ordering.{nat_cmp}
 use Rattle.std.specs.Prelude.{◌≡◌, ◌≢◌, ◌⊎◌, ℕ, List, codes, Some, None, ◌≤◌, length}
 use Rattle.tree_spec.proofs.Insertion.{get_other, get_here}
-use Rattle.tree_spec.proofs.PathsAbove.{nothing_above_root, text_same_or_not}
+use Rattle.tree_spec.proofs.PathsAbove.{nothing_above_root}
+use Rattle.tree_spec.proofs.ByteLists.{text_same_or_not}
 use Rattle.tree_spec.specs.Paths.{IsParent, parent_of, root, IsPath}
 use Rattle.tree_spec.specs.Trees.{bare_tree, IsTree, Tree}
 use Rattle.tree_spec.specs.declared.Entry.{Entry}

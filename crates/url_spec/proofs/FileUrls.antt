@@ -1,4 +1,5 @@
 -- The URL of a path is a URL, without a host, and its path is the escaped path.
+use Rattle.tree_spec.proofs.PathParts.{not_empty}
 use Rattle.std.proofs.Common.{ℕ, List, [], ◌∷◌, ◌≡◌, ◌++◌, refl, true, ap, ◌∙◌, false, All, sym, subst, ⊎_elim, ◌<◌, length, arith, ◌≤◌, ◌≢◌, ◌/◌, ◌%◌, Bool, ◌==◌, ◌&&◌, ◌||◌, not, suc, codes, append-nil, cond, Some, None, inl, take, drop, IsAscii}
 use Rattle.std.proofs.lemmas.Bool.{cond-true, cond-false, cases_Bool, cases_lt, true≢false, cases_eq, ne_eqb, eqb-true, and_parts, or_cases}
 use Rattle.std.proofs.lemmas.Bool.Decides.{nat_tests}
@@ -254,16 +255,11 @@ slash_no_bar : (slash : Bool) → All (λ b. b ≢ 124) (if slash then codes "/"
 slash_no_bar true = All-cons (λ b. b ≢ 124) 47 [] (λ e. absurd (omega (arith, e))) (All-nil (λ b. b ≢ 124))
 slash_no_bar false = All-nil (λ b. b ≢ 124)
 
-begins_some : (depth : ℕ) (path : List ℕ) → HasDepth depth path → path ≢ []
-begins_some _ _ (root text e) none = absurd (cc (e, none))
-begins_some _ _ (child depth deeper parent name text up is next e) none =
-    absurd (omega (arith, ap length e, ap length none, length-append (if bytes_eq parent (codes "/") then [] else parent) (47 ∷ name)))
-
 file_path_valid : (path : List ℕ) (folder : Bool) → IsPath path → All (λ b. b < 256) path → IsValid (file_parts (escaped path ++ folder_slash path folder))
 file_path_valid path folder is small =
     let end = folder_slash path folder in
     let segments = ended (escaped path) (folder && not (bytes_eq path (codes "/"))) (path_segments is.depth path is.segments small) in
-    file_valid (escaped path ++ end) segments (omega (arith, length-append (escaped path) end, some_escaped path (begins_some is.depth path is.segments)))
+    file_valid (escaped path ++ end) segments (omega (arith, length-append (escaped path) end, some_escaped path (not_empty is.depth path is.segments)))
 
 file_path_parsed : (path : List ℕ) (folder : Bool) → IsPath path → All (λ b. b < 256) path → parse_url None (file_text path folder) ≡ Ok (file_parts (escaped path ++ folder_slash path folder))
 unfolding file_text

@@ -1,8 +1,8 @@
 -- Bases: the URLs of folders on the web, below which modules are served.
 --     base_of text      the base that a text gives
 --     IsBase text      the text is a base
-use Rattle.std.specs.List.{ends_with}
-use Rattle.std.specs.Prelude.{◌&&◌, ◌||◌, not, nat_eq, Bool, codes, bytes_eq, is_some, false, Option, Some, None, ℕ, List, if◌then◌else◌, ◌≡◌}
+use Rattle.url_spec.specs.Specifiers.{ends_in_slash}
+use Rattle.std.specs.Prelude.{◌&&◌, ◌||◌, not, Bool, codes, bytes_eq, is_some, false, Option, Some, None, ℕ, List, if◌then◌else◌, ◌≡◌}
 use Rattle.url.specs.Parts.{Parts, has_credentials}
 use Rattle.url_spec.specs.Parsing.{parts_of, parse_alone}
 
@@ -10,7 +10,7 @@ use Rattle.url_spec.specs.Parsing.{parts_of, parse_alone}
 -- fragment
 abbrev pub names_web_folder : Parts → Bool
 names_web_folder url =
-    (bytes_eq url.scheme (codes "http") || bytes_eq url.scheme (codes "https")) && ends_with nat_eq url.path (codes "/")
+    (bytes_eq url.scheme (codes "http") || bytes_eq url.scheme (codes "https")) && ends_in_slash url.path
     && not (has_credentials url) && not (is_some url.query) && not (is_some url.fragment)
 
 abbrev pub is_web_folder : Option Parts → Bool

@@ -5,8 +5,8 @@
 --     spelled_path text      the path that a file URL's path spells
 --     NamesPath text path      a file URL's path names this path
 --     IsPlace url path folder_only escaped suffix      the place that a file URL names
-use Rattle.std.specs.List.{ends_with}
-use Rattle.std.specs.Prelude.{◌&&◌, not, ℕ, Bool, List, [], ◌++◌, codes, bytes_eq, if◌then◌else◌, false, Option, Some, None, ◌||◌, ◌==◌, flat_map, length, filter, ◌≡◌, nat_eq, MatchOption}
+use Rattle.url_spec.specs.Specifiers.{ends_in_slash}
+use Rattle.std.specs.Prelude.{◌&&◌, not, ℕ, Bool, List, [], ◌++◌, codes, bytes_eq, if◌then◌else◌, false, Option, Some, None, ◌||◌, ◌==◌, flat_map, length, filter, ◌≡◌, MatchOption}
 use Rattle.std.specs.Str.{IsUtf8}
 use Rattle.url.specs.Parts.{Parts, has_host}
 use Rattle.tree_spec.specs.Paths.{IsPath}
@@ -60,6 +60,6 @@ pub record NamesPath (text path : List ℕ) : Type 0 where
 -- a separator, and the suffix
 pub record IsPlace (url : List ℕ) (path : Option (List ℕ)) (folder_only escaped : Bool) (suffix : List ℕ) : Type 0 where
   pub named : MatchOption path ((any : List ℕ) → NamesPath (url_path url) any → ⊥) (NamesPath (url_path url))
-  pub ends_in_slash : folder_only ≡ ends_with nat_eq (url_path url) (codes "/")
+  pub ends_in_slash : folder_only ≡ ends_in_slash (url_path url)
   pub separator : escaped ≡ escapes_separator (url_path url)
   pub tail : suffix ≡ suffix_of url

@@ -1,8 +1,7 @@
 -- The laws of URLs as texts. Each is the contract of a function of this crate.
 --     IsNoStart b      the byte is neither a letter nor one that the URL parser trims or drops
-use Rattle.std.specs.Prelude.{◌≡◌, ℕ, List, Some, None, false, [], ◌∷◌, ◌≢◌, ◌<◌, ◌++◌, drop, All, codes, Bool, Option, Ok, nat_eq}
+use Rattle.std.specs.Prelude.{◌≡◌, ℕ, List, Some, None, false, [], ◌∷◌, ◌≢◌, ◌<◌, ◌++◌, drop, All, codes, Bool, Option, Ok}
 use Rattle.std.specs.Char.{is_ascii_alphabetic}
-use Rattle.std.specs.List.{ends_with}
 use Rattle.std.specs.Str.{IsAscii}
 use Rattle.url.specs.Canonical.{IsCanonical}
 use Rattle.url.specs.Input.{is_c0_control_or_space, is_tab_or_new_line}
@@ -13,7 +12,7 @@ use Rattle.url_spec.specs.Bases.{base_of, IsBase}
 use Rattle.url_spec.specs.FileUrls.{IsPlace, file_text, names_host, url_path}
 use Rattle.url_spec.specs.Parsing.{parse_alone, parse_against, IsUrl, text_of}
 use Rattle.url_spec.specs.ServedPaths.{IsServed}
-use Rattle.url_spec.specs.Specifiers.{as_url}
+use Rattle.url_spec.specs.Specifiers.{as_url, ends_in_slash}
 use Rattle.url_spec.specs.WebNames.{web, escaped}
 
 -- own law: what parsing gives, with or without a base, is the text of a URL, and so is a web name
@@ -77,7 +76,7 @@ abbrev pub FilesEndInNoSlash : Type 0
 FilesEndInNoSlash =
     (base path : List ℕ) (url : Parts) → parse_url None (base ++ (drop 1 (escaped path) ++ [])) ≡ Ok url → IsValid url
     → All (λ b. b < 256) path → IsServed base (text_of url) path → path ≢ codes "/"
-    → ends_with nat_eq (text_of url) (codes "/") ≡ false
+    → ends_in_slash (text_of url) ≡ false
 
 -- own law: a file URL names one place
 abbrev pub OnePlace : Type 0

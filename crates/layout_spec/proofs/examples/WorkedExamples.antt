@@ -1,8 +1,8 @@
 -- The worked examples, by computation.
+use Rattle.tree_spec.proofs.ByteLists.{texts_differ}
 use Rattle.std.proofs.Common.{ap, ◌∙◌, refl, sym}
-use Rattle.std.proofs.lemmas.Slice.Eq.{bytes_eq-Decides}
 use Rattle.std.specs.FinMap.{empty, insert}
-use Rattle.std.specs.Prelude.{◌≡◌, ℕ, List, [], ◌∷◌, map, Some, ◌≢◌, true, false, bytes_eq}
+use Rattle.std.specs.Prelude.{◌≡◌, ℕ, List, [], ◌∷◌, map, Some}
 use Rattle.import_map_spec.proofs.Entries.{insert_again}
 use Rattle.import_map_spec.specs.ParsedMap.{Texts, Addresses, ParsedMap}
 use Rattle.import_map_spec.specs.WrittenMaps.{insert_all, scope_of}
@@ -41,12 +41,9 @@ layout_examples = record {
 count_examples : CountExamples
 count_examples = record { once = refl; clashing = refl }
 
-differs : (some other : List ℕ) → bytes_eq some other ≡ false → some ≢ other
-differs some other f e = let t : bytes_eq some other ≡ true = (bytes_eq-Decides some other).1 e in cc
-
 clash_examples : ClashExamples
 clash_examples = record {
-  two_targets = λ none. differs below_app.target beside.target refl (none below_app beside (contains_here below_app (beside ∷ [])) (contains_there beside below_app (beside ∷ []) (contains_here beside [])) refl refl);
+  two_targets = λ none. texts_differ below_app.target beside.target refl (none below_app beside (contains_here below_app (beside ∷ [])) (contains_there beside below_app (beside ∷ []) (contains_here beside [])) refl refl);
   none = no_clash_from_test (page_app ∷ app_home ∷ app_id ∷ home_id ∷ app_ab ∷ []) refl;
 }
 

@@ -1,8 +1,8 @@
 -- The worked examples of resolution.
+use Rattle.tree_spec.proofs.ByteLists.{texts_differ}
 use Rattle.std.proofs.Common.{refl, arith}
 use Rattle.std.proofs.lemmas.Bool.{and_parts, eqb-false, not-true}
 use Rattle.std.proofs.lemmas.List.Elements.{All-nil, All-cons}
-use Rattle.std.proofs.lemmas.Slice.Eq.{bytes_eq-Decides}
 use Rattle.std.proofs.lemmas.Str.{IsUtf8-from_is_utf8}
 use Rattle.std.specs.Char.{encode_utf8}
 use Rattle.std.specs.Prelude.{◌&&◌, ◌==◌, not, ℕ, Bool, true, List, [], ◌∷◌, ◌≡◌, ◌≢◌, All, false, bytes_eq, codes, ◌≤◌, length, ◌++◌, Some}
@@ -34,11 +34,8 @@ no_marks (b ∷ name) e =
     let rest = no_marks name parts.1 in
     (All-cons (λ x. x ≢ 47) b name (eqb-false b 47 (not-true _ first.0)) rest.0, All-cons (λ x. x ≢ 0) b name (eqb-false b 0 (not-true _ first.1)) rest.1)
 
-differs : (some other : List ℕ) → bytes_eq some other ≡ false → some ≢ other
-differs some other f e = let t : bytes_eq some other ≡ true = (bytes_eq-Decides some other).1 e in cc
-
 segment : (name : List ℕ) → has_no_mark name ≡ true → bytes_eq name [] ≡ false → bytes_eq name (codes ".") ≡ false → bytes_eq name (codes "..") ≡ false → IsSegment name
-segment name m e h u = let marks = no_marks name m in record { nonempty = differs _ _ e; no_slash = marks.0; no_nul = marks.1; not_here = differs _ _ h; not_up = differs _ _ u }
+segment name m e h u = let marks = no_marks name m in record { nonempty = texts_differ _ _ e; no_slash = marks.0; no_nul = marks.1; not_here = texts_differ _ _ h; not_up = texts_differ _ _ u }
 
 below_root : (name : List ℕ) → IsSegment name → HasDepth 1 (47 ∷ name)
 below_root name s = child 0 1 (codes "/") name (47 ∷ name) (root (codes "/") refl) s refl refl
