@@ -90,7 +90,8 @@ pub data MatchesScopes (scopes : Texts Addresses) (referrer : List ℕ) (url : O
       → MatchesScopes scopes referrer url text None
   in_scope :
       (key : List ℕ) (answer : Resolution) → AnswersInScope scopes referrer url text key answer
-      → ((other : List ℕ) (found : Resolution) → AnswersInScope scopes referrer url text other found → length other ≤ length key)
+      → ((other : List ℕ) (found : Resolution) → AnswersInScope scopes referrer url text other found
+        → length other ≤ length key)
       → MatchesScopes scopes referrer url text (Some answer)
 
 -- HTML, import maps, resolve a module specifier: the scopes, then the imports, then the URL that the specifier is

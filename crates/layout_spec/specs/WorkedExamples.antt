@@ -79,7 +79,11 @@ only_integrity = record { imports = []; scopes = []; integrity = pair "https://a
 
 abbrev pub several : Lists
 several =
-    record { imports = to_url "b" "https://app.test/b" ∷ to_null "a" ∷ []; scopes = scope "https://app.test/x/" (to_url "#<" "https://app.test/y" ∷ []) ∷ []; integrity = [] }
+    record {
+      imports = to_url "b" "https://app.test/b" ∷ to_null "a" ∷ [];
+      scopes = scope "https://app.test/x/" (to_url "#<" "https://app.test/y" ∷ []) ∷ [];
+      integrity = [];
+    }
 
 pub record TextExamples : Type 0 where
   pub no_scopes :
