@@ -21,7 +21,7 @@ use Rattle.ordered_json.specs.declared.value.Members as code_members
 use Rattle.ordered_json.specs.Lists.{values_of, pairs_of}
 use Rattle.ordered_json.proofs.ShownLemmas.{json_of_list, json_of_object, json_of_text}
 use Rattle.ordered_json.specs.Shown.{json_of, items_of, members_of}
-use Rattle.node_spec.proofs.PlacesInPackage.{places_in_package}
+use Rattle.node_spec.proofs.PlacesBeginWithDotSlash.{places_begin_with_dot_slash}
 use Rattle.node_spec.proofs.SomeOutcome.{found_text, found_items, found_members, undefined_from, text_found, sound_items, sound_members}
 use Rattle.condition_match.specs.Choosing.{Calls, Asks, IsLeft, Begins, Comes, AsksOne, Chooses, Tries}
 
@@ -128,7 +128,7 @@ module _ {B : Type 0} (gives : B → List ℕ → BareAnswer → B → Type 0) w
         calls = a.calls;
         resolves = a.is;
         under = λ answers agrees. record { asked = a.asked; agrees = agrees; resolves = a.is };
-        place = places_in_package rules target a.asked out a.is;
+        place = places_begin_with_dot_slash rules target a.asked out a.is;
       }
 
   module _ (fails : B → List ℕ → B → Type 0) where

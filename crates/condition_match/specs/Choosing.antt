@@ -10,7 +10,7 @@ use Rattle.node_spec.specs.declared.Outcome.TheVariants.{Undefined}
 use Rattle.json_spec.specs.Value.{Json}
 use Rattle.node_spec.specs.PackageTargets as targets
 use Rattle.node_spec.specs.PackageTargets.{Call, Answers, Agrees, bare_outcome, is_tried, ResolvesTarget, ResolvesUnder}
-use Rattle.node_spec.specs.Laws.{IsInPackage}
+use Rattle.node_spec.specs.Laws.{BeginsWithDotSlash}
 use Rattle.condition_match.specs.declared.choice.Rules.{Rules}
 
 -- the object after these calls, one after another
@@ -53,7 +53,7 @@ pub record Chooses {B : Type 0} (gives : B → List ℕ → BareAnswer → B →
   pub calls : Calls gives old asked new
   pub resolves : ResolvesTarget rules target asked out
   pub under : (answers : Answers) → Agrees answers asked → ResolvesUnder answers rules target out
-  pub place : IsInPackage out
+  pub place : BeginsWithDotSlash out
 
 abbrev pub judged_by : List (List ℕ) → Option (List ℕ) → Bool → targets.Rules
 judged_by conditions star imports = record { conditions = conditions; pattern_match = star; is_imports = imports }

@@ -2,7 +2,7 @@ pub mod OneAnswer
 pub mod SomeAnswer
 pub mod OneRecord
 pub mod OneOutcome
-pub mod PlacesInPackage
+pub mod PlacesBeginWithDotSlash
 pub mod SomeOutcome
 pub mod AnswersInTurn
 pub mod ConditionSets

@@ -1,6 +1,6 @@
 -- The laws of Node's side. Each is the contract of a function of this crate.
 --     NamesAreDistinctIn outcome      no object in `exports` and `imports` of the record holds a name twice
---     IsInPackage out      a place begins with `./`
+--     BeginsWithDotSlash out      a place begins with `./`
 --     under_conditions conditions rules      the same rules under other conditions
 --     IsSameSet conditions others      the same names stand in both lists
 --     PartStands asked base trailer      a part that isn't empty stands between the base and the trailer
@@ -71,15 +71,15 @@ OneUnder =
     → ResolvesUnder answers rules target other → some ≡ other
 
 -- a place begins with `./`
-abbrev pub IsInPackage : Outcome → Type 0
-IsInPackage Undefined = ⊤
-IsInPackage Null = ⊤
-IsInPackage (Place text) = begins text (codes "./") ≡ true
-IsInPackage Bare = ⊤
-IsInPackage Stopped = ⊤
-IsInPackage InvalidTarget = ⊤
-IsInPackage InvalidSpecifier = ⊤
-IsInPackage InvalidConfig = ⊤
+abbrev pub BeginsWithDotSlash : Outcome → Type 0
+BeginsWithDotSlash Undefined = ⊤
+BeginsWithDotSlash Null = ⊤
+BeginsWithDotSlash (Place text) = begins text (codes "./") ≡ true
+BeginsWithDotSlash Bare = ⊤
+BeginsWithDotSlash Stopped = ⊤
+BeginsWithDotSlash InvalidTarget = ⊤
+BeginsWithDotSlash InvalidSpecifier = ⊤
+BeginsWithDotSlash InvalidConfig = ⊤
 
 -- own law: the deciding call is the last one: no text is asked for behind one that was found or refused
 abbrev pub DecidingCallIsLast : Type 0
@@ -95,10 +95,10 @@ ExportsAskNothing =
     → (asked ≡ []) × (out ≢ Bare) × (out ≢ Stopped)
 
 -- own law: a target comes to no place but one that begins with `./`
-abbrev pub PlacesInPackage : Type 0
-PlacesInPackage =
+abbrev pub PlacesBeginWithDotSlash : Type 0
+PlacesBeginWithDotSlash =
     (rules : Rules) (target : Json) (asked : List Call) (out : Outcome) → ResolvesTarget rules target asked out
-    → IsInPackage out
+    → BeginsWithDotSlash out
 
 -- own law: whatever answers bare texts, each target comes to an outcome
 abbrev pub SomeOutcome : Type 0

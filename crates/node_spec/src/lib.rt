@@ -2,7 +2,7 @@
 //! comes to: definitions and their laws.
 #![tactic(auto)]
 
-ghost use Rattle.node_spec.specs.Laws.{AnswersDetermine, ConditionsAreASet, DecidingCallIsLast, ExportsAskNothing, KeysAreInOrder, OneAnswer, OneChoice, OneOutcome, OneRecord, OneUnder, PatternMatchIsSlice, PatternMatchStands, PlacesInPackage, RecordNamesAreDistinct, SomeAnswer, SomeChoice, SomeOutcome, SomeOutcomeInTurn, SomeRecord};
+ghost use Rattle.node_spec.specs.Laws.{AnswersDetermine, ConditionsAreASet, DecidingCallIsLast, ExportsAskNothing, KeysAreInOrder, OneAnswer, OneChoice, OneOutcome, OneRecord, OneUnder, PatternMatchIsSlice, PatternMatchStands, PlacesBeginWithDotSlash, RecordNamesAreDistinct, SomeAnswer, SomeChoice, SomeOutcome, SomeOutcomeInTurn, SomeRecord};
 ghost use Rattle.node_spec.specs.WorkedExamples.{WorkedExamples};
 ghost use Rattle.node_spec.specs.PatternExamples.{PatternExamples};
 ghost use Rattle.node_spec.specs.RecordExamples.{RecordExamples};
@@ -134,9 +134,9 @@ pub fn exports_ask_nothing()
 {}
 
 /// A target comes to no place but one that begins with `./`.
-#[tactic(auto, using(crate::proofs::PlacesInPackage::places_in_package))]
-pub fn places_in_package()
-    ensures { PlacesInPackage }
+#[tactic(auto, using(crate::proofs::PlacesBeginWithDotSlash::places_begin_with_dot_slash))]
+pub fn places_begin_with_dot_slash()
+    ensures { PlacesBeginWithDotSlash }
 {}
 
 /// Where every bare text has an answer, each target comes to an outcome.

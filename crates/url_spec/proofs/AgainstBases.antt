@@ -1,51 +1,29 @@
 -- The text of a URL, parsed against a base, is that URL.
-use Rattle.std.proofs.Common.{◌≡◌, ℕ, true, List, Bool, false, cond, refl, subst, take, ◌==◌, drop, None, [], sym, ◌∙◌, Option, not, ◌&&◌, ◌||◌, ◌++◌, ap, append_assoc, ◌≤◌, ◌+◌, ◌∷◌, length, arith, reverse, ◌-◌, All, ◌≢◌, Some}
+use Rattle.std.proofs.Common.{◌≡◌, ℕ, true, List, refl, take, ◌==◌, drop, None, [], sym, ◌∙◌, subst, Bool, false, cond, Option, not, ◌&&◌, ◌||◌, ◌++◌, ap, append_assoc, ◌≤◌, ◌∷◌, length, arith, reverse, ◌+◌, ◌-◌, All, ◌≢◌, Some}
 use Rattle.std.proofs.Math.Seq.{take-append-add}
-use Rattle.std.proofs.lemmas.Bool.{true≢false, cond-true, cond_both, cond-false, ne_eqb, and_parts, ltb-true}
+use Rattle.std.proofs.lemmas.Bool.{true≢false, cond-true, cond-false, ne_eqb, and_parts, ltb-true, cond_both}
 use Rattle.std.proofs.lemmas.Bool.Decides.{nat_tests}
 use Rattle.std.proofs.lemmas.List.{reverse-append, length-reverse, length-append}
 use Rattle.std.proofs.lemmas.List.Elements.{filter-append, All-head, All-tail, All-nil, All-cons, All-append, All-weaker}
 use Rattle.std.proofs.lemmas.Slice.Eq.{bytes_eq-Decides}
 use Rattle.std.specs.List.{concat, prefix_len, suffix_len}
-use Rattle.std.specs.Prelude.{is_some, Ok, Err, codes, unwrap_or, filter, nat_lt, slice_index, bytes_eq}
+use Rattle.std.specs.Prelude.{is_some, codes, unwrap_or, filter, nat_lt, slice_index, Ok, bytes_eq}
 use Rattle.url.proofs.InputLemmas.{filter_all, IsNot, Passes}
 use Rattle.url.proofs.RoundTrip.{split_own_scheme}
 use Rattle.url.proofs.SchemeLemmas.{file_from_scheme_type, file_from_is_file, scheme_bytes, scheme_at_front}
 use Rattle.url.specs.Host.{parse_file_host, parse_host}
 use Rattle.url.specs.Input.{rsplit_once, trim_start, trim_end, trim_c0_control_and_space, is_c0_control_or_space, strip_tabs_and_new_lines, is_tab_or_new_line, split_once, lowercase}
-use Rattle.url.specs.Parser.{Parsed, and_then, after_file_double_slash, parse_file, leading_slashes, parse_authority, split_port, lacks_host, parse_port, after_double_slash, parse_not_file, skip_slashes, parse_body, with_tail, parse_parts, with_path, split_scheme, parse_relative, before_tail, parse_by_scheme, parse_url}
+use Rattle.url.specs.Parser.{after_file_double_slash, parse_file, leading_slashes, parse_authority, split_port, lacks_host, parse_port, after_double_slash, parse_not_file, skip_slashes, parse_body, with_tail, parse_parts, with_path, split_scheme, parse_relative, and_then, before_tail, parse_by_scheme, parse_url}
 use Rattle.url.specs.Parts.{Parts, kind_of, pieces}
 use Rattle.url.specs.Path.{segment_len, is_windows_drive_letter, escape_end}
 use Rattle.url.specs.Scheme.{scheme_type, is_special, is_file, is_scheme_byte, IsScheme, scheme_len}
 use Rattle.url.specs.declared.scheme.SchemeType.TheVariants.{File}
+use Rattle.url_spec.proofs.ParserParts.{Gives, either, any_gives, and_gives, prefix_stops, cond_some, gives_at, url_parsed}
 use Rattle.url_spec.specs.Laws.{SameAgainst}
-use Rattle.url_spec.specs.Parsing.{text_of, url_text, is_own_text, kept, parse_alone, IsUrl, parse_onto, parse_against}
+use Rattle.url_spec.specs.Parsing.{text_of, url_text, kept, parse_alone, parse_onto, parse_against}
 
 abbrev Has : List ℕ → Parts → Type 0
 Has scheme url = (url.scheme ≡ scheme) × (is_some url.host ≡ true)
-
-abbrev OnParsed : {A : Type 0} → (A → Type 0) → Parsed A → Type 0
-OnParsed P (Ok x) = P x
-OnParsed P (Err e) = Unit {0}
-
--- what is parsed has this property
-record Gives {A : Type 0} (P : A → Type 0) (r : Parsed A) : Type 0 where
-  holds : OnParsed P r
-
-either : {A : Type 0} {P : A → Type 0} {r s : Parsed A} (test : Bool) → (test ≡ true → Gives P r) → (test ≡ false → Gives P s) → Gives P (cond test r s)
-either true then_case else_case = then_case refl
-either false then_case else_case = else_case refl
-
-and_gives : {A B : Type 0} {P : A → Type 0} {Q : B → Type 0} {next : A → Parsed B} (r : Parsed A) → Gives P r → ((x : A) → P x → Gives Q (next x)) → Gives Q (and_then r next)
-and_gives (Ok x) h k = k x h.holds
-and_gives (Err e) h k = record { holds = tt }
-
-any_gives : {A B : Type 0} {Q : B → Type 0} {next : A → Parsed B} (r : Parsed A) → ((x : A) → Gives Q (next x)) → Gives Q (and_then r next)
-any_gives (Ok x) k = k x
-any_gives (Err e) k = record { holds = tt }
-
-gives_at : {A : Type 0} {P : A → Type 0} (r : Parsed A) (x : A) → Gives P r → r ≡ Ok x → P x
-gives_at {P = P} r x h e = (subst (Gives P) e h).holds
 
 has_file_slashes : (bytes : List ℕ) → Gives (Has (codes "file")) (after_file_double_slash bytes)
 unfolding after_file_double_slash
@@ -102,14 +80,6 @@ unfolding text_of
 has_text scheme url h =
     let pieces_after = drop 2 (pieces url) in
     record { rest = concat pieces_after; split = ap (λ colon. url.scheme ++ (colon ++ concat pieces_after)) (cond-true (is_some url.host) (codes "://") (codes ":") h.1) ∙ ap (λ s. s ++ (codes "://" ++ concat pieces_after)) h.0 ∙ sym (append_assoc scheme (codes "://") (concat pieces_after)) }
-
--- ---- what the parser takes off first leaves the head
-
-prefix_stops : (test : ℕ → Bool) (front rest : List ℕ) (c : ℕ) → test c ≡ false → prefix_len test (front ++ c ∷ rest) ≤ length front
-prefix_stops test [] rest c stops = rw stops (omega arith)
-prefix_stops test (x ∷ front) rest c stops =
-    let more = prefix_stops test front rest c stops in
-    cond_both (test x) (1 + prefix_len test (front ++ c ∷ rest)) 0 (λ n. n ≤ length (x ∷ front)) (λ _. omega (arith, more)) (λ _. omega arith)
 
 suffix_stops : (test : ℕ → Bool) (front rest : List ℕ) (c : ℕ) → test c ≡ false → suffix_len test ((front ++ c ∷ []) ++ rest) ≤ length rest
 suffix_stops test front rest c stops =
@@ -191,10 +161,6 @@ head_before scheme text is s =
 own_split : (scheme text : List ℕ) → IsScheme scheme → (s : Spells (head_of scheme) text) → split_scheme text ≡ Some (scheme, 47 ∷ 47 ∷ s.rest)
 own_split scheme text is s = ap split_scheme (s.split ∙ append_assoc scheme (codes "://") s.rest) ∙ split_own_scheme scheme (47 ∷ 47 ∷ s.rest) is
 
-cond_some : {A : Type 0} (test : Bool) (x y : A) → cond {A = Option A} test (Some x) None ≡ Some y → (test ≡ true) × (x ≡ y)
-cond_some true x y e = (refl, cc)
-cond_some false x y e = cc
-
 is_front : (text : List ℕ) (split : List ℕ × List ℕ) → split_scheme text ≡ Some split → IsScheme (lowercase split.0)
 unfolding split_scheme
 is_front text split e =
@@ -252,19 +218,6 @@ same_against base url text parsed e =
     let hash = split_once 35 (strip_tabs_and_new_lines (trim_c0_control_and_space text)) in
     let question = split_once 63 hash.0 in
     same_by_scheme (split_scheme question.0) base question.1 hash.1 url text refl parsed e
-
-pub record IsParsed (text : List ℕ) (r : Parsed Parts) : Type 0 where
-  pub url : Parts
-  pub parsed : r ≡ Ok url
-  pub own : text_of url ≡ text
-
-kept_parsed : (text : List ℕ) (r : Parsed Parts) → kept (url_text r) ≡ Some text → IsParsed text r
-kept_parsed text (Ok url) e = record { url = url; parsed = refl; own = (cond_some (is_own_text (text_of url)) (text_of url) text e).1 }
-kept_parsed text (Err fault) e = absurd (cc)
-
-pub url_parsed : (text : List ℕ) → IsUrl text → IsParsed text (parse_url None text)
-unfolding parse_alone
-url_parsed text is = kept_parsed text (parse_url None text) is
 
 pub urls_against : SameAgainst
 unfolding parse_against parse_alone

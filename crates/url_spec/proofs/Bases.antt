@@ -6,7 +6,7 @@ use Rattle.url_spec.specs.Bases.{is_web_folder, folder_url, base_of}
 use Rattle.url_spec.specs.Laws.{BasesStay}
 use Rattle.url_spec.specs.Parsing.{parts_of, parse_alone}
 
-folder_kept : (found : Option (List ℕ)) (base : List ℕ) → folder_url found ≡ Some base → (found ≡ Some base) × (is_web_folder (parts_of base) ≡ true)
+pub folder_kept : (found : Option (List ℕ)) (base : List ℕ) → folder_url found ≡ Some base → (found ≡ Some base) × (is_web_folder (parts_of base) ≡ true)
 folder_kept None base e = absurd (cc)
 folder_kept (Some url) base e =
     ⊎_elim

@@ -28,7 +28,7 @@ use Rattle.url_spec.specs.Suffixes.{is_suffix_mark, before_suffix}
 use Rattle.url_spec.specs.WebNames.{is_plain, escaped}
 
 -- a base under which a URL is served has none
-served_base : (mark : ℕ) (base url path : List ℕ) → not (is_suffix_mark mark) ≡ false → IsServed base url path → All (IsNot mark) base
+pub served_base : (mark : ℕ) (base url path : List ℕ) → not (is_suffix_mark mark) ≡ false → IsServed base url path → All (IsNot mark) base
 served_base mark base url path is_mark served =
     let front : All (Passes (λ b. not (is_suffix_mark b))) (before_suffix url) = All-take-prefix_len (λ b. not (is_suffix_mark b)) url in
     let both : All (Passes (λ b. not (is_suffix_mark b))) (base ++ served.rest) = subst (All (Passes (λ b. not (is_suffix_mark b)))) served.below front in

@@ -3,6 +3,7 @@ pub mod NoUrls
 pub mod OwnUrls
 pub mod Bases
 pub mod OnePlace
+pub mod ParserParts
 pub mod AgainstBases
 pub mod FileUrls
 pub mod OwnTexts
