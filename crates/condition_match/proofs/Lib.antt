@@ -5,3 +5,4 @@ pub mod Replacing
 pub mod Sizes
 pub mod ConditionLemmas
 pub mod AskLemmas
+pub mod KeptCalls

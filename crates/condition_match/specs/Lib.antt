@@ -1,3 +1,4 @@
 pub mod Conditions
 pub mod Segments
 pub mod Choosing
+pub mod CallLaws

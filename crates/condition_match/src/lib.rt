@@ -7,6 +7,7 @@ mod bare_target;
 mod choice;
 mod conditions;
 mod cuts;
+mod laws;
 mod segments;
 mod strings;
 #[cfg(test)]
@@ -15,4 +16,5 @@ mod tests;
 pub use bare_target::BareTarget;
 pub use choice::choose;
 pub use conditions::{Conditions, ConditionsFault};
+pub use laws::calls_keep;
 pub use node_spec::{BareAnswer, Outcome};
