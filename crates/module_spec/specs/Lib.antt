@@ -4,5 +4,11 @@ pub mod Spellings
 pub mod Sorts
 pub mod Tokens
 pub mod Spans
+pub mod Brackets
+pub mod Places
+pub mod Forms
+pub mod Declarations
+pub mod StringValues
+pub mod Outlines
 pub mod Examples
 pub mod Laws

@@ -5,8 +5,10 @@
 ghost use Rattle.module_spec.specs.Examples.{TokenExamples, WorkedExamples};
 ghost use Rattle.module_spec.specs.Laws.{OneReading, OneTokens, OneReach, TokensStand};
 
+mod request;
 mod token;
 
+pub use request::{ModuleFault, Request};
 pub use token::{Bracket, Kind, LexFault, LexKind, Mark, Sort, Token, Word};
 
 /// A text is read in one way at most.
