@@ -3,4 +3,5 @@ pub mod Suffixes
 pub mod Tails
 pub mod TokenLaws
 pub mod SpanLemmas
+pub mod BracketLaws
 pub mod examples

@@ -19,23 +19,23 @@ use Rattle.module_spec.specs.Tokens.ReadsTokens.{all, fault}
 
 -- ---- the tokens that opened the brackets which are open, the innermost one first, each with the tokens before it
 
-abbrev pushed : Option Bracket → List Lexeme → List (List Lexeme) → List (List Lexeme)
+abbrev pub pushed : Option Bracket → List Lexeme → List (List Lexeme) → List (List Lexeme)
 pushed None at stack = stack
 pushed (Some k) at stack = at ∷ stack
 
-abbrev behind_top : List (List Lexeme) → List (List Lexeme)
+abbrev pub behind_top : List (List Lexeme) → List (List Lexeme)
 behind_top [] = []
 behind_top (x ∷ stack) = stack
 
-abbrev popped : Option Bracket → List (List Lexeme) → List (List Lexeme)
+abbrev pub popped : Option Bracket → List (List Lexeme) → List (List Lexeme)
 popped None stack = stack
 popped (Some k) stack = behind_top stack
 
-abbrev open_brackets : List Lexeme → List (List Lexeme)
+abbrev pub open_brackets : List Lexeme → List (List Lexeme)
 open_brackets [] = []
 open_brackets (t ∷ before) = pushed (opens t.sort) (t ∷ before) (popped (closes t.sort) (open_brackets before))
 
-abbrev top_of : List (List Lexeme) → List Lexeme
+abbrev pub top_of : List (List Lexeme) → List Lexeme
 top_of [] = []
 top_of (x ∷ stack) = x
 
@@ -66,7 +66,7 @@ mutual
   outside_brackets o inner outer (later {p} {k} {before} e b is_opened out) =
       popped_some _ k _ e ∙ (ap behind_top (balanced_brackets inner (p ∷ before) b ∙ at_opener p _ before is_opened) ∙ outside_brackets p before outer out)
 
-innermost_top : (before at : List Lexeme) → Innermost before at → top_of (open_brackets before) ≡ at
+pub innermost_top : (before at : List Lexeme) → Innermost before at → top_of (open_brackets before) ≡ at
 innermost_top before at (none b) = ap top_of (balanced_brackets before [] b)
 innermost_top before at (bracket {o} {k} {at = outer} b e) = ap top_of (balanced_brackets before (o ∷ outer) b ∙ at_opener o k outer e)
 
