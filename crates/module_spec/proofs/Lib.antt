@@ -4,4 +4,6 @@ pub mod Tails
 pub mod TokenLaws
 pub mod SpanLemmas
 pub mod BracketLaws
+pub mod Terminals
+pub mod FormLaws
 pub mod examples

@@ -3,7 +3,8 @@
 --     ImportDeclaration tokens      what stands behind `import`, up to its module specifier
 --     ExportFrom tokens      what stands behind `export`, up to its module specifier
 --     ExportAlone tokens      what stands behind an `export` that asks for nothing
---     Begins Production tokens count      the tokens begin with one of these, in which so many stand before the last one
+--     Begins Production tokens      the tokens begin with one of these
+--     Asks Production tokens count      the same, and so many of its tokens stand before the last one, which is the module specifier
 use Rattle.std.specs.Prelude.{◌≡◌, ◌≢◌, ℕ, suc, true, ◌||◌, List, [], ◌∷◌, ◌++◌, codes, length}
 use Rattle.module_spec.specs.Places.{Placed, is_name, is_text, is_word, is_mark}
 use Rattle.module_spec.specs.Forms.{is_exported}
@@ -37,9 +38,9 @@ pub data ImportDeclaration : List Placed → Type 0 where
   bindings : {clause from : List Placed} → ImportClause clause → FromClause from → ImportDeclaration (clause ++ from)
 
 pub data ExportFromClause : List Placed → Type 0 where
-  all : {s : Placed} → is_mark s (codes "*") ≡ true → ExportFromClause (s ∷ [])
-  all_as : {s a x : Placed} → is_mark s (codes "*") ≡ true → is_word a (codes "as") ≡ true → (is_name x || is_text x) ≡ true → ExportFromClause (s ∷ a ∷ x ∷ [])
-  named : {tokens : List Placed} → Braces tokens → ExportFromClause tokens
+  star : {s : Placed} → is_mark s (codes "*") ≡ true → ExportFromClause (s ∷ [])
+  star_as_name : {s a x : Placed} → is_mark s (codes "*") ≡ true → is_word a (codes "as") ≡ true → (is_name x || is_text x) ≡ true → ExportFromClause (s ∷ a ∷ x ∷ [])
+  names : {tokens : List Placed} → Braces tokens → ExportFromClause tokens
 
 -- an ExportDeclaration with a module specifier
 pub data ExportFrom : List Placed → Type 0 where
@@ -47,10 +48,16 @@ pub data ExportFrom : List Placed → Type 0 where
 
 -- own: the other ExportDeclarations, by NamedExports or by their first word
 pub data ExportAlone : List Placed → Type 0 where
-  named : {tokens : List Placed} → Braces tokens → ExportAlone tokens
-  exported : {x : Placed} → is_exported x ≡ true → ExportAlone (x ∷ [])
+  names_alone : {tokens : List Placed} → Braces tokens → ExportAlone tokens
+  first_word : {x : Placed} → is_exported x ≡ true → ExportAlone (x ∷ [])
 
-pub record Begins (Production : List Placed → Type 0) (tokens : List Placed) (count : ℕ) : Type 0 where
+pub record Begins (Production : List Placed → Type 0) (tokens : List Placed) : Type 0 where
+  pub front : List Placed
+  pub rest : List Placed
+  pub split : tokens ≡ front ++ rest
+  pub produced : Production front
+
+pub record Asks (Production : List Placed → Type 0) (tokens : List Placed) (count : ℕ) : Type 0 where
   pub front : List Placed
   pub rest : List Placed
   pub split : tokens ≡ front ++ rest

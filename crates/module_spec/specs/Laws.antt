@@ -13,7 +13,7 @@ use Rattle.module_spec.specs.Brackets.{openers, closers, ArePartners, StaysOpen}
 use Rattle.module_spec.specs.Places.{Placed}
 use Rattle.module_spec.specs.Forms.{import_declaration, export_declaration}
 use Rattle.module_spec.specs.Forms.Form.{wrong, alone, asks}
-use Rattle.module_spec.specs.Declarations.{ImportDeclaration, ExportFrom, ExportAlone, Begins}
+use Rattle.module_spec.specs.Declarations.{ImportDeclaration, ExportFrom, ExportAlone, Begins, Asks}
 use Rattle.module_spec.specs.Outlines.{Outline, ReadsOutline}
 
 -- a text of the plain form asks for one list of specifiers
@@ -50,14 +50,14 @@ CurlyPartners = (text : List ℕ) (t o : Lexeme) (between inner : List Lexeme) (
 
 -- the forms behind `import` are exactly the productions
 pub record ImportForms (tokens : List Placed) : Type 0 where
-  pub asking : (count : ℕ) → (import_declaration tokens ≡ asks count) ↔ Begins ImportDeclaration tokens count
-  pub refused : (import_declaration tokens ≡ wrong) ↔ ((count : ℕ) → Begins ImportDeclaration tokens count → ⊥)
+  pub asking : (count : ℕ) → (import_declaration tokens ≡ asks count) ↔ Asks ImportDeclaration tokens count
+  pub refused : (import_declaration tokens ≡ wrong) ↔ ((count : ℕ) → Asks ImportDeclaration tokens count → ⊥)
 
--- and so are those behind `export`: the one with a module specifier where the tokens go on with it
+-- and so are those behind `export`; where the tokens go on with a module specifier, it is a part of the form
 pub record ExportForms (tokens : List Placed) : Type 0 where
-  pub asking : (count : ℕ) → (export_declaration tokens ≡ asks count) ↔ Begins ExportFrom tokens count
-  pub lone : (export_declaration tokens ≡ alone) ↔ (((count : ℕ) × Begins ExportAlone tokens count) × ((count : ℕ) → Begins ExportFrom tokens count → ⊥))
-  pub refused : (export_declaration tokens ≡ wrong) ↔ (((count : ℕ) → Begins ExportAlone tokens count → ⊥) × ((count : ℕ) → Begins ExportFrom tokens count → ⊥))
+  pub asking : (count : ℕ) → (export_declaration tokens ≡ asks count) ↔ Asks ExportFrom tokens count
+  pub lone : (export_declaration tokens ≡ alone) ↔ (Begins ExportAlone tokens × ((count : ℕ) → Asks ExportFrom tokens count → ⊥))
+  pub refused : (export_declaration tokens ≡ wrong) ↔ ((Begins ExportAlone tokens → ⊥) × ((count : ℕ) → Asks ExportFrom tokens count → ⊥))
 
 abbrev pub FormsAreProductions : Type 0
 FormsAreProductions = (tokens : List Placed) → ImportForms tokens × ExportForms tokens
