@@ -335,7 +335,7 @@ alone_gives (names_alone {tokens} b) rest e = behind_no_wrong (length tokens) (n
 alone_gives (first_word {x} p) rest e =
     let name = exported_is_name x p in
     let f = no (is_mark x (codes "*")) (further (export_all rest)) (export_curly x rest) (name_no_mark x (codes "*") name)
-        ∙ (no (is_mark x (codes "{")) (braces named_exports (x ∷ rest)) (by_word x rest) (name_no_mark x (codes "{") name) ∙ yes (is_exported x) alone wrong p) in
+    ∙ (no (is_mark x (codes "{")) (braces named_exports (x ∷ rest)) (by_word x rest) (name_no_mark x (codes "{") name) ∙ yes (is_exported x) alone wrong p) in
     let g : alone ≡ wrong = sym f ∙ e in cc
 
 alone_complete : (tokens : List Placed) → Begins ExportAlone tokens → export_declaration tokens ≢ wrong

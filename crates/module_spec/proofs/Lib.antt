@@ -6,4 +6,5 @@ pub mod SpanLemmas
 pub mod BracketLaws
 pub mod Terminals
 pub mod FormLaws
+pub mod OutlineLaws
 pub mod examples
