@@ -3,11 +3,12 @@
 --                               surrogate that is no half of a pair
 --     escape characters      what the `\` before these characters begins, and how many of them belong to it
 -- Characters are told by their numbers.
+use lib.Utf8.{scalar}
 use Rattle.std.specs.Prelude.{ℕ, zero, suc, ◌+◌, ◌-◌, ◌*◌, Bool, false, not, ◌&&◌, ◌||◌, ◌==◌, nat_le, nat_lt, List, [], ◌∷◌, if◌then◌else◌, Option, Some, None, option_map, slice_index, take, drop, length}
 use Rattle.std.specs.Str.{chars, encode_utf8_all}
 use Rattle.module_spec.specs.Characters.{is_digit, begins_digit, is_hex_digit, hex_digits, is_wide_line_end}
 
--- what a character or an escape adds: a code unit or a character that needs two of them; nothing; or the literal is wrong
+-- what a character or an escape adds: a code unit, or a character that needs two of them; nothing; or the literal is wrong
 pub data Element : Type 0 where
   unit : ℕ → Element
   nothing : Element
@@ -25,25 +26,25 @@ hex_number so_far zero characters = Some so_far
 hex_number so_far (suc count) [] = None
 hex_number so_far (suc count) (c ∷ rest) = if is_hex_digit c then hex_number (so_far * 16 + hex_value c) count rest else None
 
--- the number is a character's or a surrogate's
-abbrev pub code_point : ℕ → Option ℕ → ℕ × Element
-code_point size None = (0, wrong)
-code_point size (Some code) = if nat_le code 1114111 then (size, unit code) else (0, wrong)
+-- an escape of so many characters behind its `\`, where its digits write a number
+abbrev pub escape_of : ℕ → Option ℕ → ℕ × Element
+escape_of size None = (0, wrong)
+escape_of size (Some code) = (size, unit code)
 
 -- own: of CodePoint, one to six digits
 abbrev pub braced_escape : List ℕ → ℕ × Element
 braced_escape rest =
     let digits = hex_digits rest in
-    if nat_le 1 digits && nat_le digits 6 && slice_index rest digits == 125 then code_point (digits + 3) (hex_number 0 digits rest) else (0, wrong)
+    if nat_le 1 digits && nat_le digits 6 && slice_index rest digits == 125 then escape_of (digits + 3) (hex_number 0 digits rest) else (0, wrong)
 
 -- UnicodeEscapeSequence, behind its `u`
 abbrev pub unicode_escape : List ℕ → ℕ × Element
 unicode_escape [] = (0, wrong)
-unicode_escape (c ∷ rest) = if c == 123 then braced_escape rest else code_point 5 (hex_number 0 4 (c ∷ rest))
+unicode_escape (c ∷ rest) = if c == 123 then braced_escape rest else escape_of 5 (hex_number 0 4 (c ∷ rest))
 
 -- HexEscapeSequence, behind its `x`
 abbrev pub hex_escape : List ℕ → ℕ × Element
-hex_escape rest = code_point 3 (hex_number 0 2 rest)
+hex_escape rest = escape_of 3 (hex_number 0 2 rest)
 
 -- SingleEscapeCharacter and NonEscapeCharacter
 abbrev pub escaped_character : ℕ → ℕ
@@ -96,7 +97,8 @@ abbrev pub behind_character : ℕ → Option (List ℕ) → Option (List ℕ)
 behind_character c None = None
 behind_character c (Some rest) = Some (c ∷ rest)
 
--- the characters that the elements come to, behind a high surrogate that waits for the low one; own: none where one is alone
+-- the characters that the elements come to, behind a high surrogate that waits for the low one. Own: none where a surrogate is alone, or
+-- where a number is above that of every character
 abbrev pub code_points : Option ℕ → List Element → Option (List ℕ)
 code_points None [] = Some []
 code_points (Some high) [] = None
@@ -106,8 +108,8 @@ code_points None (wrong ∷ rest) = None
 code_points (Some high) (wrong ∷ rest) = None
 code_points None (unit c ∷ rest) =
     if is_high_surrogate c then code_points (Some c) rest
-    else if is_low_surrogate c then None
-    else behind_character c (code_points None rest)
+    else if scalar c then behind_character c (code_points None rest)
+    else None
 code_points (Some high) (unit c ∷ rest) = if is_low_surrogate c then behind_character (surrogate_pair high c) (code_points None rest) else None
 
 -- what stands between the first character and the last one
