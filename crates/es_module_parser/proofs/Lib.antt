@@ -1,1 +1,5 @@
-pub mod LiteralLemmas
+mod LiteralLemmas
+mod FormSteps
+mod DeclaringSteps
+mod TokensRead
+mod SomeOutline

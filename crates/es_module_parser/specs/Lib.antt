@@ -1,4 +1,5 @@
 pub mod Faults
+pub mod Outlines
 pub mod Progress
 pub mod Declaring
 pub mod Literals

@@ -1,4 +1,4 @@
-ghost use Rattle.std.specs.Prelude.{◌≡◌};
+ghost use Rattle.std.specs.Prelude.{◌≡◌, ◌||◌};
 ghost use Rattle.es_module_parser.specs.Declaring.{expression_begins, shows, declares_now, after_dot, after_token, declares_at_end};
 
 use crate::expect::Seen;
@@ -49,11 +49,13 @@ impl After {
         }
     }
 
-    /// Whether this token shows that the text is a module's: by a declaration, or by `import.meta`.
-    pub fn declares(self, seen: Seen, text: &[u8]) -> bool
-        ensures { result ≡ declares_now self seen text.now }
+    /// Whether the text is a module's, by the tokens before or by this one: by a declaration, or by `import.meta`.
+    pub fn declares(self, before: bool, seen: Seen, text: &[u8]) -> bool
+        ensures { result ≡ (before || declares_now self seen text.now) }
     {
-        self.shows(seen, text) || seen.top && is_word(seen.kind, text, b"export".as_slice())
+        before
+            || (self.shows(seen, text)
+                || seen.top && is_word(seen.kind, text, b"export".as_slice()))
     }
 
     /// What the last tokens are behind this one.
@@ -67,14 +69,14 @@ impl After {
         }
     }
 
-    /// The same where the text ends.
-    pub fn declares_at_end(self) -> bool
-        ensures { result ≡ declares_at_end self }
+    /// Whether the text is a module's where it ends here.
+    pub fn declares_at_end(self, before: bool) -> bool
+        ensures { result ≡ (before || declares_at_end self) }
     {
         match self {
-            After::Other => false,
-            After::Import(top) => top,
-            After::Dot => false,
+            After::Other => before || false,
+            After::Import(top) => before || top,
+            After::Dot => before || false,
         }
     }
 }

@@ -212,13 +212,21 @@ impl Expect {
             Expect::SecondBinding => second_turn(seen, text),
             Expect::NameSpaceImport => name_space_turn(seen, text),
             Expect::ImportedBinding => binding_turn(seen),
-            Expect::ImportBraces => in_braces(seen.behind, Expect::FromClause, Expect::ImportBraces),
+            Expect::ImportBraces => in_braces(
+                seen.behind,
+                Expect::FromClause,
+                Expect::ImportBraces,
+            ),
             Expect::FromClause => from_turn(seen, text),
             Expect::ModuleSpecifier => specifier_turn(seen, Turn::Wrong),
             Expect::ExportDeclaration => export_turn(seen, text),
             Expect::ExportAll => all_turn(seen, text),
             Expect::ModuleExportName => export_name_turn(seen),
-            Expect::ExportBraces => in_braces(seen.behind, Expect::NamedExports, Expect::ExportBraces),
+            Expect::ExportBraces => in_braces(
+                seen.behind,
+                Expect::NamedExports,
+                Expect::ExportBraces,
+            ),
             Expect::NamedExports => named_turn(seen, text),
             Expect::NamedSpecifier => specifier_turn(seen, Turn::Leave),
         }

@@ -2,6 +2,8 @@
 //! export declarations, in their order, or the text's first fault. It keeps no list of tokens and goes to no depth.
 #![tactic(auto)]
 
+ghost use Rattle.es_module_parser.specs.Laws.{SomeOutline};
+
 mod declaring;
 mod expect;
 mod fault;
@@ -13,4 +15,10 @@ mod terminals;
 
 pub use fault::OutlineFault;
 pub use module_spec::Request;
-pub use requests::Requests;
+pub use reading::outline;
+pub use requests::{Outline, Requests};
+
+/// Each text has an outline or a first fault.
+pub fn some_outline()
+    ensures { SomeOutline }
+{}

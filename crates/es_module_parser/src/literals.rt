@@ -171,13 +171,7 @@ fn behind_return(text: &str) -> &str
 {
     match cut_first(text) {
         None => text,
-        Some((first, rest)) => {
-            if first == '\n' {
-                rest
-            } else {
-                text
-            }
-        }
+        Some((first, rest)) => { if first == '\n' { rest } else { text } }
     }
 }
 

@@ -20,6 +20,14 @@ impl Model for Requests {
     ghost view = { λ r. r.items };
 }
 
+/// What a module text asks for, and whether it is a module's: whether it has an import or export declaration, or
+/// `import.meta`.
+#[derive(Drop)]
+pub struct Outline {
+    pub requests: Requests,
+    pub declares: bool,
+}
+
 fn copy_of(request: &Request, alloc: Global) -> Result<Request, Memory>
     ensures { IfOk result (λ copy. copy ≡ request.now) }
 {
