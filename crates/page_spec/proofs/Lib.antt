@@ -1,0 +1,13 @@
+pub mod Markup
+pub mod Joins
+pub mod Shapes
+pub mod Cover
+pub mod Existence
+pub mod Characters
+pub mod Steps
+pub mod Clean
+pub mod Maps
+pub mod Putting
+pub mod PiecesAfter
+pub mod CleanAfter
+pub mod Injections
