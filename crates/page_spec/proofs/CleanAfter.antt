@@ -1,15 +1,13 @@
 -- Pieces among which a map was put have no fault, and one import map element.
-use Rattle.std.specs.Prelude.{◌&&◌, ◌||◌, codes, is_some, drop}
-use Rattle.std.proofs.Common.{◌≡◌, ℕ, ◌+◌, List, [], ◌∷◌, ◌++◌, All, Bool, true, false, ◌==◌, Option, Some, None, if◌then◌else◌, refl, sym, ◌∙◌, ap, subst}
+use Rattle.std.specs.Prelude.{◌&&◌, ◌||◌, codes, is_some}
+use Rattle.std.proofs.Common.{◌≡◌, ℕ, ◌+◌, List, [], ◌∷◌, All, Bool, true, false, ◌==◌, Some, None, if◌then◌else◌, refl, sym, ◌∙◌, ap, subst}
 use Rattle.std.proofs.lemmas.List.Elements.{All-head, All-tail}
-use Rattle.page_spec.specs.declared.kinds.PieceKind.{PieceKind}
-use Rattle.page_spec.specs.declared.kinds.PieceKind.TheVariants.{Text, Comment, Start, End, Raw, Broken}
+use Rattle.page_spec.specs.declared.kinds.PieceKind.TheVariants.{Text, Start, End, Raw}
 use Rattle.page_spec.specs.Pieces.{Part, part}
 use Rattle.page_spec.specs.Attributes.{attribute}
-use Rattle.page_spec.specs.ImportMaps.{is_script, is_raw, is_map_start, raw_behind, map_of, begins_map, with_map, import_maps}
+use Rattle.page_spec.specs.ImportMaps.{is_raw, is_map_start, raw_behind, map_of, begins_map, with_map, import_maps}
 use Rattle.page_spec.specs.Faults.{begins_with, comment_at}
-use Rattle.page_spec.specs.Injection.{is_place, start_tag, end_tag}
-use Rattle.page_spec.specs.Laws.{map_element}
+use Rattle.page_spec.specs.Injection.{start_tag, end_tag}
 use Rattle.page_spec.proofs.Clean.{Clean, Fine, fine_moved, fine_seen}
 use Rattle.page_spec.proofs.Clean.Clean.{no_more, fine}
 use Rattle.page_spec.proofs.Maps.{NoMaps, no_import_maps, none_after, begun, begins_alike, no_start, raw_is_no_start}

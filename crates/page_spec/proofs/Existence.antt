@@ -4,8 +4,8 @@ use Rattle.std.proofs.lemmas.List.{length-append}
 use Rattle.page_spec.specs.declared.kinds.RawElement.{RawElement}
 use Rattle.page_spec.specs.Pieces.{Front, first_piece, raw_element, tag_name, Part, part, Pieces}
 use Rattle.page_spec.specs.Pieces.Pieces.{none, piece}
-use Rattle.page_spec.specs.Laws.{HasPieces, SomePieces}
-use Rattle.page_spec.proofs.Shapes.{Shape, shape_of, Cut, first_cut}
+use Rattle.page_spec.specs.Laws.{SomePieces}
+use Rattle.page_spec.proofs.Shapes.{Shape, shape_of, first_cut}
 use Rattle.page_spec.proofs.Shapes.Shape.{raw_text, words, start, bare, cut_off}
 
 abbrev size : Option RawElement → List ℕ → ℕ

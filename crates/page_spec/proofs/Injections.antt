@@ -2,10 +2,10 @@
 use Rattle.std.specs.Prelude.{All, IsUtf8}
 use Rattle.std.specs.Str.{is_utf8}
 use Rattle.std.specs.Str.Lossy.{utf8_valid_len}
-use Rattle.std.proofs.Common.{◌≡◌, ℕ, ◌+◌, ◌⊎◌, inl, inr, List, [], ◌∷◌, ◌++◌, length, take, drop, Bool, true, false, ◌==◌, Option, Some, None, Result, Ok, Err, append_assoc, refl, sym, ◌∙◌, ap, subst, arith}
+use Rattle.std.proofs.Common.{◌≡◌, ℕ, ◌+◌, List, [], ◌∷◌, ◌++◌, length, take, drop, Bool, true, false, ◌==◌, Option, Some, None, Result, Ok, Err, append_assoc, refl, sym, ◌∙◌, ap, subst, arith}
 use Rattle.std.proofs.Math.Seq.{take-append_seam, drop-append_seam}
 use Rattle.std.proofs.lemmas.List.{length-append}
-use Rattle.std.proofs.lemmas.List.Elements.{All-nil, All-cons, All-head, All-tail}
+use Rattle.std.proofs.lemmas.List.Elements.{All-cons, All-head, All-tail}
 use Rattle.std.proofs.lemmas.Str.{IsUtf8-from_is_utf8, is_utf8-from_IsUtf8, IsUtf8-append, IsUtf8-nil}
 use Rattle.page_spec.specs.declared.kinds.InjectFault.{InjectFault}
 use Rattle.page_spec.specs.declared.kinds.InjectFault.TheVariants.{PageUnclear}
@@ -16,7 +16,7 @@ use Rattle.page_spec.specs.Attributes.{attribute}
 use Rattle.page_spec.specs.Faults.{first_fault}
 use Rattle.page_spec.specs.Injection.{map_span, place, start_tag, end_tag, element, replaced, put_into, unless_faulted, injected, Injection}
 use Rattle.page_spec.specs.Injection.Injection.{not_utf8, utf8}
-use Rattle.page_spec.specs.Laws.{OneInjection, HasInjection, SomeInjection, map_element, IsPlainMap, InjectedPieces, OneMapAfter, SamePageAgain, InjectedIsUtf8, PutBetween}
+use Rattle.page_spec.specs.Laws.{OneInjection, HasInjection, SomeInjection, IsPlainMap, InjectedPieces, OneMapAfter, SamePageAgain, InjectedIsUtf8, PutBetween}
 use Rattle.page_spec.proofs.Cover.{one_pieces, pieces_cover}
 use Rattle.page_spec.proofs.Existence.{some_pieces}
 use Rattle.page_spec.proofs.Characters.{pieces_are_utf8}

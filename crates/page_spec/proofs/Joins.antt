@@ -1,6 +1,6 @@
 -- Text and raw text end at the same place where other bytes stand behind it that end them as well.
-use Rattle.std.specs.Prelude.{◌&&◌, ◌||◌, is_some, option_map}
-use Rattle.std.proofs.Common.{◌≡◌, ℕ, List, [], ◌∷◌, ◌++◌, Bool, true, false, ◌==◌, Option, Some, None, if◌then◌else◌, refl, ap}
+use Rattle.std.specs.Prelude.{◌&&◌, is_some, option_map}
+use Rattle.std.proofs.Common.{◌≡◌, ℕ, List, [], ◌∷◌, ◌++◌, Bool, true, false, ◌==◌, Some, if◌then◌else◌, refl, ap}
 use Rattle.std.proofs.lemmas.List.{append_cancel_right}
 use Rattle.page_spec.specs.declared.kinds.RawElement.{RawElement}
 use Rattle.page_spec.specs.Tokenizer.{lowered_byte}

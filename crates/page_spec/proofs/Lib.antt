@@ -11,3 +11,4 @@ pub mod Putting
 pub mod PiecesAfter
 pub mod CleanAfter
 pub mod Injections
+pub mod Examples

@@ -1,13 +1,12 @@
 -- Where an import map element begins, and pieces without one.
-use Rattle.std.specs.Prelude.{◌&&◌, ◌||◌, codes, is_some, drop}
-use Rattle.std.proofs.Common.{◌≡◌, ℕ, ◌+◌, List, [], ◌∷◌, length, Bool, true, false, Option, Some, None, if◌then◌else◌, refl, sym, ◌∙◌, ap, subst}
+use Rattle.std.specs.Prelude.{◌&&◌, ◌||◌, is_some}
+use Rattle.std.proofs.Common.{◌≡◌, ℕ, ◌+◌, List, [], ◌∷◌, length, Bool, true, false, Option, Some, None, if◌then◌else◌, refl, ◌∙◌, ap, subst}
 use Rattle.page_spec.specs.declared.kinds.PieceKind.{PieceKind}
 use Rattle.page_spec.specs.declared.kinds.PieceKind.TheVariants.{Text, Comment, Start, End, Raw, Broken}
-use Rattle.page_spec.specs.Pieces.{Part, part, tag_name, is_name}
-use Rattle.page_spec.specs.Attributes.{attribute}
-use Rattle.page_spec.specs.ImportMaps.{is_start, is_raw, is_script, is_map_type, is_map_start, raw_behind, map_of, begins_map, with_map, import_maps}
+use Rattle.page_spec.specs.Pieces.{Part}
+use Rattle.page_spec.specs.ImportMaps.{is_start, is_raw, is_map_start, raw_behind, map_of, begins_map, with_map, import_maps}
 use Rattle.page_spec.specs.Injection.{span_or, map_span}
-use Rattle.page_spec.proofs.Clean.{Clean, Fine}
+use Rattle.page_spec.proofs.Clean.{Clean}
 use Rattle.page_spec.proofs.Clean.Clean.{no_more, fine}
 
 -- an import map element begins with the piece: the raw text behind it

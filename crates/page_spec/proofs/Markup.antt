@@ -1,6 +1,6 @@
 -- Markup is the same whatever stands behind it.
-use Rattle.std.specs.Prelude.{◌&&◌, ◌||◌, is_some, option_map}
-use Rattle.std.proofs.Common.{◌≡◌, ℕ, List, [], ◌∷◌, ◌++◌, Bool, true, false, ◌==◌, Option, Some, None, if◌then◌else◌, refl, sym, ◌∙◌, ap}
+use Rattle.std.specs.Prelude.{◌&&◌, is_some, option_map}
+use Rattle.std.proofs.Common.{◌≡◌, ℕ, List, [], ◌∷◌, ◌++◌, Bool, true, false, ◌==◌, Some, if◌then◌else◌, refl, ap}
 use Rattle.std.proofs.lemmas.Bool.{and_parts, eqb-true}
 use Rattle.page_spec.specs.declared.kinds.RawElement.{RawElement}
 use Rattle.page_spec.specs.declared.kinds.State.{State}

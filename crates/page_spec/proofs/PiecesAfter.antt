@@ -1,5 +1,5 @@
 -- The pieces of the page with the map are the pieces among which the map was put.
-use Rattle.std.specs.Prelude.{◌&&◌, ◌||◌, codes, is_some, drop, bytes_eq}
+use Rattle.std.specs.Prelude.{codes, is_some}
 use Rattle.std.proofs.Common.{◌≡◌, ℕ, List, [], ◌∷◌, ◌++◌, All, Bool, true, false, ◌==◌, Option, Some, None, if◌then◌else◌, refl, sym, ◌∙◌, ap, subst}
 use Rattle.std.proofs.lemmas.Bool.{and_parts, eqb-true}
 use Rattle.std.proofs.lemmas.List.{append_cancel_right}
@@ -8,12 +8,12 @@ use Rattle.std.proofs.lemmas.Slice.Eq.{bytes_eq-Decides}
 use Rattle.page_spec.specs.declared.kinds.RawElement.{RawElement}
 use Rattle.page_spec.specs.declared.kinds.RawElement.TheVariants.{Script, Style, Title, Textarea, Iframe, Noembed, Noframes, Noscript, Xmp}
 use Rattle.page_spec.specs.declared.kinds.PieceKind.{PieceKind}
-use Rattle.page_spec.specs.declared.kinds.PieceKind.TheVariants.{Text, Comment, Start, End, Raw, Broken}
+use Rattle.page_spec.specs.declared.kinds.PieceKind.TheVariants.{Text, Comment, Start, End, Raw}
 use Rattle.page_spec.specs.declared.kinds.State.TheVariants.{TagOpen}
 use Rattle.page_spec.specs.Tokenizer.{is_alpha}
-use Rattle.page_spec.specs.Pieces.{opening, opening_end, tag_name, is_name, name_of, closes, behind_raw, ends_text, behind_text, Front, front, ended, first_piece, Part, part, Pieces, page_of}
+use Rattle.page_spec.specs.Pieces.{opening, tag_name, is_name, name_of, closes, behind_raw, ends_text, behind_text, Front, front, ended, first_piece, Part, part, Pieces, page_of}
 use Rattle.page_spec.specs.Pieces.Pieces.{none, piece}
-use Rattle.page_spec.specs.ImportMaps.{is_broken, is_raw, begins_map}
+use Rattle.page_spec.specs.ImportMaps.{is_broken, is_raw}
 use Rattle.page_spec.specs.Injection.{is_place, start_tag, end_tag}
 use Rattle.page_spec.specs.Laws.{map_element}
 use Rattle.page_spec.proofs.Markup.{Whole, no_last, name_moved}
@@ -23,9 +23,9 @@ use Rattle.page_spec.proofs.Shapes.{Shape, Bare, shape_of}
 use Rattle.page_spec.proofs.Shapes.Bare.{an_end, a_comment}
 use Rattle.page_spec.proofs.Shapes.Shape.{raw_text, words, start, bare, cut_off}
 use Rattle.page_spec.proofs.Cover.{covered}
-use Rattle.page_spec.proofs.Steps.{Alike, Stays, Step, step_of, words_there}
-use Rattle.page_spec.proofs.Clean.{Clean, Fine, whole_piece}
-use Rattle.page_spec.proofs.Clean.Clean.{no_more, fine}
+use Rattle.page_spec.proofs.Steps.{Alike, Stays, step_of, words_there}
+use Rattle.page_spec.proofs.Clean.{Clean, whole_piece}
+use Rattle.page_spec.proofs.Clean.Clean.{fine}
 use Rattle.page_spec.proofs.Putting.{Replaced, Inserted}
 use Rattle.page_spec.proofs.Putting.Replaced.{here, later}
 use Rattle.page_spec.proofs.Putting.Inserted.{before, behind}

@@ -1,6 +1,6 @@
 -- A map put among the pieces: in the place of an import map element's raw text, or as a new element before a place.
-use Rattle.std.specs.Prelude.{◌&&◌, ◌||◌, codes, is_some, drop, ⊤}
-use Rattle.std.proofs.Common.{◌≡◌, ℕ, ◌+◌, List, [], ◌∷◌, ◌++◌, All, length, Bool, true, false, ◌==◌, Option, Some, None, if◌then◌else◌, append_assoc, refl, sym, ◌∙◌, ap, subst, arith}
+use Rattle.std.specs.Prelude.{◌&&◌, ◌||◌, codes, drop}
+use Rattle.std.proofs.Common.{◌≡◌, ℕ, ◌+◌, List, [], ◌∷◌, ◌++◌, length, Bool, true, false, Option, Some, None, if◌then◌else◌, append_assoc, refl, sym, ◌∙◌, ap, arith}
 use Rattle.std.proofs.lemmas.List.{length-append}
 use Rattle.page_spec.specs.declared.kinds.PieceKind.{PieceKind}
 use Rattle.page_spec.specs.declared.kinds.PieceKind.TheVariants.{Text, Comment, Start, End, Raw, Broken}

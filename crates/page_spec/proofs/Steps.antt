@@ -1,13 +1,12 @@
 -- A piece stays what it is where other bytes stand behind it that end it as well.
-use Rattle.std.specs.Prelude.{◌&&◌, ◌||◌, codes, is_some}
+use Rattle.std.specs.Prelude.{◌&&◌, codes, is_some}
 use Rattle.std.proofs.Common.{◌≡◌, ℕ, List, [], ◌∷◌, ◌++◌, Bool, true, false, ◌==◌, Option, Some, None, if◌then◌else◌, refl, sym, ◌∙◌, ap, subst}
 use Rattle.std.proofs.lemmas.Bool.{and_parts, eqb-true}
 use Rattle.page_spec.specs.declared.kinds.RawElement.{RawElement}
 use Rattle.page_spec.specs.declared.kinds.PieceKind.{PieceKind}
-use Rattle.page_spec.specs.declared.kinds.PieceKind.TheVariants.{Text, Comment, Start, End, Raw, Broken}
+use Rattle.page_spec.specs.declared.kinds.PieceKind.TheVariants.{Text, Start, Raw}
 use Rattle.page_spec.specs.declared.kinds.State.TheVariants.{TagOpen}
-use Rattle.page_spec.specs.Tokenizer.{behind_markup}
-use Rattle.page_spec.specs.Pieces.{opening, tag_name, is_name, name_of, raw_element, closes, behind_raw, ends_text, behind_text, Front, front, ended, started, markup, first_piece}
+use Rattle.page_spec.specs.Pieces.{opening, tag_name, is_name, name_of, raw_element, closes, behind_raw, ends_text, behind_text, Front, front, ended, markup, first_piece}
 use Rattle.page_spec.specs.ImportMaps.{is_broken}
 use Rattle.page_spec.proofs.Markup.{Whole, whole_markup, name_moved, opening_moved, closes_moved, ends_text_moved}
 use Rattle.page_spec.proofs.Joins.{Joins, RawJoins, ends_text_joined, text_moved, raw_moved}

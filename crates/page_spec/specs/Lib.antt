@@ -5,3 +5,4 @@ pub mod ImportMaps
 pub mod Faults
 pub mod Injection
 pub mod Laws
+pub mod Examples

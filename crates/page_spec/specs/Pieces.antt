@@ -16,7 +16,6 @@ use Rattle.page_spec.specs.declared.kinds.PieceKind.{PieceKind}
 use Rattle.page_spec.specs.declared.kinds.PieceKind.TheVariants.{Text, Comment, Start, End, Raw, Broken}
 use Rattle.page_spec.specs.declared.kinds.RawElement.{RawElement}
 use Rattle.page_spec.specs.declared.kinds.RawElement.TheVariants.{Script, Style, Title, Textarea, Iframe, Noembed, Noframes, Noscript, Xmp}
-use Rattle.page_spec.specs.declared.kinds.State.{State}
 use Rattle.page_spec.specs.declared.kinds.State.TheVariants.{TagOpen}
 use Rattle.page_spec.specs.Tokenizer.{is_whitespace, is_alpha, lowered_byte, behind_markup}
 

@@ -4,6 +4,7 @@
 //! Definitions and laws alone: each function here is empty, and its contract is a law.
 #![tactic(auto)]
 
+ghost use Rattle.page_spec.specs.Examples.{WorkedExamples};
 ghost use Rattle.page_spec.specs.Laws.{OnePieces, SomePieces, PiecesCover, PiecesAreUtf8, OneInjection, SomeInjection, InjectedPieces, OneMapAfter, SamePageAgain, InjectedIsUtf8};
 
 mod kinds;
@@ -58,4 +59,9 @@ pub fn same_page_again()
 /// A page into which a map was put is UTF-8.
 pub fn injected_is_utf8()
     ensures { InjectedIsUtf8 }
+{}
+
+/// Worked examples.
+pub fn worked_examples()
+    ensures { WorkedExamples }
 {}
