@@ -1,8 +1,9 @@
 -- The laws of this crate.
-use Rattle.std.specs.Prelude.{◌≡◌, ℕ, false, ◌==◌, List, [], ◌∷◌, ◌++◌, All, None, Result, Ok, IsUtf8}
+use Rattle.std.specs.Prelude.{◌≡◌, ℕ, false, ◌==◌, List, [], ◌∷◌, ◌++◌, All, Some, None, Result, Ok, IsUtf8}
 use Rattle.page_spec.specs.declared.kinds.PieceKind.TheVariants.{Text, Start, End, Raw}
 use Rattle.page_spec.specs.declared.kinds.InjectFault.{InjectFault}
 use Rattle.page_spec.specs.Pieces.{Part, part, Pieces, page_of}
+use Rattle.page_spec.specs.Attributes.{Value, attribute}
 use Rattle.page_spec.specs.ImportMaps.{import_maps}
 use Rattle.page_spec.specs.Injection.{start_tag, end_tag, Injection}
 
@@ -25,6 +26,17 @@ PiecesCover = (page : List ℕ) (parts : List Part) → Pieces None page parts �
 -- no piece of a page begins or ends within a character
 abbrev pub PiecesAreUtf8 : Type 0
 PiecesAreUtf8 = (page : List ℕ) (parts : List Part) → Pieces None page parts → IsUtf8 page → All (λ p. IsUtf8 p.text) parts
+
+-- the tag ends with the value's tail, which begins with its text
+pub record StandsIn (tag : List ℕ) (value : Value) : Type 0 where
+  pub front : List ℕ
+  pub back : List ℕ
+  pub ends : tag ≡ front ++ value.tail
+  pub begins : value.tail ≡ value.text ++ back
+
+-- an attribute's value stands in its tag
+abbrev pub ValuesStandInTags : Type 0
+ValuesStandInTags = (name tag : List ℕ) (value : Value) → attribute name tag ≡ Some value → StandsIn tag value
 
 -- a map and a page have one outcome
 abbrev pub OneInjection : Type 0
