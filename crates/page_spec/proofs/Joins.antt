@@ -1,9 +1,9 @@
 -- Text and raw text end at the same place where other bytes stand behind it that end them as well.
+use Rattle.std.specs.Char.{to_ascii_lowercase}
 use Rattle.std.specs.Prelude.{◌&&◌, is_some, option_map}
 use Rattle.std.proofs.Common.{◌≡◌, ℕ, List, [], ◌∷◌, ◌++◌, Bool, true, false, ◌==◌, Some, if◌then◌else◌, refl, ap}
 use Rattle.std.proofs.lemmas.List.{append_cancel_right}
 use Rattle.page_spec.specs.declared.kinds.RawElement.{RawElement}
-use Rattle.page_spec.specs.Tokenizer.{lowered_byte}
 use Rattle.page_spec.specs.Pieces.{opening, ends_name, tag_name, is_name, name_of, closes, behind_raw, ends_text, behind_text}
 
 -- text ends before either of the two
@@ -41,7 +41,7 @@ pub data RawJoins (element : RawElement) : List ℕ → List ℕ → Type 0 wher
 
 name_joined : (v x y : List ℕ) → tag_name (v ++ 60 ∷ 47 ∷ x) ≡ tag_name (v ++ 60 ∷ 47 ∷ y)
 name_joined [] x y = refl
-name_joined (b ∷ v) x y = ap (λ n. if ends_name b then Some [] else option_map (λ name. lowered_byte b ∷ name) n) (name_joined v x y)
+name_joined (b ∷ v) x y = ap (λ n. if ends_name b then Some [] else option_map (λ name. to_ascii_lowercase b ∷ name) n) (name_joined v x y)
 
 closes_joined : (element : RawElement) (b : ℕ) (u x y : List ℕ) → closes element (b ∷ (u ++ 60 ∷ 47 ∷ x)) ≡ closes element (b ∷ (u ++ 60 ∷ 47 ∷ y))
 closes_joined element b [] x y = refl

@@ -1,11 +1,12 @@
 -- Markup is the same whatever stands behind it.
+use Rattle.std.specs.Char.{to_ascii_lowercase}
 use Rattle.std.specs.Prelude.{◌&&◌, is_some, option_map}
 use Rattle.std.proofs.Common.{◌≡◌, ℕ, List, [], ◌∷◌, ◌++◌, Bool, true, false, ◌==◌, Some, if◌then◌else◌, refl, ap}
 use Rattle.std.proofs.lemmas.Bool.{and_parts, eqb-true}
 use Rattle.page_spec.specs.declared.kinds.RawElement.{RawElement}
 use Rattle.page_spec.specs.declared.kinds.State.{State}
 use Rattle.page_spec.specs.declared.kinds.State.TheVariants.{TagOpen}
-use Rattle.page_spec.specs.Tokenizer.{is_last, may_end, lowered_byte, next_state, behind_markup}
+use Rattle.page_spec.specs.Tokenizer.{is_last, may_end, next_state, behind_markup}
 use Rattle.page_spec.specs.Pieces.{opening, ends_name, tag_name, is_name, name_of, closes, ends_text}
 
 -- the text is one whole markup behind its `<`
@@ -40,7 +41,7 @@ no_last b l = absurd (let p = (and_parts (b == 62) false l).1 in cc)
 
 pub name_moved : (state : State) (text r s : List ℕ) → Whole state text → tag_name (text ++ r) ≡ tag_name (text ++ s)
 name_moved state text r s (last {b} l) = let p = eqb-true b 62 (and_parts (b == 62) (may_end state) l).0 in rw p refl
-name_moved state text r s (more {b} {text = t} l w) = ap (λ n. if ends_name b then Some [] else option_map (λ name. lowered_byte b ∷ name) n) (name_moved _ t r s w)
+name_moved state text r s (more {b} {text = t} l w) = ap (λ n. if ends_name b then Some [] else option_map (λ name. to_ascii_lowercase b ∷ name) n) (name_moved _ t r s w)
 
 pub opening_moved : (text r s : List ℕ) → Whole TagOpen text → opening (text ++ r) ≡ opening (text ++ s)
 opening_moved text r s (last {b} l) = absurd (no_last b l)

@@ -1,4 +1,5 @@
 -- The pieces of the page with the map are the pieces among which the map was put.
+use Rattle.std.specs.Char.{is_ascii_alphabetic}
 use Rattle.std.specs.Prelude.{codes, is_some}
 use Rattle.std.proofs.Common.{◌≡◌, ℕ, List, [], ◌∷◌, ◌++◌, All, Bool, true, false, ◌==◌, Option, Some, None, if◌then◌else◌, refl, sym, ◌∙◌, ap, subst}
 use Rattle.std.proofs.lemmas.Bool.{and_parts, eqb-true}
@@ -10,7 +11,6 @@ use Rattle.page_spec.specs.declared.kinds.RawElement.TheVariants.{Script, Style,
 use Rattle.page_spec.specs.declared.kinds.PieceKind.{PieceKind}
 use Rattle.page_spec.specs.declared.kinds.PieceKind.TheVariants.{Text, Comment, Start, End, Raw}
 use Rattle.page_spec.specs.declared.kinds.State.TheVariants.{TagOpen}
-use Rattle.page_spec.specs.Tokenizer.{is_alpha}
 use Rattle.page_spec.specs.Pieces.{opening, tag_name, is_name, name_of, closes, behind_raw, ends_text, behind_text, Front, front, ended, first_piece, Part, part, Pieces, page_of}
 use Rattle.page_spec.specs.Pieces.Pieces.{none, piece}
 use Rattle.page_spec.specs.ImportMaps.{is_broken, is_raw}
@@ -118,7 +118,7 @@ one_name element (Some name) e f = differs element (sym ((bytes_eq-Decides name 
 
 opening_slash : (v : List ℕ) → opening (47 ∷ v) ≡ Some Start → ⊥
 opening_slash [] e = absurd (cc)
-opening_slash (c ∷ v) e = choice (is_alpha c) e where
+opening_slash (c ∷ v) e = choice (is_ascii_alphabetic c) e where
   choice : (b : Bool) → Some (if b then End else Comment) ≡ Some Start → ⊥
   choice true e = absurd (cc)
   choice false e = absurd (cc)

@@ -1,4 +1,5 @@
 -- What a piece is, by its kind.
+use Rattle.std.specs.Char.{is_ascii_alphabetic}
 use Rattle.std.specs.Prelude.{◌&&◌, ◌||◌, codes, is_some, ⊤}
 use Rattle.std.proofs.Common.{◌≡◌, ℕ, List, [], ◌∷◌, ◌++◌, Bool, true, false, ◌==◌, Option, Some, None, if◌then◌else◌, refl, sym, ap, subst}
 use Rattle.std.proofs.lemmas.Bool.{eqb-true}
@@ -6,7 +7,7 @@ use Rattle.page_spec.specs.declared.kinds.RawElement.{RawElement}
 use Rattle.page_spec.specs.declared.kinds.PieceKind.{PieceKind}
 use Rattle.page_spec.specs.declared.kinds.PieceKind.TheVariants.{Text, Comment, Start, End, Raw, Broken}
 use Rattle.page_spec.specs.declared.kinds.State.TheVariants.{TagOpen}
-use Rattle.page_spec.specs.Tokenizer.{is_alpha, behind_markup}
+use Rattle.page_spec.specs.Tokenizer.{behind_markup}
 use Rattle.page_spec.specs.Pieces.{opening, opening_end, tag_name, is_name, raw_element, closes, behind_raw, ends_text, behind_text, Front, front, broken, ended, started, markup, first_piece}
 use Rattle.page_spec.proofs.Markup.{Whole, markup_cut}
 
@@ -94,7 +95,7 @@ opens_by false false false later k go e = absurd (cc)
 
 opens_end : (rest : List ℕ) (k : PieceKind) → opening_end rest ≡ Some k → Opens k
 opens_end [] k e = absurd (cc)
-opens_end (b ∷ rest) k e = by_letter (is_alpha b) e where
+opens_end (b ∷ rest) k e = by_letter (is_ascii_alphabetic b) e where
   some_kind : {x y : PieceKind} → Some x ≡ Some y → x ≡ y
   some_kind e = cc
 
@@ -104,7 +105,7 @@ opens_end (b ∷ rest) k e = by_letter (is_alpha b) e where
 
 opens : (x : List ℕ) (k : PieceKind) → opening x ≡ Some k → Opens k
 opens [] k e = absurd (cc)
-opens (b ∷ rest) k e = opens_by (is_alpha b) (b == 33 || b == 63) (b == 47) (opening_end rest) k (opens_end rest) e
+opens (b ∷ rest) k e = opens_by (is_ascii_alphabetic b) (b == 33 || b == 63) (b == 47) (opening_end rest) k (opens_end rest) e
 
 markup_shape : (o : Option PieceKind) (x : List ℕ) → opening x ≡ o → Shape None (60 ∷ x) (markup o x)
 markup_shape None x o = words_shape 60 x (ap is_some o)

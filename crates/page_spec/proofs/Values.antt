@@ -1,10 +1,11 @@
 -- An attribute's value stands in its tag.
+use Rattle.std.specs.Char.{is_ascii_whitespace}
 use Rattle.std.specs.Prelude.{not, drop}
 use Rattle.std.proofs.Common.{◌≡◌, ℕ, List, [], ◌∷◌, ◌++◌, Bool, true, false, ◌==◌, ◌||◌, Some, if◌then◌else◌, append_assoc, refl, sym, ◌∙◌, ap, subst}
 use Rattle.std.specs.Prelude.{bytes_eq}
 use Rattle.page_spec.specs.declared.kinds.State.{State}
 use Rattle.page_spec.specs.declared.kinds.State.TheVariants.{TagOpen}
-use Rattle.page_spec.specs.Tokenizer.{is_whitespace, lowered, is_last, next_state}
+use Rattle.page_spec.specs.Tokenizer.{lowered, is_last, next_state}
 use Rattle.page_spec.specs.Attributes.{before, behind, skip_whitespace, Value, value, ends_unquoted, value_at, value_behind, ends_attribute_name, Attribute, attribute_at, begins_attribute, attributes, first_named, attribute}
 use Rattle.page_spec.specs.Laws.{StandsIn, ValuesStandInTags}
 
@@ -37,14 +38,14 @@ behind_stands tail [] front e = empty_at tail
 behind_stands tail (b ∷ rest) front e = by_equals (b == 61) where
   by_equals : (c : Bool) → StandsIn tail (if c then value_at (skip_whitespace rest) else value [] tail)
   by_equals true =
-      let skipped = parted (λ b. not (is_whitespace b)) rest in
-      further front tail (b ∷ rest) _ e (further (b ∷ before (λ b. not (is_whitespace b)) rest) (b ∷ rest) (skip_whitespace rest) _ (ap (λ r. b ∷ r) skipped) (value_stands (skip_whitespace rest)))
+      let skipped = parted (λ b. not (is_ascii_whitespace b)) rest in
+      further front tail (b ∷ rest) _ e (further (b ∷ before (λ b. not (is_ascii_whitespace b)) rest) (b ∷ rest) (skip_whitespace rest) _ (ap (λ r. b ∷ r) skipped) (value_stands (skip_whitespace rest)))
   by_equals false = empty_at tail
 
 attribute_stands : (b : ℕ) (rest : List ℕ) → StandsIn (b ∷ rest) (attribute_at b rest).value
 attribute_stands b rest =
     let tail = behind ends_attribute_name rest in
-    further (b ∷ before ends_attribute_name rest) (b ∷ rest) tail _ (ap (λ r. b ∷ r) (parted ends_attribute_name rest)) (behind_stands tail (skip_whitespace tail) (before (λ b. not (is_whitespace b)) tail) (parted (λ b. not (is_whitespace b)) tail))
+    further (b ∷ before ends_attribute_name rest) (b ∷ rest) tail _ (ap (λ r. b ∷ r) (parted ends_attribute_name rest)) (behind_stands tail (skip_whitespace tail) (before (λ b. not (is_ascii_whitespace b)) tail) (parted (λ b. not (is_ascii_whitespace b)) tail))
 
 some_value : {x y : Value} → Some x ≡ Some y → x ≡ y
 some_value e = cc

@@ -5,10 +5,11 @@
 --     attributes state bytes       the attributes in the rest of a tag, in order
 --     attribute name text          the value of the first attribute of that name in the tag; names are compared in lower case
 -- own: character references in values aren't decoded.
+use Rattle.std.specs.Char.{is_ascii_whitespace}
 use Rattle.std.specs.Prelude.{ℕ, Bool, true, false, not, ◌&&◌, ◌||◌, ◌==◌, List, [], ◌∷◌, if◌then◌else◌, Option, Some, None, drop, bytes_eq}
 use Rattle.page_spec.specs.declared.kinds.State.{State}
 use Rattle.page_spec.specs.declared.kinds.State.TheVariants.{TagOpen, AttributeName}
-use Rattle.page_spec.specs.Tokenizer.{is_whitespace, lowered, is_last, next_state}
+use Rattle.page_spec.specs.Tokenizer.{lowered, is_last, next_state}
 use Rattle.page_spec.specs.Pieces.{ends_name}
 
 abbrev pub before : (ℕ → Bool) → List ℕ → List ℕ
@@ -20,7 +21,7 @@ behind is_end [] = []
 behind is_end (b ∷ rest) = if is_end b then b ∷ rest else behind is_end rest
 
 abbrev pub skip_whitespace : List ℕ → List ℕ
-skip_whitespace = behind (λ b. not (is_whitespace b))
+skip_whitespace = behind (λ b. not (is_ascii_whitespace b))
 
 pub record Value : Type 0 where
   pub text : List ℕ
@@ -30,7 +31,7 @@ abbrev pub value : List ℕ → List ℕ → Value
 value t r = record { text = t; tail = r }
 
 abbrev pub ends_unquoted : ℕ → Bool
-ends_unquoted b = is_whitespace b || b == 62
+ends_unquoted b = is_ascii_whitespace b || b == 62
 
 -- the value behind its `=` and white space
 abbrev pub value_at : List ℕ → Value

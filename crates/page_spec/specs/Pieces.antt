@@ -10,6 +10,7 @@
 --     page_of parts                the texts of the pieces one behind the other
 --     spans from parts             the pieces with their places, from an offset on
 -- own: a script's raw text ends at its first end tag, whatever `<!--` stands before it; `noscript` is read as with scripting on.
+use Rattle.std.specs.Char.{is_ascii_alphabetic, is_ascii_whitespace, to_ascii_lowercase}
 use Rattle.std.specs.Prelude.{◌≡◌, ℕ, ◌+◌, Bool, true, false, ◌&&◌, ◌||◌, ◌==◌, List, [], ◌∷◌, ◌++◌, length, if◌then◌else◌, Option, Some, None, option_map, is_some, codes, bytes_eq}
 use Rattle.page_spec.specs.declared.kinds.Piece.{Piece}
 use Rattle.page_spec.specs.declared.kinds.PieceKind.{PieceKind}
@@ -17,27 +18,27 @@ use Rattle.page_spec.specs.declared.kinds.PieceKind.TheVariants.{Text, Comment, 
 use Rattle.page_spec.specs.declared.kinds.RawElement.{RawElement}
 use Rattle.page_spec.specs.declared.kinds.RawElement.TheVariants.{Script, Style, Title, Textarea, Iframe, Noembed, Noframes, Noscript, Xmp}
 use Rattle.page_spec.specs.declared.kinds.State.TheVariants.{TagOpen}
-use Rattle.page_spec.specs.Tokenizer.{is_whitespace, is_alpha, lowered_byte, behind_markup}
+use Rattle.page_spec.specs.Tokenizer.{behind_markup}
 
 -- what `</` before these bytes opens
 abbrev pub opening_end : List ℕ → Option PieceKind
 opening_end [] = None
-opening_end (b ∷ rest) = Some (if is_alpha b then End else Comment)
+opening_end (b ∷ rest) = Some (if is_ascii_alphabetic b then End else Comment)
 
 abbrev pub opening : List ℕ → Option PieceKind
 opening [] = None
 opening (b ∷ rest) =
-    if is_alpha b then Some Start
+    if is_ascii_alphabetic b then Some Start
     else if b == 33 || b == 63 then Some Comment
     else if b == 47 then opening_end rest
     else None
 
 abbrev pub ends_name : ℕ → Bool
-ends_name b = is_whitespace b || b == 47 || b == 62
+ends_name b = is_ascii_whitespace b || b == 47 || b == 62
 
 abbrev pub tag_name : List ℕ → Option (List ℕ)
 tag_name [] = None
-tag_name (b ∷ rest) = if ends_name b then Some [] else option_map (λ name. lowered_byte b ∷ name) (tag_name rest)
+tag_name (b ∷ rest) = if ends_name b then Some [] else option_map (λ name. to_ascii_lowercase b ∷ name) (tag_name rest)
 
 abbrev pub is_name : List ℕ → Option (List ℕ) → Bool
 is_name wanted None = false

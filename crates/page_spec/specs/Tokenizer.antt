@@ -1,6 +1,4 @@
 -- Markup behind its `<`: where a tag or a comment ends. HTML Standard, 13.2.5, "Tokenization"; Infra Standard, "Code points".
---     is_whitespace byte           the byte is ASCII whitespace
---     is_alpha byte                the byte is an ASCII alpha
 --     lowered bytes                the bytes in ASCII lowercase
 --     may_end state                a `>` in this state is the last byte of its tag or comment
 --     next_state state byte        the state behind a byte that isn't the last one
@@ -8,25 +6,13 @@
 -- own: the tokenizer's states without those that change no place where markup ends: what stands behind a quoted value, or
 -- behind the `/` of a tag, is read as what stands before an attribute name. `<!` begins no doctype and no CDATA section, but a
 -- bogus comment where no two dashes follow.
+use Rattle.std.specs.Char.{is_ascii_alphabetic, is_ascii_whitespace, to_ascii_lowercase}
 use Rattle.std.specs.Prelude.{ℕ, ◌+◌, Bool, true, false, ◌&&◌, ◌||◌, ◌==◌, nat_le, List, [], ◌∷◌, if◌then◌else◌, Option, Some, None, map}
 use Rattle.page_spec.specs.declared.kinds.State.{State}
 use Rattle.page_spec.specs.declared.kinds.State.TheVariants.{TagOpen, EndTagOpen, MarkupDeclarationOpen, MarkupDeclarationDash, BogusComment, CommentStart, CommentStartDash, Comment, CommentEndDash, CommentEnd, CommentEndBang, TagName, BeforeAttributeName, AttributeName, AfterAttributeName, BeforeAttributeValue, AttributeValueDoubleQuoted, AttributeValueSingleQuoted, AttributeValueUnquoted}
 
--- TAB, LF, FF, CR and space
-abbrev pub is_whitespace : ℕ → Bool
-is_whitespace b = b == 9 || b == 10 || b == 12 || b == 13 || b == 32
-
-abbrev pub is_upper_alpha : ℕ → Bool
-is_upper_alpha b = nat_le 65 b && nat_le b 90
-
-abbrev pub is_alpha : ℕ → Bool
-is_alpha b = is_upper_alpha b || nat_le 97 b && nat_le b 122
-
-abbrev pub lowered_byte : ℕ → ℕ
-lowered_byte b = if is_upper_alpha b then b + 32 else b
-
 abbrev pub lowered : List ℕ → List ℕ
-lowered = map lowered_byte
+lowered = map to_ascii_lowercase
 
 abbrev pub may_end : State → Bool
 may_end TagOpen = false
@@ -41,11 +27,11 @@ is_last state b = b == 62 && may_end state
 
 abbrev pub next_state : State → ℕ → State
 next_state TagOpen b =
-    if is_alpha b then TagName
+    if is_ascii_alphabetic b then TagName
     else if b == 47 then EndTagOpen
     else if b == 33 then MarkupDeclarationOpen
     else BogusComment
-next_state EndTagOpen b = if is_alpha b then TagName else BogusComment
+next_state EndTagOpen b = if is_ascii_alphabetic b then TagName else BogusComment
 next_state MarkupDeclarationOpen b = if b == 45 then MarkupDeclarationDash else BogusComment
 next_state MarkupDeclarationDash b = if b == 45 then CommentStart else BogusComment
 next_state BogusComment b = BogusComment
@@ -55,26 +41,26 @@ next_state Comment b = if b == 45 then CommentEndDash else Comment
 next_state CommentEndDash b = if b == 45 then CommentEnd else Comment
 next_state CommentEnd b = if b == 33 then CommentEndBang else if b == 45 then CommentEnd else Comment
 next_state CommentEndBang b = if b == 45 then CommentEndDash else Comment
-next_state TagName b = if is_whitespace b || b == 47 then BeforeAttributeName else TagName
-next_state BeforeAttributeName b = if is_whitespace b || b == 47 then BeforeAttributeName else AttributeName
+next_state TagName b = if is_ascii_whitespace b || b == 47 then BeforeAttributeName else TagName
+next_state BeforeAttributeName b = if is_ascii_whitespace b || b == 47 then BeforeAttributeName else AttributeName
 next_state AttributeName b =
     if b == 61 then BeforeAttributeValue
     else if b == 47 then BeforeAttributeName
-    else if is_whitespace b then AfterAttributeName
+    else if is_ascii_whitespace b then AfterAttributeName
     else AttributeName
 next_state AfterAttributeName b =
     if b == 61 then BeforeAttributeValue
     else if b == 47 then BeforeAttributeName
-    else if is_whitespace b then AfterAttributeName
+    else if is_ascii_whitespace b then AfterAttributeName
     else AttributeName
 next_state BeforeAttributeValue b =
     if b == 34 then AttributeValueDoubleQuoted
     else if b == 39 then AttributeValueSingleQuoted
-    else if is_whitespace b then BeforeAttributeValue
+    else if is_ascii_whitespace b then BeforeAttributeValue
     else AttributeValueUnquoted
 next_state AttributeValueDoubleQuoted b = if b == 34 then BeforeAttributeName else AttributeValueDoubleQuoted
 next_state AttributeValueSingleQuoted b = if b == 39 then BeforeAttributeName else AttributeValueSingleQuoted
-next_state AttributeValueUnquoted b = if is_whitespace b then BeforeAttributeName else AttributeValueUnquoted
+next_state AttributeValueUnquoted b = if is_ascii_whitespace b then BeforeAttributeName else AttributeValueUnquoted
 
 abbrev pub behind_markup : State → List ℕ → Option (List ℕ)
 behind_markup state [] = None
