@@ -4,13 +4,14 @@ use Rattle.std.proofs.Common.{◌≡◌, ℕ, ◌+◌, List, [], ◌∷◌, ◌+
 use Rattle.std.proofs.Math.Seq.{take-append_seam, drop-append_seam, get_or-append_seam}
 use Rattle.std.proofs.lemmas.Bool.{and_parts, eqb-true}
 use Rattle.std.proofs.lemmas.List.{length-append, append_cancel_right}
-use Rattle.std.proofs.lemmas.List.Elements.{All-nil, All-cons}
-use Rattle.std.proofs.lemmas.Str.{IsUtf8-take, IsUtf8-drop, IsUtf8-nil, IsCharBoundary-before_ascii, IsCharBoundary-after_ascii}
+use Rattle.std.proofs.lemmas.List.Elements.{All-nil, All-cons, All-head, All-tail}
+use Rattle.std.proofs.lemmas.Str.{IsUtf8-take, IsUtf8-drop, IsUtf8-append, IsUtf8-nil, IsCharBoundary-at_seam, IsUtf8-nil, IsCharBoundary-before_ascii, IsCharBoundary-after_ascii}
 use Rattle.page_spec.specs.declared.kinds.RawElement.{RawElement}
 use Rattle.page_spec.specs.declared.kinds.State.TheVariants.{TagOpen}
-use Rattle.page_spec.specs.Pieces.{is_name, name_of, tag_name, closes, ends_text, opening, Front, front, Part, Pieces}
+use Rattle.page_spec.specs.Pieces.{is_name, name_of, tag_name, closes, ends_text, opening, Front, front, Part, Pieces, page_of}
 use Rattle.page_spec.specs.Pieces.Pieces.{none, piece}
-use Rattle.page_spec.specs.Laws.{PiecesAreUtf8}
+use Rattle.page_spec.specs.Laws.{PiecesAreUtf8, PiecesEndAtBoundaries}
+use Rattle.page_spec.proofs.Cover.{pieces_cover, page_of-append}
 use Rattle.page_spec.proofs.Markup.{Whole, ends_so}
 use Rattle.page_spec.proofs.Shapes.{Shape, shape_of}
 use Rattle.page_spec.proofs.Shapes.Shape.{raw_text, words, start, bare, cut_off}
@@ -72,3 +73,24 @@ pieces_utf8 within bytes parts (piece {next} {rest} {p} {parts = more} c e x) u 
 
 pub pieces_are_utf8 : PiecesAreUtf8
 pieces_are_utf8 page parts x u = pieces_utf8 None page parts x u
+
+pub page_utf8 : (parts : List Part) → All (λ p. IsUtf8 p.text) parts → IsUtf8 (page_of parts)
+page_utf8 [] a = IsUtf8-nil
+page_utf8 (p ∷ parts) a = IsUtf8-append p.text (page_of parts) (All-head (λ p. IsUtf8 p.text) p parts a) (page_utf8 parts (All-tail (λ p. IsUtf8 p.text) p parts a))
+
+behind_all : (before parts : List Part) → All (λ p. IsUtf8 p.text) (before ++ parts) → All (λ p. IsUtf8 p.text) parts
+behind_all [] parts a = a
+behind_all (q ∷ before) parts a = behind_all before parts (All-tail (λ p. IsUtf8 p.text) q (before ++ parts) a)
+
+boundary : (page xs ys : List ℕ) (n : ℕ) → page ≡ xs ++ ys → n ≡ length xs → IsUtf8 ys → IsCharBoundary page n
+boundary page xs ys n e l u = subst (λ n. IsCharBoundary page n) (sym l) (IsCharBoundary-at_seam page xs ys e u)
+
+pub pieces_end_at_boundaries : PiecesEndAtBoundaries
+pieces_end_at_boundaries page found o u =
+    let all = behind_all o.before (o.p ∷ o.behind) (pieces_are_utf8 page (o.before ++ o.p ∷ o.behind) o.pieces u) in
+    let rest = All-tail (λ p. IsUtf8 p.text) o.p o.behind all in
+    let whole : page ≡ page_of o.before ++ page_of (o.p ∷ o.behind) = pieces_cover page (o.before ++ o.p ∷ o.behind) o.pieces ∙ page_of-append o.before (o.p ∷ o.behind) in
+    let further : page ≡ (page_of o.before ++ o.p.text) ++ page_of o.behind = whole ∙ sym (append_assoc (page_of o.before) o.p.text (page_of o.behind)) in
+    record {
+      begin = boundary page (page_of o.before) (page_of (o.p ∷ o.behind)) found.from whole (ap (λ s. s.from) o.is) (page_utf8 (o.p ∷ o.behind) all);
+      end = boundary page (page_of o.before ++ o.p.text) (page_of o.behind) found.to further (ap (λ s. s.to) o.is ∙ sym (length-append (page_of o.before) o.p.text)) (page_utf8 o.behind rest) }

@@ -1,5 +1,5 @@
 -- A page has one list of pieces, which cover it.
-use Rattle.std.proofs.Common.{◌≡◌, ℕ, List, [], ◌∷◌, ◌++◌, Option, Some, None, refl, sym, ◌∙◌, ap, subst}
+use Rattle.std.proofs.Common.{append_assoc, ◌≡◌, ℕ, List, [], ◌∷◌, ◌++◌, Option, Some, None, refl, sym, ◌∙◌, ap, subst}
 use Rattle.std.proofs.lemmas.List.{append_cancel_right}
 use Rattle.page_spec.specs.declared.kinds.RawElement.{RawElement}
 use Rattle.page_spec.specs.declared.kinds.PieceKind.{PieceKind}
@@ -44,3 +44,7 @@ covered within bytes parts (piece {rest} {p} {parts = more} c e x) = c ∙ ap (�
 
 pub pieces_cover : PiecesCover
 pieces_cover page parts p = covered None page parts p
+
+pub page_of-append : (xs ys : List Part) → page_of (xs ++ ys) ≡ page_of xs ++ page_of ys
+page_of-append [] ys = refl
+page_of-append (p ∷ xs) ys = ap (λ r. p.text ++ r) (page_of-append xs ys) ∙ sym (append_assoc p.text (page_of xs) (page_of ys))

@@ -19,7 +19,7 @@ use Rattle.page_spec.specs.Injection.Injection.{not_utf8, utf8}
 use Rattle.page_spec.specs.Laws.{OneInjection, HasInjection, SomeInjection, IsPlainMap, InjectedPieces, OneMapAfter, SamePageAgain, InjectedIsUtf8, PutBetween}
 use Rattle.page_spec.proofs.Cover.{one_pieces, pieces_cover}
 use Rattle.page_spec.proofs.Existence.{some_pieces}
-use Rattle.page_spec.proofs.Characters.{pieces_are_utf8}
+use Rattle.page_spec.proofs.Characters.{pieces_are_utf8, page_utf8}
 use Rattle.page_spec.proofs.Clean.{Clean, clean_from, clean_is}
 use Rattle.page_spec.proofs.Maps.{NoMaps, no_span}
 use Rattle.page_spec.proofs.Maps.NoMaps.{another}
@@ -140,10 +140,6 @@ one_map_after text page new parts m i x =
     ap import_maps (one_pieces new parts p.others x (pieces_now text page new m p)) ∙ maps_put text p.parts p.others p.clean p.put
 
 -- ---- characters
-
-page_utf8 : (parts : List Part) → All (λ p. IsUtf8 p.text) parts → IsUtf8 (page_of parts)
-page_utf8 [] a = IsUtf8-nil
-page_utf8 (p ∷ parts) a = IsUtf8-append p.text (page_of parts) (All-head (λ p. IsUtf8 p.text) p parts a) (page_utf8 parts (All-tail (λ p. IsUtf8 p.text) p parts a))
 
 replaced_utf8 : (text : List ℕ) (parts others : List Part) → IsUtf8 text → All (λ p. IsUtf8 p.text) parts → Replaced text parts others → All (λ p. IsUtf8 p.text) others
 replaced_utf8 text parts others u a (here {p} {q} {parts = left} m k) =

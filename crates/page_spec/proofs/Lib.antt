@@ -5,6 +5,7 @@ pub mod Cover
 pub mod Existence
 pub mod Characters
 pub mod Steps
+pub mod Reading
 pub mod Values
 pub mod Clean
 pub mod Maps

@@ -5,7 +5,8 @@ use Rattle.page_spec.specs.declared.kinds.Piece.{Piece}
 use Rattle.page_spec.specs.declared.kinds.PieceKind.{PieceKind}
 use Rattle.page_spec.specs.declared.kinds.PieceKind.TheVariants.{Text, Comment, Start, End, Raw}
 use Rattle.page_spec.specs.declared.kinds.RawElement.TheVariants.{Script, Title}
-use Rattle.page_spec.specs.Pieces.{front, broken, first_piece, Part, part, Pieces, spans}
+use Rattle.page_spec.specs.Pieces.{front, broken, first_piece, Part, part, Pieces}
+use Rattle.page_spec.specs.Places.{spans}
 use Rattle.page_spec.specs.Attributes.{value, attribute}
 use Rattle.page_spec.specs.ImportMaps.{is_map_start}
 use Rattle.page_spec.specs.Injection.{Injection}

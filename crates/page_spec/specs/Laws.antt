@@ -1,10 +1,12 @@
 -- The laws of this crate.
 use Rattle.std.specs.Prelude.{◌≡◌, ℕ, false, ◌==◌, List, [], ◌∷◌, ◌++◌, All, Some, None, Result, Ok, IsUtf8}
+use Rattle.page_spec.specs.declared.kinds.Piece.{Piece}
 use Rattle.page_spec.specs.declared.kinds.PieceKind.TheVariants.{Text, Start, End, Raw}
 use Rattle.page_spec.specs.declared.kinds.InjectFault.{InjectFault}
 use Rattle.page_spec.specs.Pieces.{Part, part, Pieces, page_of}
 use Rattle.page_spec.specs.Attributes.{Value, attribute}
 use Rattle.page_spec.specs.ImportMaps.{import_maps}
+use Rattle.page_spec.specs.Places.{IsPieceOf, AtBoundaries}
 use Rattle.page_spec.specs.Injection.{start_tag, end_tag, Injection}
 
 -- a page has one list of pieces
@@ -26,6 +28,10 @@ PiecesCover = (page : List ℕ) (parts : List Part) → Pieces None page parts �
 -- no piece of a page begins or ends within a character
 abbrev pub PiecesAreUtf8 : Type 0
 PiecesAreUtf8 = (page : List ℕ) (parts : List Part) → Pieces None page parts → IsUtf8 page → All (λ p. IsUtf8 p.text) parts
+
+-- no character is cut at the places of a piece
+abbrev pub PiecesEndAtBoundaries : Type 0
+PiecesEndAtBoundaries = (page : List ℕ) (piece : Piece) → IsPieceOf page piece → IsUtf8 page → AtBoundaries page piece.from piece.to
 
 -- the tag ends with the value's tail, which begins with its text
 pub record StandsIn (tag : List ℕ) (value : Value) : Type 0 where

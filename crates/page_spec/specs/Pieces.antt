@@ -8,7 +8,6 @@
 --     Part                         a piece as its kind and its text
 --     Pieces within bytes parts    the pieces of the bytes are these
 --     page_of parts                the texts of the pieces one behind the other
---     spans from parts             the pieces with their places, from an offset on
 -- own: a script's raw text ends at its first end tag, whatever `<!--` stands before it; `noscript` is read as with scripting on.
 use Rattle.std.specs.Char.{is_ascii_alphabetic, is_ascii_whitespace, to_ascii_lowercase}
 use Rattle.std.specs.Prelude.{◌≡◌, ℕ, ◌+◌, Bool, true, false, ◌&&◌, ◌||◌, ◌==◌, List, [], ◌∷◌, ◌++◌, length, if◌then◌else◌, Option, Some, None, option_map, is_some, codes, bytes_eq}
@@ -133,11 +132,3 @@ pub data Pieces : Option RawElement → List ℕ → List Part → Type 0 where
 abbrev pub page_of : List Part → List ℕ
 page_of [] = []
 page_of (p ∷ parts) = p.text ++ page_of parts
-
--- the piece of a part that begins at the offset
-abbrev pub span : ℕ → Part → Piece
-span n p = record { kind = p.kind; from = n; to = n + length p.text }
-
-abbrev pub spans : ℕ → List Part → List Piece
-spans n [] = []
-spans n (p ∷ parts) = span n p ∷ spans (n + length p.text) parts

@@ -5,7 +5,7 @@
 #![tactic(auto)]
 
 ghost use Rattle.page_spec.specs.Examples.{WorkedExamples};
-ghost use Rattle.page_spec.specs.Laws.{OnePieces, SomePieces, PiecesCover, PiecesAreUtf8, ValuesStandInTags, OneInjection, SomeInjection, InjectedPieces, OneMapAfter, SamePageAgain, InjectedIsUtf8};
+ghost use Rattle.page_spec.specs.Laws.{OnePieces, SomePieces, PiecesCover, PiecesAreUtf8, PiecesEndAtBoundaries, ValuesStandInTags, OneInjection, SomeInjection, InjectedPieces, OneMapAfter, SamePageAgain, InjectedIsUtf8};
 
 mod kinds;
 
@@ -29,6 +29,11 @@ pub fn pieces_cover()
 /// No piece begins or ends within a character.
 pub fn pieces_are_utf8()
     ensures { PiecesAreUtf8 }
+{}
+
+/// No character is cut at the places of a piece.
+pub fn pieces_end_at_boundaries()
+    ensures { PiecesEndAtBoundaries }
 {}
 
 /// An attribute's value stands in its tag.
