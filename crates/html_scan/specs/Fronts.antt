@@ -1,8 +1,26 @@
--- The piece at the front, as the code has it.
---     front_of f      the definition's piece of the code's one
+-- What the code finds, in the words of the definitions.
+--     front_of f      the piece at the front
+--     value_of v      an attribute's value
+--     test_of end     whether a byte ends a part of an attribute
+use Rattle.std.specs.Char.{is_ascii_whitespace}
+use Rattle.std.specs.Prelude.{ℕ, Bool, not, ◌==◌}
 use Rattle.page_spec.specs.Pieces.{front}
-use Rattle.page_spec.specs.Pieces as definition
+use Rattle.page_spec.specs.Pieces as pieces
+use Rattle.page_spec.specs.Attributes.{value, ends_attribute_name, ends_unquoted}
+use Rattle.page_spec.specs.Attributes as attributes
+use Rattle.html_scan.specs.declared.values.End.{End}
+use Rattle.html_scan.specs.declared.values.End.TheVariants.{Whitespace, Name, Quote, Unquoted}
+use Rattle.html_scan.specs.declared.values.Value.{Value}
 use Rattle.html_scan.specs.declared.front.Front.{Front}
 
-abbrev pub front_of : Front → definition.Front
+abbrev pub front_of : Front → pieces.Front
 front_of f = front f.kind f.within f.rest.now
+
+abbrev pub value_of : Value → attributes.Value
+value_of v = value v.text.now v.tail.now
+
+abbrev pub test_of : End → ℕ → Bool
+test_of Whitespace = λ b. not (is_ascii_whitespace b)
+test_of Name = ends_attribute_name
+test_of (Quote quote) = λ b. b == quote
+test_of Unquoted = ends_unquoted

@@ -9,6 +9,7 @@ use crate::names::{closes, is_letter, is_named, raw_element};
 use page_spec::{PieceKind, RawElement};
 
 /// The piece at the front of some bytes: its kind, the element whose raw text comes behind it, and what is left behind it.
+#[derive(Clone, Copy)]
 pub struct Front<'a> {
     pub kind: PieceKind,
     pub within: Option<RawElement>,

@@ -4,14 +4,16 @@
 //! Each byte is read a bounded number of times, and none but [`pieces`] takes memory.
 #![tactic(auto)]
 
-//mod attribute;
+
 mod front;
 mod markup;
 mod names;
-//mod scanner;
+mod scanner;
+mod values;
 //mod whole;
 
-//pub use attribute::attribute;
+
 pub use page_spec::{Piece, PieceKind};
-//pub use scanner::Scanner;
+pub use scanner::Scanner;
+pub use values::attribute;
 //pub use whole::{Pieces, ScanFault, pieces};

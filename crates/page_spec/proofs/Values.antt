@@ -9,7 +9,7 @@ use Rattle.page_spec.specs.Tokenizer.{lowered, is_last, next_state}
 use Rattle.page_spec.specs.Attributes.{before, behind, skip_whitespace, Value, value, ends_unquoted, value_at, value_behind, ends_attribute_name, Attribute, attribute_at, begins_attribute, attributes, first_named, attribute}
 use Rattle.page_spec.specs.Laws.{StandsIn, ValuesStandInTags}
 
-parted : (is_end : ℕ → Bool) (bytes : List ℕ) → bytes ≡ before is_end bytes ++ behind is_end bytes
+pub parted : (is_end : ℕ → Bool) (bytes : List ℕ) → bytes ≡ before is_end bytes ++ behind is_end bytes
 parted is_end [] = refl
 parted is_end (b ∷ rest) = by_test (is_end b) (parted is_end rest) where
   by_test : (c : Bool) → rest ≡ before is_end rest ++ behind is_end rest → b ∷ rest ≡ (if c then [] else b ∷ before is_end rest) ++ (if c then b ∷ rest else behind is_end rest)
