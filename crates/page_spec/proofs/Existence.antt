@@ -8,7 +8,7 @@ use Rattle.page_spec.specs.Laws.{SomePieces}
 use Rattle.page_spec.proofs.Shapes.{Shape, shape_of, first_cut}
 use Rattle.page_spec.proofs.Shapes.Shape.{raw_text, words, start, bare, cut_off}
 
-abbrev size : Option RawElement → List ℕ → ℕ
+abbrev pub size : Option RawElement → List ℕ → ℕ
 size None bytes = 2 * length bytes
 size (Some element) bytes = 2 * length bytes + 1
 
@@ -38,7 +38,7 @@ smaller_by within bytes f l (start t rest e w o p) = next_size (raw_element (tag
 smaller_by within bytes f l (bare k t b e w o) = next_size None _ bytes (longer_by 60 t bytes _ e)
 smaller_by within bytes f l cut_off = l
 
-smaller : (within : Option RawElement) (bytes : List ℕ) (f : Front) → first_piece within bytes ≡ Some f → size f.within f.rest < size within bytes
+pub smaller : (within : Option RawElement) (bytes : List ℕ) (f : Front) → first_piece within bytes ≡ Some f → size f.within f.rest < size within bytes
 smaller within bytes f e = smaller_by within bytes f (something within bytes f e) (shape_of within bytes f e)
 
 pub record HasPiecesWithin (within : Option RawElement) (bytes : List ℕ) : Type 0 where
