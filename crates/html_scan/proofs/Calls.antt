@@ -48,7 +48,8 @@ call page within rest kind after left s e =
       fits = omega (arith, whole, parted);
       scanner = record { before = s.before ++ part kind c.text ∷ []; reached = read_further page s.before within after rest c.text left kind s.reached c.cut (sym e); utf8 = s.utf8 };
       found = read_piece page s.before within after rest c.text left (found_at page rest kind left) s.reached c.cut (sym e) place;
-      stepped = record { text = c.text; cut = c.cut; first = sym e; from = omega (arith, whole); to = omega (arith, from, to) } }
+      stepped = record { text = c.text; cut = c.cut; first = sym e; from = omega (arith, whole); to = omega (arith, from, to) };
+    }
 
 pub found_in : (view : List ℕ × (Option RawElement × List ℕ)) (page : List ℕ) (within : Option RawElement) (rest : List ℕ) (kind : PieceKind) (after : Option RawElement) (left : List ℕ) → view ≡ (page, (within, rest)) → IsScanner page within rest → Some (front kind after left) ≡ first_piece within rest → IsPieceOf view.0 (found_at page rest kind left)
 found_in view page within rest kind after left v s e = rw v ((call page within rest kind after left s e).found)

@@ -22,7 +22,11 @@ fn opening_end(bytes: &[u8]) -> Option<PieceKind>
 {
     match bytes.split_first() {
         None => None,
-        Some((b, _)) => Some(if is_letter(*b) { PieceKind::End } else { PieceKind::Comment }),
+        Some((b, _)) => Some(if is_letter(*b) {
+            PieceKind::End
+        } else {
+            PieceKind::Comment
+        }),
     }
 }
 

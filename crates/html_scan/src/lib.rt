@@ -4,16 +4,14 @@
 //! Each byte is read a bounded number of times, and none but [`pieces`] takes memory.
 #![tactic(auto)]
 
-
 mod front;
 mod markup;
 mod names;
 mod scanner;
 mod values;
-//mod whole;
-
+mod whole;
 
 pub use page_spec::{Piece, PieceKind};
 pub use scanner::Scanner;
 pub use values::attribute;
-//pub use whole::{Pieces, ScanFault, pieces};
+pub use whole::{Pieces, ScanFault, pieces};

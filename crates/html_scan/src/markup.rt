@@ -65,7 +65,11 @@ fn behind_attribute_name(b: u8) -> State
     } else if b == b'/' {
         State::BeforeAttributeName
     } else {
-        either(is_whitespace(b), State::AfterAttributeName, State::AttributeName)
+        either(
+            is_whitespace(b),
+            State::AfterAttributeName,
+            State::AttributeName,
+        )
     }
 }
 
@@ -77,7 +81,11 @@ fn behind_equals(b: u8) -> State
     } else if b == b'\'' {
         State::AttributeValueSingleQuoted
     } else {
-        either(is_whitespace(b), State::BeforeAttributeValue, State::AttributeValueUnquoted)
+        either(
+            is_whitespace(b),
+            State::BeforeAttributeValue,
+            State::AttributeValueUnquoted,
+        )
     }
 }
 
@@ -90,23 +98,47 @@ pub fn next_state(state: State, b: u8) -> State
     match state {
         State::TagOpen => behind_less(b),
         State::EndTagOpen => either(is_letter(b), State::TagName, State::BogusComment),
-        State::MarkupDeclarationOpen => either(dash, State::MarkupDeclarationDash, State::BogusComment),
+        State::MarkupDeclarationOpen => either(
+            dash,
+            State::MarkupDeclarationDash,
+            State::BogusComment,
+        ),
         State::MarkupDeclarationDash => either(dash, State::CommentStart, State::BogusComment),
         State::BogusComment => State::BogusComment,
         State::CommentStart => either(dash, State::CommentStartDash, State::Comment),
         State::CommentStartDash => either(dash, State::CommentEnd, State::Comment),
         State::Comment => either(dash, State::CommentEndDash, State::Comment),
         State::CommentEndDash => either(dash, State::CommentEnd, State::Comment),
-        State::CommentEnd => either(b == b'!', State::CommentEndBang, either(dash, State::CommentEnd, State::Comment)),
+        State::CommentEnd => either(
+            b == b'!',
+            State::CommentEndBang,
+            either(dash, State::CommentEnd, State::Comment),
+        ),
         State::CommentEndBang => either(dash, State::CommentEndDash, State::Comment),
         State::TagName => either(skipped, State::BeforeAttributeName, State::TagName),
-        State::BeforeAttributeName => either(skipped, State::BeforeAttributeName, State::AttributeName),
+        State::BeforeAttributeName => either(
+            skipped,
+            State::BeforeAttributeName,
+            State::AttributeName,
+        ),
         State::AttributeName => behind_attribute_name(b),
         State::AfterAttributeName => behind_attribute_name(b),
         State::BeforeAttributeValue => behind_equals(b),
-        State::AttributeValueDoubleQuoted => either(b == b'"', State::BeforeAttributeName, State::AttributeValueDoubleQuoted),
-        State::AttributeValueSingleQuoted => either(b == b'\'', State::BeforeAttributeName, State::AttributeValueSingleQuoted),
-        State::AttributeValueUnquoted => either(is_whitespace(b), State::BeforeAttributeName, State::AttributeValueUnquoted),
+        State::AttributeValueDoubleQuoted => either(
+            b == b'"',
+            State::BeforeAttributeName,
+            State::AttributeValueDoubleQuoted,
+        ),
+        State::AttributeValueSingleQuoted => either(
+            b == b'\'',
+            State::BeforeAttributeName,
+            State::AttributeValueSingleQuoted,
+        ),
+        State::AttributeValueUnquoted => either(
+            is_whitespace(b),
+            State::BeforeAttributeName,
+            State::AttributeValueUnquoted,
+        ),
     }
 }
 
