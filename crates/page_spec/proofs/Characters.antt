@@ -20,14 +20,14 @@ pub record Both (xs ys : List ℕ) : Type 0 where
   pub first : IsUtf8 xs
   pub second : IsUtf8 ys
 
-at_seam : (xs ys : List ℕ) → IsUtf8 (xs ++ ys) → IsCharBoundary (xs ++ ys) (length xs) → Both xs ys
+pub at_seam : (xs ys : List ℕ) → IsUtf8 (xs ++ ys) → IsCharBoundary (xs ++ ys) (length xs) → Both xs ys
 at_seam xs ys u b = record { first = subst IsUtf8 (take-append_seam xs ys) (IsUtf8-take (xs ++ ys) (length xs) u b); second = subst IsUtf8 (drop-append_seam xs ys) (IsUtf8-drop (xs ++ ys) (length xs) u b) }
 
 nothing_behind : (xs : List ℕ) → xs ++ [] ≡ xs
 nothing_behind [] = refl
 nothing_behind (x ∷ xs) = ap (λ r. x ∷ r) (nothing_behind xs)
 
-at_end : (xs : List ℕ) → IsUtf8 (xs ++ []) → Both xs []
+pub at_end : (xs : List ℕ) → IsUtf8 (xs ++ []) → Both xs []
 at_end xs u = record { first = subst IsUtf8 (nothing_behind xs) u; second = IsUtf8-nil }
 
 before_markup : (xs ys : List ℕ) → IsUtf8 (xs ++ 60 ∷ ys) → Both xs (60 ∷ ys)
@@ -82,7 +82,7 @@ behind_all : (before parts : List Part) → All (λ p. IsUtf8 p.text) (before ++
 behind_all [] parts a = a
 behind_all (q ∷ before) parts a = behind_all before parts (All-tail (λ p. IsUtf8 p.text) q (before ++ parts) a)
 
-boundary : (page xs ys : List ℕ) (n : ℕ) → page ≡ xs ++ ys → n ≡ length xs → IsUtf8 ys → IsCharBoundary page n
+pub boundary : (page xs ys : List ℕ) (n : ℕ) → page ≡ xs ++ ys → n ≡ length xs → IsUtf8 ys → IsCharBoundary page n
 boundary page xs ys n e l u = subst (λ n. IsCharBoundary page n) (sym l) (IsCharBoundary-at_seam page xs ys e u)
 
 pub pieces_end_at_boundaries : PiecesEndAtBoundaries
@@ -93,4 +93,5 @@ pieces_end_at_boundaries page found o u =
     let further : page ≡ (page_of o.before ++ o.p.text) ++ page_of o.behind = whole ∙ sym (append_assoc (page_of o.before) o.p.text (page_of o.behind)) in
     record {
       begin = boundary page (page_of o.before) (page_of (o.p ∷ o.behind)) found.from whole (ap (λ s. s.from) o.is) (page_utf8 (o.p ∷ o.behind) all);
-      end = boundary page (page_of o.before ++ o.p.text) (page_of o.behind) found.to further (ap (λ s. s.to) o.is ∙ sym (length-append (page_of o.before) o.p.text)) (page_utf8 o.behind rest) }
+      end = boundary page (page_of o.before ++ o.p.text) (page_of o.behind) found.to further (ap (λ s. s.to) o.is ∙ sym (length-append (page_of o.before) o.p.text)) (page_utf8 o.behind rest);
+    }

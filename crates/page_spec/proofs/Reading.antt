@@ -7,7 +7,7 @@ use Rattle.page_spec.specs.declared.kinds.Piece.{Piece}
 use Rattle.page_spec.specs.declared.kinds.PieceKind.{PieceKind}
 use Rattle.page_spec.specs.Pieces.{front, first_piece, Part, part, Pieces, page_of}
 use Rattle.page_spec.specs.Pieces.Pieces.{piece}
-use Rattle.page_spec.specs.Places.{span, spans, Reaches, IsPieceOf, text_at}
+use Rattle.page_spec.specs.Places.{span, Reaches, IsPieceOf, text_at}
 use Rattle.page_spec.proofs.Cover.{pieces_cover, page_of-append}
 use Rattle.page_spec.proofs.Existence.{some_pieces_within}
 
@@ -29,7 +29,8 @@ read_further page before within next bytes text rest kind r c e =
     let p = part kind text in
     record {
       cut = r.cut ∙ (ap (λ b. page_of before ++ b) c ∙ (sym (append_assoc (page_of before) text rest) ∙ ap (λ b. b ++ rest) (sym (one_more_page before p))));
-      onward = λ parts x. subst (λ ps. Pieces None page ps) (sym (one_more before p parts)) (r.onward (p ∷ parts) (piece {rest = rest} c e x)) }
+      onward = λ parts x. subst (λ ps. Pieces None page ps) (sym (one_more before p parts)) (r.onward (p ∷ parts) (piece {rest = rest} c e x));
+    }
 
 pub read_piece : (page : List ℕ) (before : List Part) (within next : Option RawElement) (bytes text rest : List ℕ) (found : Piece) → Reaches page before within bytes → bytes ≡ text ++ rest → first_piece within bytes ≡ Some (front found.kind next rest) → found ≡ span (length (page_of before)) (part found.kind text) → IsPieceOf page found
 read_piece page before within next bytes text rest found r c e s =

@@ -6,7 +6,7 @@ use Rattle.page_spec.specs.declared.kinds.InjectFault.{InjectFault}
 use Rattle.page_spec.specs.Pieces.{Part, part, Pieces, page_of}
 use Rattle.page_spec.specs.Attributes.{Value, attribute}
 use Rattle.page_spec.specs.ImportMaps.{import_maps}
-use Rattle.page_spec.specs.Places.{IsPieceOf, AtBoundaries}
+use Rattle.page_spec.specs.Places.{IsPieceOf, value_span, AtBoundaries}
 use Rattle.page_spec.specs.Injection.{start_tag, end_tag, Injection}
 
 -- a page has one list of pieces
@@ -43,6 +43,10 @@ pub record StandsIn (tag : List ℕ) (value : Value) : Type 0 where
 -- an attribute's value stands in its tag
 abbrev pub ValuesStandInTags : Type 0
 ValuesStandInTags = (name tag : List ℕ) (value : Value) → attribute name tag ≡ Some value → StandsIn tag value
+
+-- no character is cut at the places of an attribute's value
+abbrev pub ValuesEndAtBoundaries : Type 0
+ValuesEndAtBoundaries = (page name : List ℕ) (piece : Piece) (span : ℕ × ℕ) → IsPieceOf page piece → IsUtf8 page → value_span name page piece ≡ Some span → AtBoundaries page span.0 span.1
 
 -- a map and a page have one outcome
 abbrev pub OneInjection : Type 0

@@ -10,8 +10,7 @@
 --     page_of parts                the texts of the pieces one behind the other
 -- own: a script's raw text ends at its first end tag, whatever `<!--` stands before it; `noscript` is read as with scripting on.
 use Rattle.std.specs.Char.{is_ascii_alphabetic, is_ascii_whitespace, to_ascii_lowercase}
-use Rattle.std.specs.Prelude.{◌≡◌, ℕ, ◌+◌, Bool, true, false, ◌&&◌, ◌||◌, ◌==◌, List, [], ◌∷◌, ◌++◌, length, if◌then◌else◌, Option, Some, None, option_map, is_some, codes, bytes_eq}
-use Rattle.page_spec.specs.declared.kinds.Piece.{Piece}
+use Rattle.std.specs.Prelude.{◌≡◌, ℕ, Bool, true, false, ◌&&◌, ◌||◌, ◌==◌, List, [], ◌∷◌, ◌++◌, if◌then◌else◌, Option, Some, None, option_map, is_some, codes, bytes_eq}
 use Rattle.page_spec.specs.declared.kinds.PieceKind.{PieceKind}
 use Rattle.page_spec.specs.declared.kinds.PieceKind.TheVariants.{Text, Comment, Start, End, Raw, Broken}
 use Rattle.page_spec.specs.declared.kinds.RawElement.{RawElement}

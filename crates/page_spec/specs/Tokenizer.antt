@@ -7,7 +7,7 @@
 -- behind the `/` of a tag, is read as what stands before an attribute name. `<!` begins no doctype and no CDATA section, but a
 -- bogus comment where no two dashes follow.
 use Rattle.std.specs.Char.{is_ascii_alphabetic, is_ascii_whitespace, to_ascii_lowercase}
-use Rattle.std.specs.Prelude.{ℕ, ◌+◌, Bool, true, false, ◌&&◌, ◌||◌, ◌==◌, nat_le, List, [], ◌∷◌, if◌then◌else◌, Option, Some, None, map}
+use Rattle.std.specs.Prelude.{ℕ, Bool, true, false, ◌&&◌, ◌||◌, ◌==◌, List, [], ◌∷◌, if◌then◌else◌, Option, Some, None, map}
 use Rattle.page_spec.specs.declared.kinds.State.{State}
 use Rattle.page_spec.specs.declared.kinds.State.TheVariants.{TagOpen, EndTagOpen, MarkupDeclarationOpen, MarkupDeclarationDash, BogusComment, CommentStart, CommentStartDash, Comment, CommentEndDash, CommentEnd, CommentEndBang, TagName, BeforeAttributeName, AttributeName, AfterAttributeName, BeforeAttributeValue, AttributeValueDoubleQuoted, AttributeValueSingleQuoted, AttributeValueUnquoted}
 

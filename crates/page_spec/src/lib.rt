@@ -5,7 +5,7 @@
 #![tactic(auto)]
 
 ghost use Rattle.page_spec.specs.Examples.{WorkedExamples};
-ghost use Rattle.page_spec.specs.Laws.{OnePieces, SomePieces, PiecesCover, PiecesAreUtf8, PiecesEndAtBoundaries, ValuesStandInTags, OneInjection, SomeInjection, InjectedPieces, OneMapAfter, SamePageAgain, InjectedIsUtf8};
+ghost use Rattle.page_spec.specs.Laws.{OnePieces, SomePieces, PiecesCover, PiecesAreUtf8, PiecesEndAtBoundaries, ValuesStandInTags, ValuesEndAtBoundaries, OneInjection, SomeInjection, InjectedPieces, OneMapAfter, SamePageAgain, InjectedIsUtf8};
 
 mod kinds;
 
@@ -39,6 +39,11 @@ pub fn pieces_end_at_boundaries()
 /// An attribute's value stands in its tag.
 pub fn values_stand_in_tags()
     ensures { ValuesStandInTags }
+{}
+
+/// No character is cut at the places of an attribute's value.
+pub fn values_end_at_boundaries()
+    ensures { ValuesEndAtBoundaries }
 {}
 
 /// What comes of a map and a page is one page, or one fault.
