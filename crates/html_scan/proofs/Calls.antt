@@ -12,8 +12,8 @@ use Rattle.page_spec.proofs.Reading.{nothing_read, read_further, read_piece}
 use Rattle.page_spec.proofs.Characters.{pieces_end_at_boundaries}
 use Rattle.html_scan.specs.Steps.{IsScanner, Stepped}
 
-pub begun : (page : List ℕ) → IsUtf8 page → IsScanner page None page
-begun page u = record { before = []; reached = nothing_read page; utf8 = u }
+pub begun : (page : List ℕ) → IsScanner page None page
+begun page = record { before = []; reached = nothing_read page }
 
 rest_fits : (page : List ℕ) (within : Option RawElement) (rest : List ℕ) → IsScanner page within rest → length rest ≤ length page
 rest_fits page within rest s = let l = ap length s.reached.cut in let m = length-append (page_of s.before) rest in omega (arith, l, m)
@@ -46,16 +46,13 @@ call page within rest kind after left s e =
     let place : found_at page rest kind left ≡ span (length (page_of s.before)) (part kind c.text) = ap (λ n. record { kind = kind; from = n; to = length page - length left }) from ∙ ap (λ n. record { kind = kind; from = length (page_of s.before); to = n }) to in
     record {
       fits = omega (arith, whole, parted);
-      scanner = record { before = s.before ++ part kind c.text ∷ []; reached = read_further page s.before within after rest c.text left kind s.reached c.cut (sym e); utf8 = s.utf8 };
+      scanner = record { before = s.before ++ part kind c.text ∷ []; reached = read_further page s.before within after rest c.text left kind s.reached c.cut (sym e) };
       found = read_piece page s.before within after rest c.text left (found_at page rest kind left) s.reached c.cut (sym e) place;
       stepped = record { text = c.text; cut = c.cut; first = sym e; from = omega (arith, whole); to = omega (arith, from, to) };
     }
 
 pub found_in : (view : List ℕ × (Option RawElement × List ℕ)) (page : List ℕ) (within : Option RawElement) (rest : List ℕ) (kind : PieceKind) (after : Option RawElement) (left : List ℕ) → view ≡ (page, (within, rest)) → IsScanner page within rest → Some (front kind after left) ≡ first_piece within rest → IsPieceOf view.0 (found_at page rest kind left)
 found_in view page within rest kind after left v s e = rw v ((call page within rest kind after left s e).found)
-
-pub bounded_in : (view : List ℕ × (Option RawElement × List ℕ)) (page : List ℕ) (within : Option RawElement) (rest : List ℕ) (kind : PieceKind) (after : Option RawElement) (left : List ℕ) → view ≡ (page, (within, rest)) → IsScanner page within rest → Some (front kind after left) ≡ first_piece within rest → AtBoundaries view.0 (length page - length rest) (length page - length left)
-bounded_in view page within rest kind after left v s e = rw v (pieces_end_at_boundaries page (found_at page rest kind left) (call page within rest kind after left s e).found s.utf8)
 
 pub stepped_in : (view : List ℕ × (Option RawElement × List ℕ)) (page : List ℕ) (within : Option RawElement) (rest : List ℕ) (kind : PieceKind) (after : Option RawElement) (left : List ℕ) → view ≡ (page, (within, rest)) → IsScanner page within rest → Some (front kind after left) ≡ first_piece within rest → Stepped view.0 view.1.0 view.1.1 (found_at page rest kind left) after left
 stepped_in view page within rest kind after left v s e = rw v ((call page within rest kind after left s e).stepped)

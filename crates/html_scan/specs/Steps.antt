@@ -1,7 +1,7 @@
 -- What a scanner's calls say.
 --     IsScanner page within rest                     the page's pieces were read up to the rest; `within`: whose raw text comes there
 --     NextIs page within rest found after left       this piece, or none, comes next, and then that is left
-use Rattle.std.specs.Prelude.{◌≡◌, ℕ, ◌+◌, List, ◌++◌, Option, Some, None, length, IsUtf8}
+use Rattle.std.specs.Prelude.{◌≡◌, ℕ, ◌+◌, List, ◌++◌, Option, Some, None, length}
 use Rattle.page_spec.specs.declared.kinds.Piece.{Piece}
 use Rattle.page_spec.specs.declared.kinds.RawElement.{RawElement}
 use Rattle.page_spec.specs.Pieces.{front, first_piece, Part}
@@ -10,7 +10,6 @@ use Rattle.page_spec.specs.Places.{Reaches}
 pub record IsScanner (page : List ℕ) (within : Option RawElement) (rest : List ℕ) : Type 0 where
   pub before : List Part
   pub reached : Reaches page before within rest
-  pub utf8 : IsUtf8 page
 
 -- the text of the piece is what stands between what was left before it and what is left behind it
 pub record Stepped (page : List ℕ) (within : Option RawElement) (rest : List ℕ) (piece : Piece) (after : Option RawElement) (left : List ℕ) : Type 0 where

@@ -1,5 +1,5 @@
 ghost use Rattle.std.specs.Prelude.{◌≡◌, ℕ, List, None, IfSome};
-ghost use Rattle.page_spec.specs.Places.{IsPieceOf, AtBoundaries};
+ghost use Rattle.page_spec.specs.Places.{IsPieceOf};
 ghost use Rattle.html_scan.specs.Steps.{NextIs};
 
 use crate::front::first_piece;
@@ -48,7 +48,6 @@ impl<'a> Scanner<'a> {
     pub fn next(&mut self) -> Option<Piece>
         ensures page { self.new.0 ≡ self.old.0 }
         ensures piece { IfSome result (λ piece. IsPieceOf self.old.0 piece) }
-        ensures boundaries { IfSome result (λ piece. AtBoundaries self.old.0 piece.from piece.to) }
         ensures next { NextIs self.old.0 self.old.1.0 self.old.1.1 result self.new.1.0 self.new.1.1 }
     {
         match first_piece(self.within, self.rest) {

@@ -1,5 +1,5 @@
 use Rattle.std.proofs.Common.{sym}
-use Rattle.html_scan.proofs.Calls.{call, found_in, bounded_in, stepped_in}
+use Rattle.html_scan.proofs.Calls.{call, found_in, stepped_in}
 use Rattle.html_scan.proofs.scanner.Scanner.next.Goals as goal
 
 pub overflow_sub-to : goal.overflow_sub-to
@@ -10,9 +10,6 @@ invariant_of-self c = (call c.self.inside.page.now c.self.inside.within c.self.i
 
 pub returns-in-Some-clause-piece : goal.returns-in-Some-clause-piece
 returns-in-Some-clause-piece c = found_in c.args.self.now c.self.inside.page.now c.self.inside.within c.self.inside.rest.now c.in-Some.front.kind c.in-Some.front.within c.in-Some.front.rest.now (sym c.self.view_is) c.self.invariant c.in-Some.ensures
-
-pub returns-in-Some-clause-boundaries : goal.returns-in-Some-clause-boundaries
-returns-in-Some-clause-boundaries c = bounded_in c.args.self.now c.self.inside.page.now c.self.inside.within c.self.inside.rest.now c.in-Some.front.kind c.in-Some.front.within c.in-Some.front.rest.now (sym c.self.view_is) c.self.invariant c.in-Some.ensures
 
 pub returns-in-Some-clause-next : goal.returns-in-Some-clause-next
 returns-in-Some-clause-next c = stepped_in c.args.self.now c.self.inside.page.now c.self.inside.within c.self.inside.rest.now c.in-Some.front.kind c.in-Some.front.within c.in-Some.front.rest.now (sym c.self.view_is) c.self.invariant c.in-Some.ensures
