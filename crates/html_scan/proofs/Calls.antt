@@ -1,15 +1,13 @@
 -- What one call of the scanner does.
-use Rattle.std.specs.Prelude.{IsUtf8}
-use Rattle.std.proofs.Common.{◌≡◌, ℕ, ◌+◌, ◌-◌, ◌≤◌, List, [], ◌∷◌, ◌++◌, length, Option, Some, None, refl, sym, ◌∙◌, ap, subst, arith}
+use Rattle.std.proofs.Common.{◌≡◌, ℕ, ◌+◌, ◌-◌, ◌≤◌, List, [], ◌∷◌, ◌++◌, length, Option, Some, None, sym, ◌∙◌, ap, arith}
 use Rattle.std.proofs.lemmas.List.{length-append}
 use Rattle.page_spec.specs.declared.kinds.RawElement.{RawElement}
 use Rattle.page_spec.specs.declared.kinds.PieceKind.{PieceKind}
 use Rattle.page_spec.specs.declared.kinds.Piece.{Piece}
 use Rattle.page_spec.specs.Pieces.{front, first_piece, part, page_of}
-use Rattle.page_spec.specs.Places.{span, Reaches, IsPieceOf, AtBoundaries}
+use Rattle.page_spec.specs.Places.{span, IsPieceOf}
 use Rattle.page_spec.proofs.Shapes.{Cut, first_cut}
 use Rattle.page_spec.proofs.Reading.{nothing_read, read_further, read_piece}
-use Rattle.page_spec.proofs.Characters.{pieces_end_at_boundaries}
 use Rattle.html_scan.specs.Steps.{IsScanner, Stepped}
 
 pub begun : (page : List ℕ) → IsScanner page None page

@@ -1,17 +1,17 @@
 -- The pieces that were read so far, as a list.
-use Rattle.std.proofs.Common.{◌≡◌, ℕ, zero, suc, ◌+◌, ◌*◌, ◌≤◌, ◌<◌, List, [], ◌∷◌, ◌++◌, length, Bool, true, false, Option, Some, None, append_assoc, if◌then◌else◌, refl, sym, ◌∙◌, ap, subst, arith}
+use Rattle.std.proofs.Common.{◌≡◌, ℕ, ◌+◌, ◌<◌, List, [], ◌∷◌, ◌++◌, length, true, false, Option, Some, None, append_assoc, refl, sym, ◌∙◌, ap, subst, arith}
 use Rattle.std.proofs.lemmas.List.{length-append}
 use Rattle.page_spec.specs.declared.kinds.RawElement.{RawElement}
 use Rattle.page_spec.specs.declared.kinds.Piece.{Piece}
 use Rattle.page_spec.specs.declared.kinds.PieceKind.{PieceKind}
 use Rattle.page_spec.specs.declared.kinds.PieceKind.TheVariants.{Text, Comment, Start, End, Raw, Broken}
-use Rattle.page_spec.specs.Pieces.{Front, front, first_piece, Part, part, Pieces, page_of}
+use Rattle.page_spec.specs.Pieces.{front, first_piece, Part, part, Pieces, page_of}
 use Rattle.page_spec.specs.Pieces.Pieces.{none}
 use Rattle.page_spec.specs.ImportMaps.{is_broken}
 use Rattle.page_spec.specs.Places.{span, spans, broken_at, Reaches}
 use Rattle.page_spec.proofs.Existence.{size, smaller, some_pieces_within}
 use Rattle.page_spec.proofs.Reading.{nothing_read, read_further, one_more_page}
-use Rattle.html_scan.specs.Steps.{NextIs, Stepped}
+use Rattle.html_scan.specs.Steps.{Stepped}
 use Rattle.html_scan.specs.Listing.{Lists, Breaks}
 
 -- the pieces so far, none of them broken

@@ -1,12 +1,11 @@
 -- Where values stand.
-use Rattle.std.proofs.Common.{◌≡◌, ℕ, ◌+◌, ◌-◌, ◌≤◌, ◌<◌, List, ◌++◌, length, take, drop, Bool, Option, Some, refl, sym, ◌∙◌, ap, subst, arith}
+use Rattle.std.proofs.Common.{◌≡◌, ℕ, ◌+◌, ◌≤◌, List, ◌++◌, length, Bool, Some, sym, ◌∙◌, ap, arith}
 use Rattle.std.proofs.lemmas.List.{length-append}
 use Rattle.page_spec.specs.declared.kinds.Piece.{Piece}
-use Rattle.page_spec.specs.Attributes.{behind, before, Value, value, attribute}
+use Rattle.page_spec.specs.Attributes.{behind, before, Value, attribute}
 use Rattle.page_spec.specs.Places.{IsPieceOf, text_at}
-use Rattle.page_spec.specs.Laws.{StandsIn}
 use Rattle.page_spec.proofs.Values.{parted, values_stand_in_tags}
-use Rattle.page_spec.proofs.Reading.{Within, stands_within, text_is}
+use Rattle.page_spec.proofs.Reading.{text_is}
 
 pub behind_shorter : (is_end : ℕ → Bool) (bytes rest : List ℕ) → rest ≡ behind is_end bytes → length rest ≤ length bytes
 behind_shorter is_end bytes rest e =

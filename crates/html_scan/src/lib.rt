@@ -8,6 +8,8 @@ mod front;
 mod markup;
 mod names;
 mod scanner;
+#[cfg(test)]
+mod tests;
 mod values;
 mod whole;
 

@@ -1,6 +1,6 @@
 ghost use Rattle.std.specs.Prelude.{◌≡◌, ◌<◌, ◌==◌, ◌&&◌, ◌||◌, false, true, [], ◌∷◌, None, Some, length, MatchOption, if◌then◌else◌};
 ghost use Rattle.std.specs.Char.{is_ascii_alphabetic, is_ascii_whitespace};
-ghost use Rattle.page_spec.specs.declared.kinds.State.TheVariants.{TagOpen, AttributeName, BeforeAttributeValue};
+ghost use Rattle.page_spec.specs.declared.kinds.State.TheVariants.{TagOpen, BogusComment, Comment, BeforeAttributeName, AttributeName, BeforeAttributeValue};
 ghost use Rattle.page_spec.specs.Tokenizer.{may_end, is_last, next_state, behind_markup};
 
 use crate::names::{is_letter, is_whitespace};
@@ -89,6 +89,31 @@ fn behind_equals(b: u8) -> State
     }
 }
 
+// In the markup of a comment that no standard has, unless the test holds.
+fn or_bogus_comment(test: bool, state: State) -> State
+    ensures { result ≡ (if test then state else BogusComment) }
+{
+    if test { state } else { State::BogusComment }
+}
+
+// Within a comment, unless the test holds.
+fn or_comment(test: bool, state: State) -> State
+    ensures { result ≡ (if test then state else Comment) }
+{
+    if test { state } else { State::Comment }
+}
+
+// Before an attribute's name, where the test holds; else in the state still.
+fn leave(test: bool, state: State) -> State
+    ensures { result ≡ (if test then BeforeAttributeName else state) }
+{
+    if test {
+        State::BeforeAttributeName
+    } else {
+        state
+    }
+}
+
 /// The state behind a byte that isn't the last one of its tag or comment.
 pub fn next_state(state: State, b: u8) -> State
     ensures { result ≡ next_state state b }
@@ -97,48 +122,24 @@ pub fn next_state(state: State, b: u8) -> State
     let dash = b == b'-';
     match state {
         State::TagOpen => behind_less(b),
-        State::EndTagOpen => either(is_letter(b), State::TagName, State::BogusComment),
-        State::MarkupDeclarationOpen => either(
-            dash,
-            State::MarkupDeclarationDash,
-            State::BogusComment,
-        ),
-        State::MarkupDeclarationDash => either(dash, State::CommentStart, State::BogusComment),
+        State::EndTagOpen => or_bogus_comment(is_letter(b), State::TagName),
+        State::MarkupDeclarationOpen => or_bogus_comment(dash, State::MarkupDeclarationDash),
+        State::MarkupDeclarationDash => or_bogus_comment(dash, State::CommentStart),
         State::BogusComment => State::BogusComment,
-        State::CommentStart => either(dash, State::CommentStartDash, State::Comment),
-        State::CommentStartDash => either(dash, State::CommentEnd, State::Comment),
-        State::Comment => either(dash, State::CommentEndDash, State::Comment),
-        State::CommentEndDash => either(dash, State::CommentEnd, State::Comment),
-        State::CommentEnd => either(
-            b == b'!',
-            State::CommentEndBang,
-            either(dash, State::CommentEnd, State::Comment),
-        ),
-        State::CommentEndBang => either(dash, State::CommentEndDash, State::Comment),
-        State::TagName => either(skipped, State::BeforeAttributeName, State::TagName),
-        State::BeforeAttributeName => either(
-            skipped,
-            State::BeforeAttributeName,
-            State::AttributeName,
-        ),
+        State::CommentStart => or_comment(dash, State::CommentStartDash),
+        State::CommentStartDash => or_comment(dash, State::CommentEnd),
+        State::Comment => or_comment(dash, State::CommentEndDash),
+        State::CommentEndDash => or_comment(dash, State::CommentEnd),
+        State::CommentEnd => either(b == b'!', State::CommentEndBang, or_comment(dash, state)),
+        State::CommentEndBang => or_comment(dash, State::CommentEndDash),
+        State::TagName => leave(skipped, state),
+        State::BeforeAttributeName => leave(skipped, State::AttributeName),
         State::AttributeName => behind_attribute_name(b),
         State::AfterAttributeName => behind_attribute_name(b),
         State::BeforeAttributeValue => behind_equals(b),
-        State::AttributeValueDoubleQuoted => either(
-            b == b'"',
-            State::BeforeAttributeName,
-            State::AttributeValueDoubleQuoted,
-        ),
-        State::AttributeValueSingleQuoted => either(
-            b == b'\'',
-            State::BeforeAttributeName,
-            State::AttributeValueSingleQuoted,
-        ),
-        State::AttributeValueUnquoted => either(
-            is_whitespace(b),
-            State::BeforeAttributeName,
-            State::AttributeValueUnquoted,
-        ),
+        State::AttributeValueDoubleQuoted => leave(b == b'"', state),
+        State::AttributeValueSingleQuoted => leave(b == b'\'', state),
+        State::AttributeValueUnquoted => leave(is_whitespace(b), state),
     }
 }
 

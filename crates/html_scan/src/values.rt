@@ -3,7 +3,7 @@ ghost use Rattle.page_spec.specs.declared.kinds.State.TheVariants.{TagOpen};
 ghost use Rattle.page_spec.specs.Attributes.{before, behind, skip_whitespace, value, value_at, value_behind, attribute_at, is_in_name, attributes, first_named, attribute};
 ghost use Rattle.page_spec.specs.Places.{IsPieceOf, text_at, value_span};
 ghost use Rattle.page_spec.specs.Tokenizer.{lowered};
-ghost use Rattle.html_scan.specs.Fronts.{test_of, value_of};
+ghost use Rattle.html_scan.specs.Fronts.{test_of, value_of, value_if_named};
 
 use crate::markup::{is_last, next_state};
 use crate::names::{ends_name, is_whitespace};
@@ -130,7 +130,7 @@ fn is_in_name(state: State) -> bool
 
 // The value of the attribute whose name begins with the first byte, where it is the wanted one.
 fn value_if_named<'a>(wanted: &[u8], b: u8, rest: &'a [u8]) -> Option<Value<'a>>
-    ensures { option_map value_of result ≡ (if bytes_eq (lowered (attribute_at b rest.now).name) (lowered wanted.now) then Some (attribute_at b rest.now).value else None) }
+    ensures { option_map value_of result ≡ value_if_named wanted.now b rest.now }
 {
     let Some((first, others)) = wanted.split_first() else {
         return None;
