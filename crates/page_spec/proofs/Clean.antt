@@ -4,7 +4,7 @@ use Rattle.std.proofs.Common.{◌≡◌, ℕ, ◌+◌, List, [], ◌∷◌, leng
 use Rattle.page_spec.specs.declared.kinds.InjectFault.{InjectFault}
 use Rattle.page_spec.specs.declared.kinds.InjectFault.TheVariants.{PageUnclear, TwoMaps}
 use Rattle.page_spec.specs.Pieces.{Part}
-use Rattle.page_spec.specs.Attributes.{attribute}
+use Rattle.page_spec.specs.Attributes.{attribute_text}
 use Rattle.page_spec.specs.ImportMaps.{is_broken, is_start_of, is_script, raw_behind, begins_map}
 use Rattle.page_spec.specs.Faults.{holds_ampersand, is_unclear, begins_with, comment_at, raw_fault, fault_at, or_later, first_fault}
 
@@ -87,7 +87,7 @@ clean_is n seen parts (fine {p} {parts = more} f c) = ap (λ o. or_later o (firs
 -- ---- what is known of such pieces
 
 pub whole_piece : (seen : Bool) (p : Part) (parts : List Part) → Fine seen p parts → is_broken p.kind ≡ false
-whole_piece seen p parts f = first_of (is_broken p.kind) (is_start_of (codes "base") p) (is_script p && holds_ampersand (attribute (codes "type") p.text)) (begins_map p parts && is_some (attribute (codes "src") p.text)) f.clear where
+whole_piece seen p parts f = first_of (is_broken p.kind) (is_start_of (codes "base") p) (is_script p && holds_ampersand (attribute_text (codes "type") p.text)) (begins_map p parts && is_some (attribute_text (codes "src") p.text)) f.clear where
   first_of : (a b c d : Bool) → (a || b || c || d) ≡ false → a ≡ false
   first_of true b c d e = absurd (cc)
   first_of false b c d e = refl
@@ -95,7 +95,7 @@ whole_piece seen p parts f = first_of (is_broken p.kind) (is_start_of (codes "ba
 -- the parts behind it may be others that begin an import map element as well, and hide no comment in a script
 pub fine_moved : (seen : Bool) (p : Part) (parts others : List Part) → begins_map p parts ≡ begins_map p others → ((raw : List ℕ) → is_script p ≡ true → raw_behind others ≡ Some raw → comment_at 0 raw ≡ None) → Fine seen p parts → Fine seen p others
 fine_moved seen p parts others e plain f = record {
-  clear = subst (λ c. (is_broken p.kind || is_start_of (codes "base") p || is_script p && holds_ampersand (attribute (codes "type") p.text) || c && is_some (attribute (codes "src") p.text)) ≡ false) e f.clear;
+  clear = subst (λ c. (is_broken p.kind || is_start_of (codes "base") p || is_script p && holds_ampersand (attribute_text (codes "type") p.text) || c && is_some (attribute_text (codes "src") p.text)) ≡ false) e f.clear;
   single = subst (λ c. (seen && c) ≡ false) e f.single;
   plain = λ s raw r. plain raw s r;
 }

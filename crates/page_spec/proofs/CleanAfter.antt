@@ -4,7 +4,7 @@ use Rattle.std.proofs.Common.{◌≡◌, ℕ, ◌+◌, List, [], ◌∷◌, All,
 use Rattle.std.proofs.lemmas.List.Elements.{All-head, All-tail}
 use Rattle.page_spec.specs.declared.kinds.PieceKind.TheVariants.{Text, Start, End, Raw}
 use Rattle.page_spec.specs.Pieces.{Part, part}
-use Rattle.page_spec.specs.Attributes.{attribute}
+use Rattle.page_spec.specs.Attributes.{attribute, attribute_text}
 use Rattle.page_spec.specs.ImportMaps.{is_raw, is_map_start, raw_behind, map_of, begins_map, with_map, import_maps}
 use Rattle.page_spec.specs.Faults.{begins_with, comment_at}
 use Rattle.page_spec.specs.Injection.{start_tag, end_tag}
@@ -29,7 +29,7 @@ raw_begins_none text parts = ap is_some (no_start (part Raw text) parts (raw_is_
 raw_fine : (seen : Bool) (text : List ℕ) (parts : List Part) → Fine seen (part Raw text) parts
 raw_fine seen text parts =
     let n = raw_begins_none text parts in
-    record { clear = ap (λ c. c && is_some (attribute (codes "src") text)) n; single = ap (λ c. seen && c) n ∙ never seen; plain = λ s. absurd (cc) } where
+    record { clear = ap (λ c. c && is_some (attribute_text (codes "src") text)) n; single = ap (λ c. seen && c) n ∙ never seen; plain = λ s. absurd (cc) } where
       never : (b : Bool) → (b && false) ≡ false
       never true = refl
       never false = refl

@@ -4,9 +4,10 @@
 --     Value                        an attribute's value: its text, and the tag's bytes from the value's begin on
 --     attributes state bytes       the attributes in the rest of a tag, in order
 --     attribute name text          the value of the first attribute of that name in the tag; names are compared in lower case
+--     attribute_text name text     its text
 -- own: character references in values aren't decoded.
 use Rattle.std.specs.Char.{is_ascii_whitespace}
-use Rattle.std.specs.Prelude.{ℕ, Bool, true, false, not, ◌&&◌, ◌||◌, ◌==◌, List, [], ◌∷◌, if◌then◌else◌, Option, Some, None, drop, bytes_eq}
+use Rattle.std.specs.Prelude.{ℕ, Bool, true, false, not, ◌&&◌, ◌||◌, ◌==◌, List, [], ◌∷◌, if◌then◌else◌, Option, Some, None, option_map, drop, bytes_eq}
 use Rattle.page_spec.specs.declared.kinds.State.{State}
 use Rattle.page_spec.specs.declared.kinds.State.TheVariants.{TagOpen, AttributeName}
 use Rattle.page_spec.specs.Tokenizer.{lowered, is_last, next_state}
@@ -76,3 +77,6 @@ first_named name (a ∷ more) = if bytes_eq (lowered a.name) (lowered name) then
 
 unfoldable pub attribute : List ℕ → List ℕ → Option Value
 attribute name text = first_named name (attributes TagOpen (drop 1 text))
+
+abbrev pub attribute_text : List ℕ → List ℕ → Option (List ℕ)
+attribute_text name text = option_map (λ value. value.text) (attribute name text)

@@ -11,19 +11,19 @@ use Rattle.std.specs.List.{list_any}
 use Rattle.page_spec.specs.declared.kinds.InjectFault.{InjectFault}
 use Rattle.page_spec.specs.declared.kinds.InjectFault.TheVariants.{PageUnclear, TwoMaps}
 use Rattle.page_spec.specs.Pieces.{Part}
-use Rattle.page_spec.specs.Attributes.{Value, attribute}
+use Rattle.page_spec.specs.Attributes.{attribute_text}
 use Rattle.page_spec.specs.ImportMaps.{is_broken, is_start_of, is_script, raw_behind, begins_map}
 
-abbrev pub holds_ampersand : Option Value → Bool
+abbrev pub holds_ampersand : Option (List ℕ) → Bool
 holds_ampersand None = false
-holds_ampersand (Some value) = list_any (λ b. b == 38) value.text
+holds_ampersand (Some text) = list_any (λ b. b == 38) text
 
 abbrev pub is_unclear : Part → List Part → Bool
 is_unclear p parts =
     is_broken p.kind
     || is_start_of (codes "base") p
-    || is_script p && holds_ampersand (attribute (codes "type") p.text)
-    || begins_map p parts && is_some (attribute (codes "src") p.text)
+    || is_script p && holds_ampersand (attribute_text (codes "type") p.text)
+    || begins_map p parts && is_some (attribute_text (codes "src") p.text)
 
 abbrev pub begins_with : List ℕ → List ℕ → Bool
 begins_with [] bytes = true

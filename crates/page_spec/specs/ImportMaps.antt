@@ -11,7 +11,7 @@ use Rattle.page_spec.specs.declared.kinds.PieceKind.{PieceKind}
 use Rattle.page_spec.specs.declared.kinds.PieceKind.TheVariants.{Start, End, Raw, Broken}
 use Rattle.page_spec.specs.Tokenizer.{lowered}
 use Rattle.page_spec.specs.Pieces.{tag_name, is_name, Part}
-use Rattle.page_spec.specs.Attributes.{skip_whitespace, Value, attribute}
+use Rattle.page_spec.specs.Attributes.{skip_whitespace, attribute_text}
 
 abbrev pub is_start : PieceKind → Bool
 is_start Start = true
@@ -41,12 +41,16 @@ is_script p = is_start_of (codes "script") p
 abbrev pub stripped : List ℕ → List ℕ
 stripped bytes = reverse (skip_whitespace (reverse (skip_whitespace bytes)))
 
-abbrev pub is_map_type : Option Value → Bool
+-- the type of an import map
+abbrev pub is_map_text : List ℕ → Bool
+is_map_text text = bytes_eq (lowered (stripped text)) (codes "importmap")
+
+abbrev pub is_map_type : Option (List ℕ) → Bool
 is_map_type None = false
-is_map_type (Some value) = bytes_eq (lowered (stripped value.text)) (codes "importmap")
+is_map_type (Some text) = is_map_text text
 
 unfoldable pub is_map_start : Part → Bool
-is_map_start p = is_script p && is_map_type (attribute (codes "type") p.text)
+is_map_start p = is_script p && is_map_type (attribute_text (codes "type") p.text)
 
 abbrev pub raw_behind : List Part → Option (List ℕ)
 raw_behind [] = None

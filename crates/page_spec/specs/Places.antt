@@ -4,13 +4,14 @@
 --     Reaches page before within rest   behind these pieces of the page the rest is left; `within`: whose raw text comes there
 --     IsPieceOf page piece              the piece is one of the page's
 --     text_at page piece                the bytes between the piece's places
+--     part_at page piece                the piece as its kind and its text
 --     value_span name page piece        where the value of the first attribute of that name stands; None but for a start tag
 --     broken_at from parts              where the first broken piece begins
 --     AtBoundaries page from to         no character of the page is cut at these places
 use Rattle.std.specs.Prelude.{◌≡◌, ℕ, ◌+◌, ◌-◌, List, [], ◌∷◌, ◌++◌, length, take, drop, if◌then◌else◌, Option, Some, None, option_map, IsCharBoundary}
 use Rattle.page_spec.specs.declared.kinds.Piece.{Piece}
 use Rattle.page_spec.specs.declared.kinds.RawElement.{RawElement}
-use Rattle.page_spec.specs.Pieces.{Part, Pieces, page_of}
+use Rattle.page_spec.specs.Pieces.{Part, part, Pieces, page_of}
 use Rattle.page_spec.specs.Attributes.{Value, attribute}
 use Rattle.page_spec.specs.ImportMaps.{is_start, is_broken}
 
@@ -34,6 +35,9 @@ pub record IsPieceOf (page : List ℕ) (piece : Piece) : Type 0 where
 
 abbrev pub text_at : List ℕ → Piece → List ℕ
 text_at page piece = take (piece.to - piece.from) (drop piece.from page)
+
+abbrev pub part_at : List ℕ → Piece → Part
+part_at page piece = part piece.kind (text_at page piece)
 
 -- the span of a value in a tag that ends at the offset
 abbrev pub span_of : ℕ → Value → ℕ × ℕ
