@@ -1,5 +1,6 @@
-ghost use Rattle.std.specs.Prelude.{◌≡◌, ◌==◌, ◌||◌, ◌&&◌, false, [], ◌∷◌, None, Some, length, codes, bytes_eq, option_map};
+ghost use Rattle.std.specs.Prelude.{◌≡◌, not, ◌==◌, ◌||◌, ◌&&◌, false, [], ◌∷◌, None, Some, length, codes, bytes_eq, option_map};
 ghost use Rattle.std.specs.Char.{is_ascii_alphabetic, is_ascii_whitespace, to_ascii_lowercase};
+ghost use Rattle.page_spec.specs.Attributes.{skip_whitespace};
 ghost use Rattle.page_spec.specs.Pieces.{ends_name, tag_name, is_name, name_of, raw_element, closes};
 
 use page_spec::RawElement;
@@ -8,6 +9,20 @@ pub fn is_whitespace(b: u8) -> bool
     ensures { result ≡ is_ascii_whitespace b }
 {
     b.is_ascii_whitespace()
+}
+
+/// The bytes from the first one on that isn't white space.
+pub fn skip_whitespace(bytes: &[u8]) -> &[u8]
+    ensures { result.now ≡ skip_whitespace bytes.now }
+{
+    let mut rest = bytes;
+    while let Some((b, more)) = rest.split_first() {
+        if !is_whitespace(*b) {
+            return rest;
+        }
+        rest = more;
+    }
+    rest
 }
 
 pub fn is_letter(b: u8) -> bool

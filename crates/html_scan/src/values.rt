@@ -1,19 +1,18 @@
 ghost use Rattle.std.specs.Prelude.{◌≡◌, ◌==◌, if◌then◌else◌, ◌||◌, ◌++◌, ◌≤◌, ◌+◌, ◌-◌, not, true, false, List, ℕ, [], ◌∷◌, None, Some, length, drop, option_map, bytes_eq};
 ghost use Rattle.page_spec.specs.declared.kinds.State.TheVariants.{TagOpen};
-ghost use Rattle.page_spec.specs.Attributes.{before, behind, skip_whitespace, value, value_at, value_behind, attribute_at, is_in_name, attributes, first_named, attribute};
+ghost use Rattle.page_spec.specs.Attributes.{before, behind, skip_whitespace, value, value_at, value_behind, attribute_at, is_in_name, attributes, first_named, attribute, attribute_text};
 ghost use Rattle.page_spec.specs.Places.{IsPieceOf, text_at, value_span};
 ghost use Rattle.page_spec.specs.Tokenizer.{lowered};
 ghost use Rattle.html_scan.specs.Fronts.{test_of, value_of, value_if_named};
 
 use crate::markup::{is_last, next_state};
-use crate::names::{ends_name, is_whitespace};
+use crate::names::{ends_name, is_whitespace, skip_whitespace};
+use crate::tags::text_of;
 use page_spec::{Piece, PieceKind, State};
 
 /// The bytes that end a part of an attribute.
 #[derive(Clone, Copy)]
 enum End {
-    /// What isn't white space.
-    Whitespace,
     /// What ends a name, behind its first byte.
     Name,
     /// The closing quote of a value.
@@ -33,7 +32,6 @@ fn ends(end: End, b: u8) -> bool
     ensures { result ≡ test_of end b }
 {
     match end {
-        End::Whitespace => !is_whitespace(b),
         End::Name => ends_name(b) || b == b'=',
         End::Quote(quote) => b == quote,
         End::Unquoted => is_whitespace(b) || b == b'>',
@@ -107,11 +105,11 @@ fn no_value<'a>(tail: &'a [u8]) -> Value<'a>
 fn value_behind<'a>(tail: &'a [u8]) -> Value<'a>
     ensures { value_of result ≡ value_behind tail.now (skip_whitespace tail.now) }
 {
-    match behind(End::Whitespace, tail).split_first() {
+    match skip_whitespace(tail).split_first() {
         None => no_value(tail),
         Some((b, rest)) => {
             if *b == b'=' {
-                value_at(behind(End::Whitespace, rest))
+                value_at(skip_whitespace(rest))
             } else {
                 no_value(tail)
             }
@@ -174,15 +172,6 @@ fn tag_value<'a>(wanted: &[u8], tag: &'a [u8]) -> Option<Value<'a>>
     }
 }
 
-// The bytes of the piece.
-fn text_at<'a>(text: &'a str, piece: Piece) -> &'a [u8]
-    requires order { piece.from ≤ piece.to }
-    requires most { piece.to ≤ length text.now }
-    ensures { result.now ≡ text_at text.now piece }
-{
-    &text.as_bytes()[piece.from..piece.to]
-}
-
 // Where a text stands that begins the tail of what ends at the offset.
 fn span_in(end: usize, tail: usize, text: usize) -> (usize, usize)
     requires tail { tail ≤ end }
@@ -193,16 +182,28 @@ fn span_in(end: usize, tail: usize, text: usize) -> (usize, usize)
     (from, from + text)
 }
 
-/// Where the value of the first attribute of that name stands in a start tag, as offsets in the text; names are compared without
-/// regard to ASCII case. An attribute without a value has the empty span behind its name. None where the piece is another one,
-/// or has no such attribute.
+/// The text of the value of the first attribute of that name in a tag; names are compared without regard to ASCII case, and
+/// character references aren't decoded.
+pub fn attribute_text<'a>(text: &'a str, piece: Piece, name: &[u8]) -> Option<&'a [u8]>
+    requires { IsPieceOf text.now piece }
+    ensures { option_map (λ t. t.now) result ≡ attribute_text name.now (text_at text.now piece) }
+{
+    match tag_value(name, text_of(text, piece)) {
+        None => None,
+        Some(value) => Some(value.text),
+    }
+}
+
+/// Where the value of the first attribute of that name stands in a start tag, as offsets in the text; names are
+/// compared without regard to ASCII case. An attribute without a value has the empty span behind its name. None where
+/// the piece is another one, or has no such attribute.
 pub fn attribute(text: &str, piece: Piece, name: &str) -> Option<(usize, usize)>
     requires { IsPieceOf text.now piece }
     ensures { result ≡ value_span name.now text.now piece }
 {
     match piece.kind {
         PieceKind::Start => {
-            match tag_value(name.as_bytes(), text_at(text, piece)) {
+            match tag_value(name.as_bytes(), text_of(text, piece)) {
                 None => None,
                 Some(value) => Some(span_in(piece.to, value.tail.len(), value.text.len())),
             }
