@@ -18,7 +18,7 @@ pub before_is : (is_end : ℕ → Bool) (bytes rest text : List ℕ) → rest �
 before_is is_end bytes rest text e go = go (before is_end bytes) (parted is_end bytes ∙ ap (λ r. before is_end bytes ++ r) (sym e))
 
 -- the text of a piece is as long as its places say
-text_length : (page : List ℕ) (found : Piece) → (o : IsPieceOf page found) → length (text_at page found) + found.from ≡ found.to
+pub text_length : (page : List ℕ) (found : Piece) → IsPieceOf page found → found.from + length (text_at page found) ≡ found.to
 text_length page found o =
     let l = ap length (text_is page found o) in
     let f = ap (λ s. s.from) o.is in

@@ -1,4 +1,4 @@
-ghost use Rattle.std.specs.Prelude.{◌≡◌, ◌&&◌, ◌≤◌, ◌-◌, false, [], ◌∷◌, None, Some, length, take, drop};
+ghost use Rattle.std.specs.Prelude.{◌≡◌, ◌&&◌, ◌≤◌, ◌+◌, ◌-◌, false, [], ◌∷◌, None, Some, length, take, drop};
 ghost use Rattle.page_spec.specs.Pieces.{tag_name, is_name};
 ghost use Rattle.page_spec.specs.ImportMaps.{is_start_of, is_end_of};
 ghost use Rattle.page_spec.specs.Places.{IsPieceOf, text_at, part_at};
@@ -17,7 +17,8 @@ fn part(bytes: &[u8], from: usize, to: usize) -> &[u8]
 /// The bytes of a piece.
 pub fn text_of<'a>(text: &'a str, piece: Piece) -> &'a [u8]
     requires { IsPieceOf text.now piece }
-    ensures { result.now ≡ text_at text.now piece }
+    ensures bytes { result.now ≡ text_at text.now piece }
+    ensures length { piece.from + length result.now ≡ piece.to }
 {
     part(text.as_bytes(), piece.from, piece.to)
 }
