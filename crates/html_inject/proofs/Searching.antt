@@ -114,6 +114,7 @@ map_is page piece None a later = by_start (is_map_start (part_at page piece)) wh
 map_is page piece (Some q) a later = by_start (is_map_start (part_at page piece)) (is_raw q.kind) where
   spans : some_span piece.to (piece.to + length (text_at page q)) ≡ some_span q.from q.to
   spans = ap (λ n. some_span n (n + length (text_at page q))) (sym a.second.1) ∙ ap (λ m. some_span q.from m) (text_length page q a.second.0)
+
   by_start : (c d : Bool) → span_or piece.to (if c then (if d then Some (text_at page q) else None) else None) later ≡ sooner (if c then (if d then Some (q.from, q.to) else None) else None) later
   by_start true true = spans
   by_start true false = refl
@@ -168,7 +169,7 @@ maps_on page before piece next after left found q go parts f =
     let t : n + length p.text ≡ piece.to = m ∙ q.to in
     let later = map_span (length (page_of (before ++ p ∷ []))) parts in
     let here : span_or (n + length p.text) (map_of p parts) (map_span (n + length p.text) parts) ≡ sooner (map_at page piece next) later =
-        ap (λ k. span_or (n + length p.text) (map_of p parts) (map_span k parts)) m ∙ (ap (λ k. span_or k (map_of p parts) later) t ∙ (ap (λ o. span_or piece.to o later) (map_alike p parts (parts_behind page next) f) ∙ map_is page piece next q.pair later)) in
+    ap (λ k. span_or (n + length p.text) (map_of p parts) (map_span k parts)) m ∙ (ap (λ k. span_or k (map_of p parts) later) t ∙ (ap (λ o. span_or piece.to o later) (map_alike p parts (parts_behind page next) f) ∙ map_is page piece next q.pair later)) in
     ap (λ ps. map_span 0 ps) (one_more before p parts) ∙ (go parts ∙ (ap (λ o. sooner found.map o) here ∙ sooner_assoc found.map (map_at page piece next) later))
 
 places_on : (page : List ℕ) (before : List Part) (piece : Piece) (next : Option Piece) (after : Option RawElement) (left : List ℕ) (found : Found) → (q : Pair page before piece next after left) → ((parts : List Part) → place 0 (before ++ part_at page piece ∷ parts) ≡ sooner found.place (place (length (page_of before)) (part_at page piece ∷ parts))) → (parts : List Part) → place 0 ((before ++ part_at page piece ∷ []) ++ parts) ≡ sooner (sooner found.place (place_at page piece)) (place (length (page_of (before ++ part_at page piece ∷ []))) parts)
@@ -178,21 +179,22 @@ places_on page before piece next after left found q go parts =
     let m = behind_place page before piece q.pair.first q.from in
     let later = place (length (page_of (before ++ p ∷ []))) parts in
     let here : (if is_place p then Some n else place (n + length p.text) parts) ≡ sooner (place_at page piece) later =
-        ap (λ k. if is_place p then Some n else place k parts) m ∙ (ap (λ k. if is_place p then Some k else later) (sym q.from) ∙ by_place (is_place p) piece.from later) in
+    ap (λ k. if is_place p then Some n else place k parts) m ∙ (ap (λ k. if is_place p then Some k else later) (sym q.from) ∙ by_place (is_place p) piece.from later) in
     ap (λ ps. place 0 ps) (one_more before p parts) ∙ (go parts ∙ (ap (λ o. sooner found.place o) here ∙ sooner_assoc found.place (place_at page piece) later)) where
-  by_place : (c : Bool) (k : ℕ) (later : Option ℕ) → (if c then Some k else later) ≡ sooner (if c then Some k else None) later
-  by_place true k later = refl
-  by_place false k later = refl
+      by_place : (c : Bool) (k : ℕ) (later : Option ℕ) → (if c then Some k else later) ≡ sooner (if c then Some k else None) later
+      by_place true k later = refl
+      by_place false k later = refl
 
 pub searched_further : (page : List ℕ) (view new : List ℕ × (Option RawElement × List ℕ)) (piece : Piece) (next : Option Piece) (found : Found) → (s : Searching page view (Some piece) found) → new.0 ≡ view.0 → Pair page s.before piece next new.1.0 new.1.1 → fault_at piece.from (is_some found.map) (part_at page piece) (parts_behind page next) ≡ None → Searching page new next (found_more page found piece next)
 searched_further page view new piece next found s same q none_here = record {
-    same = same ∙ s.same;
-    before = s.before ++ part_at page piece ∷ [];
-    read = read_at next q.read;
-    behind = q.behind;
-    faults = faults_on page s.before piece next new.1.0 new.1.1 found q (λ parts. s.faults (part_at page piece ∷ parts) refl) none_here;
-    maps = maps_on page s.before piece next new.1.0 new.1.1 found q (λ parts. s.maps (part_at page piece ∷ parts) refl);
-    places = places_on page s.before piece next new.1.0 new.1.1 found q (λ parts. s.places (part_at page piece ∷ parts)) } where
+  same = same ∙ s.same;
+  before = s.before ++ part_at page piece ∷ [];
+  read = read_at next q.read;
+  behind = q.behind;
+  faults = faults_on page s.before piece next new.1.0 new.1.1 found q (λ parts. s.faults (part_at page piece ∷ parts) refl) none_here;
+  maps = maps_on page s.before piece next new.1.0 new.1.1 found q (λ parts. s.maps (part_at page piece ∷ parts) refl);
+  places = places_on page s.before piece next new.1.0 new.1.1 found q (λ parts. s.places (part_at page piece ∷ parts));
+} where
   read_at : (next : Option Piece) → IsRead page (page, (new.1.0, new.1.1)) (s.before ++ part_at page piece ∷ []) next → IsRead page new (s.before ++ part_at page piece ∷ []) next
   read_at None r = r
   read_at (Some n) r = r
@@ -203,9 +205,9 @@ pub search_begins : (page : List ℕ) (view : List ℕ × (Option RawElement × 
 search_begins page view next found same n o e =
     let a = ahead page [] None page next view.1.0 view.1.1 (nothing_read page) n o in
     rw e (record { same = same; before = []; read = read_at next a.read; behind = a.behind; faults = λ parts f. refl; maps = λ parts f. refl; places = λ parts. refl }) where
-  read_at : (next : Option Piece) → IsRead page (page, (view.1.0, view.1.1)) [] next → IsRead page view [] next
-  read_at None r = r
-  read_at (Some n) r = r
+      read_at : (next : Option Piece) → IsRead page (page, (view.1.0, view.1.1)) [] next → IsRead page view [] next
+      read_at None r = r
+      read_at (Some n) r = r
 
 pub search_ends : (page : List ℕ) (view : List ℕ × (Option RawElement × List ℕ)) (found : Found) → Searching page view None found → IsSite page (chosen found.map found.place)
 search_ends page view found s =

@@ -152,5 +152,9 @@ pub fn place_at(text: &str, piece: Piece) -> Option<usize>
     requires { IsPieceOf text.now piece }
     ensures { result ≡ place_at text.now piece }
 {
-    if is_place(text, piece) { Some(piece.from) } else { None }
+    if is_place(text, piece) {
+        Some(piece.from)
+    } else {
+        None
+    }
 }

@@ -8,6 +8,8 @@ mod comments;
 mod import_maps;
 mod injection;
 mod search;
+#[cfg(test)]
+mod tests;
 mod written;
 
 pub use injection::inject;

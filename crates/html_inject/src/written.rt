@@ -4,14 +4,23 @@ ghost use Rattle.page_spec.specs.Injection.{replaced, element};
 use std::alloc::{AllocError, Global};
 
 /// The page with the map in place of what stands from one offset to the other.
-pub fn replaced(alloc: Global, page: &[u8], from: usize, to: usize, map: &[u8]) -> Result<Vec<u8>, AllocError>
+pub fn replaced(
+    alloc: Global,
+    page: &[u8],
+    from: usize,
+    to: usize,
+    map: &[u8],
+) -> Result<Vec<u8>, AllocError>
     requires from { from ≤ length page.now }
     requires to { to ≤ length page.now }
     ensures { IfOk result (λ new. new.items ≡ replaced from to map.now page.now) }
 {
     let front = &page[..from];
     let back = &page[to..];
-    let size = front.len().saturating_add(map.len()).saturating_add(back.len());
+    let size = front
+        .len()
+        .saturating_add(map.len())
+        .saturating_add(back.len());
     let mut new = Vec::with_capacity(alloc, size)?;
     new.extend_from_slice(front)?;
     new.extend_from_slice(map)?;
@@ -25,7 +34,10 @@ fn element(alloc: Global, map: &[u8]) -> Result<Vec<u8>, AllocError>
 {
     let start = b"<script type=\"importmap\">".as_slice();
     let end = b"</script>\n".as_slice();
-    let size = start.len().saturating_add(map.len()).saturating_add(end.len());
+    let size = start
+        .len()
+        .saturating_add(map.len())
+        .saturating_add(end.len());
     let mut new = Vec::with_capacity(alloc, size)?;
     new.extend_from_slice(start)?;
     new.extend_from_slice(map)?;
