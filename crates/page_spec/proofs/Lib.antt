@@ -1,0 +1,17 @@
+pub mod Markup
+pub mod Joins
+pub mod Shapes
+pub mod Cover
+pub mod Existence
+pub mod Characters
+pub mod Steps
+pub mod Reading
+pub mod Values
+pub mod ValueCharacters
+pub mod Clean
+pub mod Maps
+pub mod Putting
+pub mod PiecesAfter
+pub mod CleanAfter
+pub mod Injections
+pub mod Examples

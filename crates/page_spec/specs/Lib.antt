@@ -1,0 +1,9 @@
+pub mod Tokenizer
+pub mod Pieces
+pub mod Attributes
+pub mod ImportMaps
+pub mod Places
+pub mod Faults
+pub mod Injection
+pub mod Laws
+pub mod Examples
