@@ -6,3 +6,5 @@ pub mod Paired
 pub mod Fields
 pub mod Reserving
 pub mod SlotLaws
+mod BlockShares
+mod BlockMemory

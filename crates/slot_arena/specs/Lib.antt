@@ -3,6 +3,8 @@ pub mod Counts
 pub mod Lends
 pub mod Rows
 pub mod RowLends
+pub mod Blocks
+pub mod BlockLends
 pub mod Kept
 pub mod Calls
 pub mod Laws

@@ -3,6 +3,7 @@
 #![tactic(auto)]
 
 mod arena;
+mod block;
 mod chunk;
 mod laws;
 mod places;
