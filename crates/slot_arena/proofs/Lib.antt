@@ -8,3 +8,4 @@ pub mod Reserving
 pub mod SlotLaws
 mod BlockShares
 mod BlockMemory
+mod BlockLayout
