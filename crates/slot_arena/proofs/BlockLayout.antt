@@ -8,7 +8,7 @@ use mathlib.Core.Path.{◌≡◌, refl, sym, ap, ◌∙◌}
 use Prim.Native.Nat.{ℕ, zero, suc, ◌*◌, ◌<◌, ◌^◌}
 use native.Mathlib.Nat.{zero-mul, suc-mul}
 use native.Mathlib.Omega.{arith}
-use mathlib.Core.List.{List, [], ◌∷◌, ◌++◌}
+use mathlib.Core.List.{List, [], ◌∷◌}
 use seplogic.Ra.Ura.{Ura}
 use mir.Syntax.{Ty, Args, a_type, ty_array, dcons, dnil}
 use mir.Val.{Val, vstruct, vcons, vnil}
@@ -25,7 +25,7 @@ use denote.Steps.{nothing}
 use denote.Struct.Struct.{within}
 use denote.Struct.Declared as Declared
 use denote.Struct.Tuple.{Tuple, tuple_type}
-use Rattle.std.proofs.mem.Param.{El, R, elτ}
+use Rattle.std.proofs.mem.Param.{El, elτ}
 use Rattle.std.proofs.alloc.Calls.{Al}
 use Rattle.slot_arena.proofs.BlockMemory.{width}
 

@@ -1,5 +1,5 @@
 -- The rows of the chunks as one row.
-use Rattle.std.proofs.Common.{◌≡◌, ℕ, zero, suc, ◌+◌, ◌*◌, ◌-◌, ◌/◌, ◌%◌, ◌<◌, List, [], ◌∷◌, ◌++◌, length, get_or, slice_set, refl, sym, ap, ◌∙◌, subst, arith, length-append, length-set}
+use Rattle.std.proofs.Common.{◌≡◌, ℕ, zero, suc, ◌+◌, ◌*◌, ◌-◌, ◌/◌, ◌%◌, ◌<◌, List, [], ◌∷◌, ◌++◌, length, get_or, slice_set, replicate, Option, None, refl, sym, ap, ◌∙◌, subst, arith, length-append, length-set}
 use Rattle.std.proofs.lemmas.List.{get_or_append_left, set-append_left, get_or-append_right, set-append_right, append-nil, append_assoc}
 use native.Mathlib.Nat.{zero-mul, suc-mul, div-add-mod', mod-lt}
 use Rattle.slot_arena.specs.Rows.{joined, AreChunks}
@@ -77,3 +77,9 @@ module _ {X : Type 0} where
       → AreChunks (slice_set rows (i / 64) (slice_set c (i % 64) v))
   chunks-set_at rows w i lt c v is =
       let l = lies rows w i lt in chunks-set rows w (i / 64) (slice_set c (i % 64) v) (length-set c (i % 64) v ∙ length-chunk rows w (i / 64) c l.chunk is)
+
+pub all_empty : {X : Type 0} (row : List (Option X)) (n : ℕ) → length row ≡ n → ((i : ℕ) → i < n → get_or row i None ≡ None) → row ≡ replicate n None
+all_empty [] zero e none = refl
+all_empty [] (suc n) e none = absurd (omega (arith, e))
+all_empty (v ∷ row) zero e none = absurd (omega (arith, e))
+all_empty (v ∷ row) (suc n) e none = λ j. none 0 (omega arith) j ∷ all_empty row n (omega (arith, e)) (λ i lt. none (suc i) (omega (arith, lt))) j

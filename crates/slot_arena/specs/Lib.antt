@@ -5,6 +5,7 @@ pub mod Rows
 pub mod RowLends
 pub mod Blocks
 pub mod BlockLends
+pub mod ChunkParts
 pub mod Kept
 pub mod Calls
 pub mod Laws

@@ -4,14 +4,12 @@ ghost use Rattle.slot_arena.specs.Counts.{spare, live, wanted, IsArena};
 ghost use Rattle.slot_arena.specs.Kept.{down_to};
 ghost use Rattle.std.specs.Option.{option_copied_mut};
 
+use crate::chunk::CHUNK;
 use crate::places::Places;
 use crate::slot::Slot;
 use primitives::Memory;
 use std::alloc::Global;
 use std::marker::Model;
-
-/// How many places are made at once.
-const CHUNK: usize = 64;
 
 /// The generation after the last one that a slot can have.
 const SPENT: u64 = 1 << 32;

@@ -70,7 +70,11 @@ pub(crate) fn new_block<T, A: Allocator>(
             let start = Start {
                 first: memory as *mut T,
             };
-            Ok((start, Row { mark: PhantomData }, Right { mark: PhantomData }))
+            Ok((
+                start,
+                Row { mark: PhantomData },
+                Right { mark: PhantomData },
+            ))
         }
         Err(want) => Err(want),
     }
@@ -89,7 +93,11 @@ pub(crate) fn free_block<T, A: Allocator>(
     let Row { mark: _ } = row;
     let Right { mark: _ } = right;
     unsafe {
-        alloc.deallocate(start.first as *mut u8, count * size_of::<T>(), align_of::<T>());
+        alloc.deallocate(
+            start.first as *mut u8,
+            count * size_of::<T>(),
+            align_of::<T>(),
+        );
     }
 }
 

@@ -3,28 +3,37 @@ ghost use Rattle.std.specs.Prelude.{◌≡◌, ◌<◌, length, replicate, get_o
 ghost use Rattle.std.specs.Borrow.{sem};
 ghost use Rattle.slot_arena.specs.Rows.{IsFilled};
 
+use crate::block::{Right, Row, Start, free_block, new_block};
 use primitives::Memory;
-use std::alloc::Global;
+use std::alloc::{AllocError, Global};
 use std::marker::Model;
-use std::mem;
+use std_alloc::room::may_hold;
+
+/// How many places a chunk has.
+pub(crate) const CHUNK: usize = 64;
 
 /// A contract sees a chunk as the row of its places.
-#[derive(Drop)]
 pub(crate) struct Chunk<T> {
-    places: Vec<Option<T>>,
+    alloc: Global,
+    start: Start<T>,
+    row: Row<T>,
+    right: Right<T, Global>,
+    /// Which places have a value.
+    filled: [bool; 64],
 }
 
 impl<T> Model for Chunk<T> {
-    ghost use Rattle.std.specs.Prelude.{◌≡◌, length, List, Option};
+    ghost use Rattle.std.specs.Prelude.{List, Option};
     ghost use Rattle.std.specs.Coded.{coded_list, coded_option};
+    ghost use Rattle.slot_arena.specs.ChunkParts.{AreParts};
 
     ghost Value = { List (Option T) };
 
     ghost coded = { coded_list (coded_option T.code) };
 
-    ghost view = { λ c. c.places.items };
+    ghost view = { λ c. c.row.places };
 
-    ghost invariant = { λ c. length c.places.items ≡ 64 };
+    ghost invariant = { λ c. AreParts c.alloc c.start c.row c.right c.filled };
 }
 
 impl<T> Chunk<T> {
@@ -34,11 +43,17 @@ impl<T> Chunk<T> {
     pub(crate) fn new(alloc: Global) -> Result<Chunk<T>, Memory>
         ensures { IfOk result (λ chunk. chunk ≡ replicate 64 None) }
     {
-        let mut places = Vec::with_capacity(alloc, 64)?;
-        for _place in 0..64usize {
-            places.push_reserved(None);
+        if !may_hold::<T>(CHUNK) {
+            return Err(AllocError);
         }
-        Ok(Chunk { places })
+        let (start, row, right) = new_block(&alloc, CHUNK)?;
+        Ok(Chunk {
+            alloc,
+            start,
+            row,
+            right,
+            filled: [false; 64],
+        })
     }
 
     /// Whether the place has a value.
@@ -46,7 +61,7 @@ impl<T> Chunk<T> {
         requires { place < length self.now }
         ensures { result ≡ is_some (get_or self.now place None) }
     {
-        self.places[place].is_some()
+        self.filled[place]
     }
 
     /// Puts a value into an empty place.
@@ -54,10 +69,8 @@ impl<T> Chunk<T> {
         requires { (place < length self.old) × (get_or self.old place None ≡ None) }
         ensures { self.new ≡ slice_set self.old place (Some value) }
     {
-        match mem::replace(&mut self.places[place], Some(value)) {
-            None => {}
-            Some(_) => unreachable!(),
-        }
+        self.filled[place] = true;
+        self.row.put(self.start, place, value)
     }
 
     /// Takes the value out of its place.
@@ -66,10 +79,8 @@ impl<T> Chunk<T> {
         ensures value { get_or self.old place None ≡ Some result }
         ensures left { self.new ≡ slice_set self.old place None }
     {
-        match mem::replace(&mut self.places[place], None) {
-            Some(value) => value,
-            None => unreachable!(),
-        }
+        self.filled[place] = false;
+        self.row.take(self.start, place)
     }
 
     /// The value of the place.
@@ -77,10 +88,7 @@ impl<T> Chunk<T> {
         requires { (place < length self.now) × IsFilled self.now place }
         ensures { get_or self.now place None ≡ Some result.now }
     {
-        match &self.places[place] {
-            Some(value) => value,
-            None => unreachable!(),
-        }
+        self.row.at(self.start, place)
     }
 
     /// The value of the place, to be written to.
@@ -89,9 +97,34 @@ impl<T> Chunk<T> {
         ensures* writes_back { sem 𝓛 (lends_from_chunk T.row self.entry place result) }
         ensures value { get_or self.old place None ≡ Some result.now }
     {
-        match &mut self.places[place] {
-            Some(value) => value,
-            None => unreachable!(),
+        let start = self.start;
+        self.row.at_mut(start, place)
+    }
+
+    /// Gives the memory of an empty chunk back.
+    fn free(self)
+        requires { self ≡ replicate 64 None }
+    {
+        let Chunk {
+            alloc,
+            start,
+            row,
+            right,
+            filled: _,
+        } = self;
+        free_block(&alloc, start, CHUNK, row, right);
+    }
+}
+
+impl<T: Drop> Drop for Chunk<T> {
+    /// Drops each value that is there, once.
+    fn drop(mut self) {
+        let _filled = &self.filled;
+        for place in 0..CHUNK {
+            if self.holds(place) {
+                drop(self.take(place));
+            }
         }
+        self.free();
     }
 }

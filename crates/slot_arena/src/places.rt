@@ -3,13 +3,10 @@ ghost use Rattle.std.specs.Prelude.{◌≡◌, ◌++◌, ◌<◌, [], length, re
 ghost use Rattle.std.specs.Borrow.{sem};
 ghost use Rattle.slot_arena.specs.Rows.{IsFilled};
 
-use crate::chunk::Chunk;
+use crate::chunk::{CHUNK, Chunk};
 use primitives::Memory;
 use std::alloc::Global;
 use std::marker::Model;
-
-/// How many places a chunk has.
-const CHUNK: usize = 64;
 
 /// A contract sees the chunks as one row of places.
 #[derive(Drop)]

@@ -141,8 +141,13 @@ meets : (E : El) (Z : Al) {M : Type 1} {𝓤 : Ura M} (𝓛 : Logic 𝓤) (at_me
 meets E Z {𝓤 = 𝓤} 𝓛 at_mem run 𝓣 deallocates =
     walk_Meets 𝓛 (ended E Z) (stayed E Z) (
       Goes-dropped 𝓛 3 (RefOf (0 ∷ []) tt (plain (λ _. From Z)) (λ _. tt)) yes (λ κs x f. refl),
-      (Goes-dropped 𝓛 3 (plain (λ _. Begin E)) no (λ κs x f. refl), (Goes-dropped 𝓛 3 (plain (λ _. usize)) yes (λ κs x f. refl),
-      (Goes-blank 𝓛 3 (plain (λ _. Held E)) no (λ κs x f. tt), (Goes-blank 𝓛 3 (plain (λ _. To E Z)) no (λ κs x f. tt), tt)))),
+      (
+        Goes-dropped 𝓛 3 (plain (λ _. Begin E)) no (λ κs x f. refl),
+        (
+          Goes-dropped 𝓛 3 (plain (λ _. usize)) yes (λ κs x f. refl),
+          (Goes-blank 𝓛 3 (plain (λ _. Held E)) no (λ κs x f. tt), (Goes-blank 𝓛 3 (plain (λ _. To E Z)) no (λ κs x f. tt), tt)),
+        ),
+      ),
     ) (clauses E Z 𝓛 at_mem run) (WpFn 𝓤 𝓛.H 𝓣.C 𝓣.Λ (function E Z)) (WpFn-mono 𝓤 𝓛.H 𝓛.laws 𝓣 (function E Z))
     (λ z. let κs = z.0.0 in let qs = z.0.1 in let a = z.0.3 in let vss = z.0.4 in
     let On : SProp 𝓤 = on_entry 𝓛 (ended E Z).signature κs qs a vss in let asks = Asks E Z a.0.now a.1.0 a.1.1.0 a.1.1.1.0 a.1.1.1.1.0 in
