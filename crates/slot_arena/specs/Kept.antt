@@ -4,6 +4,7 @@
 -- times i is            how often i stands there
 -- down_to from n        from + n - 1 and so on down to from
 -- retired               a place that has no slot left
+-- AreFields vs ns free c m     the fields of an arena: a next generation to each place, and the others as they must be
 -- IsKept a free c m     `free` names each place that has a slot to give, once; c slots are live; m places fit
 use Rattle.std.specs.Prelude.{◌≡◌, ℕ, zero, suc, ◌+◌, ◌^◌, ◌<◌, ◌≤◌, ◌==◌, if◌then◌else◌, List, [], ◌∷◌, length, get_or, Option, None}
 use Rattle.slot_arena.specs.Slots.{Place, place, place_at}
@@ -33,3 +34,6 @@ module _ {X : Type 0} where
     pub all_sound : (i : ℕ) → IsSound (place_at a i)
     pub has_room : length a ≤ room
     pub is_small : length a < 2 ^ 32
+
+  abbrev pub AreFields : List (Option X) → List ℕ → List ℕ → ℕ → ℕ → Type 0
+  AreFields vs ns free counted room = (length ns ≡ length vs) × IsKept (paired vs ns) free counted room

@@ -4,6 +4,8 @@ pub mod Lends
 pub mod Rows
 pub mod RowLends
 pub mod Blocks
+pub mod BlockParts
+pub mod EmptyBlock
 pub mod BlockLends
 pub mod ChunkParts
 pub mod Kept

@@ -1,6 +1,6 @@
 ghost use Rattle.std.specs.Prelude.{◌≡◌, ◌↔◌, ◌+◌, ◌*◌, ◌-◌, ◌^◌, ◌<◌, ◌≤◌, ℕ, length, replicate, option_copied, IfOk, OnOk, OnErr, Some, None, IsTrue, IsSome, ◌++◌, ◌∷◌, [], vec_len, vec_capacity};
 ghost use Rattle.slot_arena.specs.Slots.{place, value_at, IsFresh, set_at, with_places, taken_from};
-ghost use Rattle.slot_arena.specs.Counts.{spare, live, wanted, IsArena};
+ghost use Rattle.slot_arena.specs.Counts.{spare, live, wanted, GrewLess, IsArena};
 ghost use Rattle.slot_arena.specs.Kept.{down_to};
 ghost use Rattle.std.specs.Option.{option_copied_mut};
 
@@ -26,9 +26,9 @@ pub struct SlotArena<T> {
 }
 
 impl<T> Model for SlotArena<T> {
-    ghost use Rattle.std.specs.Prelude.{◌≡◌, List, length, vec_capacity};
+    ghost use Rattle.std.specs.Prelude.{List, vec_capacity};
     ghost use Rattle.slot_arena.specs.Slots.{Place, places_code};
-    ghost use Rattle.slot_arena.specs.Kept.{IsKept, paired};
+    ghost use Rattle.slot_arena.specs.Kept.{AreFields, paired};
 
     ghost Value = { List (Place T) };
 
@@ -36,7 +36,7 @@ impl<T> Model for SlotArena<T> {
 
     ghost view = { λ a. paired a.places a.next.items };
 
-    ghost invariant = { λ a. (length a.next.items ≡ length a.places) × IsKept (paired a.places a.next.items) a.free.items a.count (vec_capacity a.free) };
+    ghost invariant = { λ a. AreFields a.places a.next.items a.free.items a.count (vec_capacity a.free) };
 }
 
 impl<T> SlotArena<T> {
@@ -159,7 +159,8 @@ fn make_room(next: &mut Vec<u64>, free: &mut Vec<u32>) -> Result<(), Memory>
     requires fewer { vec_len free.old ≤ vec_len next.old }
     ensures same { (next.new.items ≡ next.old.items) × (free.new.items ≡ free.old.items) }
     ensures kept { vec_capacity free.old ≤ vec_capacity free.new }
-    ensures room { IfOk result (λ _. (vec_len next.new + 64 ≤ vec_capacity next.new) × (vec_len next.new + 64 ≤ vec_capacity free.new)) }
+    ensures next_room { IfOk result (λ _. vec_len next.new + 64 ≤ vec_capacity next.new) }
+    ensures free_room { IfOk result (λ _. vec_len next.new + 64 ≤ vec_capacity free.new) }
 {
     next.reserve(CHUNK)?;
     free.reserve(next.len() + CHUNK - free.len())
@@ -201,7 +202,7 @@ impl<T> SlotArena<T> {
     pub fn reserve(&mut self, n: u32) -> Result<(), Memory>
         requires { length self.old + n < 2 ^ 32 - 64 }
         ensures ok { OnOk result (self.new ≡ with_places self.old (wanted (spare self.old) n)) }
-        ensures err { OnErr result ((k : ℕ) × (k * 64 < wanted (spare self.old) n) × (self.new ≡ with_places self.old (k * 64))) }
+        ensures err { OnErr result (GrewLess self.old self.new n) }
     {
         while self.spare() < n {
             self.add_chunk(0)?;

@@ -5,7 +5,7 @@ ghost use Rattle.std.specs.Borrow.{sem};
 ghost use Rattle.std.specs.Vec.Ownership.{FitsInBlock};
 ghost use base.Fml.{ftrue};
 ghost use denote.RawPtr.{Ptr};
-ghost use Rattle.slot_arena.specs.Rows.{IsFilled};
+ghost use Rattle.slot_arena.specs.EmptyBlock.{IsEmptyBlock};
 ghost use Rattle.slot_arena.specs.Blocks.{block_held, block_lent, right_held};
 
 use primitives::Memory;
@@ -63,7 +63,7 @@ pub(crate) fn new_block<T, A: Allocator>(
     count: usize,
 ) -> Result<(Start<T>, Row<T>, Right<T, A>), Memory>
     requires { FitsInBlock T.row count }
-    ensures { IfOk result (λ b. (b.1.start ≡ b.0.first) × (b.1.places ≡ replicate count None) × (b.2.start ≡ b.0.first) × (b.2.count ≡ count) × (b.2.from ≡ alloc.now)) }
+    ensures { IfOk result (λ b. IsEmptyBlock b.0.first (b.1.start, b.1.places) (b.2.start, (b.2.count, b.2.from)) count alloc.now) }
 {
     match alloc.allocate(count * size_of::<T>(), align_of::<T>()) {
         Ok(memory) => {
@@ -88,7 +88,7 @@ pub(crate) fn free_block<T, A: Allocator>(
     row: Row<T>,
     right: Right<T, A>,
 )
-    requires { (row.start ≡ start.first) × (row.places ≡ replicate count None) × (right.start ≡ start.first) × (right.count ≡ count) × (right.from ≡ alloc.now) }
+    requires { IsEmptyBlock start.first (row.start, row.places) (right.start, (right.count, right.from)) count alloc.now }
 {
     let Row { mark: _ } = row;
     let Right { mark: _ } = right;
@@ -103,27 +103,28 @@ pub(crate) fn free_block<T, A: Allocator>(
 
 impl<T> Row<T> {
     ghost use Rattle.slot_arena.specs.BlockLends.{lends_from_block};
+    ghost use Rattle.slot_arena.specs.BlockParts.{IsEmptyAt, IsFilledAt, IsSetAt};
 
     /// Puts a value into an empty place.
     pub(crate) fn put(&mut self, start: Start<T>, place: usize, value: T)
-        requires { (start.first ≡ self.old.start) × (place < length self.old.places) × (get_or self.old.places place None ≡ None) }
-        ensures { (self.new.start ≡ self.old.start) × (self.new.places ≡ slice_set self.old.places place (Some value)) }
+        requires { IsEmptyAt self.old start place }
+        ensures { IsSetAt self.old self.new place (Some value) }
     {
         unsafe { start.first.add(place).write(value) }
     }
 
     /// Takes the value out of its place.
     pub(crate) fn take(&mut self, start: Start<T>, place: usize) -> T
-        requires { (start.first ≡ self.old.start) × IsFilled self.old.places place }
+        requires { IsFilledAt self.old start place }
         ensures value { get_or self.old.places place None ≡ Some result }
-        ensures left { (self.new.start ≡ self.old.start) × (self.new.places ≡ slice_set self.old.places place None) }
+        ensures left { IsSetAt self.old self.new place None }
     {
         unsafe { start.first.add(place).read() }
     }
 
     /// Lends the value of the place.
     pub(crate) fn at(&self, start: Start<T>, place: usize) -> &T
-        requires { (start.first ≡ self.now.start) × IsFilled self.now.places place }
+        requires { IsFilledAt self.now start place }
         ensures { get_or self.now.places place None ≡ Some result.now }
     {
         unsafe { &*start.first.add(place) }
@@ -131,7 +132,7 @@ impl<T> Row<T> {
 
     /// Lends the value of the place, to be written to.
     pub(crate) fn at_mut(&mut self, start: Start<T>, place: usize) -> &mut T
-        requires { (start.first ≡ self.old.start) × IsFilled self.old.places place }
+        requires { IsFilledAt self.old start place }
         ensures* writes_back { sem 𝓛 (lends_from_block T.row self.entry place result) }
         ensures value { get_or self.old.places place None ≡ Some result.now }
     {
