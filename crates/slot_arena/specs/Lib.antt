@@ -5,7 +5,6 @@ pub mod Rows
 pub mod RowLends
 pub mod Blocks
 pub mod BlockParts
-pub mod EmptyBlock
 pub mod BlockLends
 pub mod ChunkParts
 pub mod Kept

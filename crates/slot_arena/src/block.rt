@@ -5,7 +5,6 @@ ghost use Rattle.std.specs.Borrow.{sem};
 ghost use Rattle.std.specs.Vec.Ownership.{FitsInBlock};
 ghost use base.Fml.{ftrue};
 ghost use denote.RawPtr.{Ptr};
-ghost use Rattle.slot_arena.specs.EmptyBlock.{IsEmptyBlock};
 ghost use Rattle.slot_arena.specs.Blocks.{block_held, block_lent, right_held};
 
 use primitives::Memory;
@@ -57,47 +56,51 @@ impl<T, A: Allocator> Model for Right<T, A> {
     ghost also_shares = { λ _ _ _. ftrue };
 }
 
-/// A block of `count` empty places.
-pub(crate) fn new_block<T, A: Allocator>(
-    alloc: &A,
-    count: usize,
-) -> Result<(Start<T>, Row<T>, Right<T, A>), Memory>
-    requires { FitsInBlock T.row count }
-    ensures { IfOk result (λ b. IsEmptyBlock b.0.first (b.1.start, b.1.places) (b.2.start, (b.2.count, b.2.from)) count alloc.now) }
-{
-    match alloc.allocate(count * size_of::<T>(), align_of::<T>()) {
-        Ok(memory) => {
-            let start = Start {
-                first: memory as *mut T,
-            };
-            Ok((
-                start,
-                Row { mark: PhantomData },
-                Right { mark: PhantomData },
-            ))
-        }
-        Err(want) => Err(want),
-    }
-}
+impl<T> Start<T> {
+    ghost use Rattle.slot_arena.specs.BlockParts.{IsEmptyBlock};
 
-/// Gives a block without values back.
-pub(crate) fn free_block<T, A: Allocator>(
-    alloc: &A,
-    start: Start<T>,
-    count: usize,
-    row: Row<T>,
-    right: Right<T, A>,
-)
-    requires { IsEmptyBlock start.first (row.start, row.places) (right.start, (right.count, right.from)) count alloc.now }
-{
-    let Row { mark: _ } = row;
-    let Right { mark: _ } = right;
-    unsafe {
-        alloc.deallocate(
-            start.first as *mut u8,
-            count * size_of::<T>(),
-            align_of::<T>(),
-        );
+    /// A block of `count` empty places.
+    pub(crate) fn new_block<A: Allocator>(
+        alloc: &A,
+        count: usize,
+    ) -> Result<(Start<T>, Row<T>, Right<T, A>), Memory>
+        requires { FitsInBlock T.row count }
+        ensures { IfOk result (λ b. IsEmptyBlock b.0 b.1 b.2 count alloc.now) }
+    {
+        match alloc.allocate(count * size_of::<T>(), align_of::<T>()) {
+            Ok(memory) => {
+                let start = Start {
+                    first: memory as *mut T,
+                };
+                Ok((
+                    start,
+                    Row { mark: PhantomData },
+                    Right { mark: PhantomData },
+                ))
+            }
+            Err(want) => Err(want),
+        }
+    }
+
+    /// Gives a block without values back.
+    pub(crate) fn free_block<A: Allocator>(
+        alloc: &A,
+        start: Start<T>,
+        count: usize,
+        row: Row<T>,
+        right: Right<T, A>,
+    )
+        requires { IsEmptyBlock start row right count alloc.now }
+    {
+        let Row { mark: _ } = row;
+        let Right { mark: _ } = right;
+        unsafe {
+            alloc.deallocate(
+                start.first as *mut u8,
+                count * size_of::<T>(),
+                align_of::<T>(),
+            );
+        }
     }
 }
 

@@ -3,7 +3,7 @@ ghost use Rattle.std.specs.Prelude.{◌≡◌, ◌<◌, length, replicate, get_o
 ghost use Rattle.std.specs.Borrow.{sem};
 ghost use Rattle.slot_arena.specs.Rows.{IsFilled};
 
-use crate::block::{Right, Row, Start, free_block, new_block};
+use crate::block::{Right, Row, Start};
 use primitives::Memory;
 use std::alloc::{AllocError, Global};
 use std::marker::Model;
@@ -46,7 +46,7 @@ impl<T> Chunk<T> {
         if !may_hold::<T>(CHUNK) {
             return Err(AllocError);
         }
-        let (start, row, right) = new_block(&alloc, CHUNK)?;
+        let (start, row, right) = Start::new_block(&alloc, CHUNK)?;
         Ok(Chunk {
             alloc,
             start,
@@ -112,7 +112,7 @@ impl<T> Chunk<T> {
             right,
             filled: _,
         } = self;
-        free_block(&alloc, start, CHUNK, row, right);
+        Start::free_block(&alloc, start, CHUNK, row, right);
     }
 }
 

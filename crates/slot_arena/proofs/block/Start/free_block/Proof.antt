@@ -49,10 +49,10 @@ use Rattle.slot_arena.specs.Blocks.{block_held, right_held}
 use Rattle.slot_arena.proofs.BlockLayout.{uncapped, block_type, block_size, block_align, given_args, From}
 use Rattle.slot_arena.proofs.BlockMemory.{Held, Begin, width, Cell, blank, mark_is, begin_is, places_room}
 use Rattle.slot_arena.specs.contracts.block.Right as Right
-use Rattle.slot_arena.specs.contracts.block.free_block as promise
-use Rattle.slot_arena.specs.contracts.block.free_block.Key.{name as #free_block}
-use Rattle.slot_arena.proofs.block.free_block.Statement as stated
-use Rattle.slot_arena.proofs.block.free_block.Code as code
+use Rattle.slot_arena.specs.contracts.block.Start.free_block as promise
+use Rattle.slot_arena.specs.contracts.block.Start.free_block.Key.{name as #free_block}
+use Rattle.slot_arena.proofs.block.Start.free_block.Statement as stated
+use Rattle.slot_arena.proofs.block.Start.free_block.Code as code
 
 module _ (E : El) (Z : Al) where
   abbrev function : Fn

@@ -60,10 +60,10 @@ use Rattle.slot_arena.specs.Blocks.{places_held}
 use Rattle.slot_arena.proofs.BlockLayout.{uncapped, block_type, block_size, block_align, given_args, From, triple, triple_of_parts}
 use Rattle.slot_arena.proofs.BlockMemory.{Held, Begin, Mark, width, blank, mark_of, begin_of, room_places}
 use Rattle.slot_arena.specs.contracts.block.Right as Right
-use Rattle.slot_arena.specs.contracts.block.new_block as promise
-use Rattle.slot_arena.specs.contracts.block.new_block.Key.{name as #new_block}
-use Rattle.slot_arena.proofs.block.new_block.Statement as stated
-use Rattle.slot_arena.proofs.block.new_block.Code as code
+use Rattle.slot_arena.specs.contracts.block.Start.new_block as promise
+use Rattle.slot_arena.specs.contracts.block.Start.new_block.Key.{name as #new_block}
+use Rattle.slot_arena.proofs.block.Start.new_block.Statement as stated
+use Rattle.slot_arena.proofs.block.Start.new_block.Code as code
 
 module _ (E : El) (Z : Al) where
   abbrev function : Fn
