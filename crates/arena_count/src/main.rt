@@ -1,0 +1,135 @@
+//! Puts an arena to work, to show how long its calls take and how much memory it holds. Two words: what to do, and how
+//! often. Each answer is a sum that can be told beforehand.
+#![tactic(auto)]
+
+mod plain;
+
+use plain::Plain;
+use slot_arena::{Slot, SlotArena};
+use std::alloc::{AllocError, Global};
+use std::{env, io};
+
+/// How many values are live while values come and go.
+const LIVE: usize = 1_024;
+
+/// How many values are looked at.
+const SEEN: u64 = 200_000;
+
+/// As large as a module of the graph.
+type Value = [u64; 16];
+
+/// Inserts, and makes places first where none is spare; None without memory.
+fn insert<T: Drop>(arena: &mut SlotArena<T>, value: T) -> Option<Slot> {
+    if arena.spare() > 0 {
+        return Some(arena.insert_reserved(value));
+    }
+    if arena.made() >= 1 << 31 || arena.reserve(1).is_err() || arena.spare() == 0 {
+        return None;
+    }
+    Some(arena.insert_reserved(value))
+}
+
+/// Inserts this many values, each once the value of some rounds before was removed; the sum of those removed.
+fn in_turn(alloc: Global, rounds: u64) -> Result<u64, AllocError> {
+    let mut arena = SlotArena::new(alloc);
+    let mut slots: Vec<Option<Slot>> = vec![in alloc; None; LIVE]?;
+    let mut sum = 0u64;
+    for value in 0..rounds {
+        if let Some(place) = slots.get_mut(value as usize % LIVE) {
+            if let Some(slot) = place.take() {
+                sum = sum.wrapping_add(arena.remove(slot).unwrap_or(0));
+            }
+            *place = insert(&mut arena, value);
+        }
+    }
+    Ok(sum)
+}
+
+/// The same with a vector of options and a list of its free places.
+fn in_turn_plain(alloc: Global, rounds: u64) -> Result<u64, AllocError> {
+    let mut plain = Plain::new(alloc);
+    let mut places: Vec<Option<u32>> = vec![in alloc; None; LIVE]?;
+    let mut sum = 0u64;
+    for value in 0..rounds {
+        if let Some(place) = places.get_mut(value as usize % LIVE) {
+            if let Some(index) = place.take() {
+                sum = sum.wrapping_add(plain.remove(index)?.unwrap_or(0));
+            }
+            *place = Some(plain.insert(value)?);
+        }
+    }
+    Ok(sum)
+}
+
+/// An arena with this many values, and their slots in the order in which they were given.
+fn filled(alloc: Global, count: u64) -> Result<(SlotArena<Value>, Vec<Slot>), AllocError> {
+    let mut arena = SlotArena::new(alloc);
+    let mut slots = Vec::new(alloc);
+    for value in 0..count {
+        if let Some(slot) = insert(&mut arena, [value; 16]) {
+            slots.push(slot)?;
+        }
+    }
+    Ok((arena, slots))
+}
+
+/// The slots in an order without a pattern: a generator of all numbers below 2^18 picks them.
+fn shuffled(alloc: Global, slots: &[Slot]) -> Result<Vec<Slot>, AllocError> {
+    let mut order = Vec::new(alloc);
+    let mut place = 0u64;
+    for _ in 0..1u64 << 18 {
+        place = place.wrapping_mul(1_664_525).wrapping_add(1_013_904_223) & 0x3_ffff;
+        if let Some(slot) = slots.get(place as usize) {
+            order.push(*slot)?;
+        }
+    }
+    Ok(order)
+}
+
+/// Looks at each of 200,000 values this often, in an order without a pattern; the sum of all that was seen.
+fn looks(alloc: Global, rounds: u64) -> Result<u64, AllocError> {
+    let (arena, slots) = filled(alloc, SEEN)?;
+    let order = shuffled(alloc, &slots)?;
+    let mut sum = 0u64;
+    for _ in 0..rounds {
+        for slot in &order {
+            if let Some(value) = arena.get(*slot) {
+                sum = sum.wrapping_add(value[0]);
+            }
+        }
+    }
+    Ok(sum)
+}
+
+/// Holds this many values at once; the sum of all.
+fn held(alloc: Global, count: u64) -> Result<u64, AllocError> {
+    let mut arena = SlotArena::new(alloc);
+    let mut last = None;
+    for value in 0..count {
+        last = insert(&mut arena, [value; 16]);
+    }
+    match last {
+        Some(slot) => Ok(arena.get(slot).map_or(0, |value| value[15])),
+        None => Ok(0),
+    }
+}
+
+fn main(rt: HostRuntime) -> io::Result<()> {
+    let mut words = env::args(&rt)?;
+    words.next();
+    let (Some(task), Some(number)) = (words.next(), words.next()) else {
+        return Ok(());
+    };
+    let Ok(rounds) = number.as_str().parse::<u64>() else {
+        return Ok(());
+    };
+    let sum = match task.as_str() {
+        "turns" => in_turn(rt.alloc(), rounds)?,
+        "plain" => in_turn_plain(rt.alloc(), rounds)?,
+        "looks" => looks(rt.alloc(), rounds)?,
+        "held" => held(rt.alloc(), rounds)?,
+        _ => return Ok(()),
+    };
+    println!(rt; "{sum}")?;
+    Ok(())
+}

@@ -1,0 +1,154 @@
+-- `at` lends the value of a place.
+use mathlib.Core.Path.{◌≡◌, refl, sym, subst, ◌∙◌}
+use Prim.Native.Nat.{ℕ, ◌+◌, ◌*◌, ◌<◌, ◌^◌}
+use native.Mathlib.Omega.{arith}
+use mathlib.Core.List.{List, [], ◌∷◌, ◌++◌}
+use lib.ListN.{length, get_or}
+use seplogic.Ra.Ura.{Ura}
+use base.Fraction.{full_share}
+use mir.Syntax.{Fn, named, w64}
+use mir.MapTy.{inst_fn}
+use mir.Val.{Val, vptr, vint}
+use base.Logic.{SProp, ent, never, id⊢}
+use base.Fml.{Lft, Share, ftrue, fat, flft}
+use prog.Wp.{Env, Calls, Loops, WpFn, Tables}
+use types.Logic.{Logic}
+use contract.Monad.{fact}
+use contract.Running.{tables, tables_of}
+use sound.WpLaws.{WpFn-mono}
+use types.Kit.{Item, ⋆, ‵, ◌⊛◌, at_ret, ◌$◌, ◌∵◌, !, qed, by, move, keep, drop, use1, split, join, rewrite, fsplit, fjoin, feq_i, feq_l, flt_l, suffices, frame, done}
+use types.Part.{whole, sub}
+use types.Run.{stop, fld, bin, size_lit, of_opd, addr, first, blocks, exec, returns, enter}
+use types.ByLocal.{alloc_all, pass_all, free_all, look_at, take_at, give_at, get, get_in, through, sets, sets_last, env}
+use denote.Exit.{yes, no}
+use denote.RattleType.{owns}
+use denote.Memory.{hidden_shr}
+use denote.Param.{layout}
+use denote.RawPtr.{Ptr, in_a_block}
+use denote.Ref.{Bor, ShrRef}
+use denote.Builtin.{RefOf, usize}
+use denote.Signature.{plain}
+use denote.Opens.{hide, unhide}
+use denote.Steps.{nothing}
+use denote.Triple.Carry.{spared}
+use denote.Triple.Clauses.{Clauses, Ended, closing}
+use denote.Triple.Entry.{on_entry}
+use denote.Triple.Spec.{Meets, triple_of}
+use denote.Triple.Table.{entered, run_framed}
+use denote.Triple.Walked.{says, needs, Stays, stay_dropped, walk_of, ends_at, Goes-dropped, walk_Meets}
+use Rattle.std.specs.Prelude.{Some, None}
+use Rattle.std.proofs.mem.Param.{El, R, args, el_x}
+use Rattle.std.proofs.ptr.Rows.{times_below, one_below}
+use Rattle.std_alloc.proofs.VecSteps.Shapes.{after}
+use Rattle.std_alloc.proofs.RcSteps.{word, word-Good}
+use Rattle.slot_arena.specs.Rows.{IsFilled}
+use Rattle.slot_arena.specs.Blocks.{place_lent, block_lent}
+use Rattle.slot_arena.proofs.BlockMemory.{Held, Begin, width, Cell, begin_is, place_seen}
+use Rattle.slot_arena.proofs.Paired.{length-filled}
+use Rattle.slot_arena.specs.contracts.block.Row.at.Key.{name as #at}
+use Rattle.slot_arena.proofs.block.Row.at.Statement as stated
+use Rattle.slot_arena.proofs.block.Row.at.Code as code
+
+module _ (E : El) where
+  abbrev function : Fn
+  function = inst_fn (args E) code.function
+
+  abbrev ended : Ended
+  ended = record {
+    signature = record {
+      lifetimes = 1;
+      outlives = [];
+      params = RefOf (0 ∷ []) tt (plain (λ _. Held E)) (λ _. tt) ∷ plain (λ _. Begin E) ∷ plain (λ _. usize) ∷ [];
+      result = RefOf (0 ∷ []) tt (plain (λ _. R E)) (λ _. tt);
+    };
+    kept = (yes, (no, (no, tt)));
+  }
+
+  abbrev stayed : Stays ended.signature.params ended.kept
+  stayed = (stay_dropped (RefOf (0 ∷ []) tt (plain (λ _. Held E)) (λ _. tt)) yes, (stay_dropped (plain (λ _. Begin E)) no, (stay_dropped (plain (λ _. usize)) no, tt)))
+
+  abbrev Asks : (Held E).Denot → (Begin E).Denot → ℕ → Type 0
+  Asks row start place = (start.first ≡ row.start) × IsFilled row.places place
+
+  abbrev Value : (Held E).Denot → ℕ → Bor (el_x E) → Type 0
+  Value row place r = get_or row.places place None ≡ Some r.now
+
+  abbrev spec : {M : Type 1} {𝓤 : Ura M} (𝓛 : Logic 𝓤) → Clauses 𝓤 ended
+  spec {𝓤 = 𝓤} 𝓛 κs a = record {
+    ghost = Unit {0};
+    requires = λ _. fact 𝓤 (Asks a.0.now a.1.0 a.1.1.0);
+    ensures = λ _ r w. fact 𝓤 (Value a.0.now a.1.1.0 r);
+  }
+
+module _ (E : El) {M : Type 1} {𝓤 : Ura M} (𝓛 : Logic 𝓤) (C : Calls 𝓤 𝓛.H) (Λ : Loops 𝓤 𝓛.H) (κ : Lft) (q : Share) (rb ro : ℕ) (row : (Held E).Denot) (start : (Begin E).Denot) (place : ℕ)
+    (us0 us1 us2 : List Val) where
+  open 𝓛 use {H, A}
+
+  abbrev self : Bor (Held E).Denot
+  self = record { ref_ptr = (rb, ro); now = row }
+
+  abbrev bound : (walk_of 𝓛 (ended E) (stayed E) (spec E 𝓛)).Ghost
+  bound = (((κ, tt), (q, tt), tt, (self, (start, (place, tt))), (us0, (us1, (us2, tt)))), tt)
+
+  abbrev Post : Val → SProp 𝓤
+  Post = (walk_of 𝓛 (ended E) (stayed E) (spec E 𝓛)).post bound
+
+  -- [the reference that is given; the token]
+  abbrev Given : Bor (el_x E) → Val → List (Item 𝓤)
+  Given r v = ‵ ((ShrRef (named 0) κ (R E)).own_val r (v ∷ [])) ∷ ‵ (flft κ q) ∷ []
+
+  end : (r : Bor (el_x E)) (v : Val) → Value E row place r → ent 𝓤 (⋆ 𝓛 (Given r v)) (Post v)
+  end r v is =
+      qed 𝓛 (Given r v) ∵
+      suffices ! _ (ends_at 𝓛 (ended E) (stayed E) (spec E 𝓛) bound v r (tt, (tt, (tt, tt))) (tt, (tt, (tt, tt)))) $ says ! is $ move ! (1 ∷ 0 ∷ []) $
+      nothing ! $ move ! (1 ∷ 0 ∷ []) $ join ! $ frame ! $ nothing ! $ nothing ! $ fjoin ! $ nothing ! $ fjoin ! $ nothing ! $ fjoin ! $ done !
+
+  -- [what is lent of the row; the token]
+  abbrev Had : List (Item 𝓤)
+  Had = ‵ (hidden_shr (Held E) κ row rb ro) ∷ ‵ (flft κ q) ∷ []
+
+  walk : Asks E row start place → place < 2 ^ 64 → ent 𝓤 (⋆ 𝓛 Had) (WpFn 𝓤 H C Λ (function E) (vptr rb ro ∷ word start.first ∷ vint w64 place ∷ []) Post)
+  walk asked small =
+      let x = asked.1.0 in let inside = length-filled row.places place x asked.1.1 in
+      qed 𝓛 Had ∵ enter ! C Λ (function E) (vptr rb ro ∷ word start.first ∷ vint w64 place ∷ []) _ $
+      alloc_all ! (λ l. pass_all ! refl ((tt, tt), (word-Good [] start.first, ((tt, record { fits = small }), tt))) $
+      let En : Env 𝓤 H = env (function E).locals l in
+      unhide ! $ fsplit ! $ drop ! $ in_a_block ! row.start (λ p. block_lent (R E) p row.places κ) (id⊢ 𝓤 (never 𝓤)) (λ b o e. fsplit ! $ flt_l ! (λ fits.
+      let s = width E in let at = place * s + o in
+      let narrow : s < 2 ^ 64 = omega (arith, one_below (length row.places) s (2 ^ 63) (omega arith) fits) in
+      let far : place * s < 2 ^ 64 = omega (arith, times_below place (length row.places) s (2 ^ 63) (omega arith) fits) in
+      take_at ! 2 $ rewrite ! 0 (λ (p : Ptr). ‵ (fat full_share (layout (Begin E)) (l 2) 0 (word p))) (asked.0 ∙ e) refl $ give_at ! 2 $
+      -- let address = start.first.add(place);
+      first ! $ blocks ! $ sets ! (bin ! (get ! refl) (size_lit ! (record { fits = narrow })) (record { fits = far })) refl (tt, record { fits = far }) $
+      sets ! (bin ! (get_in ! (fld ! refl (stop !)) (sub ! 0 refl (whole !))) (get ! refl) tt) refl (tt, tt) $
+      use1 𝓛 (‵ (place_lent (R E) b at (get_or row.places place None) κ)) (place_seen E 𝓛 b κ o row.places place inside) $
+      rewrite ! 0 (λ (c : Cell E). ‵ (place_lent (R E) b at c κ)) asked.1.1 refl $ hide ! $
+      -- [what is lent of the value; the token]. &*address
+      sets_last ! (addr ! (through ! refl (stop !))) refl (tt, tt) $ exec ! C Λ En (after 1 (function E).body) (at_ret En Post) $ sets ! (of_opd ! (get ! refl)) refl (tt, tt) $
+      feq_i ! (List Val) (vptr b at ∷ []) (vptr b at ∷ []) refl $ fjoin ! $
+      returns ! (look_at ! 0 refl) $ free_all ! refl $ keep ! (0 ∷ 1 ∷ []) $ by ! (end (record { ref_ptr = (b, at); now = x }) (vptr b at) asked.1.1))))
+
+  entry : Asks E row start place → ent 𝓤 (on_entry 𝓛 (ended E).signature (κ, tt) (q, tt) (self, (start, (place, tt))) (us0, (us1, (us2, tt)))) (WpFn 𝓤 H C Λ (function E) (us0 ++ (us1 ++ (us2 ++ []))) Post)
+  entry asked =
+      qed 𝓛 ((‵ (flft κ q) ⊛ ‵ ftrue) ∷ ‵ (owns (ShrRef (named 0) κ (Held E) ∷ Begin E ∷ usize ∷ []) (self, (start, (place, tt))) (us0, (us1, (us2, tt)))) ∷ []) ∵
+      split ! $ move ! (2 ∷ []) $ fsplit ! $ fsplit ! $ feq_l ! (λ e0. move ! (1 ∷ []) $ fsplit ! $ begin_is ! start.first us1 (λ e1.
+      fsplit ! $ fsplit ! $ feq_l ! (λ e2. flt_l ! (λ small. keep ! (1 ∷ 2 ∷ []) $
+      by ! (subst (λ (ws : List Val × List Val × List Val). ent 𝓤 (⋆ 𝓛 Had) (WpFn 𝓤 H C Λ (function E) (ws.0 ++ (ws.1 ++ (ws.2 ++ []))) Post))
+      (λ j. (sym e0 j, sym e1 j, sym e2 j)) (walk asked small))))))
+
+meets : (E : El) {M : Type 1} {𝓤 : Ura M} (𝓛 : Logic 𝓤) (𝓣 : Tables 𝓤 𝓛.H) → Meets 𝓛 (ended E).signature (WpFn 𝓤 𝓛.H 𝓣.C 𝓣.Λ (function E)) (closing 𝓛 (ended E) (spec E 𝓛))
+meets E {𝓤 = 𝓤} 𝓛 𝓣 =
+    walk_Meets 𝓛 (ended E) (stayed E)
+    (Goes-dropped 𝓛 1 (RefOf (0 ∷ []) tt (plain (λ _. Held E)) (λ _. tt)) yes (λ κs x f. refl), (Goes-dropped 𝓛 1 (plain (λ _. Begin E)) no (λ κs x f. refl), (Goes-dropped 𝓛 1 (plain (λ _. usize)) no (λ κs x f. refl), tt)))
+    (spec E 𝓛) (WpFn 𝓤 𝓛.H 𝓣.C 𝓣.Λ (function E)) (WpFn-mono 𝓤 𝓛.H 𝓛.laws 𝓣 (function E))
+    (λ z. let a = z.0.3 in let r = a.0 in let vss = z.0.4 in needs 𝓤 (Asks E r.now a.1.0 a.1.1.0) _
+    (entry E 𝓛 𝓣.C 𝓣.Λ z.0.0.0 z.0.1.0 r.ref_ptr.0 r.ref_ptr.1 r.now a.1.0 a.1.1.0 vss.0 vss.1.0 vss.1.1.0))
+
+pub at_spec : {M : Type 1} → stated.statement M
+unfolding tables_of
+at_spec 𝓤 𝓛 𝓜 𝓡 wired X laws y =
+    let E : El = record { row = X; laws = laws } in let key = #at (args E) in
+    let 𝓣 : Tables 𝓤 𝓛.H = tables_of 𝓤 𝓛.H 𝓜 (tables 𝓤 𝓛.H 𝓜 𝓡 𝓡.env) in
+    spared 𝓛 (ended E).signature (𝓡.run (𝓡.env key)) (run_framed 𝓤 𝓛.H 𝓜 𝓡 (𝓡.env key)) 1 (X.lives, tt) (closing 𝓛 (ended E) (spec E 𝓛))
+    (entered 𝓤 𝓛.H (triple_of 𝓛 (ended E).signature (closing 𝓛 (ended E) (spec E 𝓛))) 𝓣.C 𝓣.Λ key (function E) (code.unfolded 𝓤 𝓛.H 𝓜 𝓡 wired (X, tt)) (meets E 𝓛 𝓣))
+    ((y.0.0, y.0.1, tt, y.0.3, y.0.4), y.1)

@@ -1,0 +1,12 @@
+pub mod Slots
+pub mod Counts
+pub mod Lends
+pub mod Rows
+pub mod RowLends
+pub mod Blocks
+pub mod BlockParts
+pub mod BlockLends
+pub mod ChunkParts
+pub mod Kept
+pub mod Calls
+pub mod Laws

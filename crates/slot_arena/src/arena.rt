@@ -1,0 +1,212 @@
+ghost use Rattle.std.specs.Prelude.{◌≡◌, ◌↔◌, ◌+◌, ◌*◌, ◌-◌, ◌^◌, ◌<◌, ◌≤◌, ℕ, length, replicate, option_copied, IfOk, OnOk, OnErr, Some, None, IsTrue, IsSome, ◌++◌, ◌∷◌, [], vec_len, vec_capacity};
+ghost use Rattle.slot_arena.specs.Slots.{place, value_at, IsFresh, set_at, with_places, taken_from};
+ghost use Rattle.slot_arena.specs.Counts.{spare, live, wanted, GrewLess, IsArena};
+ghost use Rattle.slot_arena.specs.Kept.{down_to};
+ghost use Rattle.std.specs.Option.{option_copied_mut};
+
+use crate::chunk::CHUNK;
+use crate::places::Places;
+use crate::slot::Slot;
+use primitives::Memory;
+use std::alloc::Global;
+use std::marker::Model;
+
+/// The generation after the last one that a slot can have.
+const SPENT: u64 = 1 << 32;
+
+/// Values under slots. Dropping it drops each live value once.
+#[derive(Drop)]
+pub struct SlotArena<T> {
+    places: Places<T>,
+    /// The generation that each place gives next.
+    next: Vec<u64>,
+    /// The places that have a slot to give, the next one at the end.
+    free: Vec<u32>,
+    count: u32,
+}
+
+impl<T> Model for SlotArena<T> {
+    ghost use Rattle.std.specs.Prelude.{List, vec_capacity};
+    ghost use Rattle.slot_arena.specs.Slots.{Place, places_code};
+    ghost use Rattle.slot_arena.specs.Kept.{AreFields, paired};
+
+    ghost Value = { List (Place T) };
+
+    ghost coded = { places_code T.code };
+
+    ghost view = { λ a. paired a.places a.next.items };
+
+    ghost invariant = { λ a. AreFields a.places a.next.items a.free.items a.count (vec_capacity a.free) };
+}
+
+impl<T> SlotArena<T> {
+    /// An arena with no place. It takes no memory yet.
+    pub fn new(alloc: Global) -> SlotArena<T>
+        ensures { result ≡ [] }
+    {
+        SlotArena {
+            places: Places::new(alloc),
+            next: Vec::new(alloc),
+            free: Vec::new(alloc),
+            count: 0,
+        }
+    }
+
+    /// How many values can be inserted before memory is needed.
+    pub fn spare(&self) -> u32
+        ensures { result ≡ spare self.now }
+    {
+        self.free.len() as u32
+    }
+
+    /// How many slots are live.
+    pub fn len(&self) -> u32
+        ensures { result ≡ live self.now }
+    {
+        self.count
+    }
+
+    /// How many places there are, those included that have no slot left to give.
+    pub fn made(&self) -> u32
+        ensures count { result ≡ length self.now }
+        ensures sound { IsArena self.now }
+    {
+        self.next.len() as u32
+    }
+
+    /// Whether a value is under the slot.
+    fn is_live(&self, at: Slot) -> bool
+        ensures { IsTrue result ↔ IsSome (value_at self.now at) }
+    {
+        let place = at.index as usize;
+        if place >= self.next.len() {
+            return false;
+        }
+        if self.next[place] != at.generation as u64 + 1 {
+            return false;
+        }
+        self.places.holds(place)
+    }
+
+    /// The value under a slot.
+    pub fn get(&self, at: Slot) -> Option<&T>
+        ensures { option_copied result ≡ value_at self.now at }
+    {
+        if !self.is_live(at) {
+            return None;
+        }
+        Some(self.places.at(at.index as usize))
+    }
+}
+
+impl<T> SlotArena<T> {
+    ghost use Rattle.std.specs.Borrow.{sem};
+    ghost use Rattle.slot_arena.specs.Lends.{lends_value};
+
+    /// The value under a slot, to be written to.
+    pub fn get_mut(&mut self, at: Slot) -> Option<&mut T>
+        ensures* writes_back { sem 𝓛 (lends_value T.row self.entry at result) }
+        ensures value { option_copied_mut result ≡ value_at self.old at }
+    {
+        if !self.is_live(at) {
+            return None;
+        }
+        Some(self.places.at_mut(at.index as usize))
+    }
+
+    /// Puts a value under a slot that was never given before.
+    pub fn insert_reserved(&mut self, value: T) -> Slot
+        requires { 0 < spare self.old }
+        ensures fresh { IsFresh self.old result }
+        ensures placed { self.new ≡ set_at self.old result (Some value) }
+    {
+        let Some(index) = self.free.pop() else {
+            unreachable!()
+        };
+        let place = index as usize;
+        let generation = self.next[place];
+        self.next[place] = generation + 1;
+        self.count += 1;
+        self.places.put(place, value);
+        Slot {
+            index,
+            generation: generation as u32,
+        }
+    }
+
+    /// Takes out the value under a slot. Its place is given out again under other slots, while it has any.
+    pub fn remove(&mut self, at: Slot) -> Option<T>
+        ensures value { result ≡ value_at self.old at }
+        ensures left { self.new ≡ taken_from self.old at result }
+    {
+        if !self.is_live(at) {
+            return None;
+        }
+        let place = at.index as usize;
+        let value = self.places.take(place);
+        self.count -= 1;
+        if self.next[place] < SPENT {
+            self.free.push_reserved(at.index);
+            return Some(value);
+        }
+        Some(value)
+    }
+}
+
+/// Room in both tables for the places of one chunk more.
+fn make_room(next: &mut Vec<u64>, free: &mut Vec<u32>) -> Result<(), Memory>
+    requires small { vec_len next.old < 2 ^ 32 }
+    requires fewer { vec_len free.old ≤ vec_len next.old }
+    ensures same { (next.new.items ≡ next.old.items) × (free.new.items ≡ free.old.items) }
+    ensures kept { vec_capacity free.old ≤ vec_capacity free.new }
+    ensures next_room { IfOk result (λ _. vec_len next.new + 64 ≤ vec_capacity next.new) }
+    ensures free_room { IfOk result (λ _. vec_len next.new + 64 ≤ vec_capacity free.new) }
+{
+    next.reserve(CHUNK)?;
+    free.reserve(next.len() + CHUNK - free.len())
+}
+
+/// Notes the 64 places from `from` on as free, the first of them at the end, and the generation that they give next.
+fn add_places(next: &mut Vec<u64>, free: &mut Vec<u32>, from: u32, generation: u64)
+    requires next_room { vec_len next.old + 64 ≤ vec_capacity next.old }
+    requires free_room { vec_len free.old + 64 ≤ vec_capacity free.old }
+    requires small { from + 64 < 2 ^ 32 }
+    ensures next { next.new.items ≡ next.old.items ++ replicate 64 generation }
+    ensures free { free.new.items ≡ free.old.items ++ down_to from 64 }
+    ensures capacity { vec_capacity free.new ≡ vec_capacity free.old }
+{
+    let mut left = CHUNK as u32;
+    while left > 0 {
+        left -= 1;
+        next.push_reserved(generation);
+        free.push_reserved(from + left);
+    }
+}
+
+impl<T> SlotArena<T> {
+    /// Makes 64 places that give this generation first: 0, but where a test wants to see the last ones.
+    pub(crate) fn add_chunk(&mut self, generation: u64) -> Result<(), Memory>
+        requires small { length self.old + 64 < 2 ^ 32 }
+        requires unspent { generation < 2 ^ 32 }
+        ensures ok { OnOk result (self.new ≡ self.old ++ replicate 64 (place None generation)) }
+        ensures err { OnErr result (self.new ≡ self.old) }
+    {
+        let made = self.next.len();
+        make_room(&mut self.next, &mut self.free)?;
+        self.places.grow()?;
+        add_places(&mut self.next, &mut self.free, made as u32, generation);
+        Ok(())
+    }
+
+    /// Makes places until `n` values can be inserted. Without memory, fewer than are wanted may have been made.
+    pub fn reserve(&mut self, n: u32) -> Result<(), Memory>
+        requires { length self.old + n < 2 ^ 32 - 64 }
+        ensures ok { OnOk result (self.new ≡ with_places self.old (wanted (spare self.old) n)) }
+        ensures err { OnErr result (GrewLess self.old self.new n) }
+    {
+        while self.spare() < n {
+            self.add_chunk(0)?;
+        }
+        Ok(())
+    }
+}
