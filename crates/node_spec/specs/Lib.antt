@@ -17,3 +17,5 @@ pub mod RecordLaws
 pub mod Examples
 pub mod RecordExamples
 pub mod PatternExamples
+
+pub mod RelativeResolution

@@ -10,6 +10,7 @@ ghost use Rattle.node_spec.specs.PatternChoice.{OneChoice, SomeChoice};
 ghost use Rattle.node_spec.specs.PatternExamples.{PatternExamples};
 ghost use Rattle.node_spec.specs.PatternOrder.{KeysAreInOrder};
 ghost use Rattle.node_spec.specs.PatternParts.{PatternMatchStands};
+ghost use Rattle.node_spec.specs.RelativeResolution.{FindsRelative};
 ghost use Rattle.node_spec.specs.RecordExamples.{RecordExamples};
 ghost use Rattle.node_spec.specs.RecordLaws.{OneRecord, RecordNamesAreDistinct, SomeRecord};
 ghost use Rattle.node_spec.specs.Some.{SomeAnswer};
@@ -95,6 +96,12 @@ pub fn one_answer()
 #[tactic(auto, using(crate::specs::Some::some_answer))]
 pub fn some_answer()
     ensures { SomeAnswer }
+{}
+
+/// In each tree the asking of a relative specifier comes to Node's answer.
+#[tactic(auto, using(crate::proofs::RelativeLemmas::finds_relative))]
+pub fn finds_relative()
+    ensures { FindsRelative }
 {}
 
 /// The bytes of a package.json have one record, or one reason for having none.

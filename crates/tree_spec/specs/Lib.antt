@@ -4,3 +4,4 @@ pub mod Trees
 pub mod TreeLaws
 pub mod Decided
 pub mod Counts
+pub mod Looks

@@ -9,3 +9,5 @@ pub mod AgainstLaws
 pub mod OwnTexts
 pub mod FileNames
 pub mod Examples
+
+pub mod PathTests

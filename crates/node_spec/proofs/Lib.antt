@@ -1,0 +1,2 @@
+pub mod NamedPaths
+pub mod RelativeLemmas
