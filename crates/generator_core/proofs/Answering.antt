@@ -7,12 +7,11 @@ use Rattle.tree_spec.specs.declared.Entry.TheVariants.{Stored}
 use Rattle.tree_spec.specs.Trees.{Tree}
 use Rattle.url_spec.specs.Parsing.{parse_alone, parse_against}
 use Rattle.url_spec.specs.Specifiers.{is_relative}
-use Rattle.url_spec.specs.WebNames.{suffix_of}
+use Rattle.url_spec.specs.Suffixes.{suffix_of}
 use Rattle.url_spec.specs.FileUrls.{file_text, names_host, url_path, NamesPath, IsPlace}
 use Rattle.web_url.specs.declared.file.Place.{Place}
 use Rattle.node_spec.specs.declared.Cause.TheVariants.{NotFound, InvalidSpecifier, DirectoryImport}
-use Rattle.node_spec.specs.Resolution.{Answer, Resolved, Refused, Judges, joined_onto, joined_url}
-use Rattle.node_spec.specs.Resolution.{Judges as judges}
+use Rattle.node_spec.specs.Resolution.{Answer, Resolved, Refused, Judges, joined_onto, joined_url, Judges as judges}
 use Rattle.node_spec.specs.Resolution.Joins.{no_url, other_host, joined}
 use Rattle.node_spec.specs.Resolution.Resolves.{relative}
 use Rattle.generator_spec.specs.declared.Refusal.{Refusal}
@@ -25,8 +24,7 @@ use Rattle.generator_core.specs.declared.answer.RequestFault.{RequestFault}
 use Rattle.generator_core.specs.declared.answer.RequestFault.TheVariants as fault
 use Rattle.generator_core.specs.declared.stop.Stop.{Stop}
 use Rattle.generator_core.specs.declared.stop.Stop.TheVariants as stop
-use Rattle.generator_core.specs.Answering.{Answers, StandsAsFile, StandsNot, NotStands, IsRefusedBy}
-use Rattle.generator_core.specs.Answering.{StandsNot as not, NotStands as stands}
+use Rattle.generator_core.specs.Answering.{Answers, StandsAsFile, StandsNot, NotStands, IsRefusedBy, StandsNot as not, NotStands as stands}
 use Rattle.generator_core.specs.Faults.{IfRequestRefused, IfRefused}
 
 -- what holds of a told value

@@ -28,9 +28,8 @@ use Rattle.generator_core.specs.declared.stop.Stop.TheVariants as stopped
 use Rattle.generator_core.specs.declared.trace.Trace.{Trace}
 use Rattle.generator_core.specs.Faults.{IfRefused, IsOfTrace}
 use Rattle.generator_core.specs.Walking.{Traced}
-use Rattle.generator_core.specs.Running.{IsRefusalStatus, IsWritten, IsGenerated, IsCounted, Linked, IsRefused, Shaped, Ending, Gives, Tells, FolderState, SinkState, Says, Ends, SaysStop, SaysWrite, memory_line, read_fault_line, write_fault_line}
+use Rattle.generator_core.specs.Running.{IsRefusalStatus, IsWritten, IsGenerated, IsCounted, Linked, IsRefused, Shaped, Ending, Gives, Tells, FolderState, SinkState, Says, Ends, SaysStop, SaysWrite, memory_line, read_fault_line, write_fault_line, Shaped as shaped, Says as says, Ends as ends, SaysStop as stops, SaysWrite as writes}
 use Rattle.generator_core.specs.Running.IsRefused.{by_words, by_trace}
-use Rattle.generator_core.specs.Running.{Shaped as shaped, Says as says, Ends as ends, SaysStop as stops, SaysWrite as writes}
 
 -- the whole line went out
 whole_given : (old new : Option (List ℕ)) (line : List ℕ) → new ≡ option_map (λ before. before ++ line) old → Gives old new line

@@ -5,13 +5,11 @@ use Rattle.tree_spec.specs.Counts.{Rose}
 use Rattle.tree_spec.specs.Trees.{Tree}
 use Rattle.generator_spec.specs.Refusing.{FirstRefusal}
 use Rattle.generator_spec.specs.FirstRefusals.{nothing_refused}
-use Rattle.generator_spec.specs.Outcome.{Outcome}
-use Rattle.generator_spec.specs.Outcome.{Outcome as outcome}
+use Rattle.generator_spec.specs.Outcome.{Outcome, Outcome as outcome}
 use Rattle.generator_spec.specs.OneRefusal.{SameOutcome}
 use Rattle.generator_spec.specs.Outcomes.{one_config, refused_or_config, one_outcome}
-use Rattle.generator_core.specs.Running.{IsGenerated, FolderState, SinkState, Says, Ends, Ending, Shows, Quiet, Finishes, Completes, Meets}
+use Rattle.generator_core.specs.Running.{IsGenerated, FolderState, SinkState, Says, Ends, Ending, Shows, Quiet, Finishes, Completes, Meets, Says as says, Ends as ends, Finishes as finish}
 use Rattle.generator_core.specs.Running.Completes.{complete, memory}
-use Rattle.generator_core.specs.Running.{Says as says, Ends as ends, Finishes as finish}
 
 -- ---- counts
 

@@ -23,15 +23,13 @@ use Rattle.generator_spec.specs.Modules.{Config, Module, Referrer, the_page, a_m
 use Rattle.generator_spec.specs.Modules.Asks.{entries, requests}
 use Rattle.generator_spec.specs.Trace.{ends_in_slash, IsServable, Turn, TurnsOf, new_modules, targets_of, needs_of}
 use Rattle.generator_spec.specs.Closed.{new_modules-append, length-TurnsOf}
-use Rattle.generator_spec.specs.Refusing.{AsksFile, Clashes, Refuses, Reaches, FirstRefusal, asked_for, of_request}
+use Rattle.generator_spec.specs.Refusing.{AsksFile, Clashes, Refuses, Reaches, FirstRefusal, asked_for, of_request, Refuses as refuses, FirstRefusal as first_refusal}
 use Rattle.generator_spec.specs.Refusing.Comes.{page_first, module_next}
-use Rattle.generator_spec.specs.Refusing.{Refuses as refuses, FirstRefusal as first_refusal}
 use Rattle.generator_core.specs.declared.trace.Trace.{Trace}
 use Rattle.generator_core.specs.declared.trace.Asker.{Asker}
 use Rattle.generator_core.specs.Answering.{IsRefusedBy}
 use Rattle.generator_core.specs.Faults.{IsOfRequest, IsOfTrace}
-use Rattle.generator_core.specs.Walking.{IsAsker, Turned, RequestRefused, TurnRefused, ModuleRefused, IsPageRefused, Walked}
-use Rattle.generator_core.specs.Walking.{ModuleRefused as module_refused}
+use Rattle.generator_core.specs.Walking.{IsAsker, Turned, RequestRefused, TurnRefused, ModuleRefused, IsPageRefused, Walked, ModuleRefused as module_refused}
 use Rattle.generator_core.proofs.Needs.{none_passes, alike}
 use Rattle.generator_core.proofs.Turns.{counted_onto-append}
 use Rattle.generator_core.proofs.Walks.{none_clash, within_slice, length-take-within, length-keys_of}

@@ -2,7 +2,7 @@ ghost use Rattle.std.specs.Prelude.{◌≡◌, ◌++◌, IfOk};
 ghost use Rattle.generator_spec.specs.Lines as spec;
 ghost use Rattle.generator_spec.specs.declared.Refusal.TheVariants as refusal;
 ghost use Rattle.generator_spec.specs.Lines.{end_of_line};
-ghost use Rattle.json_spec.specs.Printed.{quoted};
+ghost use Rattle.json_spec.specs.PrintedString.{quoted};
 
 use generator_spec::Refusal;
 use map_print::print_text;

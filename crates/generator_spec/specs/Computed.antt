@@ -13,7 +13,9 @@ use Rattle.tree_spec.specs.declared.Entry.{Entry}
 use Rattle.tree_spec.specs.declared.Entry.TheVariants.{Stored, Directory}
 use Rattle.tree_spec.specs.Paths.{IsPath}
 use Rattle.url_spec.specs.Specifiers.{as_url, is_relative}
-use Rattle.url_spec.specs.WebNames.{web, before_suffix, suffix_of, holds_escape, segments, read_segment}
+use Rattle.url_spec.specs.WebNames.{web}
+use Rattle.url_spec.specs.Suffixes.{before_suffix, suffix_of}
+use Rattle.url_spec.specs.ServedPaths.{holds_escape, segments, read_segment}
 use Rattle.url_spec.specs.FileUrls.{names_host, url_path, escapes_separator, spelled_path}
 use Rattle.import_map_spec.specs.Literals.{looked}
 use Rattle.import_map_spec.specs.Printing.{map_text}

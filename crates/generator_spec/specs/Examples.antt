@@ -10,12 +10,14 @@ use Rattle.url.proofs.OnLiterals.{url_on_literals}
 use Rattle.tree_spec.specs.declared.Entry.{Entry}
 use Rattle.tree_spec.specs.declared.Entry.TheVariants.{Stored, Directory}
 use Rattle.tree_spec.specs.Trees.{Tree, IsTree}
-use Rattle.url_spec.specs.Parsing.{text_of, parse_alone, parse_against, has_special_scheme}
+use Rattle.url_spec.specs.Parsing.{text_of, parse_alone, parse_against}
+use Rattle.url_spec.specs.Schemes.{has_special_scheme}
 use Rattle.url_spec.specs.Specifiers.{as_url, normalized}
-use Rattle.url_spec.specs.WebNames.{escaped, web, holds_escape}
+use Rattle.url_spec.specs.WebNames.{escaped, web}
+use Rattle.url_spec.specs.ServedPaths.{holds_escape}
 use Rattle.url_spec.specs.FileUrls.{file_text, names_host, url_path, spelled_path}
 use Rattle.json_spec.specs.Grammar.{most_brackets}
-use Rattle.json_spec.specs.Reader.{read_json, json_sound}
+use Rattle.json_spec.proofs.PlainReader.{read_json, json_sound}
 use Rattle.import_map_spec.specs.Parsing.{parsed_map, map_from}
 use Rattle.import_map_spec.specs.Literals.{Lists, map_of_lists}
 use Rattle.node_spec.specs.declared.Cause.TheVariants.{NotFound, DirectoryImport}

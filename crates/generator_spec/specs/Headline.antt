@@ -1,7 +1,8 @@
 -- What a written map promises.
 use Rattle.std.specs.Prelude.{◌≡◌, ℕ, List, Some, Contains, Ok}
 use Rattle.tree_spec.specs.Trees.{Tree}
-use Rattle.url_spec.specs.WebNames.{web, IsServed}
+use Rattle.url_spec.specs.WebNames.{web}
+use Rattle.url_spec.specs.ServedPaths.{IsServed}
 use Rattle.node_spec.specs.Resolution.{Resolves}
 use Rattle.node_spec.specs.Resolution as node
 use Rattle.import_map_spec.specs.ParsedMap.{ParsedMap}

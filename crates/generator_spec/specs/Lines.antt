@@ -1,46 +1,13 @@
 -- What a command says, and its exit status.
 use Rattle.std.specs.Prelude.{ℕ, ◌-◌, List, [], ◌∷◌, ◌++◌, length, flat_map, codes}
 use Rattle.std.specs.Fmt.{decimal}
-use Rattle.tree_spec.specs.declared.LimitName.{LimitName}
-use Rattle.tree_spec.specs.declared.LimitName.TheVariants as limit
-use Rattle.json_spec.specs.Printed.{quoted}
+pub use Rattle.tree_spec.specs.Limits.{limit_name, limit_number}
+use Rattle.json_spec.specs.PrintedString.{quoted}
 use Rattle.layout_spec.specs.Layout.{layout}
 use Rattle.layout_spec.specs.Counting.{mapping_count}
 use Rattle.generator_spec.specs.declared.Refusal.{Refusal}
 use Rattle.generator_spec.specs.declared.Refusal.TheVariants.{Words, BadBase, Unservable, NotFound, RequestNotBuilt, ModuleNotBuilt, Limit}
 use Rattle.generator_spec.specs.Trace.{Turn, needs_of}
-
--- own: the name of a quantity that has a limit
-abbrev pub limit_name : LimitName → List ℕ
-limit_name limit.File = codes "file"
-limit_name limit.Bytes = codes "bytes"
-limit_name limit.Looks = codes "looks"
-limit_name limit.Modules = codes "modules"
-limit_name limit.ModuleRequests = codes "module-requests"
-limit_name limit.Requests = codes "requests"
-limit_name limit.Specifier = codes "specifier"
-limit_name limit.Entries = codes "entries"
-limit_name limit.Brackets = codes "brackets"
-limit_name limit.Depth = codes "depth"
-limit_name limit.Session = codes "session"
-limit_name limit.Map = codes "map"
-limit_name limit.Choices = codes "choices"
-
--- own: the number that the quantity may not pass
-abbrev pub limit_number : LimitName → ℕ
-limit_number limit.File = 16777216
-limit_number limit.Bytes = 268435456
-limit_number limit.Looks = 400000
-limit_number limit.Modules = 20000
-limit_number limit.ModuleRequests = 4096
-limit_number limit.Requests = 200000
-limit_number limit.Specifier = 4096
-limit_number limit.Entries = 1024
-limit_number limit.Brackets = 4096
-limit_number limit.Depth = 128
-limit_number limit.Session = 268435456
-limit_number limit.Map = 67108864
-limit_number limit.Choices = 16777216
 
 -- own: the exit status of a refusal
 abbrev pub status_of : Refusal → ℕ

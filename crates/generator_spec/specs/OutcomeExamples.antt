@@ -18,10 +18,12 @@ use Rattle.tree_spec.specs.declared.Entry.TheVariants.{Stored}
 use Rattle.tree_spec.specs.declared.LimitName.TheVariants.{File}
 use Rattle.tree_spec.specs.Paths.{IsParent}
 use Rattle.tree_spec.specs.Trees.{Tree, IsTree, Places}
-use Rattle.tree_spec.specs.TreeLaws.{in_root}
-use Rattle.url_spec.specs.Parsing.{text_of, parse_alone, parse_against, base_of}
+use Rattle.tree_spec.proofs.Placings.{in_root}
+use Rattle.url_spec.specs.Parsing.{text_of, parse_alone, parse_against}
+use Rattle.url_spec.specs.Bases.{base_of}
 use Rattle.url_spec.specs.Specifiers.{as_url}
-use Rattle.url_spec.specs.WebNames.{escaped, web, holds_escape}
+use Rattle.url_spec.specs.WebNames.{escaped, web}
+use Rattle.url_spec.specs.ServedPaths.{holds_escape}
 use Rattle.url_spec.specs.FileUrls.{file_text, names_host, url_path, spelled_path}
 use Rattle.import_map_spec.specs.ParsedMap.{Texts, Addresses}
 use Rattle.import_map_spec.specs.Literals.{Lists, map_of_lists}

@@ -7,8 +7,8 @@ use Rattle.std.proofs.lemmas.List.Elements.{All-nil, All-cons}
 use Rattle.tree_spec.specs.declared.Entry.TheVariants.{Stored}
 use Rattle.tree_spec.specs.Paths.{IsSegment, IsPath, root, child}
 use Rattle.tree_spec.specs.Trees.{Tree, Places}
-use Rattle.tree_spec.specs.TreeLaws.{one_placing}
-use Rattle.url_spec.specs.Parsing.{base_of}
+use Rattle.tree_spec.proofs.Placings.{one_placing}
+use Rattle.url_spec.specs.Bases.{base_of}
 use Rattle.import_map_spec.specs.Printing.{map_text}
 use Rattle.layout_spec.specs.Layout.{layout}
 use Rattle.generator_spec.specs.declared.Refusal.{Refusal}

@@ -21,9 +21,12 @@ use Rattle.url.specs.Parser.{Parsed, and_then, parse_url, parse_by_scheme, parse
 use Rattle.url.proofs.InputLemmas.{IsNot, Passes, split_once_none, All-take-prefix_len}
 use Rattle.url.proofs.OnLiterals.{url_on_literals}
 use Rattle.url.proofs.SchemeLemmas.{file_from_scheme_type, file_from_is_file}
-use Rattle.url_spec.specs.Parsing.{text_of, url_text, is_own_text, kept, parse_alone, parts_of, names_web_folder, is_web_folder, folder_url, base_of}
-use Rattle.url_spec.specs.UrlLaws.{bases_stay}
-use Rattle.url_spec.specs.WebNames.{web, escaped, is_suffix_mark, before_suffix, IsServed}
+use Rattle.url_spec.specs.Parsing.{text_of, url_text, is_own_text, kept, parse_alone, parts_of}
+use Rattle.url_spec.specs.Bases.{names_web_folder, is_web_folder, folder_url, base_of}
+use Rattle.url_spec.proofs.Bases.{bases_stay}
+use Rattle.url_spec.specs.WebNames.{web, escaped}
+use Rattle.url_spec.specs.Suffixes.{is_suffix_mark, before_suffix}
+use Rattle.url_spec.specs.ServedPaths.{IsServed}
 use Rattle.generator_spec.specs.Modules.{Config}
 use Rattle.generator_spec.specs.Trace.{ends_in_slash, IsServable}
 use Rattle.generator_spec.specs.Words.{IsConfigOf}

@@ -10,7 +10,8 @@ use Rattle.std.proofs.lemmas.Map.Views.{Contains-from_any}
 use Rattle.tree_spec.specs.Trees.{Tree}
 use Rattle.node_spec.specs.Resolution.{Resolved}
 use Rattle.node_spec.specs.Laws.{one_answer}
-use Rattle.url_spec.specs.UrlLaws.{kept_urls, own_urls}
+use Rattle.url_spec.proofs.KeptUrls.{kept_urls}
+use Rattle.url_spec.proofs.OwnUrls.{own_urls}
 use Rattle.layout_spec.specs.declared.Need.{Need}
 use Rattle.layout_spec.specs.Lays.{NamesFiles}
 use Rattle.layout_spec.specs.Contained.{contains_here, contains_there, contains_cases, contains_none, contains_flat, flat_from, counted_keeps}

@@ -1,8 +1,8 @@
 -- Words give a config or are refused.
 use Rattle.std.proofs.Common.{◌≡◌, ◌≢◌, ◌⊎◌, ℕ, List, [], ◌∷◌, Option, Some, None, refl, ap, subst, inl, inr}
 use Rattle.std.specs.Prelude.{codes, All}
-use Rattle.tree_spec.specs.TreeLaws.{text_same_or_not}
-use Rattle.url_spec.specs.Parsing.{base_of}
+use Rattle.tree_spec.proofs.PathsAbove.{text_same_or_not}
+use Rattle.url_spec.specs.Bases.{base_of}
 use Rattle.generator_spec.specs.declared.Refusal.{Refusal}
 use Rattle.generator_spec.specs.declared.Refusal.TheVariants.{Words, BadBase}
 use Rattle.generator_spec.specs.Modules.{Config}

@@ -5,7 +5,7 @@ use Rattle.std.specs.FinMap.{insert}
 use Rattle.tree_spec.specs.declared.Entry.TheVariants.{Stored}
 use Rattle.tree_spec.specs.Paths.{IsParent, root}
 use Rattle.tree_spec.specs.Trees.{Tree, IsTree}
-use Rattle.tree_spec.specs.TreeLaws.{in_root}
+use Rattle.tree_spec.proofs.Placings.{in_root}
 use Rattle.generator_spec.specs.Modules.{Config}
 use Rattle.generator_spec.specs.Words.{IsConfigOf}
 use Rattle.generator_spec.specs.Lines.{status_of, line_of, done_line}

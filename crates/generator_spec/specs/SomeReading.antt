@@ -11,7 +11,7 @@ use Rattle.std.proofs.lemmas.List.Elements.{All-nil, All-cons, All-head, All-tai
 use Rattle.tree_spec.specs.declared.Entry.{Entry}
 use Rattle.tree_spec.specs.declared.Entry.TheVariants.{Stored, Directory}
 use Rattle.tree_spec.specs.Trees.{Tree}
-use Rattle.tree_spec.specs.TreeLaws.{text_same_or_not}
+use Rattle.tree_spec.proofs.PathsAbove.{text_same_or_not}
 use Rattle.module_spec.specs.PlainForm.{IsSpace, IsPlainByte, IsStatement, IsPlain}
 use Rattle.module_spec.specs.PlainForm.IsPlain.{nothing, space, statement}
 use Rattle.module_spec.specs.Readings.{one_cut, no_space, quote_no_space, end_no_space, word_no_space, quote_not_plain, one_statement, starts}

@@ -10,13 +10,15 @@ use Rattle.std.proofs.lemmas.Str.{IsUtf8-from_is_utf8, is_utf8-from_IsUtf8}
 use Rattle.tree_spec.specs.declared.Entry.{Entry}
 use Rattle.tree_spec.specs.declared.Entry.TheVariants.{Stored, Directory}
 use Rattle.tree_spec.specs.declared.LimitName.TheVariants.{File, Modules}
-use Rattle.tree_spec.specs.Decided.{path_or_not}
+use Rattle.tree_spec.proofs.DecidedTrees.{path_or_not}
 use Rattle.tree_spec.specs.Paths.{IsPath}
 use Rattle.tree_spec.specs.Trees.{Tree}
-use Rattle.tree_spec.specs.TreeLaws.{text_same_or_not}
+use Rattle.tree_spec.proofs.PathsAbove.{text_same_or_not}
 use Rattle.url_spec.specs.FileUrls.{names_host, url_path, escapes_separator, spelled_path, NamesPath}
 use Rattle.url_spec.specs.Specifiers.{as_url, is_relative}
-use Rattle.url_spec.specs.WebNames.{web, before_suffix, holds_escape, read_segment, segments, IsServed}
+use Rattle.url_spec.specs.WebNames.{web}
+use Rattle.url_spec.specs.Suffixes.{before_suffix}
+use Rattle.url_spec.specs.ServedPaths.{holds_escape, read_segment, segments, IsServed}
 use Rattle.node_spec.specs.declared.Cause.{Cause}
 use Rattle.node_spec.specs.declared.Cause.TheVariants as cause
 use Rattle.node_spec.specs.Resolution.{Answer, Resolved, Refused, joined_url, Resolves}

@@ -5,7 +5,7 @@ use Rattle.std.specs.List.{list_any}
 use Rattle.std.proofs.lemmas.Bool.{cases_Bool, cond-true, cond-false}
 use Rattle.std.proofs.lemmas.List.Elements.{Contains-push_cases}
 use Rattle.tree_spec.specs.Trees.{Tree}
-use Rattle.tree_spec.specs.TreeLaws.{text_same_or_not}
+use Rattle.tree_spec.proofs.PathsAbove.{text_same_or_not}
 use Rattle.layout_spec.specs.declared.Need.{Need}
 use Rattle.layout_spec.specs.Needs.{NoClash}
 use Rattle.generator_spec.specs.declared.Refusal.{Refusal}

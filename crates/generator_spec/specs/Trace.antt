@@ -5,7 +5,8 @@ use Rattle.std.specs.FinMap.{get}
 use Rattle.tree_spec.specs.declared.Entry.TheVariants.{Stored}
 use Rattle.tree_spec.specs.Trees.{Tree}
 use Rattle.url_spec.specs.Specifiers.{as_url, is_relative}
-use Rattle.url_spec.specs.WebNames.{web, IsServed}
+use Rattle.url_spec.specs.WebNames.{web}
+use Rattle.url_spec.specs.ServedPaths.{IsServed}
 use Rattle.node_spec.specs.Resolution.{Resolved, Resolves}
 use Rattle.layout_spec.specs.declared.Need.{Need}
 use Rattle.layout_spec.specs.Needs.{counted}

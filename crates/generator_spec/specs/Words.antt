@@ -1,7 +1,7 @@
 -- The words of a command line.
 use Rattle.std.specs.Prelude.{◌≡◌, ◌≢◌, ℕ, List, [], ◌∷◌, ◌++◌, codes, bytes_eq, All, Some, None, if◌then◌else◌}
 use Rattle.std.specs.List.{list_any}
-use Rattle.url_spec.specs.Parsing.{base_of}
+use Rattle.url_spec.specs.Bases.{base_of}
 use Rattle.generator_spec.specs.declared.Refusal.{Refusal}
 use Rattle.generator_spec.specs.declared.Refusal.TheVariants.{Words, BadBase}
 use Rattle.generator_spec.specs.Modules.{Config}

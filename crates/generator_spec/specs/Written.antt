@@ -13,7 +13,9 @@ use Rattle.tree_spec.specs.declared.Entry.TheVariants.{Stored, Directory}
 use Rattle.tree_spec.specs.Paths.{IsSegment, joined, HasDepth, root, child, IsPath}
 use Rattle.tree_spec.specs.Trees.{Tree}
 use Rattle.url_spec.specs.Specifiers.{is_relative}
-use Rattle.url_spec.specs.WebNames.{web, before_suffix, suffix_of, holds_escape, segments, read_segment}
+use Rattle.url_spec.specs.WebNames.{web}
+use Rattle.url_spec.specs.Suffixes.{before_suffix, suffix_of}
+use Rattle.url_spec.specs.ServedPaths.{holds_escape, segments, read_segment}
 use Rattle.url_spec.specs.FileUrls.{names_host, url_path, escapes_separator, spelled_path, NamesPath}
 use Rattle.import_map_spec.specs.Literals.{map_of, looked, get_map_of}
 use Rattle.module_spec.specs.PlainForm.{IsSpace, IsPlainByte, IsPlain}

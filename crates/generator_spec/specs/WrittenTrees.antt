@@ -7,8 +7,8 @@ use Rattle.std.proofs.lemmas.Bool.{and_parts, or_cases, cases_Bool, cond-false}
 use Rattle.tree_spec.specs.declared.Entry.{Entry}
 use Rattle.tree_spec.specs.declared.Entry.TheVariants.{Stored, Directory}
 use Rattle.tree_spec.specs.Paths.{root, IsPath, IsParent}
-use Rattle.tree_spec.specs.PathLaws.{not_empty}
-use Rattle.tree_spec.specs.TreeLaws.{one_parent, parent_shorter}
+use Rattle.tree_spec.proofs.PathParts.{not_empty, one_parent}
+use Rattle.tree_spec.proofs.PathsAbove.{parent_shorter}
 use Rattle.tree_spec.specs.Trees.{IsTree}
 use Rattle.import_map_spec.specs.Entries.{same_key, same_key_is}
 use Rattle.import_map_spec.specs.Literals.{looked_onto, looked, nowhere, get_map_of}

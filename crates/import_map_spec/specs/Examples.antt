@@ -7,14 +7,15 @@ use Rattle.import_map_spec.specs.declared.MapPart.{MapPart}
 use Rattle.import_map_spec.specs.ParsedMap.{Texts, Addresses, ParsedMap, NoJson, NotObject}
 use Rattle.url.proofs.OnLiterals.{url_on_literals}
 use Rattle.json_spec.specs.Value.{Json, a_null, a_bool, a_number, a_text, a_list, an_object, no_items, Members, no_members, a_member}
-use Rattle.url_spec.specs.Parsing.{text_of, parse_alone, parse_against, has_special_scheme}
+use Rattle.url_spec.specs.Parsing.{text_of, parse_alone, parse_against}
+use Rattle.url_spec.specs.Schemes.{has_special_scheme}
 use Rattle.url_spec.specs.Specifiers.{as_url, normalized}
 use Rattle.import_map_spec.specs.declared.MapPart.TheVariants.{Top, Imports, Scopes, Scope, Integrity}
 use Rattle.import_map_spec.specs.Parsing.{in_property_order, parsed_map, ParsesMap}
 use Rattle.std.specs.Char.{encode_utf8}
 use Rattle.std.specs.Str.{is_utf8, chars}
 use Rattle.json_spec.specs.Grammar.{NotJson, most_brackets}
-use Rattle.json_spec.specs.Reader.{json_sound}
+use Rattle.json_spec.proofs.PlainReader.{json_sound}
 use Rattle.import_map_spec.specs.Entries.{insert_again}
 use Rattle.import_map_spec.specs.Printing.{map_text}
 use Rattle.import_map_spec.specs.PrintedLists.{lists_text}

@@ -7,7 +7,9 @@ use Rattle.std.proofs.lemmas.Bool.{cond-false, cases_Bool, and_parts, and_left, 
 use mathlib.Core.Logic.{inl, inr}
 use Rattle.json_spec.specs.Value.{a_text, Members, no_members, a_member}
 use Rattle.url_spec.specs.Parsing.{IsUrl}
-use Rattle.url_spec.specs.UrlLaws.{kept_urls, no_url, IsNoStart}
+use Rattle.url_spec.proofs.KeptUrls.{kept_urls}
+use Rattle.url_spec.proofs.NoUrls.{no_url}
+use Rattle.url_spec.specs.Laws.{IsNoStart}
 use Rattle.import_map_spec.specs.declared.MapPart.{MapPart}
 use Rattle.import_map_spec.specs.declared.MapPart.TheVariants.{Scopes, Integrity}
 use Rattle.import_map_spec.specs.ParsedMap.{Texts, Addresses, ParsedMap}

@@ -1,7 +1,7 @@
 -- One text has one parsed map.
 use Rattle.std.specs.Prelude.{◌≡◌, ℕ, List, Result}
 use Rattle.std.proofs.Common.{ap, sym, ◌∙◌}
-use Rattle.json_spec.specs.One.{one_json}
+use Rattle.json_spec.proofs.OneJson.{one_json}
 use Rattle.import_map_spec.specs.ParsedMap.{ParsedMap, MapFault}
 use Rattle.import_map_spec.specs.Parsing.{map_from, ParsesMap}
 

@@ -2,7 +2,8 @@
 --     resolve_in map referrer specifier      the URL that the specifier has in the module or page at the referrer, or why it has none
 use Rattle.std.specs.Prelude.{ℕ, zero, suc, Bool, true, List, take, drop, length, Option, Some, None, option_map, if◌then◌else◌}
 use Rattle.std.specs.FinMap.{get}
-use Rattle.url_spec.specs.Parsing.{parse_against, has_special_scheme}
+use Rattle.url_spec.specs.Parsing.{parse_against}
+use Rattle.url_spec.specs.Schemes.{has_special_scheme}
 use Rattle.url_spec.specs.Specifiers.{as_url, normalized, begins}
 use Rattle.import_map_spec.specs.ParsedMap.{Texts, Addresses, ParsedMap}
 use Rattle.import_map_spec.specs.Parsing.{ends_in_slash}

@@ -3,7 +3,7 @@ use Rattle.std.specs.Prelude.{◌≡◌, ℕ, List, Option, Some, None, unwrap_o
 use Rattle.std.proofs.Common.{refl, ap, sym, ◌∙◌}
 use Rattle.url_spec.specs.Parsing.{parse_alone, IsUrl}
 use Rattle.url_spec.specs.Specifiers.{as_url, normalized}
-use Rattle.url_spec.specs.UrlLaws.{own_urls}
+use Rattle.url_spec.proofs.OwnUrls.{own_urls}
 use Rattle.import_map_spec.specs.ParsedMap.{ParsedMap}
 use Rattle.import_map_spec.specs.Resolving.{scope_addresses, resolve_normalized, resolve_in}
 use Rattle.std.specs.FinMap.{get}

@@ -1,7 +1,7 @@
 -- Each text has a map or a first fault.
 use Rattle.std.specs.Prelude.{ℕ, List, Result}
 use Rattle.std.proofs.Common.{refl}
-use Rattle.json_spec.specs.Some.{some_json}
+use Rattle.json_spec.proofs.SomeJson.{some_json}
 use Rattle.import_map_spec.specs.ParsedMap.{ParsedMap, MapFault}
 use Rattle.import_map_spec.specs.Parsing.{map_from, ParsesMap}
 

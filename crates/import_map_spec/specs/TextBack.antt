@@ -6,8 +6,8 @@ use Rattle.std.proofs.Common.{refl, ap, sym}
 use Rattle.std.proofs.lemmas.Slice.Eq.{bytes_eq-Decides}
 use Rattle.json_spec.specs.Value.{a_text, Members, no_members, a_member, IsNewName, AreDistinct}
 use Rattle.json_spec.specs.Grammar.{most_brackets}
-use Rattle.json_spec.specs.ValueBack.{IsPrintable, MembersArePrintable}
-use Rattle.json_spec.specs.JsonBack.{values_read_back}
+use Rattle.json_spec.specs.PrintedValue.{IsPrintable, MembersArePrintable}
+use Rattle.json_spec.proofs.ReadBack.{values_read_back}
 use Rattle.import_map_spec.specs.ParsedMap.{Addresses, ParsedMap}
 use Rattle.import_map_spec.specs.Parsing.{as_map, ParsesMap}
 use Rattle.import_map_spec.specs.Entries.{AllEntries, all_entries, distinct_members}

@@ -1,14 +1,14 @@
 -- Which value a JSON text has, or its first fault. RFC 8259, 2 to 6.
 --     ReadsJson bytes out      the bytes have the value, or the first fault, out
---     Reads depth bytes out      the same of one value at the front of the bytes, in which depth brackets may be open at once.
+--     Reads depth bytes out      the same of one value at the front of the bytes, in which depth brackets may be open at once
+--     ReadsMembers, ReadsItems      the same of the members of an object and the values of a list
 --     most_brackets      how many brackets may be open at once
 -- A fault's place is counted from the end while the text is read, and is turned into an offset once, in `ReadsJson`.
-use Rattle.std.specs.Prelude.{◌≡◌, ℕ, zero, suc, ◌-◌, ◌≢◌, Bool, true, false, ◌||◌, ◌==◌, List, [], ◌∷◌, length, if◌then◌else◌, codes, Option, Some, None, Result, Ok, Err}
-use Rattle.std.proofs.Common.{refl}
-use Rattle.json_spec.specs.Value.{Json, a_null, a_bool, a_number, a_text, a_list, an_object, Items, no_items, an_item, Members, no_members, a_member, settled}
-use Rattle.json_spec.specs.Taken.{Taken, taken, refused, Read, and_then}
-use Rattle.json_spec.specs.Strings.{ReadsString, behind}
+use Rattle.std.specs.Prelude.{ℕ, Bool, ◌||◌, ◌==◌, List, [], ◌∷◌, if◌then◌else◌, length, Option, Some, None, true, false, codes, suc, ◌≢◌, ◌≡◌, zero, Result, Ok, Err, ◌-◌}
 use Rattle.json_spec.specs.Numbers.{number_at}
+use Rattle.json_spec.specs.Strings.{behind, ReadsString}
+use Rattle.json_spec.specs.Taken.{Taken, refused, taken, Read, and_then}
+use Rattle.json_spec.specs.Value.{Json, a_number, a_null, a_bool, Members, a_member, Items, an_item, no_members, no_items, a_text, a_list, an_object, settled}
 
 -- own: what ends the reading of a text, and its place. `NotJson`: nothing is left there, or what comes is no token, or one that the
 -- grammar hasn't at that point. `TooDeep`: a `[` or `{` that the grammar has there, while `most_brackets` others are open
@@ -139,10 +139,6 @@ Reads (suc depth) = ReadsWith (λ bytes. ReadsItems (Reads depth) (after_space b
 -- own: how many brackets may be open at once
 unfoldable pub most_brackets : ℕ
 most_brackets = 128
-
-pub most_brackets_is : most_brackets ≡ 128
-unfolding most_brackets
-most_brackets_is = refl
 
 -- RFC 8259, 2: nothing but white space stands behind the value
 abbrev pub alone : Json → List ℕ → Result Json Fault

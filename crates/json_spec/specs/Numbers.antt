@@ -1,7 +1,7 @@
 -- Numbers. RFC 8259, 6.
 --     number_at bytes      the number that the bytes begin with, the longest one, as it is written
-use Rattle.std.specs.Prelude.{ℕ, Bool, ◌&&◌, ◌||◌, ◌==◌, nat_le, List, [], ◌∷◌, if◌then◌else◌}
-use Rattle.json_spec.specs.Taken.{taken, refused, Read, and_then, or_else, behind_piece}
+use Rattle.std.specs.Prelude.{ℕ, Bool, ◌&&◌, nat_le, List, [], ◌∷◌, if◌then◌else◌, ◌==◌, ◌||◌}
+use Rattle.json_spec.specs.Taken.{taken, refused, Read, and_then, behind_piece, or_else}
 
 abbrev pub is_digit : ℕ → Bool
 is_digit b = nat_le 48 b && nat_le b 57

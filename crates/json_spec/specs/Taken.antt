@@ -1,5 +1,8 @@
--- What a reader of the front of some bytes answers: what it took and the bytes after it, or why it refuses.
-use Rattle.std.specs.Prelude.{ℕ, List, ◌++◌, ⊤}
+-- What a reader of the front of some bytes answers.
+--     Taken A E      what was taken and the bytes after it, or why nothing is
+--     Read A      the same inside one token, where a refusal has no place of its own
+--     and_then, or_else, behind_piece      one reader behind another, one in place of another, a piece before what was taken
+use Rattle.std.specs.Prelude.{ℕ, List, ⊤, ◌++◌}
 
 pub data Taken (A E : Type 0) : Type 0 where
   taken : A → List ℕ → Taken A E

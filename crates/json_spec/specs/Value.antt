@@ -3,7 +3,7 @@
 --     settled ms      an object's members, where its text writes ms
 --     AreDistinct ms      no name stands twice among the members
 --     HasDistinctNames v      the same in each object of a value, at every level
-use Rattle.std.specs.Prelude.{ℕ, Bool, ◌≢◌, List, ⊤, if◌then◌else◌, bytes_eq}
+use Rattle.std.specs.Prelude.{ℕ, Bool, List, if◌then◌else◌, bytes_eq, ◌≢◌, ⊤}
 
 mutual
   -- own: a number is its text, as it is written

@@ -4,7 +4,7 @@ use Rattle.std.specs.Prelude.{◌≢◌, codes}
 use Rattle.std.proofs.Math.Numerals.{add-one}
 use Rattle.std.proofs.lemmas.List.{drop_all}
 use Rattle.json_spec.specs.Value.{Json, a_text, an_object, Members, no_members, a_member}
-use Rattle.json_spec.specs.Printed.{quoted}
+use Rattle.json_spec.specs.PrintedString.{quoted}
 use Rattle.json_spec.specs.PrintedValue.{margin, line, printed, printed_members}
 use Rattle.import_map_spec.specs.Printing.{members_of, with_part}
 use Rattle.map_print.specs.declared.keyed.Layout.{Layout}

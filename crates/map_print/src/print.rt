@@ -1,5 +1,5 @@
 ghost use Rattle.std.specs.Prelude.{◌≡◌, ◌<◌, ◌∷◌, ◌++◌, IfOk, OnOk, codes};
-ghost use Rattle.json_spec.specs.Printed.{quoted};
+ghost use Rattle.json_spec.specs.PrintedString.{quoted};
 ghost use Rattle.json_spec.specs.Value.{a_text, an_object, no_members};
 ghost use Rattle.json_spec.specs.PrintedValue.{line, printed, printed_members, printed_text};
 ghost use Rattle.import_map_spec.specs.ParsedMap.{ParsedMap};

@@ -1,2 +1,1 @@
-pub mod NamedPaths
 pub mod RelativeLemmas

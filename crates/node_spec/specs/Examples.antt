@@ -17,7 +17,8 @@ use Rattle.tree_spec.specs.Paths.{IsSegment, HasDepth, root, child, IsPath}
 use Rattle.tree_spec.specs.Trees.{Tree}
 use Rattle.url_spec.specs.Parsing.{text_of, parse_alone, parse_against}
 use Rattle.url_spec.specs.Specifiers.{is_relative}
-use Rattle.url_spec.specs.WebNames.{escaped, holds_escape}
+use Rattle.url_spec.specs.WebNames.{escaped}
+use Rattle.url_spec.specs.ServedPaths.{holds_escape}
 use Rattle.url_spec.specs.FileUrls.{file_text, names_host, url_path, escapes_separator, spelled_path, NamesPath}
 use Rattle.node_spec.specs.declared.Cause.TheVariants.{InvalidSpecifier, NotFound, DirectoryImport}
 use Rattle.node_spec.specs.Resolution.{Answer, Resolved, Refused, joined_url, Judges, Resolves}

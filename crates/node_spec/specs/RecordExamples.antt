@@ -5,7 +5,7 @@ use Rattle.std.specs.Str.{is_utf8, chars}
 use Rattle.std.proofs.Common.{refl}
 use Rattle.json_spec.specs.Value.{a_null, a_text, an_object, no_members, a_member}
 use Rattle.json_spec.specs.Grammar.{most_brackets}
-use Rattle.json_spec.specs.Reader.{read_json, json_sound}
+use Rattle.json_spec.proofs.PlainReader.{read_json, json_sound}
 use Rattle.node_spec.specs.declared.PackageKind.TheVariants.{Module, CommonJs, Unstated}
 use Rattle.node_spec.specs.Records.{Record, RecordFault, InvalidRecord, DeepRecord, record_outcome, after_mark, ReadsRecord, reads_record}
 

@@ -4,9 +4,9 @@ use Rattle.std.proofs.Common.{ap}
 use Rattle.std.proofs.lemmas.Bool.{cond_both}
 use Rattle.json_spec.specs.Value.{Json, a_null, a_bool, a_number, a_text, a_list, an_object, Members, no_members, a_member, HasDistinctNames, MembersHaveDistinctNames}
 use Rattle.json_spec.specs.Grammar.{Fault, NotJson, TooDeep}
-use Rattle.json_spec.specs.One.{one_json}
-use Rattle.json_spec.specs.Some.{some_json}
-use Rattle.json_spec.specs.Distinct.{names_are_distinct}
+use Rattle.json_spec.proofs.OneJson.{one_json}
+use Rattle.json_spec.proofs.SomeJson.{some_json}
+use Rattle.json_spec.proofs.DistinctNames.{names_are_distinct}
 use Rattle.node_spec.specs.Records.{Record, field, RecordFault, record_outcome, after_mark, ReadsRecord, reads_record}
 
 -- own law: the bytes of a package.json have one record, or one reason for having none

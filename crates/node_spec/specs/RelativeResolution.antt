@@ -1,28 +1,28 @@
 -- Node's resolution of a relative specifier as an asking over looks (Node.js, ECMAScript modules: ESM_RESOLVE, from "If specifier starts with
 -- "/", "./", or "../"" on).
 --     relative_resolution parent specifier      in the file at the path `parent`: a module, or the cause of a refusal
---     named_path url                            the path that the URL's path names, if it names one
-use Rattle.std.specs.Prelude.{◌≡◌, ℕ, true, List, Option, Some, None, ◌⊎◌, if◌then◌else◌}
+--     named_path url                            the path that the URL's path spells, if it spells one
+use Rattle.std.specs.Prelude.{◌≡◌, ◌&&◌, ℕ, true, List, Option, Some, None, if◌then◌else◌}
+use Rattle.std.specs.Str.{is_utf8}
 use Rattle.std.specs.FinMap.{get}
-use mathlib.Core.Logic.{inl, inr}
 use Rattle.asking_spec.specs.Askings.{answered, ask, outcome}
 use Rattle.tree_spec.specs.declared.Entry.{Entry}
 use Rattle.tree_spec.specs.declared.Entry.TheVariants.{Stored, Directory}
-use Rattle.tree_spec.specs.Looks.{LookAsking}
+use Rattle.tree_spec.specs.LookAskings.{LookAsking}
 use Rattle.tree_spec.specs.Trees.{Tree}
-use Rattle.url_spec.specs.FileUrls.{names_host, url_path, escapes_separator}
+use Rattle.url_spec.specs.FileUrls.{names_host, url_path, escapes_separator, spelled_path}
+use Rattle.url_spec.specs.PathTests.{is_path}
 use Rattle.url_spec.specs.Specifiers.{is_relative}
-use Rattle.url_spec.specs.WebNames.{suffix_of}
+use Rattle.url_spec.specs.Suffixes.{suffix_of}
 use Rattle.node_spec.specs.declared.Cause.TheVariants.{InvalidSpecifier, NotFound, DirectoryImport}
 use Rattle.node_spec.specs.Resolution.{Answer, Resolved, Refused, is_folder_path, joined_url, Resolves}
-use Rattle.node_spec.proofs.NamedPaths.{NamesSome, NamesNone, path_named_or_not}
 
-abbrev pub path_in : {url : List ℕ} → NamesSome url ⊎ NamesNone url → Option (List ℕ)
-path_in (inl named) = Some named.path
-path_in (inr none) = None
+-- the path, where the spelled bytes are one
+abbrev pub as_path : List ℕ → Option (List ℕ)
+as_path text = if is_utf8 text && is_path text then Some text else None
 
 abbrev pub named_path : List ℕ → Option (List ℕ)
-named_path url = path_in (path_named_or_not url)
+named_path url = as_path (spelled_path (url_path url))
 
 -- by what stands at the path that the URL names
 abbrev pub judged : List ℕ → List ℕ → Option Entry → Answer

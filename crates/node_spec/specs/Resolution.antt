@@ -7,7 +7,7 @@ use Rattle.tree_spec.specs.declared.Entry.TheVariants.{Stored, Directory}
 use Rattle.tree_spec.specs.Trees.{Tree}
 use Rattle.url_spec.specs.Parsing.{parse_alone, parse_against}
 use Rattle.url_spec.specs.Specifiers.{is_relative}
-use Rattle.url_spec.specs.WebNames.{suffix_of}
+use Rattle.url_spec.specs.Suffixes.{suffix_of}
 use Rattle.url_spec.specs.FileUrls.{file_text, names_host, url_path, escapes_separator, NamesPath}
 use Rattle.node_spec.specs.declared.Cause.{Cause}
 use Rattle.node_spec.specs.declared.Cause.TheVariants.{InvalidSpecifier, NotFound, DirectoryImport}

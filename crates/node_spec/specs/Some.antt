@@ -7,12 +7,12 @@ use mathlib.Core.Logic.{inl, inr}
 use Rattle.std.proofs.lemmas.Str.{IsUtf8-from_is_utf8, is_utf8-from_IsUtf8}
 use Rattle.tree_spec.specs.declared.Entry.{Entry}
 use Rattle.tree_spec.specs.declared.Entry.TheVariants.{Stored, Directory}
-use Rattle.tree_spec.specs.Decided.{path_or_not}
+use Rattle.tree_spec.proofs.DecidedTrees.{path_or_not}
 use Rattle.tree_spec.specs.Paths.{IsPath}
 use Rattle.tree_spec.specs.Trees.{Tree}
 use Rattle.url_spec.specs.FileUrls.{names_host, url_path, escapes_separator, spelled_path, NamesPath}
 use Rattle.url_spec.specs.Specifiers.{is_relative}
-use Rattle.url_spec.specs.WebNames.{suffix_of}
+use Rattle.url_spec.specs.Suffixes.{suffix_of}
 use Rattle.node_spec.specs.declared.Cause.TheVariants.{InvalidSpecifier, NotFound, DirectoryImport}
 use Rattle.node_spec.specs.Resolution.{Answer, Resolved, Refused, is_folder_path, joined_url, Judges, Joins, Resolves}
 use Rattle.node_spec.specs.Resolution.Judges.{separator, folder, nameless, absent, no_folder, file}

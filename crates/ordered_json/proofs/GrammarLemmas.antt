@@ -6,8 +6,8 @@ use Rattle.json_spec.specs.Value.{Json, a_text, a_list, an_object, Items, no_ite
 use Rattle.json_spec.specs.Taken.{taken, refused, and_then}
 use Rattle.json_spec.specs.Strings.{ReadsString}
 use Rattle.json_spec.specs.Grammar.{Fault, NotJson, TooDeep, Reading, after_space, fault_here, scalar_at, colon_at, ReadsName, name_text, no_name, name_ends, Member, a_pair, ReadsMember, member_value, member_name, behind_member, behind_item, MoreMembers, members_close, members_next, members_fault, members_other, members_end, ReadsMembers, no_member, first_member, member_fault, object_ends, MoreItems, items_close, items_next, items_fault, items_other, items_end, ReadsItems, no_item, first_item, item_fault, list_ends, as_list, as_object, reads_text, reads_list, reads_object, reads_scalar, value_ends, Reads, most_brackets, alone, with_offset, ReadsJson, json_text}
-use Rattle.json_spec.specs.Shorter.{Below, space_at_most, scalar_below}
-use Rattle.json_spec.specs.One.{name_one, reads_one}
+use Rattle.json_spec.proofs.Shorter.{Below, space_at_most, scalar_below}
+use Rattle.json_spec.proofs.OneJson.{name_one, reads_one}
 use Rattle.ordered_json.specs.declared.fault.Stop.{Stop}
 use Rattle.ordered_json.specs.declared.fault.Stop.TheVariants.{Unreadable, Deep, NoMemory}
 use Rattle.ordered_json.specs.Shown.{items_from}

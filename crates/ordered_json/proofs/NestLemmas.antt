@@ -5,7 +5,7 @@ use Rattle.std.proofs.lemmas.List.{same_from_push, nil_from_length}
 use Rattle.json_spec.specs.Value.{Json, a_list, no_items}
 use Rattle.json_spec.specs.Taken.{taken, refused}
 use Rattle.json_spec.specs.Grammar.{Fault, NotJson, TooDeep, after_space, fault_here, Reads}
-use Rattle.json_spec.specs.Shorter.{space_at_most}
+use Rattle.json_spec.proofs.Shorter.{space_at_most}
 use Rattle.ordered_json.specs.declared.forest.Forest.{Forest}
 use Rattle.ordered_json.specs.declared.fault.Stop.{Stop}
 use Rattle.ordered_json.specs.declared.fault.Stop.TheVariants.{Unreadable, Deep, NoMemory}

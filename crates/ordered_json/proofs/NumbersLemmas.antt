@@ -4,7 +4,7 @@ use Rattle.std.specs.Borrow.{Bor}
 use Rattle.std.proofs.Common.{refl, ap, sym, ◌∙◌, arith, append_assoc, length-append}
 use Rattle.std.proofs.lemmas.Bool.{cond-true, cond-false, leb-true, and_parts, false_from_ne_true, eqb-true}
 use Rattle.std.proofs.lemmas.Str.{IsUtf8-append, IsUtf8-nil}
-use Rattle.json_spec.specs.Utf8.{ascii_first}
+use Rattle.json_spec.proofs.PrintedUtf8.{ascii_first}
 use Rattle.json_spec.specs.Taken.{taken, refused, Read, and_then, or_else, behind_piece}
 use Rattle.json_spec.specs.Numbers.{is_digit, leading_digits, after_digits, some_digits, digits_at, int_at, frac_at, exp_at, number_at, joined, maybe, one_of}
 use Rattle.ordered_json.specs.Scanned.{Cut}

@@ -5,7 +5,7 @@ use Rattle.std.proofs.lemmas.Bool.{and_parts, not-true, eqb-false, eqb-true, leb
 use mathlib.Core.Logic.{inl, inr}
 use Rattle.json_spec.specs.Taken.{taken, refused, Read, behind_piece}
 use Rattle.json_spec.specs.Strings.{escape_at, ReadsText, close, plain, escape, no_escape, control, text_ends}
-use Rattle.json_spec.specs.Shorter.{AtMost, escape_at_most}
+use Rattle.json_spec.proofs.Shorter.{AtMost, escape_at_most}
 use Rattle.ordered_json.specs.Scanned.{is_plain, after_plain}
 
 -- what is found of the string so far, with a reading of what is left, is a reading of the whole

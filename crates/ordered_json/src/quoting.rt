@@ -1,5 +1,5 @@
 ghost use Rattle.std.specs.Prelude.{◌≡◌, ◌<◌, ◌++◌, length, take, OnOk, OnErr};
-ghost use Rattle.json_spec.specs.Printed.{quoted, escaped, escaped_byte, hex_digit};
+ghost use Rattle.json_spec.specs.PrintedString.{quoted, escaped, escaped_byte, hex_digit};
 
 use primitives::Memory;
 

@@ -5,9 +5,10 @@ use Rattle.std.specs.FinMap.{get}
 use Rattle.std.proofs.lemmas.Bool.{cond-false, and_left}
 use Rattle.url_spec.specs.Parsing.{IsUrl}
 use Rattle.url_spec.specs.Specifiers.{normalized}
-use Rattle.url_spec.specs.UrlLaws.{own_urls, no_urls}
-use Rattle.url_spec.specs.OwnTexts.{utf8_url}
-use Rattle.url_spec.specs.AgainstLaws.{urls_against}
+use Rattle.url_spec.proofs.OwnUrls.{own_urls}
+use Rattle.url_spec.proofs.NoUrls.{no_urls}
+use Rattle.url_spec.proofs.OwnTexts.{utf8_url}
+use Rattle.url_spec.proofs.AgainstBases.{urls_against}
 use Rattle.import_map_spec.specs.ParsedMap.{Texts, Addresses, ParsedMap}
 use Rattle.import_map_spec.specs.Parsing.{is_empty, ends_in_slash, fitting}
 use Rattle.import_map_spec.specs.Printing.{IsKeptAddress, IsKeptKey, IsKeptScope, IsKept}

@@ -3,7 +3,7 @@ use Rattle.std.proofs.Common.{◌≡◌, ℕ, List, Some, sym, ◌∙◌, subst}
 use Rattle.std.specs.Prelude.{Contains, Ok}
 use Rattle.tree_spec.specs.Trees.{Tree}
 use Rattle.url_spec.specs.Parsing.{IsUrl}
-use Rattle.url_spec.specs.UrlLaws.{kept_urls}
+use Rattle.url_spec.proofs.KeptUrls.{kept_urls}
 use Rattle.import_map_spec.specs.Parsing.{ParsesMap}
 use Rattle.import_map_spec.specs.TextBack.{texts_read_back}
 use Rattle.import_map_spec.specs.Resolving.{resolve_in}

@@ -10,7 +10,7 @@ use Rattle.std.proofs.lemmas.Bool.Decides.{same_from_decides}
 use Rattle.std.proofs.lemmas.Map.Text.{is_eq-slice_cmp}
 use Rattle.std.proofs.lemmas.Slice.Eq.{bytes_eq-Decides}
 use Rattle.tree_spec.specs.declared.Entry.{Entry}
-use Rattle.tree_spec.specs.TreeLaws.{get_inserted, same_tree}
+use Rattle.tree_spec.proofs.Insertion.{get_inserted, same_tree}
 use Rattle.tree_model.specs.Entries.{tree_of}
 
 find_lookup : (path : List ℕ) (entries : List (List ℕ × Entry)) → find (slice_cmp nat_cmp) path entries ≡ lookup (is_at (slice_cmp nat_cmp path)) entries

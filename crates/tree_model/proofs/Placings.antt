@@ -10,9 +10,11 @@ use Rattle.tree_spec.specs.declared.Entry.{Entry}
 use Rattle.tree_spec.specs.declared.Entry.TheVariants.{Stored, Directory}
 use Rattle.std.specs.declared.alloc.AllocError.{AllocError}
 use Rattle.tree_spec.specs.Paths.{IsPath, IsParent, IsAbove, parent_of, further}
-use Rattle.tree_spec.specs.PathLaws.{front_of, not_root}
+use Rattle.tree_spec.proofs.PathParts.{front_of, not_root}
 use Rattle.tree_spec.specs.Trees.{Tree, IsTree, Places}
-use Rattle.tree_spec.specs.TreeLaws.{get_inserted, get_here, get_other, same_tree, above_other, above_by_parent, parent_above, inserted_places, folders_above, placed_tree}
+use Rattle.tree_spec.proofs.Insertion.{get_inserted, get_here, get_other, same_tree}
+use Rattle.tree_spec.proofs.PathsAbove.{above_other, above_by_parent, parent_above}
+use Rattle.tree_spec.proofs.Placings.{inserted_places, folders_above, placed_tree}
 use Rattle.tree_model.specs.Entries.{IsSettled, IsBelowFile, IsBarred}
 
 pub settled_tree : (tree : Tree) (path : List ℕ) → IsTree tree → IsSettled tree path

@@ -6,7 +6,7 @@ use Rattle.std.proofs.lemmas.List.{take-append-drop, get_or-drop, length-drop}
 use Rattle.std.proofs.lemmas.Slice.Eq.{bytes_eq-Decides}
 use Rattle.std.proofs.lemmas.List.Elements.{All-from_get_or, All-same}
 use Rattle.tree_spec.specs.Paths.{IsSegment, joined, HasDepth, root, child, IsPath, IsParent}
-use Rattle.tree_spec.specs.PathLaws.{IsFront, at_root, at_other, front_of, joined_at, HasLast, last_of, no_depth, not_empty, not_root}
+use Rattle.tree_spec.proofs.PathParts.{IsFront, at_root, at_other, front_of, joined_at, HasLast, last_of, no_depth, not_empty, not_root}
 use Rattle.tree_model.specs.Below.{IsBelow}
 
 -- what stands before and behind the last `/`

@@ -2,7 +2,8 @@ ghost use Rattle.std.specs.Prelude.{◌≡◌, ◌≢◌, Option, Some, None, tr
 ghost use Rattle.std.specs.FinMap.{get, insert, remove};
 ghost use Rattle.tree_spec.specs.declared.Entry.TheVariants.{Stored, Directory};
 ghost use Rattle.tree_spec.specs.Paths.{IsPath};
-ghost use Rattle.tree_spec.specs.Trees.{IsTree, IsLook, Places, bare_tree};
+ghost use Rattle.tree_spec.specs.Trees.{IsTree, Places, bare_tree};
+ghost use Rattle.tree_spec.specs.Looks.{IsLook};
 ghost use Rattle.tree_model.specs.Entries.{tree_of, IsSettled, IsBelowFile, IsFree, IsBarred};
 
 use crate::Path;

@@ -1,7 +1,8 @@
 ghost use Rattle.std.specs.Prelude.{◌≡◌, ◌≢◌, ◌≤◌, List, ℕ, Option, Some, None, is_ok, IfOk, IfSome, OnOk, OnErr, IsErrOf};
 ghost use Rattle.tree_spec.specs.declared.Entry.TheVariants.{Stored};
 ghost use Rattle.tree_spec.specs.Counts.{Rose};
-ghost use Rattle.tree_spec.specs.Trees.{Tree, IsTree, IsLook, Places, asked_after};
+ghost use Rattle.tree_spec.specs.Trees.{Tree, IsTree, Places};
+ghost use Rattle.tree_spec.specs.Looks.{IsLook, asked_after};
 
 use crate::{Failed, Path};
 use std::alloc::Global;

@@ -3,6 +3,7 @@
 
 mod entries;
 mod folder;
+mod limits;
 mod mem_folder;
 mod mem_sink;
 mod mem_source;
@@ -13,6 +14,7 @@ mod stream;
 mod tests;
 
 pub use folder::Folder;
+pub use limits::{limit_name, limit_number};
 pub use mem_folder::MemFolder;
 pub use mem_sink::MemSink;
 pub use mem_source::MemSource;

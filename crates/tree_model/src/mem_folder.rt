@@ -2,7 +2,8 @@ ghost use Rattle.std.specs.Prelude.{◌≡◌, ◌≢◌, ◌≤◌, ◌↔◌, 
 ghost use Rattle.std.specs.List.{Contains};
 ghost use Rattle.std.specs.FinMap.{get};
 ghost use Rattle.tree_spec.specs.Counts.{following};
-ghost use Rattle.tree_spec.specs.Trees.{Tree, IsTree, IsLook, Places, bare_tree};
+ghost use Rattle.tree_spec.specs.Trees.{Tree, IsTree, Places, bare_tree};
+ghost use Rattle.tree_spec.specs.Looks.{IsLook};
 ghost use Rattle.tree_spec.specs.declared.Entry.TheVariants.{Stored, Directory};
 ghost use Rattle.tree_model.specs.Entries.{tree_of, IsFree, IsBarred, entry_for, file_of};
 
@@ -82,7 +83,7 @@ impl MemFolder {
 }
 
 impl Folder for MemFolder {
-    ghost use Rattle.tree_spec.specs.Decided.{known_tree};
+    ghost use Rattle.tree_spec.proofs.DecidedTrees.{known_tree};
 
     ghost holds = { λ folder. Some (tree_of folder.entries) };
 

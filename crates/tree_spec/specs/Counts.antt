@@ -1,4 +1,6 @@
--- Counts of faults.
+-- Counts of faults, which end at the last number of their type.
+--     Rose before now      the count rose
+--     following number      the number after this one
 use Rattle.std.specs.Prelude.{◌≤◌, ◌+◌, ◌-◌, ◌^◌, ℕ, min}
 
 -- own: a count rose, or stands at the last number of its type, where it can't rise

@@ -1,7 +1,7 @@
 pub mod Paths
-pub mod PathLaws
 pub mod Trees
-pub mod TreeLaws
-pub mod Decided
-pub mod Counts
 pub mod Looks
+pub mod LookAskings
+pub mod Limits
+pub mod Counts
+pub mod Laws

@@ -1,5 +1,11 @@
 -- Paths by their texts.
-use Rattle.std.specs.Prelude.{◌≡◌, ◌≢◌, ◌≤◌, ◌+◌, ℕ, List, [], ◌∷◌, ◌++◌, length, codes, bytes_eq, if◌then◌else◌, All}
+--     IsPath text      the text is a path: `/`, or segments, each behind a `/`
+--     IsSegment name      the name may stand between two slashes
+--     joined path rest      the text of what stands below a path
+--     HasDepth depth text      the text is that many segments below the root
+--     IsParent parent path      the path is a segment below its parent
+--     IsAbove above path      the path is some segments below this one
+use Rattle.std.specs.Prelude.{◌≢◌, ℕ, List, [], codes, All, ◌∷◌, ◌++◌, bytes_eq, if◌then◌else◌, ◌≡◌, ◌+◌, ◌≤◌, length}
 
 -- own: a name between two slashes: not empty, not `.` or `..`, without `/` and NUL
 pub record IsSegment (name : List ℕ) : Type 0 where

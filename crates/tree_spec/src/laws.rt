@@ -1,4 +1,4 @@
-ghost use Rattle.tree_spec.specs.TreeLaws.{OneLook, OneParent, OnePlacing, PlacingKeepsTree, PlacingInFolder, PlacingInRoot, RootAlone};
+ghost use Rattle.tree_spec.specs.Laws.{OneLook, OneParent, OnePlacing, PlacingKeepsTree, PlacingInFolder, PlacingInRoot, RootAlone};
 
 /// A path has one parent.
 pub fn one_parent()

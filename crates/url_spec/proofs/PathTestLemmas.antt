@@ -7,9 +7,10 @@ use Rattle.std.proofs.lemmas.Bool.{and_parts}
 use Rattle.std.proofs.lemmas.Str.{IsUtf8-from_is_utf8, is_utf8-from_IsUtf8}
 use Rattle.std.proofs.lemmas.Slice.Eq.{bytes_eq-Decides}
 use Rattle.std.proofs.Math.Seq.{drop-append_seam}
-use Rattle.tree_spec.specs.Decided.{path_or_not}
+use Rattle.tree_spec.proofs.DecidedTrees.{path_or_not}
 use Rattle.tree_spec.specs.Paths.{IsPath}
-use Rattle.url_spec.specs.WebNames.{before_suffix, holds_escape, segments, read_segment, IsServed}
+use Rattle.url_spec.specs.Suffixes.{before_suffix}
+use Rattle.url_spec.specs.ServedPaths.{holds_escape, segments, read_segment, IsServed}
 use Rattle.url_spec.specs.PathTests.{decided, is_path, spells, is_served}
 
 pub holds_by : {P : Type 0} (d : P ⊎ (P → ⊥)) → decided d ≡ true → P

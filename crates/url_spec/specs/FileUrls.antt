@@ -1,11 +1,19 @@
 -- File URLs of paths, and the places that file URLs name.
-use Rattle.std.specs.Prelude.{◌≡◌, ◌==◌, ◌&&◌, ◌||◌, not, nat_eq, ℕ, Bool, false, List, [], ◌++◌, codes, bytes_eq, flat_map, filter, length, Option, Some, None, MatchOption, if◌then◌else◌}
+--     file_text path folder      the URL of a file or a folder
+--     names_host url      the URL with this text has a host that isn't empty
+--     url_path url      the path of the URL with this text
+--     spelled_path text      the path that a file URL's path spells
+--     NamesPath text path      a file URL's path names this path
+--     IsPlace url path folder_only escaped suffix      the place that a file URL names
 use Rattle.std.specs.List.{ends_with}
+use Rattle.std.specs.Prelude.{◌&&◌, not, ℕ, Bool, List, [], ◌++◌, codes, bytes_eq, if◌then◌else◌, false, Option, Some, None, ◌||◌, ◌==◌, flat_map, length, filter, ◌≡◌, nat_eq, MatchOption}
 use Rattle.std.specs.Str.{IsUtf8}
 use Rattle.url.specs.Parts.{Parts, has_host}
-use Rattle.url_spec.specs.Parsing.{parts_of}
-use Rattle.url_spec.specs.WebNames.{escaped, holds_escape, read_segment, segments, suffix_of}
 use Rattle.tree_spec.specs.Paths.{IsPath}
+use Rattle.url_spec.specs.Parsing.{parts_of}
+use Rattle.url_spec.specs.ServedPaths.{holds_escape, read_segment, segments}
+use Rattle.url_spec.specs.Suffixes.{suffix_of}
+use Rattle.url_spec.specs.WebNames.{escaped}
 
 -- own: the URL of a file or a folder. A folder's ends in one `/`, so the root's is `file:///`
 unfoldable pub file_text : List ℕ → Bool → List ℕ

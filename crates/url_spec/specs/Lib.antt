@@ -1,13 +1,11 @@
 pub mod Parsing
 pub mod Schemes
+pub mod Bases
 pub mod Specifiers
 pub mod WebNames
-pub mod FileUrls
-pub mod UrlLaws
-pub mod FileUrlLaws
-pub mod AgainstLaws
-pub mod OwnTexts
-pub mod FileNames
-pub mod Examples
-
+pub mod Suffixes
+pub mod ServedPaths
 pub mod PathTests
+pub mod FileUrls
+pub mod Laws
+pub mod WorkedExamples

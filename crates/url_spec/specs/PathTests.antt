@@ -4,8 +4,9 @@
 use Rattle.std.specs.Prelude.{◌⊎◌, ◌&&◌, not, ℕ, Bool, true, false, List, ◌++◌, length, drop, codes, bytes_eq, flat_map}
 use Rattle.std.specs.Str.{is_utf8}
 use mathlib.Core.Logic.{inl, inr}
-use Rattle.tree_spec.specs.Decided.{path_or_not}
-use Rattle.url_spec.specs.WebNames.{before_suffix, holds_escape, segments, read_segment}
+use Rattle.tree_spec.proofs.DecidedTrees.{path_or_not}
+use Rattle.url_spec.specs.Suffixes.{before_suffix}
+use Rattle.url_spec.specs.ServedPaths.{holds_escape, segments, read_segment}
 
 -- whether that holds which is known to hold or not to
 abbrev pub decided : {P : Type 0} → P ⊎ (P → ⊥) → Bool

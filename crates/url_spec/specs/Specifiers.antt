@@ -1,6 +1,10 @@
 -- Specifiers that may be URLs (HTML, import maps: resolve a URL-like module specifier).
-use Rattle.std.specs.Prelude.{◌||◌, nat_eq, ℕ, Bool, List, codes, Option, unwrap_or, if◌then◌else◌}
+--     is_relative text      the text begins with `/`, `./` or `../`
+--     as_url base text      the URL of a specifier
+--     normalized base text      the normalized specifier
+--     begins text front      the text begins with this one
 use Rattle.std.specs.List.{starts_with}
+use Rattle.std.specs.Prelude.{nat_eq, ℕ, Bool, List, ◌||◌, codes, Option, if◌then◌else◌, unwrap_or}
 use Rattle.url_spec.specs.Parsing.{parse_alone, parse_against}
 
 -- the text begins with this one

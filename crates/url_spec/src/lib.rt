@@ -2,42 +2,38 @@
 //! and their laws as the contracts of functions that do nothing.
 #![tactic(auto)]
 
-ghost use Rattle.url_spec.specs.AgainstLaws.{SameAgainst};
-ghost use Rattle.url_spec.specs.Examples.{WorkedExamples};
-ghost use Rattle.url_spec.specs.FileNames.{FilesEndInNoSlash};
-ghost use Rattle.url_spec.specs.FileUrlLaws.{FileUrls};
-ghost use Rattle.url_spec.specs.OwnTexts.{AsciiUrls, KeptWhole};
-ghost use Rattle.url_spec.specs.UrlLaws.{KeptUrls, NoUrls, OwnUrls, BasesStay, OneServed, OnePlace};
+ghost use Rattle.url_spec.specs.Laws.{SameAgainst, FilesEndInNoSlash, FileUrls, AsciiUrls, KeptWhole, KeptUrls, NoUrls, OwnUrls, BasesStay, OneServed, OnePlace};
+ghost use Rattle.url_spec.specs.WorkedExamples.{WorkedExamples};
 
 /// What parsing gives, with or without a base, is the text of a URL, and so is a web name.
-#[tactic(auto, using(crate::specs::UrlLaws::kept_urls))]
+#[tactic(auto, using(crate::proofs::KeptUrls::kept_urls))]
 pub fn kept_urls()
     ensures { KeptUrls }
 {}
 
 /// The text of a URL is ASCII.
-#[tactic(auto, using(crate::specs::OwnTexts::ascii_urls))]
+#[tactic(auto, using(crate::proofs::OwnTexts::ascii_urls))]
 pub fn ascii_urls()
     ensures { AsciiUrls }
 {}
 
 /// Each valid URL that the parser gives counts, with or without a base: its text is ASCII and
 /// parses to it.
-#[tactic(auto, using(crate::specs::OwnTexts::kept_whole))]
+#[tactic(auto, using(crate::proofs::OwnTexts::kept_whole))]
 pub fn kept_whole()
     ensures { KeptWhole }
 {}
 
 /// A text that is empty, or that begins with `/`, `.`, a digit or any other visible byte that is no
 /// letter, is no URL without a base.
-#[tactic(auto, using(crate::specs::UrlLaws::no_urls))]
+#[tactic(auto, using(crate::proofs::NoUrls::no_urls))]
 pub fn no_urls()
     ensures { NoUrls }
 {}
 
 /// As a specifier the text of a URL is that URL, against every base; and the URL of a specifier is
 /// the text of a URL.
-#[tactic(auto, using(crate::specs::UrlLaws::own_urls))]
+#[tactic(auto, using(crate::proofs::OwnUrls::own_urls))]
 pub fn own_urls()
     ensures { OwnUrls }
 {}
@@ -48,7 +44,7 @@ pub fn urls_against()
 {}
 
 /// The base that a text gives is its own base.
-#[tactic(auto, using(crate::specs::UrlLaws::bases_stay))]
+#[tactic(auto, using(crate::proofs::Bases::bases_stay))]
 pub fn bases_stay()
     ensures { BasesStay }
 {}
@@ -75,7 +71,7 @@ pub fn file_urls()
 {}
 
 /// Worked examples.
-#[tactic(auto, using(crate::specs::Examples::worked_examples))]
+#[tactic(auto, using(crate::proofs::examples::WorkedExamples::worked_examples))]
 pub fn worked_examples()
     ensures { WorkedExamples }
 {}

@@ -2,8 +2,9 @@
 use Rattle.std.proofs.Common.{◌≡◌, List, ℕ, Some, None, true, false, ap, ◌∙◌}
 use Rattle.std.proofs.lemmas.Bool.{cond-true, cond-false}
 use Rattle.url.specs.Parts.{Parts}
-use Rattle.url_spec.specs.Parsing.{text_of, parse_alone, is_web_folder, names_web_folder, folder_url, base_of, IsBase}
-use Rattle.url_spec.specs.UrlLaws.{bases_stay}
+use Rattle.url_spec.specs.Parsing.{text_of, parse_alone}
+use Rattle.url_spec.specs.Bases.{is_web_folder, names_web_folder, folder_url, base_of, IsBase}
+use Rattle.url_spec.proofs.Bases.{bases_stay}
 use Rattle.web_url.specs.Written.{IsWritten}
 use Rattle.web_url.proofs.UrlTexts.{parts_written, text_value}
 

@@ -7,7 +7,8 @@ use Rattle.std.proofs.lemmas.Bool.{agree_below, agree_below_at, cases_Bool, case
 use Rattle.std.proofs.lemmas.Bool.Decides.{nat_tests}
 use Rattle.percent_encoding.specs.AsciiSet.{should_percent_encode}
 use Rattle.percent_encoding.specs.Percent.{percent_encode, percent_encode_byte, encode_byte}
-use Rattle.url_spec.specs.WebNames.{is_plain, escaped, holds_escape}
+use Rattle.url_spec.specs.WebNames.{is_plain, escaped}
+use Rattle.url_spec.specs.ServedPaths.{holds_escape}
 use Rattle.web_url.specs.declared.escapes.TheConstants.{ESCAPED}
 
 below_128 : agree_below (should_percent_encode ESCAPED) (λ b. not (is_plain b)) 128 ≡ true

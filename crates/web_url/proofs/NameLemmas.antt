@@ -1,16 +1,17 @@
 -- Web names and the paths that are served.
 use Rattle.std.proofs.Common.{◌≡◌, ◌≢◌, ◌<◌, All, None, arith, ◌++◌, ◌∷◌, [], List, ℕ, Bool, true, false, drop, sym, refl, ap, ◌∙◌, subst, cond, append_assoc}
-use Rattle.std.specs.Prelude.{codes, bytes_eq, nat_eq}
+use Rattle.std.specs.Prelude.{codes, bytes_eq, nat_eq, flat_map, IsUtf8}
 use Rattle.std.specs.List.{ends_with}
 use Rattle.std.proofs.lemmas.List.Elements.{All-cons}
 use Rattle.url.specs.Parser.{parse_url}
-use Rattle.url_spec.specs.FileNames.{files_end_in_no_slash}
+use Rattle.url_spec.proofs.FileNames.{files_end_in_no_slash}
 use Rattle.web_url.specs.Written.{IsParsedAs}
-use Rattle.std.specs.Prelude.{flat_map, IsUtf8}
 use Rattle.std.proofs.lemmas.Bool.{true≢false}
 use Rattle.std.proofs.lemmas.List.{append_cancel_left}
 use Rattle.url_spec.specs.Parsing.{parse_alone}
-use Rattle.url_spec.specs.WebNames.{escaped, web, before_suffix, holds_escape, read_segment, segments, IsServed}
+use Rattle.url_spec.specs.WebNames.{escaped, web}
+use Rattle.url_spec.specs.Suffixes.{before_suffix}
+use Rattle.url_spec.specs.ServedPaths.{holds_escape, read_segment, segments, IsServed}
 use Rattle.web_url.specs.Serving.{SpellsBelow}
 use Rattle.std.proofs.lemmas.Str.{IsCharBoundary-from_ascii}
 use Rattle.std.proofs.lemmas.Str.Pattern.{starts_text, strip_prefix_char}

@@ -3,7 +3,8 @@ use Rattle.std.proofs.Common.{◌≡◌, ◌==◌, ◌++◌, ◌∷◌, [], List
 use Rattle.std.specs.Prelude.{Result, Ok, Err, IfOk, MatchOption, IsUtf8, codes, bytes_eq, ◌&&◌, flat_map, filter, if◌then◌else◌}
 use Rattle.std.proofs.lemmas.Bool.{cond-false, true≢false, ne_eqb}
 use Rattle.tree_spec.specs.Paths.{IsPath}
-use Rattle.url_spec.specs.WebNames.{escaped, read_segment, segments, IsServed}
+use Rattle.url_spec.specs.WebNames.{escaped}
+use Rattle.url_spec.specs.ServedPaths.{read_segment, segments, IsServed}
 use Rattle.url_spec.specs.FileUrls.{file_text, escapes_separator, path_of_segments, spelled_path, NamesPath}
 use Rattle.web_url.specs.Serving.{SpellsBelow}
 use Rattle.web_url.proofs.NameLemmas.{spelled_served, served_spelled}

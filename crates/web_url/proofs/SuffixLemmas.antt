@@ -2,7 +2,7 @@
 use Rattle.std.proofs.Common.{◌≡◌, List, ℕ, [], ◌∷◌, Bool, true, false, not, refl}
 use Rattle.std.proofs.lemmas.Bool.{true≢false}
 use Rattle.url.proofs.InputLemmas.{StopsAt, StopsAt-drop-prefix_len}
-use Rattle.url_spec.specs.WebNames.{is_suffix_mark, suffix_of}
+use Rattle.url_spec.specs.Suffixes.{is_suffix_mark, suffix_of}
 use Rattle.web_url.specs.Suffixes.{IsSuffix}
 
 not_false : (b : Bool) → not b ≡ false → b ≡ true

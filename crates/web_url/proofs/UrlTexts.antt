@@ -8,11 +8,11 @@ use Rattle.url.specs.Parser.{parse_url}
 use Rattle.url.specs.Canonical.{IsCanonical}
 use Rattle.url.proofs.Theorems.{parse_url-serialize}
 use Rattle.url.proofs.ParsedCanonical.{parse_url_canonical}
-use Rattle.url_spec.specs.Parsing.{text_of, url_text, kept, parse_alone, parse_onto, parse_against, IsUrl, parts_of, has_special, has_special_scheme}
-use Rattle.url_spec.specs.Schemes.{scheme_or_empty, url_scheme}
+use Rattle.url_spec.specs.Parsing.{text_of, url_text, kept, parse_alone, parse_onto, parse_against, IsUrl, parts_of}
+use Rattle.url_spec.specs.Schemes.{has_special, has_special_scheme, scheme_or_empty, url_scheme}
 use Rattle.url.specs.Scheme.{is_special}
 use Rattle.std.specs.Result.{result_ok}
-use Rattle.url_spec.specs.OwnTexts.{text_of_ascii, kept_from_parse}
+use Rattle.url_spec.proofs.OwnTexts.{text_of_ascii, kept_from_parse}
 use Rattle.web_url.specs.Written.{IsWritten}
 
 written : (url : Parts) → IsValid url → IsCanonical url → IsWritten url

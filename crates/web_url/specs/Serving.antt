@@ -1,6 +1,8 @@
 -- What a URL spells below a base, and when a module has no web name.
 use Rattle.std.specs.Prelude.{◌≡◌, ◌++◌, ℕ, List, MatchOption, codes, flat_map, false, ⊤}
-use Rattle.url_spec.specs.WebNames.{web, before_suffix, holds_escape, read_segment, segments, IsServed}
+use Rattle.url_spec.specs.WebNames.{web}
+use Rattle.url_spec.specs.Suffixes.{before_suffix}
+use Rattle.url_spec.specs.ServedPaths.{holds_escape, read_segment, segments, IsServed}
 use Rattle.web_url.specs.declared.names.WebFault.{WebFault}
 use Rattle.web_url.specs.declared.names.WebFault.TheVariants.{Unservable, Memory}
 

@@ -1,6 +1,6 @@
 -- Suffixes: the query and fragment of a URL.
 use Rattle.std.specs.Prelude.{IsTrue, true, Bool, List, [], ◌∷◌, ℕ}
-use Rattle.url_spec.specs.WebNames.{is_suffix_mark}
+use Rattle.url_spec.specs.Suffixes.{is_suffix_mark}
 
 -- the text is empty or begins with `?` or `#`
 abbrev pub begins_suffix : List ℕ → Bool

@@ -1,7 +1,7 @@
 ghost use Rattle.std.specs.Prelude.{◌≡◌, ◌||◌, None, Some, IfOk, IsErrOf, bytes_eq, codes, is_some, nat_eq};
 ghost use Rattle.std.specs.List.{ends_with};
 ghost use Rattle.url.specs.Parts.{has_credentials};
-ghost use Rattle.url_spec.specs.Parsing.{base_of, names_web_folder, IsBase};
+ghost use Rattle.url_spec.specs.Bases.{base_of, names_web_folder, IsBase};
 
 use crate::url_text;
 use primitives::{Memory, Text};
@@ -26,7 +26,7 @@ pub enum BaseFault {
 
 impl Model for Base {
     ghost use Rattle.std.specs.Prelude.{List, ℕ};
-    ghost use Rattle.url_spec.specs.Parsing.{IsBase};
+    ghost use Rattle.url_spec.specs.Bases.{IsBase};
 
     ghost Value = { List ℕ };
 

@@ -1,7 +1,9 @@
 //! Percent-escapes of paths, and URLs without their suffixes.
 ghost use Rattle.std.specs.Prelude.{◌≡◌, ◌<◌, ◌≤◌, ◌++◌, All, OnOk, IfOk, string_bytes, IsAscii, flat_map, length, take, bytes_eq};
 ghost use Rattle.url.specs.Input.{lowercase};
-ghost use Rattle.url_spec.specs.WebNames.{escaped, suffix_start, before_suffix, suffix_of, holds_escape, is_suffix_mark, read_segment, segments};
+ghost use Rattle.url_spec.specs.WebNames.{escaped};
+ghost use Rattle.url_spec.specs.Suffixes.{suffix_start, before_suffix, suffix_of, is_suffix_mark};
+ghost use Rattle.url_spec.specs.ServedPaths.{holds_escape, read_segment, segments};
 
 use percent_encoding::{
     AsciiSet, NON_ALPHANUMERIC, ascii_set, percent_decode, utf8_percent_encode,

@@ -1,7 +1,9 @@
 //! Web names of paths, and the paths that are served at URLs.
 ghost use Rattle.std.specs.Prelude.{◌≡◌, ◌≢◌, ◌<◌, ◌↔◌, ◌++◌, ◌∷◌, [], List, ℕ, All, nat_eq, false, drop, flat_map, codes, string_bytes, IfOk, IfErr, IsTrue, MatchOption, Some, None, IsAscii, true};
 ghost use Rattle.std.specs.List.{ends_with};
-ghost use Rattle.url_spec.specs.WebNames.{escaped, web, before_suffix, holds_escape, read_segment, segments, IsServed};
+ghost use Rattle.url_spec.specs.WebNames.{escaped, web};
+ghost use Rattle.url_spec.specs.Suffixes.{before_suffix};
+ghost use Rattle.url_spec.specs.ServedPaths.{holds_escape, read_segment, segments, IsServed};
 ghost use Rattle.web_url.specs.Serving.{SpellsBelow, IsUnservable};
 
 use crate::base::Base;

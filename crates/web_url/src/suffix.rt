@@ -1,5 +1,5 @@
 ghost use Rattle.std.specs.Prelude.{◌≡◌, ◌↔◌, [], IfOk, IsAscii, IsTrue, MatchOption};
-ghost use Rattle.url_spec.specs.WebNames.{suffix_of};
+ghost use Rattle.url_spec.specs.Suffixes.{suffix_of};
 ghost use Rattle.web_url.specs.Suffixes.{IsSuffix};
 
 use crate::escapes::{is_suffix_mark, split_suffix};

@@ -1,6 +1,6 @@
 ghost use Rattle.std.specs.Prelude.{◌≡◌, IfOk, IfSome, IsAscii};
-ghost use Rattle.url_spec.specs.Parsing.{parse_alone, parse_against, has_special_scheme, IsUrl};
-ghost use Rattle.url_spec.specs.Schemes.{url_scheme};
+ghost use Rattle.url_spec.specs.Parsing.{parse_alone, parse_against, IsUrl};
+ghost use Rattle.url_spec.specs.Schemes.{has_special_scheme, url_scheme};
 ghost use Rattle.web_url.specs.Written.{IsParsedAs};
 
 use crate::url_text;
@@ -151,8 +151,7 @@ impl Ord for WebUrl {
 }
 
 impl PartialOrd for WebUrl {
-    ghost use Rattle.std.specs.Ordering.{nat_cmp};
-    ghost use Rattle.std.specs.Ordering.{as_partial_cmp};
+    ghost use Rattle.std.specs.Ordering.{nat_cmp, as_partial_cmp};
     ghost use Rattle.std.specs.Cmp.Lexicographic.{slice_cmp};
     ghost use Rattle.std.proofs.Common.{rules};
     ghost use Rattle.std.specs.Cmp.Rules.{comparing};

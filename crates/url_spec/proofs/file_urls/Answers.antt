@@ -1,4 +1,4 @@
-use Rattle.url_spec.specs.FileUrlLaws.{file_urls as the_law}
+use Rattle.url_spec.proofs.FileUrls.{file_urls as the_law}
 use Rattle.url_spec.proofs.file_urls.Goals as goal
 
 pub returns : goal.returns

@@ -1,4 +1,4 @@
-use Rattle.url_spec.specs.FileNames.{files_end_in_no_slash as the_law}
+use Rattle.url_spec.proofs.FileNames.{files_end_in_no_slash as the_law}
 use Rattle.url_spec.proofs.files_end_in_no_slash.Goals as goal
 
 pub returns : goal.returns

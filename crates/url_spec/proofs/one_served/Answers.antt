@@ -1,4 +1,4 @@
-use Rattle.url_spec.specs.UrlLaws.{one_served as the_law}
+use Rattle.url_spec.proofs.OnePlace.{one_served as the_law}
 use Rattle.url_spec.proofs.one_served.Goals as goal
 
 pub returns : goal.returns

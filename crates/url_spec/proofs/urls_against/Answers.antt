@@ -1,4 +1,4 @@
-use Rattle.url_spec.specs.AgainstLaws.{urls_against as the_law}
+use Rattle.url_spec.proofs.AgainstBases.{urls_against as the_law}
 use Rattle.url_spec.proofs.urls_against.Goals as goal
 
 pub returns : goal.returns

@@ -1,5 +1,5 @@
 use Rattle.std.proofs.Common.{◌≡◌, ◌++◌, take}
-use Rattle.json_spec.specs.Printed.{escaped}
+use Rattle.json_spec.specs.PrintedString.{escaped}
 use Rattle.ordered_json.proofs.quoting.push_escaped.Given as goal
 
 abbrev pub invariant-loop-byte : goal.invariant-loop-byte

@@ -3,7 +3,7 @@ use Rattle.std.proofs.lemmas.Result.{err_from_is_err_and}
 use Rattle.json_spec.specs.Value.{no_members}
 use Rattle.json_spec.specs.Taken.{taken}
 use Rattle.json_spec.specs.Grammar.{Reads}
-use Rattle.json_spec.specs.Shorter.{space_at_most}
+use Rattle.json_spec.proofs.Shorter.{space_at_most}
 use Rattle.ordered_json.specs.Shown.{json_of, members_of}
 use Rattle.ordered_json.proofs.ShownLemmas.{json_of_object}
 use Rattle.ordered_json.proofs.GrammarLemmas.{no_value, at_depth, scalar_result, scalar_result_shorter, if_taken, deep_list, deep_object, not_bracket, below_depth, object_value, object_fails, no_members_read, awaits_first_member, member_read, name_fails, value_fails, members_fail, behind_one_more, awaits_next_member, last_member, no_more_members, shorter_by_close, shorter_by_member}

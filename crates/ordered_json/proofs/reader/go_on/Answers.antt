@@ -1,5 +1,5 @@
 use Rattle.std.proofs.Common.{ap, length, arith}
-use Rattle.json_spec.specs.Shorter.{space_at_most}
+use Rattle.json_spec.proofs.Shorter.{space_at_most}
 use Rattle.ordered_json.proofs.reader.go_on.Goals as goal
 
 pub returns-in-Some-clause-shorter : goal.returns-in-Some-clause-shorter

@@ -1,5 +1,5 @@
 use Rattle.ordered_json.proofs.GrammarLemmas.{whole_json}
-use Rattle.json_spec.specs.Distinct.{names_are_distinct}
+use Rattle.json_spec.proofs.DistinctNames.{names_are_distinct}
 use Rattle.ordered_json.proofs.reader.read.Goals as goal
 
 pub returns-in-Ok-clause-reads : goal.returns-in-Ok-clause-reads

@@ -1,5 +1,5 @@
 use Rattle.std.proofs.Common.{◌<◌, length, ap, arith}
-use Rattle.json_spec.specs.Shorter.{space_at_most}
+use Rattle.json_spec.proofs.Shorter.{space_at_most}
 use Rattle.ordered_json.proofs.GrammarLemmas.{no_quote, bad_name, name_read, name_stops}
 use Rattle.ordered_json.proofs.reader.read_name.Goals as goal
 

@@ -1,7 +1,7 @@
 use Rattle.std.proofs.Common.{◌≡◌, ◌==◌, true, [], length, eqb-true, eq-eqb, ap, sym}
 use Rattle.std.proofs.lemmas.List.{nil_from_length}
 use Rattle.std.proofs.lemmas.Result.{err_from_is_err_and}
-use Rattle.json_spec.specs.Grammar.{most_brackets_is}
+use Rattle.json_spec.proofs.BracketCount.{most_brackets_is}
 use Rattle.ordered_json.proofs.GrammarLemmas.{whole_fault, whole_value, more_than_value}
 use Rattle.ordered_json.proofs.reader.read_whole.Goals as goal
 

@@ -2,7 +2,7 @@ use Rattle.std.proofs.Common.{◌≡◌, ◌<◌, sym, ap, ◌∙◌, Some, Ok, 
 use Rattle.std.specs.FinMap.{get}
 use Rattle.tree_spec.specs.declared.Entry.TheVariants.{Directory}
 use Rattle.tree_spec.specs.Paths.{IsParent, parent_of}
-use Rattle.tree_spec.specs.TreeLaws.{parent_shorter}
+use Rattle.tree_spec.proofs.PathsAbove.{parent_shorter}
 use Rattle.tree_model.specs.Entries.{tree_of}
 use Rattle.tree_model.proofs.Placings.{placed_in_folder, settled_up, absent_up, placed_up, below_file_up, taken_back}
 use Rattle.tree_model.proofs.entries.+place.Goals as goal

@@ -2,7 +2,7 @@ use Rattle.std.proofs.Common.{ap, ◌∙◌, List, ℕ, codes}
 use Rattle.std.specs.FinMap.{insert, from_entries}
 use Rattle.tree_spec.specs.declared.Entry.{Entry}
 use Rattle.tree_spec.specs.declared.Entry.TheVariants.{Directory}
-use Rattle.tree_spec.specs.TreeLaws.{root_tree}
+use Rattle.tree_spec.proofs.RootAlone.{root_tree}
 use Rattle.tree_model.specs.Entries.{tree_of}
 use Rattle.tree_model.proofs.EntriesLemmas.{tree_insert}
 use Rattle.tree_model.proofs.entries.start.Goals as goal

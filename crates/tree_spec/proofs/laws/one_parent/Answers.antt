@@ -1,4 +1,4 @@
-use Rattle.tree_spec.specs.TreeLaws.{one_parent}
+use Rattle.tree_spec.proofs.PathParts.{one_parent}
 use Rattle.tree_spec.proofs.laws.one_parent.Goals as goal
 
 pub returns : goal.returns

@@ -1,4 +1,4 @@
-use Rattle.tree_spec.specs.TreeLaws.{one_placing}
+use Rattle.tree_spec.proofs.Placings.{one_placing}
 use Rattle.tree_spec.proofs.laws.one_placing.Goals as goal
 
 pub returns : goal.returns

@@ -1,4 +1,4 @@
-use Rattle.tree_spec.specs.TreeLaws.{placed_tree}
+use Rattle.tree_spec.proofs.Placings.{placed_tree}
 use Rattle.tree_spec.proofs.laws.placing_keeps_tree.Goals as goal
 
 pub returns : goal.returns

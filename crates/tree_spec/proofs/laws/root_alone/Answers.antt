@@ -1,4 +1,4 @@
-use Rattle.tree_spec.specs.TreeLaws.{root_tree}
+use Rattle.tree_spec.proofs.RootAlone.{root_tree}
 use Rattle.tree_spec.proofs.laws.root_alone.Goals as goal
 
 pub returns : goal.returns

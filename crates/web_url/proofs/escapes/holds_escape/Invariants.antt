@@ -1,5 +1,5 @@
 use Rattle.std.proofs.Common.{◌≡◌, length}
-use Rattle.url_spec.specs.WebNames.{holds_escape}
+use Rattle.url_spec.specs.ServedPaths.{holds_escape}
 use Rattle.web_url.proofs.escapes.holds_escape.Given as goal
 
 abbrev pub invariant-loop-more : goal.invariant-loop-more

@@ -1,6 +1,6 @@
 use Rattle.std.proofs.Common.{not, length, sym, ap, ◌∙◌, arith}
 use Rattle.url.proofs.InputLemmas.{prefix_len_is}
-use Rattle.url_spec.specs.WebNames.{is_suffix_mark}
+use Rattle.url_spec.specs.Suffixes.{is_suffix_mark}
 use Rattle.web_url.proofs.escapes.suffix_start.Goals as goal
 
 pub returns-then-is_suffix_mark-clause-place : goal.returns-then-is_suffix_mark-clause-place

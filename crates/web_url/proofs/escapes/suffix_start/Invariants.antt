@@ -1,5 +1,5 @@
 use Rattle.std.proofs.Common.{◌≡◌, ℕ, ◌<◌, false, get_or}
-use Rattle.url_spec.specs.WebNames.{is_suffix_mark}
+use Rattle.url_spec.specs.Suffixes.{is_suffix_mark}
 use Rattle.web_url.proofs.escapes.suffix_start.Given as goal
 
 abbrev pub invariant-loop-at : goal.invariant-loop-at

@@ -1,7 +1,7 @@
 use Rattle.std.proofs.Common.{◌∙◌, ap, flat_map, lit<, rules}
 use Rattle.std.proofs.lemmas.Iterator.Splits.{YieldsList-from_str_split}
 use Rattle.std.proofs.lemmas.Iterator.Consumers.{YieldsList-end}
-use Rattle.url_spec.specs.WebNames.{read_segment}
+use Rattle.url_spec.specs.ServedPaths.{read_segment}
 use Rattle.web_url.proofs.escapes.unescape_segments.Goals as goal
 
 pub returns : goal.returns

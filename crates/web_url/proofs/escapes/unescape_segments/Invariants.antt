@@ -1,5 +1,5 @@
 use Rattle.std.proofs.Common.{◌≡◌, flat_map, map}
-use Rattle.url_spec.specs.WebNames.{read_segment}
+use Rattle.url_spec.specs.ServedPaths.{read_segment}
 use Rattle.web_url.proofs.escapes.unescape_segments.Given as goal
 
 abbrev pub invariant-loop-segment : goal.invariant-loop-segment

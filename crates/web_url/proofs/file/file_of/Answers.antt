@@ -2,7 +2,7 @@ use Rattle.std.proofs.Common.{List, ℕ, ap, subst, codes, ◌∙◌}
 use Rattle.std.specs.Prelude.{MatchOption, nat_eq}
 use Rattle.std.specs.List.{ends_with}
 use Rattle.std.proofs.lemmas.Str.Pattern.{ends_text}
-use Rattle.url_spec.specs.WebNames.{suffix_of}
+use Rattle.url_spec.specs.Suffixes.{suffix_of}
 use Rattle.url_spec.specs.FileUrls.{escapes_separator, NamesPath}
 use Rattle.web_url.proofs.file.file_of.Goals as goal
 

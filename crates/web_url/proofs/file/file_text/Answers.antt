@@ -1,7 +1,7 @@
 use Rattle.std.proofs.Common.{◌<◌, ◌++◌, All, ap, subst, string_bytes, ◌∙◌}
 use Rattle.url_spec.specs.WebNames.{escaped}
 use Rattle.web_url.proofs.PathLemmas.{file_text_is}
-use Rattle.url_spec.specs.FileUrlLaws.{file_urls}
+use Rattle.url_spec.proofs.FileUrls.{file_urls}
 use Rattle.web_url.proofs.file.file_text.Goals as goal
 
 pub returns-clause-text : goal.returns-clause-text

@@ -1,5 +1,6 @@
 use Rattle.std.proofs.Common.{◌++◌, codes, sym, ap, ◌∙◌}
-use Rattle.url_spec.specs.WebNames.{before_suffix, holds_escape}
+use Rattle.url_spec.specs.Suffixes.{before_suffix}
+use Rattle.url_spec.specs.ServedPaths.{holds_escape}
 use Rattle.web_url.proofs.NameLemmas.{slash_spells_none}
 use Rattle.web_url.proofs.names.spelled_below.Goals as goal
 

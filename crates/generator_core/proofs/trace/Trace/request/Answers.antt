@@ -3,8 +3,7 @@ use Rattle.layout_spec.specs.declared.Need.{Need}
 use Rattle.generator_spec.specs.Trace.{ends_in_slash, IsServable}
 use Rattle.generator_spec.specs.Trace.AllPass.{no_requests, a_request}
 use Rattle.generator_spec.specs.Modules.{path_of}
-use Rattle.generator_spec.specs.Refusing.{Refuses}
-use Rattle.generator_spec.specs.Refusing.{Refuses as refuses}
+use Rattle.generator_spec.specs.Refusing.{Refuses, Refuses as refuses}
 use Rattle.indexmap.specs.IndexMap.{keys}
 use Rattle.generator_core.proofs.Answering.{if_some, request_passed}
 use Rattle.generator_core.proofs.Walks.{every}

@@ -1,5 +1,5 @@
 use Rattle.std.proofs.Common.{ap, ◌∙◌, refl, Ok}
-use Rattle.tree_spec.specs.Decided.{known_tree}
+use Rattle.tree_spec.proofs.DecidedTrees.{known_tree}
 use Rattle.tree_model.proofs.mem_folder.MemFolderFolder.write.Goals as goal
 
 pub put_file-requires : goal.put_file-requires

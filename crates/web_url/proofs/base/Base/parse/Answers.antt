@@ -1,5 +1,6 @@
 use Rattle.std.proofs.Common.{sym, ◌∙◌, subst}
-use Rattle.url_spec.specs.Parsing.{text_of, IsBase}
+use Rattle.url_spec.specs.Parsing.{text_of}
+use Rattle.url_spec.specs.Bases.{IsBase}
 use Rattle.web_url.proofs.UrlTexts.{text_value}
 use Rattle.web_url.proofs.BaseLemmas.{base_ok, base_stays}
 use Rattle.web_url.proofs.base.Base.parse.Goals as goal

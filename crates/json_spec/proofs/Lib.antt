@@ -1,0 +1,12 @@
+pub mod BracketCount
+pub mod Settled
+pub mod DistinctNames
+pub mod OneJson
+pub mod Shorter
+pub mod PlainReader
+pub mod SomeJson
+pub mod TextBack
+pub mod ValueBack
+pub mod PrintedUtf8
+pub mod ReadBack
+pub mod examples

@@ -1,0 +1,366 @@
+-- A plain reader: each text has an outcome. Its first argument bounds how many bytes it reads.
+use Rattle.std.proofs.Common.{refl, arith}
+use Rattle.std.proofs.lemmas.Bool.{eqb-true, eqb-false, ltb-true, ltb-false}
+use Rattle.std.proofs.lemmas.Str.{is_utf8-from_IsUtf8, IsUtf8-from_is_utf8}
+use Rattle.std.specs.Prelude.{ℕ, Bool, true, false, List, [], ◌∷◌, nat_lt, ◌==◌, zero, suc, length, ◌≡◌, ◌≤◌, ◌≢◌, ◌<◌, IsUtf8, if◌then◌else◌, Result}
+use Rattle.std.specs.Str.{is_utf8}
+use Rattle.json_spec.proofs.Shorter.{AtMost, more_room, escape_at_most, Below, space_at_most, less_room, scalar_below}
+use Rattle.json_spec.specs.Grammar.{Reading, after_space, fault_here, text_behind, colon_at, ReadsName, name_text, no_name, name_ends, Member, paired, a_pair, behind_member, behind_item, ReadsMember, member_value, member_name, MoreMembers, members_close, members_next, members_fault, members_other, members_end, ReadsMembers, no_member, first_member, member_fault, object_ends, MoreItems, items_close, items_next, items_fault, items_other, items_end, ReadsItems, no_item, first_item, item_fault, list_ends, scalar_at, as_object, as_list, as_text, TooDeep, ReadsWith, reads_text, reads_list, reads_object, reads_scalar, value_ends, IsTooDeep, Reads, Fault, most_brackets, whole_text, with_offset, ReadsJson, json_text}
+use Rattle.json_spec.specs.Strings.{escape_at, ReadsText, close, plain, escape, no_escape, control, text_ends, ReadsString, in_utf8, no_utf8, no_string}
+use Rattle.json_spec.specs.Taken.{refused, Read, behind_piece, and_then, taken}
+use Rattle.json_spec.specs.Value.{Json, Members, no_members, Items, no_items}
+
+abbrev text_plain : (List ℕ → Read (List ℕ)) → ℕ → List ℕ → Bool → Read (List ℕ)
+text_plain next b bytes true = refused tt
+text_plain next b bytes false = behind_piece (b ∷ []) (next bytes)
+
+abbrev text_escape : (List ℕ → Read (List ℕ)) → ℕ → List ℕ → Bool → Read (List ℕ)
+text_escape next b bytes true = and_then (escape_at bytes) (λ piece middle. behind_piece piece (next middle))
+text_escape next b bytes false = text_plain next b bytes (nat_lt b 32)
+
+abbrev text_quote : (List ℕ → Read (List ℕ)) → ℕ → List ℕ → Bool → Read (List ℕ)
+text_quote next b bytes true = taken [] bytes
+text_quote next b bytes false = text_escape next b bytes (b == 92)
+
+abbrev pub read_text : ℕ → List ℕ → Read (List ℕ)
+read_text zero bytes = refused tt
+read_text (suc n) [] = refused tt
+read_text (suc n) (b ∷ bytes) = text_quote (λ more. read_text n more) b bytes (b == 34)
+
+abbrev SoundText : List ℕ → Read (List ℕ) → Type 0
+SoundText bytes out = ReadsText bytes out × AtMost (length bytes) out
+
+piece_room : (n : ℕ) (piece : List ℕ) (out : Read (List ℕ)) → AtMost n out → AtMost n (behind_piece piece out)
+piece_room n piece (taken x rest) l = l
+piece_room n piece (refused e) l = tt
+
+module _ (next : List ℕ → Read (List ℕ)) (b : ℕ) (bytes : List ℕ) (sound : (more : List ℕ) → length more ≤ length bytes → SoundText more (next more)) where
+  plain_sound : (t : Bool) → b ≢ 34 → b ≢ 92 → nat_lt b 32 ≡ t → SoundText (b ∷ bytes) (text_plain next b bytes t)
+  plain_sound true q s e = (control (ltb-true b 32 e), tt)
+  plain_sound false q s e =
+      let rest = sound bytes (omega arith) in
+      (plain q s (ltb-false b 32 e) rest.0, more_room (length bytes) _ (behind_piece (b ∷ []) (next bytes)) (omega arith) (piece_room _ (b ∷ []) (next bytes) rest.1))
+
+  escaped_sound : (out : Read (List ℕ)) → escape_at bytes ≡ out → AtMost (length bytes) out → SoundText (92 ∷ bytes) (and_then out (λ piece middle. behind_piece piece (next middle)))
+  escaped_sound (taken piece middle) e l =
+      let rest = sound middle l in
+      (escape e rest.0, more_room (length middle) _ (behind_piece piece (next middle)) (omega arith) (piece_room _ piece (next middle) rest.1))
+  escaped_sound (refused tt) e l = (no_escape e, tt)
+
+  escape_sound : (t : Bool) → b ≢ 34 → (b == 92) ≡ t → SoundText (b ∷ bytes) (text_escape next b bytes t)
+  escape_sound true q e = rw (eqb-true b 92 e) (escaped_sound (escape_at bytes) refl (escape_at_most bytes))
+  escape_sound false q e = plain_sound (nat_lt b 32) q (eqb-false b 92 e) refl
+
+  quote_sound : (t : Bool) → (b == 34) ≡ t → SoundText (b ∷ bytes) (text_quote next b bytes t)
+  quote_sound true e = rw (eqb-true b 34 e) (close, omega arith)
+  quote_sound false e = escape_sound (b == 92) (eqb-false b 34 e) refl
+
+text_sound : (n : ℕ) (bytes : List ℕ) → length bytes < n → SoundText bytes (read_text n bytes)
+text_sound zero bytes l = absurd (omega arith)
+text_sound (suc n) [] l = (text_ends, tt)
+text_sound (suc n) (b ∷ bytes) l = quote_sound (λ more. read_text n more) b bytes (λ more m. text_sound n more (omega arith)) (b == 34) refl
+
+abbrev checked : Bool → List ℕ → List ℕ → Read (List ℕ)
+checked true text rest = taken text rest
+checked false text rest = refused tt
+
+abbrev string_of : Read (List ℕ) → Read (List ℕ)
+string_of (taken text rest) = checked (is_utf8 text) text rest
+string_of (refused e) = refused e
+
+abbrev read_string : ℕ → List ℕ → Read (List ℕ)
+read_string n bytes = string_of (read_text n bytes)
+
+abbrev SoundString : List ℕ → Read (List ℕ) → Type 0
+SoundString bytes out = ReadsString bytes out × AtMost (length bytes) out
+
+is_no_utf8 : (bytes : List ℕ) → is_utf8 bytes ≡ false → IsUtf8 bytes → ⊥
+is_no_utf8 bytes f u = let t = is_utf8-from_IsUtf8 bytes u in never t f
+  where
+    never : is_utf8 bytes ≡ true → is_utf8 bytes ≡ false → ⊥
+    never p q = cc
+
+checked_sound : (bytes text rest : List ℕ) → SoundText bytes (taken text rest) → (t : Bool) → is_utf8 text ≡ t → SoundString bytes (checked t text rest)
+checked_sound bytes text rest s true e = (in_utf8 s.0 (IsUtf8-from_is_utf8 text e), s.1)
+checked_sound bytes text rest s false e = (no_utf8 s.0 (is_no_utf8 text e), tt)
+
+string_from : (bytes : List ℕ) (out : Read (List ℕ)) → SoundText bytes out → SoundString bytes (string_of out)
+string_from bytes (taken text rest) s = checked_sound bytes text rest s (is_utf8 text) refl
+string_from bytes (refused tt) s = (no_string s.0, tt)
+
+string_sound : (n : ℕ) (bytes : List ℕ) → length bytes < n → SoundString bytes (read_string n bytes)
+string_sound n bytes l = string_from bytes (read_text n bytes) (text_sound n bytes l)
+
+-- ---- names
+
+abbrev name_at : ℕ → ℕ → List ℕ → Bool → Reading (List ℕ)
+name_at n b bytes true = text_behind bytes (λ name rest. colon_at name (after_space rest)) (read_string n bytes)
+name_at n b bytes false = fault_here (b ∷ bytes)
+
+abbrev read_name : ℕ → List ℕ → Reading (List ℕ)
+read_name n [] = fault_here []
+read_name n (b ∷ bytes) = name_at n b bytes (b == 34)
+
+-- a reader that gives what its relation has, and takes something where it doesn't refuse
+abbrev IsSound : {A : Type 0} → ℕ → (List ℕ → Reading A → Type 0) → (List ℕ → Reading A) → Type 0
+IsSound n reads read = (bytes : List ℕ) → length bytes < n → reads bytes (read bytes) × Below (length bytes) (read bytes)
+
+colon_below : (n : ℕ) (name bytes : List ℕ) → length bytes ≤ n → Below (suc n) (colon_at name bytes)
+colon_below n name [] l = tt
+colon_below n name (b ∷ bytes) l = go (b == 58)
+  where
+    go : (t : Bool) → Below (suc n) (if t then taken name bytes else fault_here (b ∷ bytes))
+    go true = omega arith
+    go false = tt
+
+name_below : (bytes : List ℕ) (out : Read (List ℕ)) → AtMost (length bytes) out → Below (suc (length bytes)) (text_behind bytes (λ name rest. colon_at name (after_space rest)) out)
+name_below bytes (taken name rest) l = let s = space_at_most rest in colon_below (length bytes) name (after_space rest) (omega arith)
+name_below bytes (refused e) l = tt
+
+name_step : (n b : ℕ) (bytes : List ℕ) → length (b ∷ bytes) < n → (t : Bool) → (b == 34) ≡ t → ReadsName (b ∷ bytes) (name_at n b bytes t) × Below (length (b ∷ bytes)) (name_at n b bytes t)
+name_step n b bytes l true e =
+    let text = string_sound n bytes (omega arith) in
+    (rw (eqb-true b 34 e) (name_text text.0), name_below bytes (read_string n bytes) text.1)
+name_step n b bytes l false e = (no_name (eqb-false b 34 e), tt)
+
+name_sound : (n : ℕ) → IsSound n ReadsName (read_name n)
+name_sound n [] l = (name_ends, tt)
+name_sound n (b ∷ bytes) l = name_step n b bytes l (b == 34) refl
+
+-- ---- the members of an object and the items of a list, where a value is read by value
+
+abbrev read_member : (List ℕ → Reading Json) → ℕ → List ℕ → Reading Member
+read_member value n bytes = and_then (read_name n bytes) (λ name middle. paired name (value (after_space middle)))
+
+abbrev behind_pair : Member → Reading Members → Reading Members
+behind_pair (a_pair name value) out = behind_member name value out
+
+abbrev members_comma : (List ℕ → Reading Member) → (List ℕ → Reading Members) → ℕ → List ℕ → Bool → Reading Members
+members_comma member next b bytes true = and_then (member (after_space bytes)) (λ pair middle. behind_pair pair (next (after_space middle)))
+members_comma member next b bytes false = fault_here (b ∷ bytes)
+
+abbrev members_brace : (List ℕ → Reading Member) → (List ℕ → Reading Members) → ℕ → List ℕ → Bool → Reading Members
+members_brace member next b bytes true = taken no_members bytes
+members_brace member next b bytes false = members_comma member next b bytes (b == 44)
+
+abbrev more_members : (List ℕ → Reading Member) → ℕ → List ℕ → Reading Members
+more_members member zero bytes = fault_here []
+more_members member (suc k) [] = fault_here []
+more_members member (suc k) (b ∷ bytes) = members_brace member (λ more. more_members member k more) b bytes (b == 125)
+
+abbrev first_members : (List ℕ → Reading Member) → ℕ → ℕ → List ℕ → Bool → Reading Members
+first_members member n b bytes true = taken no_members bytes
+first_members member n b bytes false = and_then (member (b ∷ bytes)) (λ pair middle. behind_pair pair (more_members member n (after_space middle)))
+
+abbrev read_members : (List ℕ → Reading Member) → ℕ → List ℕ → Reading Members
+read_members member n [] = fault_here []
+read_members member n (b ∷ bytes) = first_members member n b bytes (b == 125)
+
+abbrev items_comma : (List ℕ → Reading Json) → (List ℕ → Reading Items) → ℕ → List ℕ → Bool → Reading Items
+items_comma value next b bytes true = and_then (value (after_space bytes)) (λ v middle. behind_item v (next (after_space middle)))
+items_comma value next b bytes false = fault_here (b ∷ bytes)
+
+abbrev items_bracket : (List ℕ → Reading Json) → (List ℕ → Reading Items) → ℕ → List ℕ → Bool → Reading Items
+items_bracket value next b bytes true = taken no_items bytes
+items_bracket value next b bytes false = items_comma value next b bytes (b == 44)
+
+abbrev more_items : (List ℕ → Reading Json) → ℕ → List ℕ → Reading Items
+more_items value zero bytes = fault_here []
+more_items value (suc k) [] = fault_here []
+more_items value (suc k) (b ∷ bytes) = items_bracket value (λ more. more_items value k more) b bytes (b == 93)
+
+abbrev first_items : (List ℕ → Reading Json) → ℕ → ℕ → List ℕ → Bool → Reading Items
+first_items value n b bytes true = taken no_items bytes
+first_items value n b bytes false = and_then (value (b ∷ bytes)) (λ v middle. behind_item v (more_items value n (after_space middle)))
+
+abbrev read_items : (List ℕ → Reading Json) → ℕ → List ℕ → Reading Items
+read_items value n [] = fault_here []
+read_items value n (b ∷ bytes) = first_items value n b bytes (b == 93)
+
+behind_item_below : (n : ℕ) (v : Json) (out : Reading Items) → Below n out → Below n (behind_item v out)
+behind_item_below n v (taken vs rest) l = l
+behind_item_below n v (refused f) l = tt
+
+behind_pair_below : (n : ℕ) (m : Member) (out : Reading Members) → Below n out → Below n (behind_pair m out)
+behind_pair_below n (a_pair name v) (taken ms rest) l = l
+behind_pair_below n (a_pair name v) (refused f) l = tt
+
+module _ (n : ℕ) (reads : List ℕ → Reading Json → Type 0) (value : List ℕ → Reading Json) (sound : IsSound n reads value) where
+  paired_below : (k : ℕ) (name : List ℕ) (out : Reading Json) → Below k out → Below k (paired name out)
+  paired_below k name (taken v rest) l = l
+  paired_below k name (refused f) l = tt
+
+  member_from : (bytes : List ℕ) → length bytes < n → (out : Reading (List ℕ)) → ReadsName bytes out → Below (length bytes) out → ReadsMember reads bytes (and_then out (λ name middle. paired name (value (after_space middle)))) × Below (length bytes) (and_then out (λ name middle. paired name (value (after_space middle))))
+  member_from bytes l (taken name middle) r m =
+      let s = space_at_most middle in
+      let v = sound (after_space middle) (omega arith) in
+      (member_value r v.0, less_room (length (after_space middle)) _ (paired name (value (after_space middle))) (omega arith) (paired_below _ name (value (after_space middle)) v.1))
+  member_from bytes l (refused f) r m = (member_name r, tt)
+
+  member_sound : IsSound n (ReadsMember reads) (read_member value n)
+  member_sound bytes l = let name = name_sound n bytes l in member_from bytes l (read_name n bytes) name.0 name.1
+
+module _ (n : ℕ) (reads : List ℕ → Reading Json → Type 0) (member : List ℕ → Reading Member) (sound : IsSound n (ReadsMember reads) member) where
+  abbrev MoreMembersAt : List ℕ → Reading Members → Type 0
+  MoreMembersAt bytes out = MoreMembers reads bytes out × Below (length bytes) out
+
+  next_member : (next : List ℕ → Reading Members) (bytes : List ℕ) → ((more : List ℕ) → length more < length bytes → MoreMembersAt more (next more)) → (out : Reading Member) → ReadsMember reads (after_space bytes) out → Below (length (after_space bytes)) out → MoreMembersAt (44 ∷ bytes) (and_then out (λ pair middle. behind_pair pair (next (after_space middle))))
+  next_member next bytes ih (taken (a_pair name v) middle) r m =
+      let s = space_at_most bytes in
+      let t = space_at_most middle in
+      let rest = ih (after_space middle) (omega arith) in
+      (members_next r rest.0, less_room (length (after_space middle)) _ (behind_pair (a_pair name v) (next (after_space middle))) (omega arith) (behind_pair_below _ (a_pair name v) (next (after_space middle)) rest.1))
+  next_member next bytes ih (refused f) r m = (members_fault r, tt)
+
+  members_comma_sound : (next : List ℕ → Reading Members) (b : ℕ) (bytes : List ℕ) → ((more : List ℕ) → length more < length bytes → MoreMembersAt more (next more)) → length bytes < n → (t : Bool) → b ≢ 125 → (b == 44) ≡ t → MoreMembersAt (b ∷ bytes) (members_comma member next b bytes t)
+  members_comma_sound next b bytes ih l true q e =
+      let s = space_at_most bytes in
+      let here = sound (after_space bytes) (omega arith) in
+      rw (eqb-true b 44 e) (next_member next bytes ih (member (after_space bytes)) here.0 here.1)
+  members_comma_sound next b bytes ih l false q e = (members_other q (eqb-false b 44 e), tt)
+
+  members_brace_sound : (next : List ℕ → Reading Members) (b : ℕ) (bytes : List ℕ) → ((more : List ℕ) → length more < length bytes → MoreMembersAt more (next more)) → length bytes < n → (t : Bool) → (b == 125) ≡ t → MoreMembersAt (b ∷ bytes) (members_brace member next b bytes t)
+  members_brace_sound next b bytes ih l true e = rw (eqb-true b 125 e) (members_close, omega arith)
+  members_brace_sound next b bytes ih l false e = members_comma_sound next b bytes ih l (b == 44) (eqb-false b 125 e) refl
+
+  more_members_sound : (k : ℕ) (bytes : List ℕ) → k ≤ n → length bytes < k → MoreMembersAt bytes (more_members member k bytes)
+  more_members_sound zero bytes m l = absurd (omega arith)
+  more_members_sound (suc k) [] m l = (members_end, tt)
+  more_members_sound (suc k) (b ∷ bytes) m l = members_brace_sound (λ more. more_members member k more) b bytes (λ more o. more_members_sound k more (omega arith) (omega arith)) (omega arith) (b == 125) refl
+
+  first_member_from : (b : ℕ) (bytes : List ℕ) → b ≢ 125 → length (b ∷ bytes) < n → (out : Reading Member) → ReadsMember reads (b ∷ bytes) out → Below (length (b ∷ bytes)) out → ReadsMembers reads (b ∷ bytes) (and_then out (λ pair middle. behind_pair pair (more_members member n (after_space middle)))) × Below (length (b ∷ bytes)) (and_then out (λ pair middle. behind_pair pair (more_members member n (after_space middle))))
+  first_member_from b bytes q l (taken (a_pair name v) middle) r m =
+      let t = space_at_most middle in
+      let rest = more_members_sound n (after_space middle) (omega arith) (omega arith) in
+      (first_member q r rest.0, less_room (length (after_space middle)) _ (behind_pair (a_pair name v) (more_members member n (after_space middle))) (omega arith) (behind_pair_below _ (a_pair name v) (more_members member n (after_space middle)) rest.1))
+  first_member_from b bytes q l (refused f) r m = (member_fault q r, tt)
+
+  first_members_sound : (b : ℕ) (bytes : List ℕ) → length (b ∷ bytes) < n → (t : Bool) → (b == 125) ≡ t → ReadsMembers reads (b ∷ bytes) (first_members member n b bytes t) × Below (length (b ∷ bytes)) (first_members member n b bytes t)
+  first_members_sound b bytes l true e = (rw (eqb-true b 125 e) no_member, omega arith)
+  first_members_sound b bytes l false e = let here = sound (b ∷ bytes) l in first_member_from b bytes (eqb-false b 125 e) l (member (b ∷ bytes)) here.0 here.1
+
+  members_sound : IsSound n (ReadsMembers reads) (read_members member n)
+  members_sound [] l = (object_ends, tt)
+  members_sound (b ∷ bytes) l = first_members_sound b bytes l (b == 125) refl
+
+module _ (n : ℕ) (reads : List ℕ → Reading Json → Type 0) (value : List ℕ → Reading Json) (sound : IsSound n reads value) where
+  abbrev MoreItemsAt : List ℕ → Reading Items → Type 0
+  MoreItemsAt bytes out = MoreItems reads bytes out × Below (length bytes) out
+
+  next_item : (next : List ℕ → Reading Items) (bytes : List ℕ) → ((more : List ℕ) → length more < length bytes → MoreItemsAt more (next more)) → (out : Reading Json) → reads (after_space bytes) out → Below (length (after_space bytes)) out → MoreItemsAt (44 ∷ bytes) (and_then out (λ v middle. behind_item v (next (after_space middle))))
+  next_item next bytes ih (taken v middle) r m =
+      let s = space_at_most bytes in
+      let t = space_at_most middle in
+      let rest = ih (after_space middle) (omega arith) in
+      (items_next r rest.0, less_room (length (after_space middle)) _ (behind_item v (next (after_space middle))) (omega arith) (behind_item_below _ v (next (after_space middle)) rest.1))
+  next_item next bytes ih (refused f) r m = (items_fault r, tt)
+
+  items_comma_sound : (next : List ℕ → Reading Items) (b : ℕ) (bytes : List ℕ) → ((more : List ℕ) → length more < length bytes → MoreItemsAt more (next more)) → length bytes < n → (t : Bool) → b ≢ 93 → (b == 44) ≡ t → MoreItemsAt (b ∷ bytes) (items_comma value next b bytes t)
+  items_comma_sound next b bytes ih l true q e =
+      let s = space_at_most bytes in
+      let here = sound (after_space bytes) (omega arith) in
+      rw (eqb-true b 44 e) (next_item next bytes ih (value (after_space bytes)) here.0 here.1)
+  items_comma_sound next b bytes ih l false q e = (items_other q (eqb-false b 44 e), tt)
+
+  items_bracket_sound : (next : List ℕ → Reading Items) (b : ℕ) (bytes : List ℕ) → ((more : List ℕ) → length more < length bytes → MoreItemsAt more (next more)) → length bytes < n → (t : Bool) → (b == 93) ≡ t → MoreItemsAt (b ∷ bytes) (items_bracket value next b bytes t)
+  items_bracket_sound next b bytes ih l true e = rw (eqb-true b 93 e) (items_close, omega arith)
+  items_bracket_sound next b bytes ih l false e = items_comma_sound next b bytes ih l (b == 44) (eqb-false b 93 e) refl
+
+  more_items_sound : (k : ℕ) (bytes : List ℕ) → k ≤ n → length bytes < k → MoreItemsAt bytes (more_items value k bytes)
+  more_items_sound zero bytes m l = absurd (omega arith)
+  more_items_sound (suc k) [] m l = (items_end, tt)
+  more_items_sound (suc k) (b ∷ bytes) m l = items_bracket_sound (λ more. more_items value k more) b bytes (λ more o. more_items_sound k more (omega arith) (omega arith)) (omega arith) (b == 93) refl
+
+  first_item_from : (b : ℕ) (bytes : List ℕ) → b ≢ 93 → length (b ∷ bytes) < n → (out : Reading Json) → reads (b ∷ bytes) out → Below (length (b ∷ bytes)) out → ReadsItems reads (b ∷ bytes) (and_then out (λ v middle. behind_item v (more_items value n (after_space middle)))) × Below (length (b ∷ bytes)) (and_then out (λ v middle. behind_item v (more_items value n (after_space middle))))
+  first_item_from b bytes q l (taken v middle) r m =
+      let t = space_at_most middle in
+      let rest = more_items_sound n (after_space middle) (omega arith) (omega arith) in
+      (first_item q r rest.0, less_room (length (after_space middle)) _ (behind_item v (more_items value n (after_space middle))) (omega arith) (behind_item_below _ v (more_items value n (after_space middle)) rest.1))
+  first_item_from b bytes q l (refused f) r m = (item_fault q r, tt)
+
+  first_items_sound : (b : ℕ) (bytes : List ℕ) → length (b ∷ bytes) < n → (t : Bool) → (b == 93) ≡ t → ReadsItems reads (b ∷ bytes) (first_items value n b bytes t) × Below (length (b ∷ bytes)) (first_items value n b bytes t)
+  first_items_sound b bytes l true e = (rw (eqb-true b 93 e) no_item, omega arith)
+  first_items_sound b bytes l false e = let here = sound (b ∷ bytes) l in first_item_from b bytes (eqb-false b 93 e) l (value (b ∷ bytes)) here.0 here.1
+
+  items_sound : IsSound n (ReadsItems reads) (read_items value n)
+  items_sound [] l = (list_ends, tt)
+  items_sound (b ∷ bytes) l = first_items_sound b bytes l (b == 93) refl
+
+-- ---- values
+
+abbrev value_object : (List ℕ → Reading Members) → ℕ → List ℕ → Bool → Reading Json
+value_object members b bytes true = as_object (members bytes)
+value_object members b bytes false = scalar_at (b ∷ bytes)
+
+abbrev value_list : (List ℕ → Reading Items) → (List ℕ → Reading Members) → ℕ → List ℕ → Bool → Reading Json
+value_list items members b bytes true = as_list (items bytes)
+value_list items members b bytes false = value_object members b bytes (b == 123)
+
+abbrev value_text : ℕ → (List ℕ → Reading Items) → (List ℕ → Reading Members) → ℕ → List ℕ → Bool → Reading Json
+value_text n items members b bytes true = as_text bytes (read_string n bytes)
+value_text n items members b bytes false = value_list items members b bytes (b == 91)
+
+abbrev read_with : ℕ → (List ℕ → Reading Items) → (List ℕ → Reading Members) → List ℕ → Reading Json
+read_with n items members [] = fault_here []
+read_with n items members (b ∷ bytes) = value_text n items members b bytes (b == 34)
+
+abbrev too_deep : {A : Type 0} → List ℕ → Reading A
+too_deep bytes = refused (TooDeep (suc (length bytes)))
+
+abbrev pub read_value : ℕ → ℕ → List ℕ → Reading Json
+read_value zero n bytes = read_with n too_deep too_deep bytes
+read_value (suc depth) n bytes = read_with n (λ more. read_items (λ xs. read_value depth n xs) n (after_space more)) (λ more. read_members (read_member (λ xs. read_value depth n xs) n) n (after_space more)) bytes
+
+as_list_below : (n : ℕ) (out : Reading Items) → Below n out → Below n (as_list out)
+as_list_below n (taken vs rest) l = l
+as_list_below n (refused f) l = tt
+
+as_object_below : (n : ℕ) (out : Reading Members) → Below n out → Below n (as_object out)
+as_object_below n (taken ms rest) l = l
+as_object_below n (refused f) l = tt
+
+as_text_below : (n : ℕ) (bytes : List ℕ) (out : Read (List ℕ)) → AtMost n out → Below (suc n) (as_text bytes out)
+as_text_below n bytes (taken text rest) l = omega arith
+as_text_below n bytes (refused e) l = tt
+
+-- a reader of lists or objects is asked behind the opening bracket
+abbrev IsSoundInside : {A : Type 0} → ℕ → (List ℕ → Reading A → Type 0) → (List ℕ → Reading A) → Type 0
+IsSoundInside n reads read = (bytes : List ℕ) → length bytes < n → reads bytes (read bytes) × Below (suc (length bytes)) (read bytes)
+
+module _ (n : ℕ) (items_read : List ℕ → Reading Items → Type 0) (members_read : List ℕ → Reading Members → Type 0) (items : List ℕ → Reading Items) (members : List ℕ → Reading Members) (lists : IsSoundInside n items_read items) (objects : IsSoundInside n members_read members) where
+  abbrev ValueAt : List ℕ → Reading Json → Type 0
+  ValueAt bytes out = ReadsWith items_read members_read bytes out × Below (length bytes) out
+
+  object_sound : (b : ℕ) (bytes : List ℕ) → length (b ∷ bytes) < n → b ≢ 34 → b ≢ 91 → (t : Bool) → (b == 123) ≡ t → ValueAt (b ∷ bytes) (value_object members b bytes t)
+  object_sound b bytes l p q true e = let here = objects bytes (omega arith) in rw (eqb-true b 123 e) (reads_object here.0, as_object_below _ (members bytes) here.1)
+  object_sound b bytes l p q false e = (reads_scalar p q (eqb-false b 123 e), scalar_below (b ∷ bytes))
+
+  list_sound : (b : ℕ) (bytes : List ℕ) → length (b ∷ bytes) < n → b ≢ 34 → (t : Bool) → (b == 91) ≡ t → ValueAt (b ∷ bytes) (value_list items members b bytes t)
+  list_sound b bytes l p true e = let here = lists bytes (omega arith) in rw (eqb-true b 91 e) (reads_list here.0, as_list_below _ (items bytes) here.1)
+  list_sound b bytes l p false e = object_sound b bytes l p (eqb-false b 91 e) (b == 123) refl
+
+  text_value_sound : (b : ℕ) (bytes : List ℕ) → length (b ∷ bytes) < n → (t : Bool) → (b == 34) ≡ t → ValueAt (b ∷ bytes) (value_text n items members b bytes t)
+  text_value_sound b bytes l true e = let here = string_sound n bytes (omega arith) in rw (eqb-true b 34 e) (reads_text here.0, as_text_below _ bytes (read_string n bytes) here.1)
+  text_value_sound b bytes l false e = list_sound b bytes l (eqb-false b 34 e) (b == 91) refl
+
+  with_sound : IsSound n (ReadsWith items_read members_read) (read_with n items members)
+  with_sound [] l = (value_ends, tt)
+  with_sound (b ∷ bytes) l = text_value_sound b bytes l (b == 34) refl
+
+inside : {A : Type 0} (n : ℕ) (reads : List ℕ → Reading A → Type 0) (read : List ℕ → Reading A) → IsSound n reads read → IsSoundInside n (λ bytes. reads (after_space bytes)) (λ bytes. read (after_space bytes))
+inside n reads read sound bytes l =
+    let s = space_at_most bytes in
+    let here = sound (after_space bytes) (omega arith) in
+    (here.0, less_room (length (after_space bytes)) _ (read (after_space bytes)) (omega arith) here.1)
+
+pub value_sound : (depth n : ℕ) → IsSound n (Reads depth) (read_value depth n)
+value_sound zero n = with_sound n IsTooDeep IsTooDeep too_deep too_deep (λ bytes l. (refl, tt)) (λ bytes l. (refl, tt))
+value_sound (suc depth) n =
+    with_sound n _ _ _ _ (inside n (ReadsItems (Reads depth)) (read_items (λ xs. read_value depth n xs) n) (items_sound n (Reads depth) (λ xs. read_value depth n xs) (value_sound depth n)))
+    (inside n (ReadsMembers (Reads depth)) (read_members (read_member (λ xs. read_value depth n xs) n) n) (members_sound n (Reads depth) (read_member (λ xs. read_value depth n xs) n) (member_sound n (Reads depth) (λ xs. read_value depth n xs) (value_sound depth n))))
+
+abbrev pub read_json : List ℕ → Result Json Fault
+read_json bytes = with_offset (length bytes) (whole_text (read_value most_brackets (suc (length bytes)) (after_space bytes)))
+
+pub json_sound : (bytes : List ℕ) → ReadsJson bytes (read_json bytes)
+json_sound bytes = let s = space_at_most bytes in json_text (read_value most_brackets (suc (length bytes)) (after_space bytes)) (value_sound most_brackets (suc (length bytes)) (after_space bytes) (omega arith)).0

@@ -1,0 +1,71 @@
+-- What `settled` does: distinct names stay as they are written, and what comes out has distinct names.
+use Rattle.std.proofs.Common.{refl, ap, ◌∙◌, sym}
+use Rattle.std.proofs.lemmas.Bool.{false_from_ne_true, cond-false, cond_both}
+use Rattle.std.proofs.lemmas.Slice.Eq.{bytes_eq-Decides}
+use Rattle.std.specs.Prelude.{◌≡◌, ℕ, ◌≢◌, false, List, bytes_eq, ⊤, true}
+use Rattle.json_spec.specs.Value.{Members, no_members, a_member, Json, put, IsNewName, settled_onto, AreDistinct, settled}
+
+pub other_name : (a b : List ℕ) → a ≢ b → bytes_eq a b ≡ false
+other_name a b n = false_from_ne_true _ (λ e. n ((bytes_eq-Decides a b).0 e))
+
+abbrev appended : Members → Members → Members
+appended no_members ms = ms
+appended (a_member name value more) ms = a_member name value (appended more ms)
+
+appended_none : (ms : Members) → appended ms no_members ≡ ms
+appended_none no_members = refl
+appended_none (a_member name value more) = ap (a_member name value) (appended_none more)
+
+appended_more : (ms more : Members) (name : List ℕ) (value : Json) → appended (appended ms (a_member name value no_members)) more ≡ appended ms (a_member name value more)
+appended_more no_members more name value = refl
+appended_more (a_member n v ms) more name value = ap (a_member n v) (appended_more ms more name value)
+
+put_new : (name : List ℕ) (value : Json) (ms : Members) → IsNewName name ms → put name value ms ≡ appended ms (a_member name value no_members)
+put_new name value no_members n = refl
+put_new name value (a_member other v more) n = cond-false _ _ _ (other_name name other n.0) ∙ ap (a_member other v) (put_new name value more n.1)
+
+-- the names of the first are none of the second's
+abbrev Apart : Members → Members → Type 0
+Apart ms no_members = ⊤
+Apart ms (a_member name value more) = IsNewName name ms × Apart ms more
+
+new_behind : (name other : List ℕ) (value : Json) (ms : Members) → name ≢ other → IsNewName name ms → IsNewName name (appended ms (a_member other value no_members))
+new_behind name other value no_members n m = (n, tt)
+new_behind name other value (a_member k v more) n m = (m.0, new_behind name other value more n m.1)
+
+apart_behind : (ms more : Members) (name : List ℕ) (value : Json) → Apart ms more → IsNewName name more → Apart (appended ms (a_member name value no_members)) more
+apart_behind ms no_members name value a n = tt
+apart_behind ms (a_member k v more) name value a n = (new_behind k name value ms (λ e. n.0 (sym e)) a.0, apart_behind ms more name value a.1 n.1)
+
+settled_apart : (ms more : Members) → Apart ms more → AreDistinct more → settled_onto ms more ≡ appended ms more
+settled_apart ms no_members a d = sym (appended_none ms)
+settled_apart ms (a_member name value more) a d =
+    ap (λ k. settled_onto k more) (put_new name value ms a.0) ∙ (settled_apart (appended ms (a_member name value no_members)) more (apart_behind ms more name value a.1 d.0) d.1 ∙ appended_more ms more name value)
+
+apart_from_none : (ms : Members) → Apart no_members ms
+apart_from_none no_members = tt
+apart_from_none (a_member name value more) = (tt, apart_from_none more)
+
+pub settled_distinct : (ms : Members) → AreDistinct ms → settled ms ≡ ms
+settled_distinct ms d = settled_apart no_members ms (apart_from_none ms) d
+
+-- what comes out has distinct names
+put_keeps_new : (other name : List ℕ) (value : Json) (ms : Members) → other ≢ name → IsNewName other ms → IsNewName other (put name value ms)
+put_keeps_new other name value no_members n m = (n, tt)
+put_keeps_new other name value (a_member k v more) n m =
+    cond_both (bytes_eq name k) _ _ (IsNewName other) (λ e. m) (λ e. (m.0, put_keeps_new other name value more n m.1))
+
+put_distinct : (name : List ℕ) (value : Json) (ms : Members) → AreDistinct ms → AreDistinct (put name value ms)
+put_distinct name value no_members d = (tt, tt)
+put_distinct name value (a_member k v more) d =
+    cond_both (bytes_eq name k) _ _ AreDistinct (λ e. d) (λ e. (put_keeps_new k name value more (λ same. different e same) d.0, put_distinct name value more d.1))
+  where
+    different : bytes_eq name k ≡ false → k ≡ name → ⊥
+    different e same = let t : bytes_eq name k ≡ true = (bytes_eq-Decides name k).1 (sym same) in cc
+
+distinct_onto : (ms more : Members) → AreDistinct ms → AreDistinct (settled_onto ms more)
+distinct_onto ms no_members d = d
+distinct_onto ms (a_member name value more) d = distinct_onto (put name value ms) more (put_distinct name value ms d)
+
+pub distinct_settled : (ms : Members) → AreDistinct (settled ms)
+distinct_settled ms = distinct_onto no_members ms tt

@@ -1,0 +1,11 @@
+pub mod KeptUrls
+pub mod NoUrls
+pub mod OwnUrls
+pub mod Bases
+pub mod OnePlace
+pub mod AgainstBases
+pub mod FileUrls
+pub mod OwnTexts
+pub mod FileNames
+pub mod examples
+pub mod PathTestLemmas
