@@ -2,7 +2,7 @@
 use Rattle.std.proofs.Common.{◌≡◌, ℕ, List, Some, None, Ok, Err, length, refl, sym, ◌∙◌, ap, subst}
 use Rattle.module_spec.specs.Tokens.{Lexeme, Next, IsNext, fault_of}
 use Rattle.module_spec.specs.Tokens.Next.{Ends, Faults, Gives}
-use Rattle.module_spec.specs.OneOutcome.{one_next}
+use Rattle.module_spec.proofs.TokenLaws.{one_next}
 use Rattle.es_lexer.specs.Again.{SameFaultAgain}
 
 at_rest : (before : List Lexeme) (rest after : List ℕ) (out : Next) → after ≡ rest → IsNext before after out → IsNext before rest out

@@ -14,11 +14,11 @@ use Rattle.module_spec.specs.Tokens.Slash.{start}
 use Rattle.module_spec.specs.Tokens.Next.{Ends, Faults, Gives}
 use Rattle.module_spec.specs.Tokens.IsNext.{next}
 use Rattle.module_spec.specs.Tokens.Reaches.{begin, go}
-use Rattle.module_spec.specs.Suffixes.{at_most, skip_suffix, given_shorter, hashbang_suffix}
+use Rattle.module_spec.proofs.Suffixes.{at_most, skip_suffix, given_shorter, hashbang_suffix}
 use Rattle.std.specs.Str.{IsUtf8}
 use Rattle.module_spec.specs.Spans.{IsSpan}
-use Rattle.module_spec.specs.SpanLaws.{next_stands}
-use Rattle.module_spec.specs.OneOutcome.{one_reach}
+use Rattle.module_spec.proofs.SpanLemmas.{next_stands}
+use Rattle.module_spec.proofs.TokenLaws.{one_reach}
 use Rattle.es_lexer.specs.declared.state.Open.{Open}
 use Rattle.es_lexer.specs.declared.state.Last.{Last}
 use Rattle.es_lexer.specs.Open.{top_of, top_bracket, changed}

@@ -7,7 +7,7 @@ use Rattle.module_spec.specs.Spellings.{hashbang_rest}
 use Rattle.module_spec.specs.Tokens.{Lexeme, Reaches, ReadsTokens, token_of}
 use Rattle.module_spec.specs.Tokens.Reaches.{begin, go}
 use Rattle.module_spec.specs.Tokens.ReadsTokens.{all, fault}
-use Rattle.module_spec.specs.Suffixes.{next_shorter}
+use Rattle.module_spec.proofs.Suffixes.{next_shorter}
 use Rattle.es_lexer.specs.Steps.{NextIs}
 
 -- the tokens so far, by what the lexer is told as

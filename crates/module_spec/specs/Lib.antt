@@ -1,14 +1,8 @@
 pub mod PlainForm
-pub mod Readings
-pub mod Examples
 pub mod Characters
 pub mod Spellings
 pub mod Sorts
 pub mod Tokens
-pub mod Suffixes
-pub mod OneOutcome
-pub mod DepthExamples
-pub mod TokenExamples
-pub mod Tails
 pub mod Spans
-pub mod SpanLaws
+pub mod Examples
+pub mod Laws

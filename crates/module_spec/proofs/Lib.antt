@@ -1,0 +1,6 @@
+pub mod Readings
+pub mod Suffixes
+pub mod Tails
+pub mod TokenLaws
+pub mod SpanLemmas
+pub mod examples

@@ -1,0 +1,3 @@
+pub mod PlainExamples
+pub mod DepthExamples
+pub mod TokenExamples
