@@ -4,3 +4,4 @@ pub mod Tails
 pub mod TokenLaws
 pub mod SpanLemmas
 pub mod examples
+pub mod PlainReadings

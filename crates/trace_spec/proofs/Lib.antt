@@ -1,0 +1,6 @@
+pub mod Queues
+pub mod WalkModules
+pub mod WalkOrder
+pub mod WalkRefusals
+pub mod WalkFacts
+pub mod Traces

@@ -2,6 +2,8 @@
 //! contracts of functions that do nothing.
 #![tactic(auto)]
 
+ghost use Rattle.trace_spec.specs.Laws.{HasLevels};
+
 use node_spec::Cause;
 use primitives::Text;
 use tree_spec::LimitName;
@@ -24,3 +26,8 @@ pub enum TraceRefusal {
     /// A quantity passes its limit.
     Limit { which: LimitName },
 }
+
+/// The modules of a trace are its levels, one behind another.
+pub fn has_levels()
+    ensures { HasLevels }
+{}
