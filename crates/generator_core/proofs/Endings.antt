@@ -12,7 +12,7 @@ use Rattle.tree_spec.specs.Trees.{Tree, Places}
 use Rattle.tree_spec.specs.Paths.{IsPath, root, child}
 use Rattle.layout_spec.specs.Needs.{NoClash}
 use Rattle.layout_spec.specs.Layout.{layout}
-use Rattle.import_map_spec.specs.Printing.{map_text}
+use Rattle.layout_spec.specs.PrintedMap.{map_text}
 use Rattle.layout_spec.specs.Counting.{mapping_count}
 use Rattle.generator_spec.specs.declared.Refusal.{Refusal}
 use Rattle.generator_spec.specs.declared.Refusal.TheVariants as refusal

@@ -15,7 +15,7 @@ use Rattle.url_spec.specs.Specifiers.{is_relative, as_url}
 use Rattle.module_spec.specs.PlainForm.{Requests}
 use Rattle.layout_spec.specs.declared.Need.{Need}
 use Rattle.layout_spec.specs.Needs.{counted, counted_onto, NoClash}
-use Rattle.layout_spec.specs.Contained.{counted_keeps}
+use Rattle.layout_spec.proofs.CountedNeeds.{counted_keeps}
 use Rattle.generator_spec.specs.declared.Refusal.{Refusal}
 use Rattle.generator_spec.specs.declared.RequestRefusal.{RequestRefusal}
 use Rattle.generator_spec.specs.declared.RequestRefusal.TheVariants.{NotFound, NotBuilt, Limit}

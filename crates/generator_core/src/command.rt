@@ -1,6 +1,6 @@
 ghost use Rattle.std.specs.Prelude.{◌≡◌, ◌≢◌, ◌≤◌, ◌⊎◌, ℕ, List, length, None, Err, IfSome, IfOk, IfErr, IsErrOf, map, string_bytes};
 ghost use Rattle.tree_spec.specs.Counts.{Rose};
-ghost use Rattle.import_map_spec.specs.Printing.{map_text};
+ghost use Rattle.layout_spec.specs.PrintedMap.{map_text};
 ghost use Rattle.layout_spec.specs.Counting.{mapping_count};
 ghost use Rattle.layout_spec.specs.Layout as definition;
 ghost use Rattle.generator_spec.specs.declared.Refusal.{Refusal};

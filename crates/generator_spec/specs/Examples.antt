@@ -19,12 +19,12 @@ use Rattle.url_spec.specs.FileUrls.{file_text, names_host, url_path, spelled_pat
 use Rattle.json_spec.specs.Grammar.{most_brackets}
 use Rattle.json_spec.proofs.PlainReader.{read_json, json_sound}
 use Rattle.import_map_spec.specs.Parsing.{parsed_map, map_from}
-use Rattle.import_map_spec.specs.Literals.{Lists, map_of_lists}
+use Rattle.import_map_spec.specs.WrittenMaps.{Lists, map_of_lists}
 use Rattle.node_spec.specs.declared.Cause.TheVariants.{NotFound, DirectoryImport}
 use Rattle.module_spec.specs.PlainForm.{IsPlain}
 use Rattle.module_spec.proofs.examples.PlainExamples.{worked_examples as module_examples}
 use Rattle.layout_spec.specs.declared.Need.{Need}
-use Rattle.layout_spec.specs.Contained.{contains_here, contains_there}
+use Rattle.layout_spec.proofs.Contained.{contains_here, contains_there}
 use Rattle.generator_spec.specs.Modules.{Config, Referrer, the_page, a_module, web_name}
 use Rattle.generator_spec.specs.Modules.Asks.{entries}
 use Rattle.generator_spec.specs.Trace.{Turn, IsTrace}

@@ -8,7 +8,8 @@ use Rattle.std.proofs.lemmas.List.Elements.{Contains-append_left, Contains-appen
 use Rattle.tree_spec.specs.Trees.{Tree}
 use Rattle.layout_spec.specs.declared.Need.{Need}
 use Rattle.layout_spec.specs.Needs.{NoClash}
-use Rattle.layout_spec.specs.Contained.{contains_here, counted_keeps}
+use Rattle.layout_spec.proofs.Contained.{contains_here}
+use Rattle.layout_spec.proofs.CountedNeeds.{counted_keeps}
 use Rattle.generator_spec.specs.declared.RequestRefusal.{RequestRefusal}
 use Rattle.generator_spec.specs.Modules.{Config, Module, is_module, Referrer, a_module, Asks}
 use Rattle.generator_spec.specs.Trace.{Passes, AllPass, Turn, new_modules, targets_of}

@@ -3,7 +3,7 @@ use Rattle.std.specs.Prelude.{◌≡◌, ◌≤◌, ◌+◌, ℕ, false, List, [
 use Rattle.tree_spec.specs.Trees.{Tree}
 use Rattle.layout_spec.specs.Needs.{NoClash}
 use Rattle.layout_spec.specs.Layout.{layout}
-use Rattle.import_map_spec.specs.Printing.{map_text}
+use Rattle.layout_spec.specs.PrintedMap.{map_text}
 use Rattle.generator_spec.specs.Modules.{Config}
 use Rattle.generator_spec.specs.Trace.{Turn, ends_in_slash, IsServable, IsTrace, needs_of}
 

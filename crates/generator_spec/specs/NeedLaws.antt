@@ -4,7 +4,8 @@ use Rattle.std.specs.Prelude.{flat_map, Contains}
 use mathlib.Core.Logic.{inl, inr}
 use Rattle.tree_spec.specs.Trees.{Tree}
 use Rattle.layout_spec.specs.declared.Need.{Need}
-use Rattle.layout_spec.specs.Contained.{contains_here, contains_there, contains_cases, contains_none, flat_from, counted_keeps}
+use Rattle.layout_spec.proofs.Contained.{contains_here, contains_there, contains_cases, contains_none, flat_from}
+use Rattle.layout_spec.proofs.CountedNeeds.{counted_keeps}
 use Rattle.generator_spec.specs.Modules.{Config, Module, Referrer, the_page, web_name, Asks}
 use Rattle.generator_spec.specs.Trace.{Passes, AllPass, Turn, IsTrace, needs_of}
 use Rattle.generator_spec.specs.Trace.AllPass.{no_requests, a_request}

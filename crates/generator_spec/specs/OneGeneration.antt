@@ -2,7 +2,7 @@
 use Rattle.std.proofs.Common.{◌≡◌, ℕ, List, sym, ap, ◌∙◌}
 use Rattle.tree_spec.specs.Trees.{Tree}
 use Rattle.layout_spec.specs.Layout.{layout}
-use Rattle.import_map_spec.specs.Printing.{map_text}
+use Rattle.layout_spec.specs.PrintedMap.{map_text}
 use Rattle.generator_spec.specs.Modules.{Config}
 use Rattle.generator_spec.specs.Trace.{Turn, needs_of}
 use Rattle.generator_spec.specs.Generation.{Generates}

@@ -26,11 +26,11 @@ use Rattle.url_spec.specs.WebNames.{escaped, web}
 use Rattle.url_spec.specs.ServedPaths.{holds_escape}
 use Rattle.url_spec.specs.FileUrls.{file_text, names_host, url_path, spelled_path}
 use Rattle.import_map_spec.specs.ParsedMap.{Texts, Addresses}
-use Rattle.import_map_spec.specs.Literals.{Lists, map_of_lists}
-use Rattle.layout_spec.specs.Contained.{contains_here, contains_there}
+use Rattle.import_map_spec.specs.WrittenMaps.{Lists, map_of_lists}
+use Rattle.layout_spec.proofs.Contained.{contains_here, contains_there}
 use Rattle.layout_spec.specs.Layout.{layout}
 use Rattle.layout_spec.specs.Counting.{mapping_count}
-use Rattle.layout_spec.specs.LaidLists.{listed_layout, layout_listed}
+use Rattle.layout_spec.proofs.LaidLists.{listed_layout, layout_listed}
 use Rattle.generator_spec.specs.declared.Refusal.{Refusal}
 use Rattle.generator_spec.specs.declared.Refusal.TheVariants as refusal
 use Rattle.generator_spec.specs.declared.RequestRefusal.TheVariants.{NotFound, NotBuilt, Limit}

@@ -9,7 +9,7 @@ use Rattle.tree_spec.specs.Paths.{IsSegment, IsPath, root, child}
 use Rattle.tree_spec.specs.Trees.{Tree, Places}
 use Rattle.tree_spec.proofs.Placings.{one_placing}
 use Rattle.url_spec.specs.Bases.{base_of}
-use Rattle.import_map_spec.specs.Printing.{map_text}
+use Rattle.layout_spec.specs.PrintedMap.{map_text}
 use Rattle.layout_spec.specs.Layout.{layout}
 use Rattle.generator_spec.specs.declared.Refusal.{Refusal}
 use Rattle.generator_spec.specs.Modules.{Config}

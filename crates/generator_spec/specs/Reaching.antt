@@ -13,8 +13,9 @@ use Rattle.node_spec.specs.Laws.{one_answer}
 use Rattle.url_spec.proofs.KeptUrls.{kept_urls}
 use Rattle.url_spec.proofs.OwnUrls.{own_urls}
 use Rattle.layout_spec.specs.declared.Need.{Need}
-use Rattle.layout_spec.specs.Lays.{NamesFiles}
-use Rattle.layout_spec.specs.Contained.{contains_here, contains_there, contains_cases, contains_none, contains_flat, flat_from, counted_keeps}
+use Rattle.layout_spec.specs.Needs.{NamesFiles}
+use Rattle.layout_spec.proofs.Contained.{contains_here, contains_there, contains_cases, contains_none, contains_flat, flat_from}
+use Rattle.layout_spec.proofs.CountedNeeds.{counted_keeps}
 use Rattle.generator_spec.specs.Modules.{Config, Module, is_module, Referrer, the_page, a_module, path_of, web_name, Asks}
 use Rattle.generator_spec.specs.Trace.{ends_in_slash, Passes, AllPass, Turn, IsTurn, new_modules, TurnsOf, targets_of, Levels, IsTrace, needs_of}
 use Rattle.generator_spec.specs.Trace.AllPass.{no_requests, a_request}

@@ -9,9 +9,10 @@ use Rattle.std.proofs.lemmas.Option.{slice_get_within}
 use Rattle.tree_spec.specs.Trees.{Tree}
 use Rattle.url_spec.specs.WebNames.{web}
 use Rattle.layout_spec.specs.Needs.{NoClash}
-use Rattle.layout_spec.specs.Contained.{contains_none, counted_keeps}
+use Rattle.layout_spec.proofs.Contained.{contains_none}
+use Rattle.layout_spec.proofs.CountedNeeds.{counted_keeps}
 use Rattle.layout_spec.specs.Layout.{layout}
-use Rattle.import_map_spec.specs.Printing.{map_text}
+use Rattle.layout_spec.specs.PrintedMap.{map_text}
 use Rattle.generator_spec.specs.declared.Refusal.TheVariants as refusal
 use Rattle.generator_spec.specs.Modules.{Config, Module, the_page, a_module, Asks}
 use Rattle.generator_spec.specs.Trace.{ends_in_slash, IsServable, Turn, IsTurn, TurnsOf, new_modules, targets_of, IsTrace, needs_of}

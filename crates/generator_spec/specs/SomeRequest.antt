@@ -28,7 +28,7 @@ use Rattle.node_spec.specs.Resolution.Resolves.{relative}
 use Rattle.node_spec.specs.Looking.{LooksAt}
 use Rattle.node_spec.specs.Some.{some_answer}
 use Rattle.layout_spec.specs.declared.Need.{Need}
-use Rattle.layout_spec.specs.Contained.{contains_here, contains_there, contains_cases, contains_none}
+use Rattle.layout_spec.proofs.Contained.{contains_here, contains_there, contains_cases, contains_none}
 use Rattle.generator_spec.specs.declared.RequestRefusal.{RequestRefusal}
 use Rattle.generator_spec.specs.declared.RequestRefusal.TheVariants.{NotFound, NotBuilt, Limit}
 use Rattle.generator_spec.specs.Modules.{Config, Module, is_module, Referrer, path_of, web_name}

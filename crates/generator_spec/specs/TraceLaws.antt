@@ -8,7 +8,7 @@ use Rattle.std.proofs.lemmas.Slice.Eq.{bytes_eq-Decides}
 use Rattle.std.proofs.lemmas.List.Elements.{Contains-append_left, Contains-append_right, Contains-append_cases, Contains-push}
 use Rattle.tree_spec.specs.Trees.{Tree}
 use Rattle.layout_spec.specs.declared.Need.{Need}
-use Rattle.layout_spec.specs.Contained.{contains_here, contains_there, contains_cases, contains_none, flat_from}
+use Rattle.layout_spec.proofs.Contained.{contains_here, contains_there, contains_cases, contains_none, flat_from}
 use Rattle.generator_spec.specs.Modules.{Config, Module, is_module, Referrer, a_module}
 use Rattle.generator_spec.specs.Trace.{Passes, AllPass, Turn, IsTurn, new_modules, TurnsOf, targets_of, Levels, IsTrace}
 use Rattle.generator_spec.specs.Trace.AllPass.{no_requests, a_request}

@@ -1,14 +1,6 @@
 pub mod ParsedMap
 pub mod Parsing
 pub mod Resolving
-pub mod OneMap
-pub mod SameQuestion
-pub mod Printing
-pub mod Entries
-pub mod MapBack
-pub mod TextBack
-pub mod Longest
-pub mod Literals
-pub mod PrintedLists
-pub mod SomeMap
-pub mod Examples
+pub mod Laws
+pub mod WrittenMaps
+pub mod WorkedExamples

@@ -1,8 +1,12 @@
 -- Import maps (HTML, import maps: import map).
-use Rattle.std.specs.Prelude.{ℕ, List, Option}
-use Rattle.std.specs.Ordering.{nat_cmp}
+--     ParsedMap      a map: its imports, its scopes and its integrity
+--     Addresses      a module specifier map, from keys to addresses
+--     Texts X      a finite map from texts
+--     MapFault      why a text has no map
 use Rattle.std.specs.Cmp.Lexicographic.{slice_cmp}
 use Rattle.std.specs.FinMap.{FinMap}
+use Rattle.std.specs.Ordering.{nat_cmp}
+use Rattle.std.specs.Prelude.{ℕ, List, Option}
 use Rattle.json_spec.specs.Grammar.{Fault}
 use Rattle.import_map_spec.specs.declared.MapPart.{MapPart}
 

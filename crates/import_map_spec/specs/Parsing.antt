@@ -1,17 +1,18 @@
 -- Parsing an import map (HTML, import maps: parse an import map string).
 --     parsed_map base value      the map of a JSON value against the map base, or the first part that is no object
 --     ParsesMap base bytes out      the same of a text
-use Rattle.std.specs.Prelude.{◌≡◌, ℕ, ◌+◌, ◌-◌, ◌*◌, Bool, not, ◌&&◌, ◌||◌, ◌==◌, nat_lt, nat_eq, true, false, List, [], ◌∷◌, length, codes, bytes_eq, if◌then◌else◌, Option, Some, None, Result, Ok, Err}
-use Rattle.std.specs.List.{ends_with}
-use Rattle.std.specs.Str.{all_ascii_digits}
+--     normalized_addresses, normalized_scopes, normalized_integrity      the three parts of a map
 use Rattle.std.specs.FinMap.{insert, empty}
-use Rattle.json_spec.specs.Value.{Json, a_null, a_bool, a_number, a_text, a_list, an_object, Members, no_members, a_member}
+use Rattle.std.specs.List.{ends_with}
+use Rattle.std.specs.Prelude.{ℕ, Bool, true, false, List, [], ◌∷◌, nat_eq, codes, not, ◌&&◌, if◌then◌else◌, Option, Some, None, Result, Ok, Err, bytes_eq, ◌≡◌}
 use Rattle.json_spec.specs.Grammar.{Fault, ReadsJson}
+use Rattle.json_spec.specs.PropertyOrder.{in_property_order}
+use Rattle.json_spec.specs.Value.{Json, a_null, a_bool, a_number, a_text, a_list, an_object, Members, no_members, a_member}
 use Rattle.url_spec.specs.Parsing.{parse_against}
 use Rattle.url_spec.specs.Specifiers.{as_url, normalized}
+use Rattle.import_map_spec.specs.ParsedMap.{Addresses, Texts, ParsedMap, MapFault, NotObject, NoJson}
 use Rattle.import_map_spec.specs.declared.MapPart.{MapPart}
-use Rattle.import_map_spec.specs.declared.MapPart.TheVariants.{Top, Imports, Scopes, Scope, Integrity}
-use Rattle.import_map_spec.specs.ParsedMap.{Texts, Addresses, ParsedMap, MapFault, NoJson, NotObject}
+use Rattle.import_map_spec.specs.declared.MapPart.TheVariants.{Scope, Imports, Scopes, Integrity, Top}
 
 abbrev pub is_empty : List ℕ → Bool
 is_empty [] = true
@@ -45,44 +46,6 @@ addresses_onto base m (a_member key value more) = addresses_onto base (with_addr
 
 abbrev pub normalized_addresses : List ℕ → Members → Addresses
 normalized_addresses base members = addresses_onto base empty members
-
--- the number that digits spell, behind others whose number is n
-abbrev pub number_onto : ℕ → List ℕ → ℕ
-number_onto n [] = n
-number_onto n (b ∷ digits) = number_onto (n * 10 + (b - 48)) digits
-
-abbrev pub number_of : List ℕ → ℕ
-number_of digits = number_onto 0 digits
-
-abbrev pub begins_with_zero : List ℕ → Bool
-begins_with_zero [] = false
-begins_with_zero (b ∷ text) = b == 48
-
--- an array index is the decimal text of a number below 2^32 - 1 (ECMA-262, object type)
-abbrev pub is_array_index : List ℕ → Bool
-is_array_index text = not (is_empty text) && all_ascii_digits text && (length text == 1 || not (begins_with_zero text)) && nat_lt (number_of text) 4294967295
-
--- a member before those of greater numbers
-abbrev pub by_number : List ℕ → Json → Members → Members
-by_number key value no_members = a_member key value no_members
-by_number key value (a_member k v more) = if nat_lt (number_of key) (number_of k) then a_member key value (a_member k v more) else a_member k v (by_number key value more)
-
--- the members whose names are array indices, by ascending number, and the others as they are written
-abbrev pub index_members : Members → Members
-index_members no_members = no_members
-index_members (a_member key value more) = if is_array_index key then by_number key value (index_members more) else index_members more
-
-abbrev pub other_members : Members → Members
-other_members no_members = no_members
-other_members (a_member key value more) = if is_array_index key then other_members more else a_member key value (other_members more)
-
-abbrev pub joined : Members → Members → Members
-joined no_members others = others
-joined (a_member key value more) others = a_member key value (joined more others)
-
--- the order in which an object gives its members (ECMA-262, OrdinaryOwnPropertyKeys)
-abbrev pub in_property_order : Members → Members
-in_property_order members = joined (index_members members) (other_members members)
 
 -- a scope whose key is no URL is dropped (HTML, import maps: sorting and normalizing scopes)
 abbrev pub with_scope : Option (List ℕ) → Addresses → Texts Addresses → Texts Addresses

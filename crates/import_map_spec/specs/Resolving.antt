@@ -1,10 +1,12 @@
 -- Resolving a specifier through an import map (HTML, import maps: resolve a module specifier).
 --     resolve_in map referrer specifier      the URL that the specifier has in the module or page at the referrer, or why it has none
-use Rattle.std.specs.Prelude.{ℕ, zero, suc, Bool, true, List, take, drop, length, Option, Some, None, option_map, if◌then◌else◌}
+--     resolve_imports_match url text addresses      what a module specifier map answers for a normalized specifier
+--     resolve_scopes_match url text referrer scopes      what the scopes answer
 use Rattle.std.specs.FinMap.{get}
+use Rattle.std.specs.Prelude.{ℕ, List, Option, Some, None, zero, suc, take, drop, if◌then◌else◌, Bool, true, length, option_map}
 use Rattle.url_spec.specs.Parsing.{parse_against}
 use Rattle.url_spec.specs.Schemes.{has_special_scheme}
-use Rattle.url_spec.specs.Specifiers.{as_url, normalized, begins}
+use Rattle.url_spec.specs.Specifiers.{begins, as_url, normalized}
 use Rattle.import_map_spec.specs.ParsedMap.{Texts, Addresses, ParsedMap}
 use Rattle.import_map_spec.specs.Parsing.{ends_in_slash}
 

@@ -1,10 +1,6 @@
 pub mod Needs
 pub mod Layout
 pub mod Counting
-pub mod Contained
-pub mod Once
-pub mod Lays
-pub mod OneLayout
-pub mod Agreement
-pub mod LaidLists
-pub mod Examples
+pub mod PrintedMap
+pub mod Laws
+pub mod WorkedExamples

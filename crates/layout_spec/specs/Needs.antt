@@ -1,6 +1,12 @@
 -- Needs: who asks (by its URL), what for (the specifier as HTML normalizes it), and the URL that has to come of it.
-use Rattle.std.specs.Prelude.{◌≡◌, Bool, List, [], ◌∷◌, ◌++◌, ◌&&◌, bytes_eq, if◌then◌else◌, Contains}
+--     counted needs      each need once, at its first place
+--     AreDistinct needs      no need stands twice
+--     NoClash needs      needs of one referrer and one specifier have one target
+--     NamesFiles need      the texts are those of URLs, and neither the referrer nor what is asked for is a folder
 use Rattle.std.specs.List.{list_any}
+use Rattle.std.specs.Prelude.{Bool, ◌&&◌, bytes_eq, List, [], ◌∷◌, ◌++◌, if◌then◌else◌, ◌≡◌, Contains, ⊤, false}
+use Rattle.url_spec.specs.Parsing.{IsUrl}
+use Rattle.import_map_spec.specs.Parsing.{ends_in_slash}
 use Rattle.layout_spec.specs.declared.Need.{Need}
 
 -- the same need
@@ -18,3 +24,16 @@ counted needs = counted_onto [] needs
 -- own: needs of one referrer and one specifier have one target
 abbrev pub NoClash : List Need → Type 0
 NoClash needs = (one other : Need) → Contains needs one → Contains needs other → one.referrer ≡ other.referrer → one.asked ≡ other.asked → one.target ≡ other.target
+
+-- own: no need stands twice in the list
+abbrev pub AreDistinct : List Need → Type 0
+AreDistinct [] = ⊤
+AreDistinct (need ∷ more) = (Contains more need → ⊥) × AreDistinct more
+
+-- own: the texts of a need are those of URLs, and neither its referrer nor what it asks for is a folder
+pub record NamesFiles (need : Need) : Type 0 where
+  pub referrer : IsUrl need.referrer
+  pub asked : IsUrl need.asked
+  pub target : IsUrl need.target
+  pub referrer_is_file : ends_in_slash need.referrer ≡ false
+  pub asked_is_file : ends_in_slash need.asked ≡ false

@@ -1,11 +1,8 @@
-//! Needs and the layout that serves them: definitions and their laws.
+//! Needs, the layout that serves them, and the map as it is printed: definitions and their laws.
 #![tactic(auto)]
 
-ghost use Rattle.layout_spec.specs.Contained.{CountedKeeps};
-ghost use Rattle.layout_spec.specs.Examples.{WorkedExamples};
-ghost use Rattle.layout_spec.specs.Lays.{LayoutLays};
-ghost use Rattle.layout_spec.specs.Once.{CountedOnce};
-ghost use Rattle.layout_spec.specs.OneLayout.{OneLayout};
+ghost use Rattle.layout_spec.specs.Laws.{CountedKeeps, CountedOnce, LayoutLays, OneLayout, TextsReadBack};
+ghost use Rattle.layout_spec.specs.WorkedExamples.{WorkedExamples};
 
 use primitives::Text;
 
@@ -32,7 +29,7 @@ pub fn counted_once()
 
 /// The layout of needs of which no two clash has the mappings that they want, each in the scope of its referrer, and
 /// nothing else.
-#[tactic(auto, using(crate::specs::Lays::layout_lays))]
+#[tactic(auto, using(crate::proofs::Lays::layout_lays))]
 pub fn layout_lays()
     ensures { LayoutLays }
 {}
@@ -42,8 +39,14 @@ pub fn one_layout()
     ensures { OneLayout }
 {}
 
+/// The text of a map is read as that map, where its keys and addresses stand as parsing leaves them.
+#[tactic(auto, using(crate::proofs::TextBack::texts_read_back))]
+pub fn texts_read_back()
+    ensures { TextsReadBack }
+{}
+
 /// Worked examples.
-#[tactic(auto, using(crate::specs::Examples::worked_examples))]
+#[tactic(auto, using(crate::proofs::examples::WorkedExamples::worked_examples))]
 pub fn worked_examples()
     ensures { WorkedExamples }
 {}

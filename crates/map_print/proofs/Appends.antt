@@ -6,7 +6,7 @@ use Rattle.std.proofs.lemmas.List.{drop_all}
 use Rattle.json_spec.specs.Value.{Json, a_text, an_object, Members, no_members, a_member}
 use Rattle.json_spec.specs.PrintedString.{quoted}
 use Rattle.json_spec.specs.PrintedValue.{margin, line, printed, printed_members}
-use Rattle.import_map_spec.specs.Printing.{members_of, with_part}
+use Rattle.layout_spec.specs.PrintedMap.{members_of, with_part}
 use Rattle.map_print.specs.declared.keyed.Layout.{Layout}
 use Rattle.map_print.specs.Lists.{mappings_value, layout_value}
 use Rattle.map_print.specs.Appending.{Appends}

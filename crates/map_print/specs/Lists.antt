@@ -4,7 +4,7 @@ use Rattle.std.specs.Prelude.{◌≡◌, ℕ, List, map, codes, Option, Some}
 use Rattle.std.specs.FinMap.{entries}
 use Rattle.json_spec.specs.Value.{Json, a_text, an_object, no_members, a_member}
 use Rattle.import_map_spec.specs.ParsedMap.{Addresses, ParsedMap}
-use Rattle.import_map_spec.specs.Printing.{members_of, with_part}
+use Rattle.layout_spec.specs.PrintedMap.{members_of, with_part}
 use Rattle.map_print.specs.declared.keyed.Layout.{Layout}
 
 -- a mapping as an entry of a module specifier map: its address is a URL, and never null

@@ -3,7 +3,7 @@ ghost use Rattle.json_spec.specs.PrintedString.{quoted};
 ghost use Rattle.json_spec.specs.Value.{a_text, an_object, no_members};
 ghost use Rattle.json_spec.specs.PrintedValue.{line, printed, printed_members, printed_text};
 ghost use Rattle.import_map_spec.specs.ParsedMap.{ParsedMap};
-ghost use Rattle.import_map_spec.specs.Printing.{members_of, with_part, map_text};
+ghost use Rattle.layout_spec.specs.PrintedMap.{members_of, with_part, map_text};
 ghost use Rattle.map_print.specs.Lists.{Lists, mappings_value, layout_value};
 ghost use Rattle.map_print.specs.Appending.{Appends};
 

@@ -11,9 +11,10 @@ use Rattle.url_spec.proofs.OwnTexts.{utf8_url}
 use Rattle.url_spec.proofs.AgainstBases.{urls_against}
 use Rattle.import_map_spec.specs.ParsedMap.{Texts, Addresses, ParsedMap}
 use Rattle.import_map_spec.specs.Parsing.{is_empty, ends_in_slash, fitting}
-use Rattle.import_map_spec.specs.Printing.{IsKeptAddress, IsKeptKey, IsKeptScope, IsKept}
+use Rattle.layout_spec.specs.PrintedMap.{IsKeptAddress, IsKeptKey, IsKeptScope, IsKept}
 use Rattle.layout_spec.specs.declared.Need.{Need}
-use Rattle.layout_spec.specs.Lays.{StandsFor, Lays, NamesFiles}
+use Rattle.layout_spec.specs.Layout.{StandsFor, Lays}
+use Rattle.layout_spec.specs.Needs.{NamesFiles}
 use Rattle.soundness.proofs.Resolving.{mapped_from, nothing_there}
 
 url_not_empty : (url : List ℕ) → IsUrl url → is_empty url ≡ false

@@ -10,12 +10,12 @@ use Rattle.std.proofs.lemmas.Slice.Eq.{bytes_eq-Decides}
 use Rattle.url_spec.specs.Specifiers.{as_url, normalized}
 use Rattle.import_map_spec.specs.ParsedMap.{Texts, Addresses, ParsedMap}
 use Rattle.import_map_spec.specs.Parsing.{ends_in_slash}
-use Rattle.import_map_spec.specs.Entries.{get_nowhere}
+use Rattle.import_map_spec.proofs.Entries.{get_nowhere}
 use Rattle.import_map_spec.specs.Resolving.{Resolution, Resolved, first_answer, answer_or, unmatched, Lookup, resolve_imports_match, scope_match, longest_front, prefix_scope, resolve_scopes_match, scope_addresses, resolve_normalized, resolve_in}
-use Rattle.import_map_spec.specs.Longest.{key_order}
+use Rattle.import_map_spec.proofs.LongestKey.{key_order}
 use Rattle.layout_spec.specs.declared.Need.{Need}
-use Rattle.layout_spec.specs.Needs.{NoClash}
-use Rattle.layout_spec.specs.Lays.{mapped, WantsMapping, Lays, NamesFiles}
+use Rattle.layout_spec.specs.Needs.{NoClash, NamesFiles}
+use Rattle.layout_spec.specs.Layout.{mapped, WantsMapping, Lays}
 
 cases_option : {A : Type 0} (found : Option A) → (found ≡ None) ⊎ ((x : A) × (found ≡ Some x))
 cases_option None = inl refl

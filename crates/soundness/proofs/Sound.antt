@@ -5,12 +5,13 @@ use Rattle.tree_spec.specs.Trees.{Tree}
 use Rattle.url_spec.specs.Parsing.{IsUrl}
 use Rattle.url_spec.proofs.KeptUrls.{kept_urls}
 use Rattle.import_map_spec.specs.Parsing.{ParsesMap}
-use Rattle.import_map_spec.specs.TextBack.{texts_read_back}
+use Rattle.layout_spec.proofs.TextBack.{texts_read_back}
 use Rattle.import_map_spec.specs.Resolving.{resolve_in}
 use Rattle.import_map_spec.specs.Resolving as html
 use Rattle.layout_spec.specs.declared.Need.{Need}
-use Rattle.layout_spec.specs.Layout.{layout}
-use Rattle.layout_spec.specs.Lays.{Lays, NamesFiles, layout_lays}
+use Rattle.layout_spec.specs.Layout.{layout, Lays}
+use Rattle.layout_spec.specs.Needs.{NamesFiles}
+use Rattle.layout_spec.proofs.Lays.{layout_lays}
 use Rattle.generator_spec.specs.Modules.{Config, Module, Referrer, web_name, Asks}
 use Rattle.generator_spec.specs.Trace.{Passes, needs_of}
 use Rattle.generator_spec.specs.Generation.{Generates}

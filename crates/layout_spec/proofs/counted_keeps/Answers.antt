@@ -1,4 +1,4 @@
-use Rattle.layout_spec.specs.Contained.{counted_keeps}
+use Rattle.layout_spec.proofs.CountedNeeds.{counted_keeps}
 use Rattle.layout_spec.proofs.counted_keeps.Goals as goal
 
 pub returns : goal.returns

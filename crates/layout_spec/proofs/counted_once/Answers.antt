@@ -1,4 +1,4 @@
-use Rattle.layout_spec.specs.Once.{counted_once}
+use Rattle.layout_spec.proofs.CountedNeeds.{counted_once}
 use Rattle.layout_spec.proofs.counted_once.Goals as goal
 
 pub returns : goal.returns

@@ -1,4 +1,4 @@
-use Rattle.layout_spec.specs.OneLayout.{one_layout}
+use Rattle.layout_spec.proofs.OneLayout.{one_layout}
 use Rattle.layout_spec.proofs.one_layout.Goals as goal
 
 pub returns : goal.returns

@@ -1,7 +1,7 @@
 use Rattle.std.proofs.Common.{drop}
 use Rattle.json_spec.specs.Value.{a_text}
 use Rattle.json_spec.specs.PrintedValue.{printed_members}
-use Rattle.import_map_spec.specs.Printing.{members_of}
+use Rattle.layout_spec.specs.PrintedMap.{members_of}
 use Rattle.map_print.proofs.Appends.{Completes}
 use Rattle.map_print.proofs.print.push_more_pairs.Given as goal
 

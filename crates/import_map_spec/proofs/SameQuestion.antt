@@ -1,12 +1,12 @@
 -- Specifiers that are no URLs and have one normalized specifier have one answer in every map.
-use Rattle.std.specs.Prelude.{◌≡◌, ℕ, List, Option, Some, None, unwrap_or}
 use Rattle.std.proofs.Common.{refl, ap, sym, ◌∙◌}
+use Rattle.std.specs.FinMap.{get}
+use Rattle.std.specs.Prelude.{◌≡◌, ℕ, List, Option, Some, None, unwrap_or}
+use Rattle.url_spec.proofs.OwnUrls.{own_urls}
 use Rattle.url_spec.specs.Parsing.{parse_alone, IsUrl}
 use Rattle.url_spec.specs.Specifiers.{as_url, normalized}
-use Rattle.url_spec.proofs.OwnUrls.{own_urls}
-use Rattle.import_map_spec.specs.ParsedMap.{ParsedMap}
+use Rattle.import_map_spec.specs.Laws.{SameQuestion}
 use Rattle.import_map_spec.specs.Resolving.{scope_addresses, resolve_normalized, resolve_in}
-use Rattle.std.specs.FinMap.{get}
 
 -- the URL of a specifier is told by the normalized specifier, where the other has none
 same_url : (s t : List ℕ) (u v : Option (List ℕ)) → ((url : List ℕ) → u ≡ Some url → IsUrl url) → ((url : List ℕ) → v ≡ Some url → IsUrl url) → parse_alone s ≡ None → parse_alone t ≡ None → unwrap_or u s ≡ unwrap_or v t → u ≡ v
@@ -20,12 +20,6 @@ same_url s t (Some url) None f g p q e = let parses : parse_alone url ≡ Some u
   where
     nothing : ◌≡◌ {A = Option (List ℕ)} None (Some url) → ⊥
     nothing e = cc
-
--- own law: no import map tells two such specifiers apart
-abbrev pub SameQuestion : Type 0
-SameQuestion =
-    (m : ParsedMap) (referrer one other : List ℕ) → parse_alone one ≡ None → parse_alone other ≡ None → normalized referrer one ≡ normalized referrer other
-    → resolve_in m referrer one ≡ resolve_in m referrer other
 
 pub same_question : SameQuestion
 unfolding normalized resolve_in

@@ -1,10 +1,11 @@
 -- The walk over the fronts of a text is the walk over the keys in descending order: the longest key that matches answers.
-use Rattle.std.specs.Prelude.{◌≡◌, ℕ, zero, suc, ◌<◌, ◌≤◌, Bool, true, false, List, take, drop, length, Option, Some, None, if◌then◌else◌}
-use Rattle.std.proofs.Common.{refl, ap, sym, ◌∙◌, arith, subst}
+use Rattle.std.proofs.Common.{refl, ap, ◌∙◌, arith, subst, sym}
+use Rattle.std.proofs.lemmas.Bool.{cases_eq, cond-true, cond-false, cases_Bool}
+use Rattle.std.specs.Prelude.{◌≡◌, ℕ, zero, suc, ◌<◌, ◌≤◌, List, take, drop, Option, Some, None, length, if◌then◌else◌, Bool, true, false}
 use mathlib.Core.Logic.{inl, inr}
-use Rattle.std.proofs.lemmas.Bool.{cond-true, cond-false, cases_Bool, cases_eq}
+use Rattle.import_map_spec.specs.Laws.{NoneAbove, IsFolderFront, KeyOrder}
 use Rattle.import_map_spec.specs.Parsing.{ends_in_slash}
-use Rattle.import_map_spec.specs.Resolving.{Resolution, first_answer, longest_front, exact_match, prefix_match, Lookup, prefix_key, takes_prefixes, resolve_imports_match, scope_match, prefix_scope, resolve_scopes_match}
+use Rattle.import_map_spec.specs.Resolving.{first_answer, longest_front, Resolution, prefix_match, exact_match, Lookup, prefix_key, takes_prefixes, scope_match, prefix_scope}
 
 module _ {A : Type 0} (answer : List ℕ → List ℕ → Option A) (text : List ℕ) where
   abbrev At : ℕ → Option A
@@ -22,36 +23,12 @@ module _ {A : Type 0} (answer : List ℕ → List ℕ → Option A) (text : List
   longest_none zero none = refl
   longest_none (suc n) none = ap (λ o. first_answer o (longest_front answer text n)) (none (suc n) (omega arith) (omega arith)) ∙ longest_none n (λ j m o. none j m (omega arith))
 
--- the front of k bytes is a prefix that a key may be
-pub record IsFolderFront (text : List ℕ) (k : ℕ) : Type 0 where
-  pub some : 0 < k
-  pub within : k ≤ length text
-  pub slash : ends_in_slash (take k text) ≡ true
-
--- a look-up that answers for no such front of more than k bytes
-abbrev pub NoneAbove : {A : Type 0} → (List ℕ → Option A) → List ℕ → ℕ → Type 0
-NoneAbove look text k = (j : ℕ) → k < j → IsFolderFront text j → look (take j text) ≡ None
-
 slash_only : {A : Type 0} (look : List ℕ → Option A) (text : List ℕ) (k j : ℕ) → NoneAbove look text k → k < j → j ≤ length text → (if ends_in_slash (take j text) then look (take j text) else None) ≡ None
 slash_only look text k j none l m =
     elim (cases_Bool (ends_in_slash (take j text))) [
       | inl t ↦ cond-true _ _ _ t ∙ none j l (record { some = omega arith; within = m; slash = t })
       | inr f ↦ cond-false _ _ _ f
     ]
-
--- own law: the longest key answers, and the longest scope that has an answer
-pub record KeyOrder : Type 0 where
-  pub exact : (addresses : Lookup (Option (List ℕ))) (url : Option (List ℕ)) (text : List ℕ) (address : Option (List ℕ)) → addresses text ≡ Some address → resolve_imports_match url text addresses ≡ exact_match (Some address)
-  pub prefix :
-      (addresses : Lookup (Option (List ℕ))) (url : Option (List ℕ)) (text : List ℕ) (k : ℕ) (address : Option (List ℕ)) → addresses text ≡ None → takes_prefixes url ≡ true → IsFolderFront text k → addresses (take k text) ≡ Some address
-      → NoneAbove addresses text k → resolve_imports_match url text addresses ≡ prefix_match (Some address) (drop k text)
-  pub no_key : (addresses : Lookup (Option (List ℕ))) (url : Option (List ℕ)) (text : List ℕ) → addresses text ≡ None → NoneAbove addresses text 0 → resolve_imports_match url text addresses ≡ None
-  pub scope :
-      (scopes : Lookup (Lookup (Option (List ℕ)))) (url : Option (List ℕ)) (text referrer : List ℕ) (k : ℕ) (answer : Resolution) → scope_match url text (scopes referrer) ≡ None → IsFolderFront referrer k → scope_match url text (scopes (take k referrer)) ≡ Some answer
-      → NoneAbove (λ key. scope_match url text (scopes key)) referrer k → resolve_scopes_match url text referrer scopes ≡ Some answer
-  pub no_scope :
-      (scopes : Lookup (Lookup (Option (List ℕ)))) (url : Option (List ℕ)) (text referrer : List ℕ) → scope_match url text (scopes referrer) ≡ None → NoneAbove (λ key. scope_match url text (scopes key)) referrer 0
-      → resolve_scopes_match url text referrer scopes ≡ None
 
 is_some_match : (address : Option (List ℕ)) (rest : List ℕ) → (a : Resolution) × (prefix_match (Some address) rest ≡ Some a)
 is_some_match None rest = (_, refl)

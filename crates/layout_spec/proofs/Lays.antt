@@ -1,58 +1,17 @@
 -- The layout of needs without a clash holds the mappings that they want, and no other.
-use Rattle.std.specs.Prelude.{◌≡◌, ◌≢◌, ◌⊎◌, ℕ, true, false, List, [], ◌∷◌, bytes_eq, cond, Option, Some, None, unwrap_or, Contains}
-use Rattle.std.specs.FinMap.{get, insert, empty}
-use Rattle.std.proofs.Common.{refl, sym, ap, ◌∙◌, subst}
-use mathlib.Core.Logic.{inl, inr}
-use Rattle.std.proofs.lemmas.Bool.{cases_Bool, cond-true, cond-false, true≢false}
+use Rattle.std.proofs.Common.{sym, ◌∙◌, ap, subst, refl}
+use Rattle.std.proofs.lemmas.Bool.{cond-true, cond-false, true≢false, cases_Bool}
 use Rattle.std.proofs.lemmas.Slice.Eq.{bytes_eq-Decides}
-use Rattle.url_spec.specs.Parsing.{IsUrl}
-use Rattle.import_map_spec.specs.Parsing.{ends_in_slash}
-use Rattle.import_map_spec.specs.ParsedMap.{Texts, Addresses, ParsedMap}
-use Rattle.import_map_spec.specs.Entries.{same_key, same_key_is, same_key_itself, get_inserted, get_nowhere}
-use Rattle.layout_spec.specs.declared.Need.{Need}
+use Rattle.std.specs.FinMap.{insert, get, empty}
+use Rattle.std.specs.Prelude.{◌≡◌, true, bytes_eq, Some, false, ℕ, List, Option, unwrap_or, cond, ◌∷◌, ◌⊎◌, [], Contains, None}
+use mathlib.Core.Logic.{inl, inr}
+use Rattle.import_map_spec.proofs.Entries.{same_key, get_inserted, same_key_is, same_key_itself, get_nowhere}
+use Rattle.import_map_spec.specs.ParsedMap.{Texts, Addresses}
+use Rattle.layout_spec.proofs.Contained.{contains_there, contains_here, contains_cases, contains_none}
+use Rattle.layout_spec.specs.Laws.{LayoutLays}
+use Rattle.layout_spec.specs.Layout.{with_need, scope_of, WantsMapping, mapped, StandsFor, scopes_onto, ScopesFor}
 use Rattle.layout_spec.specs.Needs.{NoClash}
-use Rattle.layout_spec.specs.Layout.{scope_of, with_need, scopes_onto, layout}
-use Rattle.layout_spec.specs.Contained.{contains_here, contains_there, contains_cases, contains_none}
-
--- the address of a specifier in the scope of a referrer
-abbrev pub mapped : Texts Addresses → List ℕ → List ℕ → Option (Option (List ℕ))
-mapped scopes referrer asked = get (scope_of scopes referrer) asked
-
--- own: a need that its target's URL itself doesn't serve
-abbrev pub WantsMapping : Need → Type 0
-WantsMapping need = need.asked ≢ need.target
-
--- the need of a mapping
-pub record StandsFor (needs : List Need) (referrer asked : List ℕ) (address : Option (List ℕ)) (need : Need) : Type 0 where
-  pub is_need : Contains needs need
-  pub referrer_is : need.referrer ≡ referrer
-  pub asked_is : need.asked ≡ asked
-  pub address_is : address ≡ Some need.target
-  pub wants : WantsMapping need
-
--- the need of a scope
-pub record ScopesFor (needs : List Need) (referrer : List ℕ) (need : Need) : Type 0 where
-  pub is_need : Contains needs need
-  pub referrer_is : need.referrer ≡ referrer
-  pub wants : WantsMapping need
-
--- own: a map has the mappings that the needs want, each in the scope of its referrer, and nothing else
-pub record Lays (needs : List Need) (m : ParsedMap) : Type 0 where
-  pub imports : m.imports ≡ empty
-  pub integrity : m.integrity ≡ empty
-  pub holds : (need : Need) → Contains needs need → WantsMapping need → mapped m.scopes need.referrer need.asked ≡ Some (Some need.target)
-  pub only : (referrer asked : List ℕ) (address : Option (List ℕ)) → mapped m.scopes referrer asked ≡ Some address → (need : Need) × StandsFor needs referrer asked address need
-  pub scopes : (referrer : List ℕ) (scope : Addresses) → get m.scopes referrer ≡ Some scope → (need : Need) × ScopesFor needs referrer need
-
--- own: the texts of a need are those of URLs, and neither its referrer nor what it asks for is a folder
-pub record NamesFiles (need : Need) : Type 0 where
-  pub referrer : IsUrl need.referrer
-  pub asked : IsUrl need.asked
-  pub target : IsUrl need.target
-  pub referrer_is_file : ends_in_slash need.referrer ≡ false
-  pub asked_is_file : ends_in_slash need.asked ≡ false
-
--- ---- one need more
+use Rattle.layout_spec.specs.declared.Need.{Need}
 
 stands_alone : (need : Need) (scopes : Texts Addresses) → bytes_eq need.asked need.target ≡ true → with_need need scopes ≡ scopes
 stands_alone need scopes same = cond-true _ _ _ same
@@ -189,10 +148,6 @@ scoped_only (need ∷ needs) scopes referrer scope none e =
 
 nothing_mapped : (referrer asked : List ℕ) → mapped empty referrer asked ≡ None
 nothing_mapped referrer asked = ap (λ (scope : Option Addresses). get (unwrap_or scope empty) asked) (get_nowhere referrer) ∙ get_nowhere asked
-
--- own law: the layout of needs without a clash has their mappings and no other
-abbrev pub LayoutLays : Type 0
-LayoutLays = (needs : List Need) → NoClash needs → Lays needs (layout needs)
 
 pub layout_lays : LayoutLays
 layout_lays needs no_clash = record {

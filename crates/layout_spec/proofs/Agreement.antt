@@ -1,13 +1,13 @@
 -- That no two needs of a list clash is found by comparing each two of them.
-use Rattle.std.specs.Prelude.{◌≡◌, Bool, true, false, not, ◌&&◌, ◌||◌, List, [], ◌∷◌, bytes_eq, Contains}
-use Rattle.std.specs.List.{list_all}
-use Rattle.std.proofs.Common.{sym, subst}
-use mathlib.Core.Logic.{inl, inr}
+use Rattle.std.proofs.Common.{subst, sym}
 use Rattle.std.proofs.lemmas.Bool.{and_parts, true≢false}
 use Rattle.std.proofs.lemmas.Slice.Eq.{bytes_eq-Decides}
-use Rattle.layout_spec.specs.declared.Need.{Need}
+use Rattle.std.specs.List.{list_all}
+use Rattle.std.specs.Prelude.{Bool, not, ◌&&◌, ◌||◌, bytes_eq, List, ◌≡◌, true, [], ◌∷◌, Contains, false}
+use mathlib.Core.Logic.{inl, inr}
+use Rattle.layout_spec.proofs.Contained.{contains_cases, contains_none}
 use Rattle.layout_spec.specs.Needs.{NoClash}
-use Rattle.layout_spec.specs.Contained.{contains_cases, contains_none}
+use Rattle.layout_spec.specs.declared.Need.{Need}
 
 abbrev pub agrees : Need → Need → Bool
 agrees one other = not (bytes_eq one.referrer other.referrer && bytes_eq one.asked other.asked) || bytes_eq one.target other.target

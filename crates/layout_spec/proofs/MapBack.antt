@@ -1,21 +1,23 @@
 -- A map whose keys, addresses and scopes stand as parsing leaves them is the map of its value.
-use Rattle.std.specs.Prelude.{◌≡◌, ℕ, ◌≤◌, true, false, List, [], ◌∷◌, codes, Option, Some, None, Result, Ok, ⊤}
-use Rattle.std.specs.Char.{is_ascii_digit}
-use Rattle.std.specs.FinMap.{get, insert, empty, entries}
 use Rattle.std.proofs.Common.{refl, ap, ◌∙◌, arith}
-use Rattle.std.proofs.lemmas.Bool.{cond-false, cases_Bool, and_parts, and_left, lt-leb, leb-true, ne_eqb}
+use Rattle.std.proofs.lemmas.Bool.{cond-false, and_parts, lt-leb, leb-true, ne_eqb, cases_Bool, and_left}
+use Rattle.std.specs.Char.{is_ascii_digit}
+use Rattle.std.specs.FinMap.{insert, empty, entries, get}
+use Rattle.std.specs.Prelude.{◌≡◌, ℕ, List, Option, Some, None, [], ◌∷◌, ◌≤◌, true, false, ⊤, Ok, codes, Result}
 use mathlib.Core.Logic.{inl, inr}
-use Rattle.json_spec.specs.Value.{a_text, Members, no_members, a_member}
-use Rattle.url_spec.specs.Parsing.{IsUrl}
+use Rattle.json_spec.specs.PropertyOrder.{is_array_index, index_members, other_members, joined, in_property_order}
+use Rattle.json_spec.specs.Value.{Members, no_members, a_member, a_text}
 use Rattle.url_spec.proofs.KeptUrls.{kept_urls}
 use Rattle.url_spec.proofs.NoUrls.{no_url}
 use Rattle.url_spec.specs.Laws.{IsNoStart}
+use Rattle.url_spec.specs.Parsing.{IsUrl}
+use Rattle.import_map_spec.proofs.Entries.{AllEntries, all_entries, inserted_entries}
+use Rattle.import_map_spec.specs.ParsedMap.{Addresses, Texts, ParsedMap}
+use Rattle.import_map_spec.specs.Parsing.{address_of, with_address, addresses_onto, normalized_addresses, with_scope, scopes_onto, normalized_scopes, with_integrity, integrity_onto, normalized_integrity, member, object_in, ◌>>=◌, parsed_map}
+use Rattle.import_map_spec.specs.WrittenMaps.{insert_all}
 use Rattle.import_map_spec.specs.declared.MapPart.{MapPart}
 use Rattle.import_map_spec.specs.declared.MapPart.TheVariants.{Scopes, Integrity}
-use Rattle.import_map_spec.specs.ParsedMap.{Texts, Addresses, ParsedMap}
-use Rattle.import_map_spec.specs.Parsing.{address_of, with_address, addresses_onto, normalized_addresses, is_array_index, index_members, other_members, joined, in_property_order, with_scope, scopes_onto, normalized_scopes, with_integrity, integrity_onto, normalized_integrity, member, object_in, ◌>>=◌, parsed_map}
-use Rattle.import_map_spec.specs.Entries.{AllEntries, all_entries, insert_all, inserted_entries}
-use Rattle.import_map_spec.specs.Printing.{members_of, address_value, addresses_value, with_part, map_value, IsKeptAddress, IsKeptKey, AreKept, IsKeptScope, IsKeptIntegrity, IsKept}
+use Rattle.layout_spec.specs.PrintedMap.{address_value, IsKeptAddress, IsKeptKey, members_of, AreKept, addresses_value, IsKeptScope, IsKeptIntegrity, with_part, map_value, IsKept}
 
 address_back : (base key : List ℕ) (address : Option (List ℕ)) → IsKeptAddress base key address → address_of base key (address_value address) ≡ address
 address_back base key None k = refl
@@ -45,11 +47,12 @@ digit_start b e =
     }
 
 url_no_index : (key : List ℕ) → IsUrl key → is_array_index key ≡ false
+unfolding is_array_index
 url_no_index [] u = refl
 url_no_index (b ∷ rest) u =
     elim (cases_Bool (is_ascii_digit b)) [
       | inl e ↦ absurd (never (no_url b rest (digit_start b e)) u)
-      | inr e ↦ and_left _ _ (and_left _ _ (and_left _ _ e))
+      | inr e ↦ and_left _ _ (and_left _ _ e)
     ]
   where
     never : {o : Option (List ℕ)} → o ≡ None → o ≡ Some (b ∷ rest) → ⊥

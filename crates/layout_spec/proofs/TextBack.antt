@@ -1,18 +1,20 @@
 -- The text of a map is read as that map.
-use Rattle.std.specs.Prelude.{◌≡◌, ℕ, suc, ◌≢◌, true, false, List, [], ◌∷◌, codes, bytes_eq, Option, Some, None, Ok, IsUtf8}
-use Rattle.std.specs.Char.{encode_utf8}
-use Rattle.std.specs.FinMap.{entries}
 use Rattle.std.proofs.Common.{refl, ap, sym}
 use Rattle.std.proofs.lemmas.Slice.Eq.{bytes_eq-Decides}
-use Rattle.json_spec.specs.Value.{a_text, Members, no_members, a_member, IsNewName, AreDistinct}
+use Rattle.std.specs.Char.{encode_utf8}
+use Rattle.std.specs.FinMap.{entries}
+use Rattle.std.specs.Prelude.{ℕ, List, Option, Some, None, [], ◌∷◌, suc, ◌≡◌, ◌≢◌, true, false, bytes_eq, IsUtf8, codes, Ok}
+use Rattle.json_spec.proofs.ReadBack.{values_read_back}
 use Rattle.json_spec.specs.Grammar.{most_brackets}
 use Rattle.json_spec.specs.PrintedValue.{IsPrintable, MembersArePrintable}
-use Rattle.json_spec.proofs.ReadBack.{values_read_back}
+use Rattle.json_spec.specs.Value.{a_text, Members, no_members, a_member, IsNewName, AreDistinct}
+use Rattle.import_map_spec.proofs.Entries.{AllEntries, all_entries}
 use Rattle.import_map_spec.specs.ParsedMap.{Addresses, ParsedMap}
-use Rattle.import_map_spec.specs.Parsing.{as_map, ParsesMap}
-use Rattle.import_map_spec.specs.Entries.{AllEntries, all_entries, distinct_members}
-use Rattle.import_map_spec.specs.Printing.{members_of, address_value, addresses_value, with_part, map_value, map_text, IsKeptAddress, IsKeptKey, AreKept, IsKeptScope, IsKeptIntegrity, IsKept}
-use Rattle.import_map_spec.specs.MapBack.{map_back}
+use Rattle.import_map_spec.specs.Parsing.{as_map}
+use Rattle.layout_spec.proofs.MapBack.{map_back}
+use Rattle.layout_spec.proofs.MapMembers.{distinct_members}
+use Rattle.layout_spec.specs.Laws.{TextsReadBack}
+use Rattle.layout_spec.specs.PrintedMap.{address_value, IsKeptAddress, members_of, IsKeptKey, addresses_value, AreKept, IsKeptScope, IsKeptIntegrity, with_part, map_value, IsKept, map_text}
 
 address_printable : (depth : ℕ) (base key : List ℕ) (address : Option (List ℕ)) → IsKeptAddress base key address → IsPrintable depth (address_value address)
 address_printable depth base key None k = tt
@@ -73,10 +75,6 @@ map_printable depth base m k =
 within_limit : (base : List ℕ) (m : ParsedMap) → IsKept base m → IsPrintable most_brackets (map_value m)
 unfolding most_brackets
 within_limit base m k = map_printable 125 base m k
-
--- own law: the text of a map is read as that map
-abbrev pub TextsReadBack : Type 0
-TextsReadBack = (base : List ℕ) (m : ParsedMap) → IsKept base m → ParsesMap base (map_text m) (Ok m)
 
 pub texts_read_back : TextsReadBack
 unfolding map_text

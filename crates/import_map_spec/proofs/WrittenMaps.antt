@@ -1,29 +1,13 @@
--- Maps that are written out as lists, and how they answer, for the worked examples.
-use Rattle.std.specs.Prelude.{◌≡◌, ℕ, Bool, true, false, cond, List, [], ◌∷◌, map, codes, ⊤, Option, Some, None, option_map}
-use Prim.Native.String.{String}
-use Rattle.std.specs.FinMap.{get, insert, empty}
+-- How maps that are written out as lists answer.
 use Rattle.std.proofs.Common.{refl, ap, ◌∙◌}
+use Rattle.std.specs.FinMap.{get, insert, empty}
+use Rattle.std.specs.Prelude.{None, ℕ, cond, List, [], ◌∷◌, Some, ◌≡◌, Bool, true, false, map, Option, option_map, codes, ⊤}
 use mathlib.Core.Path.{fun_ext}
-use Rattle.import_map_spec.specs.ParsedMap.{Texts, Addresses, ParsedMap}
-use Rattle.import_map_spec.specs.Entries.{same_key, insert_all, get_inserted, get_nowhere}
-use Rattle.import_map_spec.specs.Resolving.{Lookup, Resolution, scope_addresses, resolve_normalized, resolve_in}
 use Rattle.url_spec.specs.Specifiers.{as_url, normalized}
-
--- the entries one after another: a later one replaces an earlier one
-abbrev pub map_of : {X : Type 0} → List (List ℕ × X) → Texts X
-map_of es = insert_all empty es
-
-abbrev pub scope_of : List ℕ × List (List ℕ × Option (List ℕ)) → List ℕ × Addresses
-scope_of e = (e.0, map_of e.1)
-
--- the parts of a map
-pub record Lists : Type 0 where
-  pub imports : List (List ℕ × Option (List ℕ))
-  pub scopes : List (List ℕ × List (List ℕ × Option (List ℕ)))
-  pub integrity : List (List ℕ × List ℕ)
-
-abbrev pub map_of_lists : Lists → ParsedMap
-map_of_lists l = record { imports = map_of l.imports; scopes = map_of (map scope_of l.scopes); integrity = map_of l.integrity }
+use Rattle.import_map_spec.proofs.Entries.{same_key, get_inserted, get_nowhere}
+use Rattle.import_map_spec.specs.ParsedMap.{Texts, Addresses}
+use Rattle.import_map_spec.specs.Resolving.{Lookup, scope_addresses, Resolution, resolve_normalized, resolve_in}
+use Rattle.import_map_spec.specs.WrittenMaps.{insert_all, map_of, scope_of, Lists, map_of_lists, Questions, Answer}
 
 -- the look-up of a list of entries
 abbrev pub nowhere : {X : Type 0} → Lookup X
@@ -62,14 +46,6 @@ listed_answer l referrer specifier = resolve_normalized (looked l.imports) (λ q
 pub lists_answer : (l : Lists) (referrer specifier : List ℕ) → resolve_in (map_of_lists l) referrer specifier ≡ listed_answer l referrer specifier
 unfolding resolve_in
 lists_answer l referrer specifier = λ i. resolve_normalized (get_map_of l.imports i) (scopes_looked l.scopes i) referrer (as_url referrer specifier) (normalized referrer specifier)
-
--- a table of referrers, specifiers and answers
-abbrev pub Questions : Type 0
-Questions = List (String × String × Resolution)
-
-abbrev pub Answer : ParsedMap → Questions → Type 0
-Answer m [] = ⊤
-Answer m (q ∷ qs) = (resolve_in m (codes q.0) (codes q.1) ≡ q.2) × Answer m qs
 
 abbrev pub ListsAnswer : Lists → Questions → Type 0
 ListsAnswer l [] = ⊤

@@ -1,18 +1,17 @@
 -- The text of a map that is written out as lists, for the worked examples.
-use Rattle.std.specs.Prelude.{◌≡◌, ℕ, List, [], ◌∷◌, length, map, codes, Option}
+use Rattle.std.proofs.Common.{refl, ap, ◌∙◌, arith, sym}
+use Rattle.std.specs.Cmp.Lexicographic.{slice_cmp, nat_list_cmp_total}
+use Rattle.std.specs.FinMap.{put, insert, entries, entries-insert, empty, len-entries, len-empty}
+use Rattle.std.specs.FinMap.Entries.{by_order}
+use Rattle.std.specs.Ordering.{nat_cmp}
+use Rattle.std.specs.Prelude.{ℕ, List, [], ◌∷◌, ◌≡◌, length, Option, map, codes}
 use Rattle.std.specs.declared.cmp.Ordering.{Ordering}
 use Rattle.std.specs.declared.cmp.Ordering.TheVariants.{Less, Equal, Greater}
-use Rattle.std.specs.Ordering.{nat_cmp}
-use Rattle.std.specs.Cmp.Lexicographic.{slice_cmp, nat_list_cmp_total}
-use Rattle.std.specs.FinMap.{insert, empty, entries, put, entries-insert, len-entries, len-empty}
-use Rattle.std.specs.FinMap.Entries.{by_order}
-use Rattle.std.proofs.Common.{refl, ap, sym, ◌∙◌, arith}
-use Rattle.json_spec.specs.Value.{Json, a_text, an_object, Members, no_members, a_member}
 use Rattle.json_spec.specs.PrintedValue.{printed_text}
+use Rattle.json_spec.specs.Value.{Json, an_object, a_member, Members, no_members, a_text}
 use Rattle.import_map_spec.specs.ParsedMap.{Texts, Addresses}
-use Rattle.import_map_spec.specs.Entries.{insert_all}
-use Rattle.import_map_spec.specs.Literals.{map_of, scope_of, Lists, map_of_lists}
-use Rattle.import_map_spec.specs.Printing.{members_of, address_value, addresses_value, with_part, map_value, map_text}
+use Rattle.import_map_spec.specs.WrittenMaps.{insert_all, map_of, scope_of, Lists, map_of_lists}
+use Rattle.layout_spec.specs.PrintedMap.{members_of, address_value, addresses_value, with_part, map_value, map_text}
 
 abbrev put_onto : {X : Type 0} → List (List ℕ × X) → List (List ℕ × X) → List (List ℕ × X)
 put_onto done [] = done

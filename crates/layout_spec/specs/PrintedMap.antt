@@ -1,14 +1,14 @@
--- The text of an import map.
---     map_value m      the map as a JSON value;        map_text m      its text
---     IsKept base m      each key, address and scope of the map stands as parsing against the map base leaves it
-use Rattle.std.specs.Prelude.{◌≡◌, ℕ, false, List, [], ◌∷◌, codes, Option, Some, None, ⊤, IsUtf8}
-use Rattle.std.specs.FinMap.{get, entries}
-use Rattle.json_spec.specs.Value.{Json, a_null, a_text, an_object, Members, no_members, a_member}
+-- The printed map: the text that this project writes.
+--     map_value map, map_text map      the map as a JSON value, and its text
+--     IsKept base map      each key, address and scope of the map stands as parsing against the map base leaves it
+use Rattle.std.specs.FinMap.{entries, get}
+use Rattle.std.specs.Prelude.{ℕ, List, [], ◌∷◌, Option, Some, None, codes, ◌≡◌, ⊤, IsUtf8, false}
 use Rattle.json_spec.specs.PrintedValue.{printed_text}
+use Rattle.json_spec.specs.Value.{Json, Members, no_members, a_member, a_null, a_text, an_object}
 use Rattle.url_spec.specs.Parsing.{parse_against}
-use Rattle.url_spec.specs.Specifiers.{as_url, normalized}
+use Rattle.url_spec.specs.Specifiers.{normalized, as_url}
 use Rattle.import_map_spec.specs.ParsedMap.{Addresses, ParsedMap}
-use Rattle.import_map_spec.specs.Parsing.{is_empty, address_of}
+use Rattle.import_map_spec.specs.Parsing.{address_of, is_empty}
 
 abbrev pub members_of : {X : Type 0} → (X → Json) → List (List ℕ × X) → Members
 members_of value [] = no_members

@@ -1,26 +1,16 @@
 -- Worked examples. The page is `https://app.test/index.html`, and its URL is the map base.
-use Rattle.std.specs.Prelude.{◌≡◌, ℕ, true, List, [], ◌∷◌, codes, Option, Some, None, Result, Ok, Err}
-use Prim.Native.String.{String}
-use Rattle.std.proofs.Common.{refl, ◌∙◌}
-use Rattle.std.specs.FinMap.{insert, empty}
-use Rattle.import_map_spec.specs.declared.MapPart.{MapPart}
-use Rattle.import_map_spec.specs.ParsedMap.{Texts, Addresses, ParsedMap, NoJson, NotObject}
-use Rattle.url.proofs.OnLiterals.{url_on_literals}
-use Rattle.json_spec.specs.Value.{Json, a_null, a_bool, a_number, a_text, a_list, an_object, no_items, Members, no_members, a_member}
-use Rattle.url_spec.specs.Parsing.{text_of, parse_alone, parse_against}
-use Rattle.url_spec.specs.Schemes.{has_special_scheme}
-use Rattle.url_spec.specs.Specifiers.{as_url, normalized}
-use Rattle.import_map_spec.specs.declared.MapPart.TheVariants.{Top, Imports, Scopes, Scope, Integrity}
-use Rattle.import_map_spec.specs.Parsing.{in_property_order, parsed_map, ParsesMap}
-use Rattle.std.specs.Char.{encode_utf8}
-use Rattle.std.specs.Str.{is_utf8, chars}
-use Rattle.json_spec.specs.Grammar.{NotJson, most_brackets}
-use Rattle.json_spec.proofs.PlainReader.{json_sound}
-use Rattle.import_map_spec.specs.Entries.{insert_again}
-use Rattle.import_map_spec.specs.Printing.{map_text}
-use Rattle.import_map_spec.specs.PrintedLists.{lists_text}
-use Rattle.import_map_spec.specs.Literals.{Lists, map_of_lists, Questions, Answer, ListsAnswer, answered}
+--     ImportExamples, ScopeExamples, ReplacedExamples, IntegrityExamples      values, their maps, and what these answer
+--     FaultExamples, OrderExamples, ByteExamples      first faults, the order of names, and texts
+use Rattle.std.specs.Prelude.{ℕ, List, codes, [], ◌∷◌, Option, Some, None, ◌≡◌, Ok, Err, true}
+use Rattle.json_spec.specs.Grammar.{NotJson}
+use Rattle.json_spec.specs.PropertyOrder.{in_property_order}
+use Rattle.json_spec.specs.Value.{Json, Members, a_member, a_text, no_members, an_object, a_null, a_number, a_list, no_items, a_bool}
+use Rattle.import_map_spec.specs.ParsedMap.{NoJson, NotObject}
+use Rattle.import_map_spec.specs.Parsing.{parsed_map, ParsesMap}
 use Rattle.import_map_spec.specs.Resolving.{Resolution, Resolved, Blocked, Bare, Backtrack, BadRest}
+use Rattle.import_map_spec.specs.WrittenMaps.{Lists, map_of_lists, Questions, Answer}
+use Rattle.import_map_spec.specs.declared.MapPart.TheVariants.{Top, Imports, Scopes, Scope, Integrity}
+use Prim.Native.String.{String}
 
 abbrev pub page : List ℕ
 page = codes "https://app.test/index.html"
@@ -53,9 +43,6 @@ to url = Resolved (codes url)
 pub record IsExample (value : Json) (lists : Lists) (questions : Questions) : Type 0 where
   pub reads : parsed_map page value ≡ Ok (map_of_lists lists)
   pub answers : Answer (map_of_lists lists) questions
-
-computed : {value : Json} {lists : Lists} {questions : Questions} → parsed_map page value ≡ Ok (map_of_lists lists) → ListsAnswer lists questions → IsExample value lists questions
-computed {lists = lists} {questions = questions} reads answers = record { reads = reads; answers = answered lists questions answers }
 
 abbrev pub from_page : String → Resolution → String × String × Resolution
 from_page specifier answer = ("https://app.test/index.html", specifier, answer)
@@ -102,22 +89,6 @@ pub record ImportExamples : Type 0 where
       (only_imports (to_url "ui/" "https://app.test/node_modules/ui/" ∷ to_null "ui/b.mjs" ∷ to_url "z" "https://app.test/wrong.mjs" ∷ to_url "https://app.test/app.mjs" "https://app.test/x.mjs" ∷ to_url "https://app.test/app.mjs" "https://app.test/app.mjs" ∷ []))
       (from_page "./app.mjs" (to "https://app.test/app.mjs") ∷ ("https://app.test/app.mjs", "ui/a.mjs", to "https://app.test/node_modules/ui/a.mjs") ∷ ("https://app.test/app.mjs", "ui/b.mjs", Blocked) ∷ ("https://app.test/app.mjs", "z", to "https://app.test/wrong.mjs") ∷ [])
 
-import_examples : ImportExamples
-unfolding parsed_map normalized as_url parse_alone parse_against has_special_scheme text_of url_on_literals
-import_examples = record {
-  null_address = computed refl (refl, (refl, tt));
-  folder = computed refl (refl, (refl, (refl, (refl, (refl, tt)))));
-  empty_key = computed refl (refl, tt);
-  no_slash = computed refl (refl, tt);
-  no_urls = computed refl (refl, (refl, (refl, (refl, tt))));
-  replaced = computed refl (refl, (refl, tt));
-  longest = computed refl (refl, (refl, tt));
-  longest_null = computed refl (refl, (refl, tt));
-  schemes = computed refl (refl, (refl, (refl, tt)));
-  no_map = computed refl (refl, (refl, (refl, (refl, (refl, tt)))));
-  checked = computed refl (refl, (refl, (refl, (refl, tt))));
-}
-
 abbrev pub from : String → String → Resolution → String × String × Resolution
 from referrer specifier answer = (referrer, specifier, answer)
 
@@ -161,35 +132,11 @@ pub record ScopeExamples : Type 0 where
       (record { imports = to_url "a" "https://app.test/i" ∷ to_url "u/w" "https://app.test/j" ∷ []; scopes = scope "https://app.test/x/" (to_null "a" ∷ to_url "u/" "https://app.test/v/" ∷ []) ∷ []; integrity = [] })
       (from "https://app.test/x/m" "a" Blocked ∷ from "https://app.test/x/m" "u/w" (to "https://app.test/v/w") ∷ from_page "a" (to "https://app.test/i") ∷ from_page "u/w" (to "https://app.test/j") ∷ [])
 
-scope_examples : ScopeExamples
-unfolding parsed_map normalized as_url parse_alone parse_against has_special_scheme text_of url_on_literals
-scope_examples = record {
-  replaced = computed refl (refl, tt);
-  no_index = computed refl (refl, (refl, tt));
-  no_url = computed refl (refl, (refl, tt));
-  inner_last = computed refl (refl, (refl, (refl, tt)));
-  inner_first = computed refl (refl, (refl, (refl, tt)));
-  exact = computed refl (refl, (refl, (refl, tt)));
-  over_imports = computed refl (refl, (refl, (refl, (refl, tt))));
-}
-
 -- what is replaced is gone
 pub record ReplacedExamples : Type 0 where
   pub one_scope :
       parsed_map page (scoping (at "./1" (("a", "/b") ∷ []) (at "1" (("a", "/c") ∷ []) no_members))) ≡ Ok (map_of_lists (only_scopes (scope "https://app.test/1" (to_url "a" "https://app.test/b" ∷ []) ∷ [])))
   pub one_key : parsed_map page (importing (strings (("./m", "/x") ∷ ("/m", "/y") ∷ []))) ≡ Ok (map_of_lists (only_imports (to_url "https://app.test/m" "https://app.test/y" ∷ [])))
-
-same_scopes : {one other : Texts Addresses} → one ≡ other → ◌≡◌ {A = Result ParsedMap MapPart} (Ok (record { imports = empty; scopes = one; integrity = empty })) (Ok (record { imports = empty; scopes = other; integrity = empty }))
-same_scopes e = λ i. Ok (record { imports = empty; scopes = e i; integrity = empty })
-
-same_imports : {one other : Addresses} → one ≡ other → ◌≡◌ {A = Result ParsedMap MapPart} (Ok (record { imports = one; scopes = empty; integrity = empty })) (Ok (record { imports = other; scopes = empty; integrity = empty }))
-same_imports e = λ i. Ok (record { imports = e i; scopes = empty; integrity = empty })
-
-replaced_examples : ReplacedExamples
-replaced_examples = record {
-  one_scope = scope_examples.replaced.reads ∙ same_scopes (insert_again empty (codes "https://app.test/1") (insert empty (codes "a") (Some (codes "https://app.test/c"))) (insert empty (codes "a") (Some (codes "https://app.test/b"))));
-  one_key = import_examples.replaced.reads ∙ same_imports (insert_again empty (codes "https://app.test/m") (Some (codes "https://app.test/x")) (Some (codes "https://app.test/y")));
-}
 
 -- the checks come in one order
 pub record FaultExamples : Type 0 where
@@ -201,10 +148,6 @@ pub record FaultExamples : Type 0 where
   pub imports_first : parsed_map page (an_object (with "integrity" a_null (with "scopes" a_null (with "imports" a_null no_members)))) ≡ Err Imports
   pub scope_first : parsed_map page (an_object (with "integrity" a_null (with "scopes" (an_object (with "/" a_null no_members)) no_members))) ≡ Err Scope
   pub others : parsed_map page (an_object (with "more" a_null no_members)) ≡ Ok (map_of_lists (only_imports []))
-
-fault_examples : FaultExamples
-unfolding parsed_map normalized as_url parse_alone parse_against text_of url_on_literals
-fault_examples = record { top = refl; imports = refl; scopes = refl; scope = refl; integrity = refl; imports_first = refl; scope_first = refl; others = refl }
 
 abbrev pub pair : String → String → List ℕ × List ℕ
 pair key text = (codes key, codes text)
@@ -218,10 +161,6 @@ pub record IntegrityExamples : Type 0 where
       parsed_map page (an_object (with "integrity" (an_object (with "./a.mjs" (a_text (codes "x")) (with "/a.mjs" (a_text (codes "y")) (with "https://app.test/a.mjs" a_null no_members)))) no_members))
       ≡ Ok (map_of_lists (record { imports = []; scopes = []; integrity = pair "https://app.test/a.mjs" "x" ∷ pair "https://app.test/a.mjs" "y" ∷ [] }))
 
-integrity_examples : IntegrityExamples
-unfolding parsed_map normalized as_url parse_alone parse_against text_of url_on_literals
-integrity_examples = record { dropped = refl; replaced = refl }
-
 abbrev pub named : List String → Members
 named [] = no_members
 named (name ∷ names) = with name a_null (named names)
@@ -231,35 +170,10 @@ pub record OrderExamples : Type 0 where
   pub greatest : in_property_order (named ("4294967295" ∷ "4294967294" ∷ "0" ∷ [])) ≡ named ("0" ∷ "4294967294" ∷ "4294967295" ∷ [])
   pub no_digits : in_property_order (named ("" ∷ "01" ∷ "-1" ∷ "1.0" ∷ "1" ∷ [])) ≡ named ("1" ∷ "" ∷ "01" ∷ "-1" ∷ "1.0" ∷ [])
 
-order_examples : OrderExamples
-order_examples = record { by_number = refl; greatest = refl; no_digits = refl }
-
 pub record ByteExamples : Type 0 where
   pub map : ParsesMap page (codes "{\"imports\":{\"a\":3}}") (Ok (map_of_lists (only_imports (to_null "a" ∷ []))))
   pub no_object : ParsesMap page (codes "[]") (Err (NotObject Top))
   pub no_json : ParsesMap page (codes "{\"imports\":") (Err (NoJson (NotJson 11)))
 
-byte_examples : ByteExamples
-unfolding parsed_map normalized as_url parse_alone parse_against text_of url_on_literals most_brackets is_utf8 chars encode_utf8
-byte_examples = record { map = record { json = _; reads = json_sound _; is = refl }; no_object = record { json = _; reads = json_sound _; is = refl }; no_json = record { json = _; reads = json_sound _; is = refl } }
-
-abbrev pub only_integrity : Lists
-only_integrity = record { imports = []; scopes = []; integrity = pair "https://app.test/app.mjs" "sha384-x" ∷ [] }
-
-abbrev pub several : Lists
-several = record { imports = to_url "b" "https://app.test/b" ∷ to_null "a" ∷ []; scopes = scope "https://app.test/x/" (to_url "#<" "https://app.test/y" ∷ []) ∷ []; integrity = [] }
-
-pub record TextExamples : Type 0 where
-  pub no_scopes : map_text (map_of_lists only_integrity) ≡ codes "{\n  \"imports\": {},\n  \"integrity\": {\n    \"https://app.test/app.mjs\": \"sha384-x\"\n  }\n}\n"
-  pub sorted :
-      map_text (map_of_lists several)
-      ≡ codes "{\n  \"imports\": {\n    \"a\": null,\n    \"b\": \"https://app.test/b\"\n  },\n  \"scopes\": {\n    \"https://app.test/x/\": {\n      \"#\\u003c\": \"https://app.test/y\"\n    }\n  }\n}\n"
-
-text_examples : TextExamples
-text_examples = record { no_scopes = lists_text only_integrity ∙ refl; sorted = lists_text several ∙ refl }
-
 abbrev pub WorkedExamples : Type 0
-WorkedExamples = ImportExamples × ScopeExamples × ReplacedExamples × FaultExamples × IntegrityExamples × OrderExamples × ByteExamples × TextExamples
-
-pub worked_examples : WorkedExamples
-worked_examples = (import_examples, scope_examples, replaced_examples, fault_examples, integrity_examples, order_examples, byte_examples, text_examples)
+WorkedExamples = ImportExamples × ScopeExamples × ReplacedExamples × FaultExamples × IntegrityExamples × OrderExamples × ByteExamples

@@ -1,54 +1,16 @@
--- What a list contains, and what a list of needs that counts each once contains.
-use Rattle.std.specs.Prelude.{◌≡◌, ℕ, zero, suc, ◌<◌, ◌⊎◌, ◌↔◌, true, List, [], ◌∷◌, ◌++◌, length, slice_index_or, if◌then◌else◌, Contains, flat_map}
-use Rattle.std.specs.List.{list_any}
-use Rattle.std.proofs.Common.{refl, sym, subst, arith}
-use mathlib.Core.Logic.{inl, inr}
-use Rattle.std.proofs.lemmas.Bool.{cases_Bool, cond-true, cond-false, and_parts}
-use Rattle.std.proofs.lemmas.Slice.Eq.{bytes_eq-Decides}
-use Rattle.std.proofs.lemmas.List.Elements.{Contains-append_left, Contains-append_right, Contains-append_cases, Contains-push, Contains-push_cases}
+-- Needs that are counted: none is left out and none added, and each stands once.
+use Rattle.std.proofs.Common.{sym, subst, refl, ◌∙◌}
+use Rattle.std.proofs.lemmas.Bool.{and_parts, cases_Bool, cond-true, cond-false, and_from, or_parts, true≢false}
+use Rattle.std.proofs.lemmas.List.Elements.{Contains-append_left, Contains-push, Contains-push_cases}
 use Rattle.std.proofs.lemmas.Map.Views.{Contains-from_any}
+use Rattle.std.proofs.lemmas.Slice.Eq.{bytes_eq-Decides}
+use Rattle.std.specs.List.{list_any}
+use Rattle.std.specs.Prelude.{◌≡◌, true, List, [], ◌∷◌, ◌++◌, if◌then◌else◌, Contains, ◌⊎◌, false}
+use mathlib.Core.Logic.{inl, inr}
+use Rattle.layout_spec.proofs.Contained.{contains_cases, contains_none, contains_here, contains_there}
+use Rattle.layout_spec.specs.Laws.{CountedKeeps, CountedOnce}
+use Rattle.layout_spec.specs.Needs.{is_need, counted_onto, AreDistinct}
 use Rattle.layout_spec.specs.declared.Need.{Need}
-use Rattle.layout_spec.specs.Needs.{is_need, counted_onto, counted}
-
-module _ {A : Type 0} where
-  pub contains_here : (x : A) (xs : List A) → Contains (x ∷ xs) x
-  contains_here x xs = (0, omega arith, refl)
-
-  pub contains_there : (x y : A) (xs : List A) → Contains xs x → Contains (y ∷ xs) x
-  contains_there x y xs c = (suc c.0, (let below = c.1 in omega arith), c.2)
-
-  cases_at : (x y : A) (xs : List A) (k : ℕ) → k < length (y ∷ xs) → slice_index_or (y ∷ xs) k x ≡ x → (y ≡ x) ⊎ Contains xs x
-  cases_at x y xs zero below e = inl e
-  cases_at x y xs (suc k) below e = inr (k, omega arith, e)
-
-  pub contains_cases : (x y : A) (xs : List A) → Contains (y ∷ xs) x → (y ≡ x) ⊎ Contains xs x
-  contains_cases x y xs c = cases_at x y xs c.0 c.1 c.2
-
-  pub contains_none : (x : A) → Contains [] x → ⊥
-  contains_none x c = let below = c.1 in absurd (omega arith)
-
--- in a list that is put together from lists
-module _ {A B : Type 0} (f : A → List B) where
-  pub contains_flat : (x : A) (y : B) (xs : List A) → Contains xs x → Contains (f x) y → Contains (flat_map f xs) y
-  contains_flat x y [] c d = absurd (contains_none x c)
-  contains_flat x y (first ∷ xs) c d =
-      elim (contains_cases x first xs c) [
-        | inl same ↦ Contains-append_left (f first) (flat_map f xs) y (subst (λ z. Contains (f z) y) (sym same) d)
-        | inr later ↦ Contains-append_right (f first) (flat_map f xs) y (contains_flat x y xs later d)
-      ]
-
-  pub record FlatFrom (xs : List A) (y : B) : Type 0 where
-    pub item : A
-    pub is_item : Contains xs item
-    pub holds : Contains (f item) y
-
-  pub flat_from : (y : B) (xs : List A) → Contains (flat_map f xs) y → FlatFrom xs y
-  flat_from y [] c = absurd (contains_none y c)
-  flat_from y (first ∷ xs) c =
-      elim (Contains-append_cases (f first) (flat_map f xs) y c) [
-        | inl here ↦ record { item = first; is_item = contains_here first xs; holds = here }
-        | inr later ↦ let found = flat_from y xs later in record { item = found.item; is_item = contains_there found.item first xs found.is_item; holds = found.holds }
-      ]
 
 pub same_need : (one other : Need) → one.referrer ≡ other.referrer → one.asked ≡ other.asked → one.target ≡ other.target → one ≡ other
 same_need one other r a t = λ i. record { referrer = r i; asked = a i; target = t i }
@@ -104,13 +66,43 @@ onto_only done (need ∷ more) any c =
       | inr later ↦ inr (contains_there any need more later)
     ]
 
--- own law: to count each need once leaves out none and adds none
-abbrev pub CountedKeeps : Type 0
-CountedKeeps = (needs : List Need) (need : Need) → Contains needs need ↔ Contains (counted needs) need
-
 pub counted_keeps : CountedKeeps
 counted_keeps needs need = (λ c. onto_keeps [] needs need (inr c), λ c. only (onto_only [] needs need c))
   where
     only : Contains [] need ⊎ Contains needs need → Contains needs need
     only (inl c) = absurd (contains_none need c)
     only (inr c) = c
+
+itself : (need : Need) → is_need need need ≡ true
+itself need = and_from _ _ (and_from _ _ ((bytes_eq-Decides need.referrer need.referrer).1 refl) ((bytes_eq-Decides need.asked need.asked).1 refl)) ((bytes_eq-Decides need.target need.target).1 refl)
+
+not_there : (need : Need) (needs : List Need) → list_any (is_need need) needs ≡ false → Contains needs need → ⊥
+not_there need [] e c = contains_none need c
+not_there need (first ∷ needs) e c =
+    let parts = or_parts (is_need need first) (list_any (is_need need) needs) e in
+    elim (contains_cases need first needs c) [
+      | inl same ↦ true≢false (sym (itself need) ∙ subst (λ other. is_need need other ≡ false) same parts.0)
+      | inr later ↦ not_there need needs parts.1 later
+    ]
+
+pushed_distinct : (needs : List Need) (need : Need) → AreDistinct needs → (Contains needs need → ⊥) → AreDistinct (needs ++ need ∷ [])
+pushed_distinct [] need d n = ((λ c. contains_none need c), tt)
+pushed_distinct (first ∷ needs) need d n = (
+  (λ c. elim (Contains-push_cases needs need first c) [
+    | inl earlier ↦ d.0 earlier
+    | inr same ↦ n (subst (Contains (first ∷ needs)) (sym same) (contains_here first needs))
+  ]),
+  pushed_distinct needs need d.1 (λ c. n (contains_there need first needs c)),
+)
+
+onto_distinct : (done more : List Need) → AreDistinct done → AreDistinct (counted_onto done more)
+onto_distinct done [] d = d
+onto_distinct done (need ∷ more) d =
+    onto_distinct (if list_any (is_need need) done then done else done ++ need ∷ []) more
+    (elim (cases_Bool (list_any (is_need need) done)) [
+      | inl known ↦ subst AreDistinct (sym (cond-true _ done (done ++ need ∷ []) known)) d
+      | inr new ↦ subst AreDistinct (sym (cond-false _ done (done ++ need ∷ []) new)) (pushed_distinct done need d (not_there need done new))
+    ])
+
+pub counted_once : CountedOnce
+counted_once needs = onto_distinct [] needs tt

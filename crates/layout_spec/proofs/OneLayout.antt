@@ -1,17 +1,14 @@
 -- Needs have one layout.
-use Rattle.std.specs.Prelude.{◌≡◌, ◌⊎◌, ℕ, List, Option, Some, None, unwrap_or}
+use Rattle.std.proofs.Common.{refl, ap, sym, ◌∙◌, subst}
 use Rattle.std.specs.Cmp.Lexicographic.{nat_list_cmp_total}
 use Rattle.std.specs.FinMap.{get, empty, same_map, slice_cmp-IsAntisymmetric, nat_cmp-IsAntisymmetric}
-use Rattle.std.proofs.Common.{refl, ap, sym, ◌∙◌, subst}
+use Rattle.std.specs.Prelude.{◌≡◌, ◌⊎◌, Option, Some, None, ℕ, List, unwrap_or}
 use mathlib.Core.Logic.{inl, inr}
+use Rattle.import_map_spec.proofs.Entries.{get_nowhere}
 use Rattle.import_map_spec.specs.ParsedMap.{Addresses, ParsedMap}
-use Rattle.import_map_spec.specs.Entries.{get_nowhere}
+use Rattle.layout_spec.specs.Laws.{OneLayout}
+use Rattle.layout_spec.specs.Layout.{mapped, Lays}
 use Rattle.layout_spec.specs.declared.Need.{Need}
-use Rattle.layout_spec.specs.Lays.{mapped, Lays}
-
--- own law: two maps that have the mappings that the needs want, and nothing else, are one
-abbrev pub OneLayout : Type 0
-OneLayout = (needs : List Need) (m n : ParsedMap) → Lays needs m → Lays needs n → m ≡ n
 
 none_or_some : {X : Type 0} (o : Option X) → (o ≡ None) ⊎ ((x : X) × (o ≡ Some x))
 none_or_some None = inl refl

@@ -1,19 +1,18 @@
 -- What stands among the entries of a finite map from texts.
-use Rattle.std.specs.Prelude.{◌≡◌, ℕ, Bool, true, false, cond, ◌&&◌, ◌≢◌, T, List, [], ◌∷◌, Option, Some, None, ⊤}
 use Rattle.std.proofs.Common.{refl, ap, sym, ◌∙◌}
 use Rattle.std.proofs.lemmas.Bool.{cond-true, cond-false, cases_Bool}
-use mathlib.Core.Logic.{inl, inr}
+use Rattle.std.proofs.lemmas.Cmp.{tied_itself}
+use Rattle.std.specs.Cmp.Lexicographic.{slice_cmp, nat_list_cmp_total}
+use Rattle.std.specs.FinMap.{slice_cmp-IsAntisymmetric, nat_cmp-IsAntisymmetric, get, insert, get-insert, empty, get-empty, same_map, entries, find, is_sorted, get-entries, entries_sorted}
+use Rattle.std.specs.FinMap.Entries.{below_all}
+use Rattle.std.specs.Ordering.{nat_cmp, eq_by_cmp, is_eq, is_lt}
+use Rattle.std.specs.Prelude.{ℕ, Bool, List, ◌≡◌, true, false, ◌&&◌, T, Option, Some, None, cond, [], ◌∷◌, ⊤}
 use Rattle.std.specs.declared.cmp.Ordering.{Ordering}
 use Rattle.std.specs.declared.cmp.Ordering.TheVariants.{Less, Equal, Greater}
-use Rattle.std.specs.Ordering.{nat_cmp, is_lt, is_eq, eq_by_cmp}
-use Rattle.std.specs.Cmp.Lexicographic.{slice_cmp, nat_list_cmp_total}
-use Rattle.std.specs.FinMap.{get, entries, insert, empty, find, is_sorted, get-entries, get-empty, get-insert, entries_sorted, same_map, slice_cmp-IsAntisymmetric, nat_cmp-IsAntisymmetric}
-use Rattle.std.specs.FinMap.Entries.{below_all}
-use Rattle.std.proofs.lemmas.Cmp.{tied_itself}
+use mathlib.Core.Logic.{inl, inr}
 use Rattle.import_map_spec.specs.ParsedMap.{Texts}
-use Rattle.json_spec.specs.Value.{Json, IsNewName, AreDistinct}
 use Rattle.import_map_spec.specs.Resolving.{first_answer}
-use Rattle.import_map_spec.specs.Printing.{members_of}
+use Rattle.import_map_spec.specs.WrittenMaps.{insert_all}
 
 -- the same text, as the order of keys has it
 abbrev pub same_key : List ℕ → List ℕ → Bool
@@ -30,11 +29,11 @@ same_key_is a b e = slice_cmp-IsAntisymmetric nat_cmp-IsAntisymmetric a b (order
 pub same_key_itself : (a : List ℕ) → same_key a a ≡ true
 same_key_itself a = ap is_eq (tied_itself nat_list_cmp_total a)
 
-parts : (a b : Bool) → T (a && b) → T a × T b
+pub parts : (a b : Bool) → T (a && b) → T a × T b
 parts true b t = (tt, t)
 parts false b t = absurd t
 
-not_same : (o : Ordering) → T (is_lt o) → is_eq o ≡ false
+pub not_same : (o : Ordering) → T (is_lt o) → is_eq o ≡ false
 not_same Less t = refl
 not_same Equal t = absurd t
 not_same Greater t = absurd t
@@ -61,7 +60,7 @@ insert_again m key x y =
     (λ q. get_inserted (insert m key x) key y q ∙ (ap (cond (same_key q key) (Some y)) (get_inserted m key x q) ∙ (again (same_key q key) x y (get m q) ∙ sym (get_inserted m key y q))))
 
 module _ {X : Type 0} where
-  abbrev Below : List ℕ → List (List ℕ × X) → Type 0
+  abbrev pub Below : List ℕ → List (List ℕ × X) → Type 0
   Below key es = T (below_all (slice_cmp nat_cmp) key es)
 
   abbrev pub Sorted : List (List ℕ × X) → Type 0
@@ -101,10 +100,6 @@ module _ {X : Type 0} where
   pub all_entries : (P : List ℕ → X → Type 0) (m : Texts X) → ((k : List ℕ) (x : X) → get m k ≡ Some x → P k x) → AllEntries P (entries m)
   all_entries P m f = all_found P (entries m) (entries_sorted m) (λ k x h. f k x (get-entries m k ∙ h))
 
-  abbrev pub insert_all : Texts X → List (List ℕ × X) → Texts X
-  insert_all m [] = m
-  insert_all m (e ∷ es) = insert_all (insert m e.0 e.1) es
-
   shuffled : (b : Bool) (x : X) (o g : Option X) → (b ≡ true → o ≡ None) → first_answer o (cond b (Some x) g) ≡ first_answer (cond b (Some x) o) g
   shuffled true x o g none = rw (none refl) refl
   shuffled false x o g none = refl
@@ -120,21 +115,3 @@ module _ {X : Type 0} where
   inserted_entries m =
       same_map nat_list_cmp_total (slice_cmp-IsAntisymmetric nat_cmp-IsAntisymmetric) _ _
       (λ q. get-insert_all (entries m) empty q (entries_sorted m) ∙ (ap (first_answer (found q (entries m))) (get-empty (slice_cmp nat_cmp) q) ∙ (none_after (found q (entries m)) ∙ sym (get-entries m q))))
-
-  -- a member for each entry
-  pub names_apart : (key : List ℕ) (value : X → Json) (es : List (List ℕ × X)) → Below key es → IsNewName key (members_of value es)
-  names_apart key value [] b = tt
-  names_apart key value (e ∷ es) b = let p = parts _ _ b in (not_equal p.0, names_apart key value es p.1)
-    where
-      not_equal : {other : List ℕ} → T (is_lt (slice_cmp nat_cmp key other)) → key ≢ other
-      not_equal {other} l same = let t = same_key_itself key in let f : same_key key other ≡ false = not_same _ l in absurd (never (ap (same_key key) (sym same) ∙ t) f)
-        where
-          never : same_key key other ≡ true → same_key key other ≡ false → ⊥
-          never p q = cc
-
-  members_apart : (value : X → Json) (es : List (List ℕ × X)) → Sorted es → AreDistinct (members_of value es)
-  members_apart value [] s = tt
-  members_apart value (e ∷ es) s = let p = parts _ _ s in (names_apart e.0 value es p.0, members_apart value es p.1)
-
-  pub distinct_members : (value : X → Json) (m : Texts X) → AreDistinct (members_of value (entries m))
-  distinct_members value m = members_apart value (entries m) (entries_sorted m)

@@ -1,0 +1,57 @@
+-- The worked examples, by computation.
+use Rattle.std.proofs.Common.{ap, ◌∙◌, refl, sym}
+use Rattle.std.proofs.lemmas.Slice.Eq.{bytes_eq-Decides}
+use Rattle.std.specs.FinMap.{empty, insert}
+use Rattle.std.specs.Prelude.{◌≡◌, ℕ, List, [], ◌∷◌, map, Some, ◌≢◌, true, false, bytes_eq}
+use Rattle.import_map_spec.proofs.Entries.{insert_again}
+use Rattle.import_map_spec.specs.ParsedMap.{Texts, Addresses, ParsedMap}
+use Rattle.import_map_spec.specs.WrittenMaps.{insert_all, scope_of}
+use Rattle.layout_spec.proofs.Agreement.{no_clash_from_test}
+use Rattle.layout_spec.proofs.Contained.{contains_here, contains_there}
+use Rattle.layout_spec.proofs.LaidLists.{listed_layout, layout_listed}
+use Rattle.layout_spec.proofs.PrintedLists.{listed_text, lists_text}
+use Rattle.layout_spec.specs.Layout.{layout}
+use Rattle.layout_spec.specs.PrintedMap.{map_text}
+use Rattle.layout_spec.specs.WorkedExamples.{app_ab, page_app, app_home, app_id, home_id, LayoutExamples, CountExamples, below_app, beside, ClashExamples, WorkedExamples, only_integrity, several, TextExamples}
+use Rattle.layout_spec.specs.declared.Need.{Need}
+
+printed : (needs : List Need) (text : List ℕ) → listed_text (listed_layout needs) ≡ text → map_text (layout needs) ≡ text
+printed needs text e = ap map_text (layout_listed needs) ∙ (lists_text (listed_layout needs) ∙ e)
+
+same_scopes : {one other : Texts Addresses} → one ≡ other → ◌≡◌ {A = ParsedMap} (record { imports = empty; scopes = one; integrity = empty }) (record { imports = empty; scopes = other; integrity = empty })
+same_scopes e = λ i. record { imports = empty; scopes = e i; integrity = empty }
+
+-- a mapping over itself
+same_mapping_again : insert_all empty (map scope_of (listed_layout (app_ab ∷ app_ab ∷ [])).scopes) ≡ insert_all empty (map scope_of (listed_layout (app_ab ∷ [])).scopes)
+same_mapping_again =
+    let once : Addresses = insert empty app_ab.asked (Some app_ab.target) in
+    insert_again empty app_ab.referrer once (insert once app_ab.asked (Some app_ab.target)) ∙ ap (insert empty app_ab.referrer) (insert_again empty app_ab.asked (Some app_ab.target) (Some app_ab.target))
+
+layout_examples : LayoutExamples
+layout_examples = record {
+  no_needs = refl;
+  itself = refl;
+  no_mapping = printed (page_app ∷ app_home ∷ []) _ refl;
+  one_mapping = printed (page_app ∷ app_ab ∷ []) _ refl;
+  two_referrers = printed (page_app ∷ app_home ∷ app_id ∷ home_id ∷ []) _ refl;
+  two_mappings = printed (app_id ∷ home_id ∷ app_ab ∷ []) _ refl;
+  same_mapping = layout_listed (app_ab ∷ app_ab ∷ []) ∙ (same_scopes same_mapping_again ∙ sym (layout_listed (app_ab ∷ [])));
+}
+
+count_examples : CountExamples
+count_examples = record { once = refl; clashing = refl }
+
+differs : (some other : List ℕ) → bytes_eq some other ≡ false → some ≢ other
+differs some other f e = let t : bytes_eq some other ≡ true = (bytes_eq-Decides some other).1 e in cc
+
+clash_examples : ClashExamples
+clash_examples = record {
+  two_targets = λ none. differs below_app.target beside.target refl (none below_app beside (contains_here below_app (beside ∷ [])) (contains_there beside below_app (beside ∷ []) (contains_here beside [])) refl refl);
+  none = no_clash_from_test (page_app ∷ app_home ∷ app_id ∷ home_id ∷ app_ab ∷ []) refl;
+}
+
+text_examples : TextExamples
+text_examples = record { no_scopes = lists_text only_integrity ∙ refl; sorted = lists_text several ∙ refl }
+
+pub worked_examples : WorkedExamples
+worked_examples = (layout_examples, count_examples, clash_examples, text_examples)

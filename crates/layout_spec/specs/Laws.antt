@@ -1,0 +1,28 @@
+-- The laws of needs, layouts and printed maps. Each is the contract of a function of this crate.
+use Rattle.std.specs.Prelude.{◌↔◌, List, Contains, ◌≡◌, ℕ, Ok}
+use Rattle.import_map_spec.specs.ParsedMap.{ParsedMap}
+use Rattle.import_map_spec.specs.Parsing.{ParsesMap}
+use Rattle.layout_spec.specs.Layout.{layout, Lays}
+use Rattle.layout_spec.specs.Needs.{counted, AreDistinct, NoClash}
+use Rattle.layout_spec.specs.PrintedMap.{map_text, IsKept}
+use Rattle.layout_spec.specs.declared.Need.{Need}
+
+-- own law: to count each need once leaves out none and adds none
+abbrev pub CountedKeeps : Type 0
+CountedKeeps = (needs : List Need) (need : Need) → Contains needs need ↔ Contains (counted needs) need
+
+-- own law: needs that are counted stand once each
+abbrev pub CountedOnce : Type 0
+CountedOnce = (needs : List Need) → AreDistinct (counted needs)
+
+-- own law: the layout of needs without a clash has their mappings and no other
+abbrev pub LayoutLays : Type 0
+LayoutLays = (needs : List Need) → NoClash needs → Lays needs (layout needs)
+
+-- own law: two maps that have the mappings that the needs want, and nothing else, are one
+abbrev pub OneLayout : Type 0
+OneLayout = (needs : List Need) (m n : ParsedMap) → Lays needs m → Lays needs n → m ≡ n
+
+-- own law: the text of a map is read as that map
+abbrev pub TextsReadBack : Type 0
+TextsReadBack = (base : List ℕ) (m : ParsedMap) → IsKept base m → ParsesMap base (map_text m) (Ok m)
