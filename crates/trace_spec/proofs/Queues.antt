@@ -9,7 +9,7 @@ use Rattle.std.proofs.lemmas.Grind.{flat_map-append}
 use Rattle.trace_spec.specs.Walking.{Referrer, the_page, a_module, new_modules}
 use Rattle.std.proofs.lemmas.List.Elements.{Contains-append_left, Contains-append_right, Contains-append_cases, Contains-push, Contains-push_cases}
 use Rattle.std.proofs.lemmas.Map.Views.{Contains-from_any}
-use Rattle.layout_spec.specs.Contained.{contains_here, contains_there, contains_cases, contains_none, contains_flat, flat_from}
+use Rattle.layout_spec.proofs.Contained.{contains_here, contains_there, contains_cases, contains_none, contains_flat, flat_from}
 use Rattle.trace_spec.specs.Levels.{Levels, last_level, next_level, Reached, page, requested}
 
 pub new_modules-append : {M : Type 0} (same : M → M → Bool) (seen some more : List M) → new_modules same seen (some ++ more) ≡ new_modules same seen some ++ new_modules same (seen ++ new_modules same seen some) more
@@ -53,9 +53,9 @@ module _ {M : Type 0} (same : M → M → Bool) (targets : Referrer M → List M
       let whole : rest ++ added ≡ now ++ (next ++ added) = ap (λ r. r ++ added) split ∙ append_assoc now next added in
       let both : flat_map targets (level ++ a_module m ∷ []) ≡ flat_map targets level ++ targets (a_module m) = flat_map-append targets level (a_module m ∷ []) ∙ ap (λ ts. flat_map targets level ++ ts) (append-nil (targets (a_module m))) in
       let new : next ++ added ≡ new_modules same (done ++ m ∷ now) (flat_map targets (level ++ a_module m ∷ [])) =
-          ap (λ s. next ++ new_modules same s (targets (a_module m))) behind
-          ∙ ((λ i. is i ++ new_modules same ((done ++ m ∷ now) ++ is i) (targets (a_module m)))
-          ∙ (sym (new_modules-append same (done ++ m ∷ now) (flat_map targets level) (targets (a_module m))) ∙ ap (new_modules same (done ++ m ∷ now)) (sym both))) in
+      ap (λ s. next ++ new_modules same s (targets (a_module m))) behind
+      ∙ ((λ i. is i ++ new_modules same ((done ++ m ∷ now) ++ is i) (targets (a_module m)))
+      ∙ (sym (new_modules-append same (done ++ m ∷ now) (flat_map targets level) (targets (a_module m))) ∙ ap (new_modules same (done ++ m ∷ now)) (sym both))) in
       let found = later now (next ++ added) (level ++ a_module m ∷ []) whole (new ∙ ap (λ s. new_modules same s (flat_map targets (level ++ a_module m ∷ []))) (sym seen)) in
       record {
         more = found.more;
@@ -114,16 +114,16 @@ module _ {M : Type 0} (same : M → M → Bool) where
   covered decides seen (first ∷ more) m c =
       elim (cases_Bool (list_any (same first) seen)) [
         | inl known ↦ subst (λ ms. Contains (seen ++ ms) m) (sym (cond-true _ (new_modules same seen more) (first ∷ new_modules same (seen ++ first ∷ []) more) known))
-          (elim (contains_cases m first more c) [
-            | inl is ↦ subst (Contains (seen ++ new_modules same seen more)) is (Contains-append_left seen (new_modules same seen more) first (Contains-from_any decides first seen known))
-            | inr later ↦ covered decides seen more m later
-          ])
+            (elim (contains_cases m first more c) [
+              | inl is ↦ subst (Contains (seen ++ new_modules same seen more)) is (Contains-append_left seen (new_modules same seen more) first (Contains-from_any decides first seen known))
+              | inr later ↦ covered decides seen more m later
+            ])
         | inr new ↦ subst (λ ms. Contains (seen ++ ms) m) (sym (cond-false _ (new_modules same seen more) (first ∷ new_modules same (seen ++ first ∷ []) more) new))
-          (subst (λ ms. Contains ms m) (append_assoc seen (first ∷ []) (new_modules same (seen ++ first ∷ []) more))
-          (elim (contains_cases m first more c) [
-            | inl is ↦ Contains-append_left (seen ++ first ∷ []) (new_modules same (seen ++ first ∷ []) more) m (subst (Contains (seen ++ first ∷ [])) is (Contains-push seen first))
-            | inr later ↦ covered decides (seen ++ first ∷ []) more m later
-          ]))
+            (subst (λ ms. Contains ms m) (append_assoc seen (first ∷ []) (new_modules same (seen ++ first ∷ []) more))
+            (elim (contains_cases m first more c) [
+              | inl is ↦ Contains-append_left (seen ++ first ∷ []) (new_modules same (seen ++ first ∷ []) more) m (subst (Contains (seen ++ first ∷ [])) is (Contains-push seen first))
+              | inr later ↦ covered decides (seen ++ first ∷ []) more m later
+            ]))
       ]
 
   module _ (targets : Referrer M → List M) where
@@ -153,7 +153,7 @@ module _ {M : Type 0} (same : M → M → Bool) where
           | inl earlier ↦ elim (Contains-push_cases d first m earlier) [
             | inl old ↦ inl old
             | inr is ↦ inr (subst (λ x. (t : M) → Contains (targets (a_module x)) t → Contains a t) is (λ t held. stays (d ++ first ∷ []) _ a later t
-              (subst (λ ms. Contains ms t) (append_assoc d (first ∷ r) _ ∙ sym (append_assoc d (first ∷ []) _)) (covered decides (d ++ first ∷ r) (targets (a_module first)) t held))))
+                (subst (λ ms. Contains ms t) (append_assoc d (first ∷ r) _ ∙ sym (append_assoc d (first ∷ []) _)) (covered decides (d ++ first ∷ r) (targets (a_module first)) t held))))
           ]
         ]
 

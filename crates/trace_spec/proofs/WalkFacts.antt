@@ -3,7 +3,7 @@ use Rattle.std.specs.Prelude.{◌≡◌, ◌⊎◌, ℕ, zero, suc, List, [], �
 use Rattle.std.proofs.Common.{refl, sym, ap, ◌∙◌, subst, arith, append_assoc, append-nil, length-append}
 use mathlib.Core.Logic.{inl, inr}
 use Rattle.std.proofs.lemmas.List.Elements.{Contains-append_left, Contains-append_right, Contains-append_cases}
-use Rattle.layout_spec.specs.Contained.{contains_here, contains_cases, contains_none}
+use Rattle.layout_spec.proofs.Contained.{contains_here, contains_cases, contains_none}
 use Rattle.asking_spec.specs.Askings.{Asking, answered, outcome}
 use Rattle.asking_spec.proofs.AskingLemmas.{ok_parts}
 use Rattle.trace_spec.specs.Walking.{Referrer, the_page, a_module, Opened, Rules, new_modules, followed, visited, walked, walk}
@@ -15,7 +15,7 @@ IsVisited modules the_page = Unit {0}
 IsVisited modules (a_module m) = Contains modules m
 
 module _ {M B R Q : Type 0} {A : Q → Type 0} (answers : (question : Q) → A question) (rules : Rules M B R Q A) (specifiers : Referrer M → List (List ℕ)) (leads : Referrer M → List ℕ → Option M) (by : LeadsBy answers rules specifiers leads)
-  (Holds : B → Type 0) (Leaves : Referrer M → List ℕ → B → Type 0) where
+    (Holds : B → Type 0) (Leaves : Referrer M → List ℕ → B → Type 0) where
   -- what holds of the tables is kept; what a request leaves holds from then on
   pub record Keeps : Type 0 where
     pub starts : Holds rules.start

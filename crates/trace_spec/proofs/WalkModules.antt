@@ -58,9 +58,9 @@ module _ {M B R Q : Type 0} {A : Q → Type 0} (answers : (question : Q) → A q
         let parts = ok_parts answers (visited rules before (a_module m)) (λ next. walked rules room next (suc place)) after (subst (λ o. outcome answers (next_visit rules room before place o) ≡ Ok after) some e) in
         let added = new_modules rules.same (done ++ m ∷ rest) (targets_by (a_module m)) in
         let all : rules.modules parts.value ≡ (done ++ m ∷ []) ++ (rest ++ added) =
-            visited_modules (a_module m) before parts.value parts.first_is
-            ∙ ((λ i. is i ++ new_modules rules.same (is i) (targets_by (a_module m)))
-            ∙ (append_assoc done (m ∷ rest) added ∙ sym (append_assoc done (m ∷ []) (rest ++ added)))) in
+        visited_modules (a_module m) before parts.value parts.first_is
+        ∙ ((λ i. is i ++ new_modules rules.same (is i) (targets_by (a_module m)))
+        ∙ (append_assoc done (m ∷ rest) added ∙ sym (append_assoc done (m ∷ []) (rest ++ added)))) in
         let next : suc place ≡ length (done ++ m ∷ []) = omega (arith, length-append done (m ∷ [])) in
         goes (walked_queue room parts.value (suc place) after (done ++ m ∷ []) (rest ++ added) parts.next_is all next)
 

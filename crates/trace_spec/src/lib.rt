@@ -2,7 +2,7 @@
 //! contracts of functions that do nothing.
 #![tactic(auto)]
 
-ghost use Rattle.trace_spec.specs.Laws.{HasLevels};
+ghost use Rattle.trace_spec.specs.Laws.{HasLevels, IsWhatIsReached, ModulesOnce, FewModules, FirstRefusalDecides, GoesInOrder, RequestsPass, NeedsAreRequests};
 
 use node_spec::Cause;
 use primitives::Text;
@@ -12,7 +12,10 @@ use tree_spec::LimitName;
 #[derive(Debug, Drop)]
 pub enum TraceRefusal {
     /// The path isn't served at its web name, which is given where it has one.
-    Unservable { path: Text, url: Option<Text> },
+    Unservable {
+        path: Text,
+        url: Option<Text>,
+    },
     /// Node refuses a request.
     Refused {
         referrer: Text,
@@ -20,14 +23,56 @@ pub enum TraceRefusal {
         cause: Cause,
     },
     /// What a request wants isn't built.
-    RequestNotBuilt { referrer: Text, specifier: Text },
+    RequestNotBuilt {
+        referrer: Text,
+        specifier: Text,
+    },
     /// A module whose name or text isn't built.
-    ModuleNotBuilt { module: Text },
+    ModuleNotBuilt {
+        module: Text,
+    },
     /// A quantity passes its limit.
-    Limit { which: LimitName },
+    Limit {
+        which: LimitName,
+    },
 }
 
 /// The modules of a trace are its levels, one behind another.
 pub fn has_levels()
     ensures { HasLevels }
+{}
+
+/// The modules of a trace are those that the page reaches by requests.
+pub fn is_what_is_reached()
+    ensures { IsWhatIsReached }
+{}
+
+/// No module stands in a trace twice.
+pub fn modules_once()
+    ensures { ModulesOnce }
+{}
+
+/// A trace has at most 20,000 modules.
+pub fn few_modules()
+    ensures { FewModules }
+{}
+
+/// There is a trace exactly where all visits pass; else the refusal is that of the first check that isn't passed.
+pub fn first_refusal_decides()
+    ensures { FirstRefusalDecides }
+{}
+
+/// The tables of a trace hold its requests in order, and each question is asked at its place.
+pub fn goes_in_order()
+    ensures { GoesInOrder }
+{}
+
+/// Each request of whatever the page reaches passes its checks.
+pub fn requests_pass()
+    ensures { RequestsPass }
+{}
+
+/// The needs of a trace are those of requests of whatever the page reaches, and no two clash.
+pub fn needs_are_requests()
+    ensures { NeedsAreRequests }
 {}
