@@ -9,9 +9,9 @@ use Rattle.node_spec.specs.declared.BareAnswer.{BareAnswer}
 use Rattle.node_spec.specs.declared.BareAnswer.TheVariants.{Stop}
 use Rattle.node_spec.specs.declared.Outcome.{Outcome}
 use Rattle.node_spec.specs.declared.Outcome.TheVariants.{Undefined, Null, Place, Bare, Stopped, InvalidTarget, InvalidSpecifier, InvalidConfig}
-use Rattle.node_spec.specs.PackageTargets.{Rules, Call, own_outcome, names_package, with_match, bare_outcome, ResolvesText, has_index_key, is_tried, is_undefined, is_passed, last_of, Resolves, ResolvesMembers, ResolvesItems}
+use Rattle.node_spec.specs.PackageTargets.{Rules, Call, own_outcome, names_package, with_match, bare_outcome, ResolvesText, has_index_key, is_tried, is_undefined, is_passed, last_of, ResolvesTarget, ResolvesMembers, ResolvesItems}
 use Rattle.node_spec.specs.PackageTargets.ResolvesText.{own_place, bare, no_target}
-use Rattle.node_spec.specs.PackageTargets.Resolves.{text_target, index_key, object_target, empty_list, list_target, null_target, bool_target, number_target}
+use Rattle.node_spec.specs.PackageTargets.ResolvesTarget.{text_target, index_key, object_target, empty_list, list_target, null_target, bool_target, number_target}
 use Rattle.node_spec.specs.PackageTargets.ResolvesMembers.{no_member, untried, defined, undefined}
 use Rattle.node_spec.specs.PackageTargets.ResolvesItems.{no_item, decided, passed}
 use Rattle.ordered_json.specs.declared.value.Value as value
@@ -21,8 +21,8 @@ use Rattle.ordered_json.specs.declared.value.Members as code_members
 use Rattle.ordered_json.specs.Lists.{values_of, pairs_of}
 use Rattle.ordered_json.proofs.ShownLemmas.{json_of_list, json_of_object, json_of_text}
 use Rattle.ordered_json.specs.Shown.{json_of, items_of, members_of}
-use Rattle.node_spec.specs.TargetLaws.{places_in_package}
-use Rattle.node_spec.specs.TargetsUnder.{found_text, found_items, found_members, undefined_from, text_found, sound_items, sound_members}
+use Rattle.node_spec.proofs.PlacesInPackage.{places_in_package}
+use Rattle.node_spec.proofs.SomeOutcome.{found_text, found_items, found_members, undefined_from, text_found, sound_items, sound_members}
 use Rattle.condition_match.specs.Choosing.{Calls, Asks, IsLeft, Begins, Comes, AsksOne, Chooses, Tries}
 
 -- ---- outcomes
@@ -74,21 +74,21 @@ nothing : {A : Type 0} (xs : List A) → length xs ≡ 0 → xs ≡ []
 nothing [] e = refl
 nothing (x ∷ xs) e = absurd (omega arith)
 
-a_full_list : (rules : Rules) (values : List Value) (asked : List Call) (out : Outcome) → length values ≢ 0 → ResolvesItems rules (items_of values) asked out → Resolves rules (a_list (items_of values)) asked out
+a_full_list : (rules : Rules) (values : List Value) (asked : List Call) (out : Outcome) → length values ≢ 0 → ResolvesItems rules (items_of values) asked out → ResolvesTarget rules (a_list (items_of values)) asked out
 a_full_list rules [] asked out some r = absurd (some refl)
 a_full_list rules (v ∷ values) asked out some r = list_target (json_of v) (items_of values) asked out r
 
 -- ---- a value by its kind
 
-pub text_value : (rules : Rules) (v : Value) (text : List ℕ) → v ≡ value.Text text → (asked : List Call) (out : Outcome) → ResolvesText rules text asked out → Resolves rules (json_of v) asked out
-text_value rules v text e asked out r = subst (λ j. Resolves rules j asked out) (sym (ap json_of e ∙ json_of_text text)) (text_target text asked out r)
+pub text_value : (rules : Rules) (v : Value) (text : List ℕ) → v ≡ value.Text text → (asked : List Call) (out : Outcome) → ResolvesText rules text asked out → ResolvesTarget rules (json_of v) asked out
+text_value rules v text e asked out r = subst (λ j. ResolvesTarget rules j asked out) (sym (ap json_of e ∙ json_of_text text)) (text_target text asked out r)
 
-pub list_value : (rules : Rules) (v : Value) (items : code.Items) → v ≡ value.List items → length (values_of items) ≢ 0 → (asked : List Call) (out : Outcome) → ResolvesItems rules (items_of (values_of items)) asked out → Resolves rules (json_of v) asked out
-list_value rules v items e some asked out r = subst (λ j. Resolves rules j asked out) (sym (ap json_of e ∙ json_of_list items)) (a_full_list rules (values_of items) asked out some r)
+pub list_value : (rules : Rules) (v : Value) (items : code.Items) → v ≡ value.List items → length (values_of items) ≢ 0 → (asked : List Call) (out : Outcome) → ResolvesItems rules (items_of (values_of items)) asked out → ResolvesTarget rules (json_of v) asked out
+list_value rules v items e some asked out r = subst (λ j. ResolvesTarget rules j asked out) (sym (ap json_of e ∙ json_of_list items)) (a_full_list rules (values_of items) asked out some r)
 
-pub object_value : (rules : Rules) (v : Value) (members : code_members.Members) → v ≡ value.Object members → has_index_key (members_of (pairs_of members)) ≡ false → (asked : List Call) (out : Outcome) → ResolvesMembers rules (members_of (pairs_of members)) asked out → Resolves rules (json_of v) asked out
+pub object_value : (rules : Rules) (v : Value) (members : code_members.Members) → v ≡ value.Object members → has_index_key (members_of (pairs_of members)) ≡ false → (asked : List Call) (out : Outcome) → ResolvesMembers rules (members_of (pairs_of members)) asked out → ResolvesTarget rules (json_of v) asked out
 object_value rules v members e none asked out r =
-    subst (λ j. Resolves rules j asked out) (sym (ap json_of e ∙ json_of_object members)) (object_target (members_of (pairs_of members)) asked out none r)
+    subst (λ j. ResolvesTarget rules j asked out) (sym (ap json_of e ∙ json_of_object members)) (object_target (members_of (pairs_of members)) asked out none r)
 
 -- ---- calls
 
@@ -121,7 +121,7 @@ module _ {B : Type 0} (gives : B → List ℕ → BareAnswer → B → Type 0) w
   ends : {Whole Rest : List Call → Outcome → Type 0} {shape : Outcome → Outcome} (old middle now : B) (out : Outcome) → Completes Whole Rest shape old middle → Asks gives Rest middle now out → Asks gives Whole old now (shape out)
   ends old middle now out c a = record { asked = c.asked ++ a.asked; calls = calls_join old middle now c.asked a.asked c.calls a.calls; is = c.completes a.asked out a.is }
 
-  chosen : (rules : Rules) (target : Json) (old now : B) (out : Outcome) → Asks gives (Resolves rules target) old now out → Chooses gives rules target old now out
+  chosen : (rules : Rules) (target : Json) (old now : B) (out : Outcome) → Asks gives (ResolvesTarget rules target) old now out → Chooses gives rules target old now out
   chosen rules target old now out a =
       record {
         asked = a.asked;
@@ -132,7 +132,7 @@ module _ {B : Type 0} (gives : B → List ℕ → BareAnswer → B → Type 0) w
       }
 
   module _ (fails : B → List ℕ → B → Type 0) where
-    pub if_chosen : {E : Type 0} (rules : Rules) (target : Json) (old now : B) (found : Result Outcome E) → Comes gives fails (Resolves rules target) old now found → IfOk found (Chooses gives rules target old now)
+    pub if_chosen : {E : Type 0} (rules : Rules) (target : Json) (old now : B) (found : Result Outcome E) → Comes gives fails (ResolvesTarget rules target) old now found → IfOk found (Chooses gives rules target old now)
     if_chosen rules target old now (Ok out) a = chosen rules target old now out a
     if_chosen rules target old now (Err fault) b = tt
 
@@ -195,17 +195,17 @@ module _ {B : Type 0} (gives : B → List ℕ → BareAnswer → B → Type 0) w
       stops : List ℕ → BareAnswer
       stops text = Stop
 
-      item_goes_on : (item : Json) (more : Items) (asked : List Call) (out : Outcome) → Resolves rules item asked out → (others : List Call) × (found : Outcome) × ResolvesItems rules (an_item item more) (asked ++ others) found
+      item_goes_on : (item : Json) (more : Items) (asked : List Call) (out : Outcome) → ResolvesTarget rules item asked out → (others : List Call) × (found : Outcome) × ResolvesItems rules (an_item item more) (asked ++ others) found
       item_goes_on item more asked out r =
           elim (cases_Bool (is_passed out)) [
             | inl p ↦ (let f = found_items stops rules more in (f.asked, last_of out f.out, passed item more asked f.asked out f.out r p (sound_items stops rules more)))
             | inr d ↦ ([], out, subst (λ xs. ResolvesItems rules (an_item item more) xs out) (sym (append-nil asked)) (decided item more asked out r d))
           ]
 
-      tried_goes_on : (key : List ℕ) (value : Json) (more : Members) (asked : List Call) (out : Outcome) → is_tried rules.conditions key ≡ true → Resolves rules value asked out → (others : List Call) × (found : Outcome) × ResolvesMembers rules (a_member key value more) (asked ++ others) found
+      tried_goes_on : (key : List ℕ) (value : Json) (more : Members) (asked : List Call) (out : Outcome) → is_tried rules.conditions key ≡ true → ResolvesTarget rules value asked out → (others : List Call) × (found : Outcome) × ResolvesMembers rules (a_member key value more) (asked ++ others) found
       tried_goes_on key value more asked out t r =
           elim (cases_Bool (is_undefined out)) [
-            | inl u ↦ (let f = found_members stops rules more in (f.asked, f.out, undefined key value more asked f.asked f.out t (subst (λ o. Resolves rules value asked o) (undefined_from out u) r) (sound_members stops rules more)))
+            | inl u ↦ (let f = found_members stops rules more in (f.asked, f.out, undefined key value more asked f.asked f.out t (subst (λ o. ResolvesTarget rules value asked o) (undefined_from out u) r) (sound_members stops rules more)))
             | inr d ↦ ([], out, subst (λ xs. ResolvesMembers rules (a_member key value more) xs out) (sym (append-nil asked)) (defined key value more asked out t r d))
           ]
 
@@ -215,7 +215,7 @@ module _ {B : Type 0} (gives : B → List ℕ → BareAnswer → B → Type 0) w
           (f.asked, f.out, subst (λ xs. ResolvesMembers rules (a_member key value more) (xs ++ f.asked) f.out) (sym skipped.1) (untried key value more f.asked f.out skipped.0 (sound_members stops rules more)))
       member_goes_on key value more asked out (inr tried) = tried_goes_on key value more asked out tried.0 tried.1
 
-      pub item_begun : (values rest more : List Value) (v : Value) (last : Outcome) (old middle now : B) → Completes (ResolvesItems rules (items_of values)) (ResolvesItems rules (items_of rest)) (last_of last) old middle → rest ≡ v ∷ more → Begins gives fails (Resolves rules (json_of v)) middle now → Begins gives fails (ResolvesItems rules (items_of values)) old now
+      pub item_begun : (values rest more : List Value) (v : Value) (last : Outcome) (old middle now : B) → Completes (ResolvesItems rules (items_of values)) (ResolvesItems rules (items_of rest)) (last_of last) old middle → rest ≡ v ∷ more → Begins gives fails (ResolvesTarget rules (json_of v)) middle now → Begins gives fails (ResolvesItems rules (items_of values)) old now
       item_begun values rest more v last old middle now c split b =
           begins_behind old middle now c
           (begins_with middle now
@@ -263,12 +263,12 @@ module _ {B : Type 0} (gives : B → List ℕ → BareAnswer → B → Type 0) w
           completes = λ more out is. subst (λ o. ResolvesItems rules (items_of values) more o) (behind_nothing out ∙ ap (λ l. last_of l out) (sym none)) (subst (λ vs. ResolvesItems rules (items_of vs) more out) whole is);
         }
 
-    pub item_passed : (values rest more : List Value) (v : Value) (last first after : Outcome) (old middle now : B) → Completes (ResolvesItems rules (items_of values)) (ResolvesItems rules (items_of rest)) (last_of last) old middle → rest ≡ v ∷ more → Asks gives (Resolves rules (json_of v)) middle now first → is_passed first ≡ true → after ≡ last_of last first → Completes (ResolvesItems rules (items_of values)) (ResolvesItems rules (items_of more)) (last_of after) old now
+    pub item_passed : (values rest more : List Value) (v : Value) (last first after : Outcome) (old middle now : B) → Completes (ResolvesItems rules (items_of values)) (ResolvesItems rules (items_of rest)) (last_of last) old middle → rest ≡ v ∷ more → Asks gives (ResolvesTarget rules (json_of v)) middle now first → is_passed first ≡ true → after ≡ last_of last first → Completes (ResolvesItems rules (items_of values)) (ResolvesItems rules (items_of more)) (last_of after) old now
     item_passed values rest more v last first after old middle now c split a goes_on is =
         onwards (last_of first) old middle now a.asked c a.calls (λ out. last_of_three last first out ∙ ap (λ l. last_of l out) (sym is))
         (λ asked out r. subst (λ vs. ResolvesItems rules (items_of vs) (a.asked ++ asked) (last_of first out)) (sym split) (passed (json_of v) (items_of more) a.asked asked first out a.is goes_on r))
 
-    pub item_decided : (values rest more : List Value) (v : Value) (last out : Outcome) (old middle now : B) → Completes (ResolvesItems rules (items_of values)) (ResolvesItems rules (items_of rest)) (last_of last) old middle → rest ≡ v ∷ more → Asks gives (Resolves rules (json_of v)) middle now out → is_passed out ≡ false → Asks gives (ResolvesItems rules (items_of values)) old now out
+    pub item_decided : (values rest more : List Value) (v : Value) (last out : Outcome) (old middle now : B) → Completes (ResolvesItems rules (items_of values)) (ResolvesItems rules (items_of rest)) (last_of last) old middle → rest ≡ v ∷ more → Asks gives (ResolvesTarget rules (json_of v)) middle now out → is_passed out ≡ false → Asks gives (ResolvesItems rules (items_of values)) old now out
     item_decided values rest more v last out old middle now c split a stops =
         subst (λ o. Asks gives (ResolvesItems rules (items_of values)) old now o) (decides last out stops)
         (ends old middle now out c (asks_as middle now out (λ asked is. subst (λ vs. ResolvesItems rules (items_of vs) asked out) (sym split) (decided (json_of v) (items_of more) asked out is stops)) a))
@@ -286,7 +286,7 @@ module _ {B : Type 0} (gives : B → List ℕ → BareAnswer → B → Type 0) w
     member_step key v more asked out tries none others found r =
         elim tries [
           | inl skipped ↦ subst (λ xs. ResolvesMembers rules (members_of ((key, v) ∷ more)) (xs ++ others) found) (sym skipped.1) (untried key (json_of v) (members_of more) others found skipped.0 r)
-          | inr tried ↦ undefined key (json_of v) (members_of more) asked others found tried.0 (subst (λ o. Resolves rules (json_of v) asked o) (undefined_from out none) tried.1) r
+          | inr tried ↦ undefined key (json_of v) (members_of more) asked others found tried.0 (subst (λ o. ResolvesTarget rules (json_of v) asked o) (undefined_from out none) tried.1) r
         ]
 
     pub member_undefined : (pairs rest more : List (List ℕ × Value)) (key : List ℕ) (v : Value) (out : Outcome) (old middle now : B) → Completes (ResolvesMembers rules (members_of pairs)) (ResolvesMembers rules (members_of rest)) (λ o. o) old middle → rest ≡ (key, v) ∷ more → Asks gives (Tries rules key (json_of v)) middle now out → is_undefined out ≡ true → Completes (ResolvesMembers rules (members_of pairs)) (ResolvesMembers rules (members_of more)) (λ o. o) old now
@@ -311,20 +311,20 @@ module _ {B : Type 0} (gives : B → List ℕ → BareAnswer → B → Type 0) w
 
     -- ---- a value that asks for nothing
 
-    pub null_chosen : (v : Value) (old now : B) → v ≡ value.Null → now ≡ old → Asks gives (Resolves rules (json_of v)) old now Null
-    null_chosen v old now e same = silent old now Null same (subst (λ j. Resolves rules j [] Null) (sym (ap json_of e ∙ json_of_null)) null_target)
+    pub null_chosen : (v : Value) (old now : B) → v ≡ value.Null → now ≡ old → Asks gives (ResolvesTarget rules (json_of v)) old now Null
+    null_chosen v old now e same = silent old now Null same (subst (λ j. ResolvesTarget rules j [] Null) (sym (ap json_of e ∙ json_of_null)) null_target)
 
-    pub bool_chosen : (v : Value) (b : Bool) (old now : B) → v ≡ value.Bool b → now ≡ old → Asks gives (Resolves rules (json_of v)) old now InvalidTarget
-    bool_chosen v b old now e same = silent old now InvalidTarget same (subst (λ j. Resolves rules j [] InvalidTarget) (sym (ap json_of e ∙ json_of_bool b)) (bool_target b))
+    pub bool_chosen : (v : Value) (b : Bool) (old now : B) → v ≡ value.Bool b → now ≡ old → Asks gives (ResolvesTarget rules (json_of v)) old now InvalidTarget
+    bool_chosen v b old now e same = silent old now InvalidTarget same (subst (λ j. ResolvesTarget rules j [] InvalidTarget) (sym (ap json_of e ∙ json_of_bool b)) (bool_target b))
 
-    pub number_chosen : (v : Value) (number : List ℕ) (old now : B) → v ≡ value.Number number → now ≡ old → Asks gives (Resolves rules (json_of v)) old now InvalidTarget
+    pub number_chosen : (v : Value) (number : List ℕ) (old now : B) → v ≡ value.Number number → now ≡ old → Asks gives (ResolvesTarget rules (json_of v)) old now InvalidTarget
     number_chosen v number old now e same =
-        silent old now InvalidTarget same (subst (λ j. Resolves rules j [] InvalidTarget) (sym (ap json_of e ∙ json_of_number number)) (number_target number))
+        silent old now InvalidTarget same (subst (λ j. ResolvesTarget rules j [] InvalidTarget) (sym (ap json_of e ∙ json_of_number number)) (number_target number))
 
-    pub empty_chosen : (v : Value) (items : code.Items) (old now : B) → v ≡ value.List items → length (values_of items) ≡ 0 → now ≡ old → Asks gives (Resolves rules (json_of v)) old now Null
+    pub empty_chosen : (v : Value) (items : code.Items) (old now : B) → v ≡ value.List items → length (values_of items) ≡ 0 → now ≡ old → Asks gives (ResolvesTarget rules (json_of v)) old now Null
     empty_chosen v items old now e none same =
-        silent old now Null same (subst (λ j. Resolves rules j [] Null) (sym (ap json_of e ∙ (json_of_list items ∙ ap (λ vs. a_list (items_of vs)) (nothing (values_of items) none)))) empty_list)
+        silent old now Null same (subst (λ j. ResolvesTarget rules j [] Null) (sym (ap json_of e ∙ (json_of_list items ∙ ap (λ vs. a_list (items_of vs)) (nothing (values_of items) none)))) empty_list)
 
-    pub index_chosen : (v : Value) (members : code_members.Members) (old now : B) → v ≡ value.Object members → has_index_key (members_of (pairs_of members)) ≡ true → now ≡ old → Asks gives (Resolves rules (json_of v)) old now InvalidConfig
+    pub index_chosen : (v : Value) (members : code_members.Members) (old now : B) → v ≡ value.Object members → has_index_key (members_of (pairs_of members)) ≡ true → now ≡ old → Asks gives (ResolvesTarget rules (json_of v)) old now InvalidConfig
     index_chosen v members old now e has same =
-        silent old now InvalidConfig same (subst (λ j. Resolves rules j [] InvalidConfig) (sym (ap json_of e ∙ json_of_object members)) (index_key (members_of (pairs_of members)) has))
+        silent old now InvalidConfig same (subst (λ j. ResolvesTarget rules j [] InvalidConfig) (sym (ap json_of e ∙ json_of_object members)) (index_key (members_of (pairs_of members)) has))

@@ -4,7 +4,7 @@ use Rattle.std.specs.Prelude.{nat_le}
 use Rattle.std.specs.List.{list_all}
 use Rattle.std.specs.Char.{is_ascii_digit}
 use Rattle.std.proofs.lemmas.Bool.Decides.{nat_tests}
-use Rattle.node_spec.specs.PackageTargets.{number_behind, has_no_leading_zero, is_array_index}
+use Rattle.json_spec.specs.PropertyOrder.{number_behind, has_no_leading_zero, is_array_index}
 
 -- what is behind a place says what the whole key does
 pub record StandsFor (key rest : List ℕ) (number : ℕ) : Type 0 where

@@ -9,8 +9,8 @@ use Rattle.node_spec.specs.declared.Outcome.{Outcome}
 use Rattle.node_spec.specs.declared.Outcome.TheVariants.{Undefined}
 use Rattle.json_spec.specs.Value.{Json}
 use Rattle.node_spec.specs.PackageTargets as targets
-use Rattle.node_spec.specs.PackageTargets.{Call, Answers, Agrees, bare_outcome, is_tried, Resolves, ResolvesUnder}
-use Rattle.node_spec.specs.TargetLaws.{IsInPackage}
+use Rattle.node_spec.specs.PackageTargets.{Call, Answers, Agrees, bare_outcome, is_tried, ResolvesTarget, ResolvesUnder}
+use Rattle.node_spec.specs.Laws.{IsInPackage}
 use Rattle.condition_match.specs.declared.choice.Rules.{Rules}
 
 -- the object after these calls, one after another
@@ -51,7 +51,7 @@ AsksOne gives fails text old new (Err fault) = (new ≡ old) ⊎ fails old text 
 pub record Chooses {B : Type 0} (gives : B → List ℕ → BareAnswer → B → Type 0) (rules : targets.Rules) (target : Json) (old new : B) (out : Outcome) : Type 0 where
   pub asked : List Call
   pub calls : Calls gives old asked new
-  pub resolves : Resolves rules target asked out
+  pub resolves : ResolvesTarget rules target asked out
   pub under : (answers : Answers) → Agrees answers asked → ResolvesUnder answers rules target out
   pub place : IsInPackage out
 
@@ -63,4 +63,4 @@ rules_of rules = judged_by rules.conditions.now (option_map (λ text. text.now) 
 
 -- a member of an object: undefined where its key isn't tried
 abbrev pub Tries : targets.Rules → List ℕ → Json → List Call → Outcome → Type 0
-Tries rules key value asked out = ((is_tried rules.conditions key ≡ false) × (asked ≡ []) × (out ≡ Undefined)) ⊎ ((is_tried rules.conditions key ≡ true) × Resolves rules value asked out)
+Tries rules key value asked out = ((is_tried rules.conditions key ≡ false) × (asked ≡ []) × (out ≡ Undefined)) ⊎ ((is_tried rules.conditions key ≡ true) × ResolvesTarget rules value asked out)

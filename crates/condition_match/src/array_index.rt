@@ -1,6 +1,7 @@
 //! Keys of an object that are array indices.
 ghost use Rattle.std.specs.Prelude.{◌≡◌};
-ghost use Rattle.node_spec.specs.PackageTargets.{is_array_index, has_index_key, has_no_leading_zero};
+ghost use Rattle.json_spec.specs.PropertyOrder.{is_array_index, has_no_leading_zero};
+ghost use Rattle.node_spec.specs.PackageTargets.{has_index_key};
 ghost use Rattle.ordered_json.specs.Lists.{pairs_of};
 ghost use Rattle.ordered_json.specs.Shown.{members_of};
 

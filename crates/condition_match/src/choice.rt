@@ -1,5 +1,5 @@
 ghost use Rattle.std.specs.Prelude.{◌≡◌, ◌<◌, ◌+◌, ◌∷◌, IfOk, OnErr, drop, length, option_map};
-ghost use Rattle.node_spec.specs.PackageTargets.{Resolves, ResolvesItems, ResolvesMembers, is_undefined, is_passed, is_tried, last_of};
+ghost use Rattle.node_spec.specs.PackageTargets.{ResolvesTarget, ResolvesItems, ResolvesMembers, is_undefined, is_passed, is_tried, last_of};
 ghost use Rattle.ordered_json.specs.Lists.{values_of, pairs_of};
 ghost use Rattle.ordered_json.specs.Shown.{json_of, items_of, members_of};
 ghost use Rattle.condition_match.specs.Choosing.{Begins, Comes, Chooses, Tries, judged_by, rules_of};
@@ -33,7 +33,7 @@ pub fn choose<B: BareTarget>(
     bare: &mut B,
 ) -> Result<Outcome, Memory>
     ensures chosen { IfOk result (Chooses B.gives (judged_by conditions.now (option_map (λ text. text.now) star.entry) imports) (json_of target.now) bare.old bare.new) }
-    ensures memory { OnErr result (Begins B.gives B.fails (Resolves (judged_by conditions.now (option_map (λ text. text.now) star.entry) imports) (json_of target.now)) bare.old bare.new) }
+    ensures memory { OnErr result (Begins B.gives B.fails (ResolvesTarget (judged_by conditions.now (option_map (λ text. text.now) star.entry) imports) (json_of target.now)) bare.old bare.new) }
 {
     let rules = Rules {
         conditions,
@@ -50,7 +50,7 @@ fn choose_value<B: BareTarget>(
     rules: &Rules<'_>,
     bare: &mut B,
 ) -> Result<Outcome, Memory>
-    ensures { Comes B.gives B.fails (Resolves (rules_of rules.now) (json_of target.now)) bare.old bare.new result }
+    ensures { Comes B.gives B.fails (ResolvesTarget (rules_of rules.now) (json_of target.now)) bare.old bare.new result }
 {
     match target {
         Value::Null => Ok(Outcome::Null),

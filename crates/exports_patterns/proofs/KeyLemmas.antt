@@ -6,11 +6,12 @@ use Rattle.std.proofs.Math.Seq.{take-append_seam}
 use Rattle.std.proofs.lemmas.Str.{IsCharBoundary-start, IsCharBoundary-from_take, IsCharBoundary-at_seam}
 use Rattle.std.specs.Str.{IsCharBoundary}
 use Rattle.std.proofs.lemmas.List.Elements.{All-from_get_or}
-use Rattle.node_spec.specs.PatternKeys.{HasNoStar, IsPattern, KeyMatch, PatternMatch, Matches, IsChoice}
+use Rattle.node_spec.specs.PatternKeys.{HasNoStar, IsPattern, KeyMatch, PatternMatch, Matches, IsChoice, GoesBefore}
 use Rattle.node_spec.specs.PatternKeys.Matches.{by_itself, by_pattern}
-use Rattle.node_spec.specs.PatternParts.{PartStands, part_length, fits_from_part}
-use Rattle.node_spec.specs.PatternOrder.{GoesBefore, precedes_before, before_precedes}
-use Rattle.node_spec.specs.PatternChoice.{none_more, first_choice, same_choice, better_choice}
+use Rattle.node_spec.specs.Laws.{PartStands}
+use Rattle.node_spec.proofs.PatternParts.{part_length, fits_from_part}
+use Rattle.node_spec.proofs.PatternOrder.{precedes_before, before_precedes}
+use Rattle.node_spec.proofs.PatternChoice.{none_more, first_choice, same_choice, better_choice}
 use Rattle.exports_patterns.specs.declared.pattern_keys.Match.{Match}
 use Rattle.exports_patterns.specs.Found.{match_shown, HasSpan, IsMatch, IsFound, Finds}
 

@@ -7,7 +7,7 @@ use Rattle.ordered_json.specs.declared.value.Members.{Members}
 use Rattle.ordered_json.specs.Lists.{pairs_of}
 use Rattle.ordered_json.specs.Shown.{members_of}
 use Rattle.node_spec.specs.PatternKeys.{KeyMatch, Itself, PatternMatch}
-use Rattle.node_spec.specs.PatternChoice.{one_choice}
+use Rattle.node_spec.proofs.PatternChoice.{one_choice}
 use Rattle.exports_patterns.specs.declared.pattern_keys.Match.{Match}
 use Rattle.exports_patterns.specs.Found.{keys_of, match_shown, IsFound}
 

@@ -2,8 +2,7 @@ ghost use Rattle.std.specs.Prelude.{◌≡◌, ◌≢◌, ◌<◌, ◌≤◌, �
 ghost use Rattle.json_spec.specs.Value.{AreDistinct};
 ghost use Rattle.ordered_json.specs.Lists.{pairs_of};
 ghost use Rattle.ordered_json.specs.Shown.{members_of};
-ghost use Rattle.node_spec.specs.PatternKeys.{HasNoStar, IsPattern, KeyMatch, Matches, MatchesNone};
-ghost use Rattle.node_spec.specs.PatternOrder.{GoesBefore};
+ghost use Rattle.node_spec.specs.PatternKeys.{HasNoStar, IsPattern, KeyMatch, Matches, MatchesNone, GoesBefore};
 ghost use Rattle.exports_patterns.specs.Found.{keys_of, match_shown, Finds, HasSpan, IsFound, IsMatch};
 
 use ordered_json::Members;

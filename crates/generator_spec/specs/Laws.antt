@@ -4,7 +4,7 @@ use Rattle.tree_spec.specs.Trees.{Tree}
 use Rattle.module_spec.specs.PlainForm.{IsPlain}
 use Rattle.module_spec.proofs.Readings.{one_reading}
 use Rattle.node_spec.specs.Resolution.{Resolved}
-use Rattle.node_spec.specs.Laws.{one_answer}
+use Rattle.node_spec.proofs.OneAnswer.{one_answer}
 use Rattle.layout_spec.specs.declared.Need.{Need}
 use Rattle.generator_spec.specs.Modules.{Config, Module, Referrer, path_of, Asks}
 use Rattle.generator_spec.specs.Modules.Asks.{entries, requests}

@@ -13,7 +13,7 @@ use Rattle.module_spec.specs.PlainForm.IsPlain.{nothing, space, statement}
 use Rattle.module_spec.proofs.Readings.{starts, word_no_space}
 use Rattle.node_spec.specs.declared.Cause.{Cause}
 use Rattle.node_spec.specs.Resolution.{Resolved, Refused, Resolves}
-use Rattle.node_spec.specs.Laws.{one_answer}
+use Rattle.node_spec.proofs.OneAnswer.{one_answer}
 use Rattle.layout_spec.specs.declared.Need.{Need}
 use Rattle.generator_spec.specs.Modules.{Config, Module, Referrer, the_page, a_module, path_of, web_name, Asks}
 use Rattle.generator_spec.specs.Modules.Asks.{entries, requests}

@@ -9,7 +9,7 @@ use Rattle.std.proofs.lemmas.List.Elements.{Contains-append_left, Contains-appen
 use Rattle.std.proofs.lemmas.Map.Views.{Contains-from_any}
 use Rattle.tree_spec.specs.Trees.{Tree}
 use Rattle.node_spec.specs.Resolution.{Resolved}
-use Rattle.node_spec.specs.Laws.{one_answer}
+use Rattle.node_spec.proofs.OneAnswer.{one_answer}
 use Rattle.url_spec.proofs.KeptUrls.{kept_urls}
 use Rattle.url_spec.proofs.OwnUrls.{own_urls}
 use Rattle.layout_spec.specs.declared.Need.{Need}

@@ -11,7 +11,7 @@ use Rattle.node_spec.specs.Resolution.Judges.{separator, folder, nameless, absen
 use Rattle.node_spec.specs.Resolution.Joins.{no_url, other_host, joined}
 use Rattle.node_spec.specs.Resolution.Resolves.{relative}
 use Rattle.node_spec.specs.Looking.{LooksAt}
-use Rattle.node_spec.specs.Laws.{one_answer}
+use Rattle.node_spec.proofs.OneAnswer.{one_answer}
 use Rattle.url_spec.specs.FileUrls.{url_path, NamesPath}
 use Rattle.layout_spec.specs.declared.Need.{Need}
 use Rattle.generator_spec.specs.declared.RequestRefusal.{RequestRefusal}

@@ -26,7 +26,7 @@ use Rattle.node_spec.specs.Resolution.Judges.{separator, folder, nameless, absen
 use Rattle.node_spec.specs.Resolution.Joins.{no_url, other_host, joined}
 use Rattle.node_spec.specs.Resolution.Resolves.{relative}
 use Rattle.node_spec.specs.Looking.{LooksAt}
-use Rattle.node_spec.specs.Some.{some_answer}
+use Rattle.node_spec.proofs.SomeAnswer.{some_answer}
 use Rattle.layout_spec.specs.declared.Need.{Need}
 use Rattle.layout_spec.proofs.Contained.{contains_here, contains_there, contains_cases, contains_none}
 use Rattle.generator_spec.specs.declared.RequestRefusal.{RequestRefusal}

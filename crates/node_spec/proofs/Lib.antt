@@ -1,1 +1,13 @@
+pub mod OneAnswer
+pub mod SomeAnswer
+pub mod OneRecord
+pub mod OneOutcome
+pub mod PlacesInPackage
+pub mod SomeOutcome
+pub mod AnswersInTurn
+pub mod ConditionSets
+pub mod PatternParts
+pub mod PatternOrder
+pub mod PatternChoice
+pub mod examples
 pub mod RelativeLemmas

@@ -1,74 +1,113 @@
--- One answer.
-use Rattle.std.proofs.Common.{◌≡◌, ℕ, List, Option, refl, sym, ap, ◌∙◌, subst}
-use Rattle.std.specs.FinMap.{get}
-use Rattle.tree_spec.specs.declared.Entry.{Entry}
+-- The laws of Node's side. Each is the contract of a function of this crate.
+--     NamesAreDistinctIn outcome      no object in `exports` and `imports` of the record holds a name twice
+--     IsInPackage out      a place begins with `./`
+--     under_conditions conditions rules      the same rules under other conditions
+--     IsSameSet conditions others      the same names stand in both lists
+--     PartStands asked base trailer      a part that isn't empty stands between the base and the trailer
+use Rattle.std.specs.Prelude.{true, [], ◌≡◌, ℕ, List, Result, IfOk, ⊤, codes, ◌↔◌, ◌<◌, ◌++◌, length, ◌⊎◌}
+use Rattle.std.specs.List.{Contains}
 use Rattle.tree_spec.specs.Trees.{Tree}
-use Rattle.url_spec.specs.FileUrls.{url_path, NamesPath}
-use Rattle.node_spec.specs.Resolution.{Answer, Judges, Joins, Resolves}
-use Rattle.node_spec.specs.Resolution.Judges.{separator, folder, nameless, absent, no_folder, file}
-use Rattle.node_spec.specs.Resolution.Joins.{no_url, other_host, joined}
-use Rattle.node_spec.specs.Resolution.Resolves.{relative}
+use Rattle.json_spec.specs.Value.{HasDistinctNames, Json}
+use Rattle.url_spec.specs.Specifiers.{is_relative, begins}
+use Rattle.node_spec.specs.BareCalls.{Alike, IsSame, answers_of, Tells, AnswersBehind, TellsBehind}
+use Rattle.node_spec.specs.PackageTargets.{Rules, Call, ResolvesTarget, Answers, ResolvesUnder}
+use Rattle.node_spec.specs.PatternKeys.{IsPattern, FitsPattern, KeyMatch, Matches, Precedes, IsChoice, MatchesNone}
+use Rattle.node_spec.specs.Records.{Record, RecordFault, ReadsRecord}
+use Rattle.node_spec.specs.Resolution.{Answer, Resolves}
+use Rattle.node_spec.specs.declared.BareAnswer.{BareAnswer}
+use Rattle.node_spec.specs.declared.Outcome.{Outcome}
+use Rattle.node_spec.specs.declared.Outcome.TheVariants.{Undefined, Null, Place, Bare, Stopped, InvalidTarget, InvalidSpecifier, InvalidConfig}
 
 -- own law: a specifier in a file of a tree has one answer at most
 abbrev pub OneAnswer : Type 0
 OneAnswer = (tree : Tree) (parent specifier : List ℕ) (some other : Answer) → Resolves tree parent specifier some → Resolves tree parent specifier other → some ≡ other
 
--- a file URL names one path
-same_path : (url path other : List ℕ) → NamesPath (url_path url) path → NamesPath (url_path url) other → path ≡ other
-same_path url path other a b = a.spelled ∙ sym b.spelled
+-- own law: in each tree a relative specifier has an answer
+abbrev pub SomeAnswer : Type 0
+SomeAnswer = (tree : Tree) (parent specifier : List ℕ) → is_relative specifier ≡ true → (answer : Answer) × Resolves tree parent specifier answer
 
--- what stands at one path is one thing
-same_entry : (tree : Tree) (url path other : List ℕ) (x y : Option Entry) → NamesPath (url_path url) path → NamesPath (url_path url) other → get tree path ≡ x → get tree other ≡ y → x ≡ y
-same_entry tree url path other x y a b p q = sym p ∙ (ap (get tree) (same_path url path other a b) ∙ q)
+-- own law: the bytes of a package.json have one record, or one reason for having none
+abbrev pub OneRecord : Type 0
+OneRecord = (bytes : List ℕ) (some other : Result Record RecordFault) → ReadsRecord bytes some → ReadsRecord bytes other → some ≡ other
 
-pub one_judgement : (tree : Tree) (url : List ℕ) (some other : Answer) → Judges tree url some → Judges tree url other → some ≡ other
-one_judgement tree url some other (separator a) (separator b) = refl
-one_judgement tree url some other (separator a) (folder p n e) = absurd (let f = n.no_separator in cc)
-one_judgement tree url some other (separator a) (nameless f n) = absurd (cc)
-one_judgement tree url some other (separator a) (absent p n e) = absurd (let f = n.no_separator in cc)
-one_judgement tree url some other (separator a) (no_folder p bytes n e s) = absurd (let f = n.no_separator in cc)
-one_judgement tree url some other (separator a) (file p bytes n e s) = absurd (let f = n.no_separator in cc)
-one_judgement tree url some other (folder p n e) (separator b) = absurd (let f = n.no_separator in cc)
-one_judgement tree url some other (folder p n e) (folder q m f) = refl
-one_judgement tree url some other (folder p n e) (nameless f m) = absurd (m p n)
-one_judgement tree url some other (folder p n e) (absent q m f) = absurd (let s = same_entry tree url p q _ _ n m e f in cc)
-one_judgement tree url some other (folder p n e) (no_folder q bytes m f s) = absurd (let t = same_entry tree url p q _ _ n m e f in cc)
-one_judgement tree url some other (folder p n e) (file q bytes m f s) = absurd (let t = same_entry tree url p q _ _ n m e f in cc)
-one_judgement tree url some other (nameless f n) (separator b) = absurd (cc)
-one_judgement tree url some other (nameless f n) (folder q m e) = absurd (n q m)
-one_judgement tree url some other (nameless f n) (nameless g m) = refl
-one_judgement tree url some other (nameless f n) (absent q m e) = refl
-one_judgement tree url some other (nameless f n) (no_folder q bytes m e s) = refl
-one_judgement tree url some other (nameless f n) (file q bytes m e s) = absurd (n q m)
-one_judgement tree url some other (absent p n e) (separator b) = absurd (let f = n.no_separator in cc)
-one_judgement tree url some other (absent p n e) (folder q m f) = absurd (let t = same_entry tree url p q _ _ n m e f in cc)
-one_judgement tree url some other (absent p n e) (nameless f m) = refl
-one_judgement tree url some other (absent p n e) (absent q m f) = refl
-one_judgement tree url some other (absent p n e) (no_folder q bytes m f s) = refl
-one_judgement tree url some other (absent p n e) (file q bytes m f s) = absurd (let t = same_entry tree url p q _ _ n m e f in cc)
-one_judgement tree url some other (no_folder p bytes n e s) (separator b) = absurd (let f = n.no_separator in cc)
-one_judgement tree url some other (no_folder p bytes n e s) (folder q m f) = absurd (let t = same_entry tree url p q _ _ n m e f in cc)
-one_judgement tree url some other (no_folder p bytes n e s) (nameless f m) = refl
-one_judgement tree url some other (no_folder p bytes n e s) (absent q m f) = refl
-one_judgement tree url some other (no_folder p bytes n e s) (no_folder q others m f t) = refl
-one_judgement tree url some other (no_folder p bytes n e s) (file q others m f t) = absurd (cc)
-one_judgement tree url some other (file p bytes n e s) (separator b) = absurd (let f = n.no_separator in cc)
-one_judgement tree url some other (file p bytes n e s) (folder q m f) = absurd (let t = same_entry tree url p q _ _ n m e f in cc)
-one_judgement tree url some other (file p bytes n e s) (nameless f m) = absurd (m p n)
-one_judgement tree url some other (file p bytes n e s) (absent q m f) = absurd (let t = same_entry tree url p q _ _ n m e f in cc)
-one_judgement tree url some other (file p bytes n e s) (no_folder q others m f t) = absurd (cc)
-one_judgement tree url some other (file p bytes n e s) (file q others m f t) = let same = same_path url p q n m in cc
+-- own law: they have a record, or a reason for having none
+abbrev pub SomeRecord : Type 0
+SomeRecord = (bytes : List ℕ) → (out : Result Record RecordFault) × ReadsRecord bytes out
 
-one_join : (tree : Tree) (parent specifier : List ℕ) (some other : Answer) → Joins tree parent specifier some → Joins tree parent specifier other → some ≡ other
-one_join tree parent specifier some other (no_url e) (no_url f) = refl
-one_join tree parent specifier some other (no_url e) (other_host url f h) = refl
-one_join tree parent specifier some other (no_url e) (joined url b f h judged) = absurd (cc)
-one_join tree parent specifier some other (other_host url e h) (no_url f) = refl
-one_join tree parent specifier some other (other_host url e h) (other_host v f k) = refl
-one_join tree parent specifier some other (other_host url e h) (joined v b f k judged) = absurd (let same : url ≡ v = cc in cc)
-one_join tree parent specifier some other (joined url a e h judged) (no_url f) = absurd (cc)
-one_join tree parent specifier some other (joined url a e h judged) (other_host v f k) = absurd (let same : url ≡ v = cc in cc)
-one_join tree parent specifier some other (joined url a e h judged) (joined v b f k judged_too) = let same : url ≡ v = cc in one_judgement tree url a b judged (subst (λ u. Judges tree u b) (sym same) judged_too)
+abbrev pub NamesAreDistinctIn : Record → Type 0
+NamesAreDistinctIn r = HasDistinctNames r.exports × HasDistinctNames r.imports
 
-pub one_answer : OneAnswer
-one_answer tree parent specifier some other (relative a r joins) (relative b s joins_too) = one_join tree parent specifier a b joins joins_too
+-- own law: no object in `exports` and `imports` holds a name twice
+abbrev pub RecordNamesAreDistinct : Type 0
+RecordNamesAreDistinct = (bytes : List ℕ) (out : Result Record RecordFault) → ReadsRecord bytes out → IfOk out NamesAreDistinctIn
+
+-- own law: a target asks for one list of texts and comes to one outcome, if the same texts in turn get the same answers
+abbrev pub OneOutcome : Type 0
+OneOutcome = (rules : Rules) (target : Json) (asked others : List Call) (some other : Outcome) → ResolvesTarget rules target asked some → ResolvesTarget rules target others other → Alike asked others → IsSame asked others some other
+
+-- own law: the answers in their order determine the texts and the outcome
+abbrev pub AnswersDetermine : Type 0
+AnswersDetermine = (rules : Rules) (target : Json) (asked others : List Call) (some other : Outcome) → ResolvesTarget rules target asked some → ResolvesTarget rules target others other → answers_of asked ≡ answers_of others → IsSame asked others some other
+
+-- own law: under a map from texts to answers a target comes to one outcome
+abbrev pub OneUnder : Type 0
+OneUnder = (answers : Answers) (rules : Rules) (target : Json) (some other : Outcome) → ResolvesUnder answers rules target some → ResolvesUnder answers rules target other → some ≡ other
+
+-- a place begins with `./`
+abbrev pub IsInPackage : Outcome → Type 0
+IsInPackage Undefined = ⊤
+IsInPackage Null = ⊤
+IsInPackage (Place text) = begins text (codes "./") ≡ true
+IsInPackage Bare = ⊤
+IsInPackage Stopped = ⊤
+IsInPackage InvalidTarget = ⊤
+IsInPackage InvalidSpecifier = ⊤
+IsInPackage InvalidConfig = ⊤
+
+-- own law: a target comes to no place but one that begins with `./`
+abbrev pub PlacesInPackage : Type 0
+PlacesInPackage = (rules : Rules) (target : Json) (asked : List Call) (out : Outcome) → ResolvesTarget rules target asked out → IsInPackage out
+
+-- own law: whatever answers bare texts, each target comes to an outcome
+abbrev pub SomeOutcome : Type 0
+SomeOutcome = (answer : List ℕ → BareAnswer) (rules : Rules) (target : Json) → (asked : List Call) × (out : Outcome) × ResolvesTarget rules target asked out × Tells answer asked
+
+-- own law: also what answers one text differently at two places brings each target to an outcome
+abbrev pub SomeOutcomeInTurn : Type 0
+SomeOutcomeInTurn = (answer : AnswersBehind) (rules : Rules) (target : Json) → (asked : List Call) × (out : Outcome) × ResolvesTarget rules target asked out × TellsBehind answer [] asked
+
+-- the same rules under other conditions
+abbrev pub under_conditions : List (List ℕ) → Rules → Rules
+under_conditions conditions rules = record { conditions = conditions; pattern_match = rules.pattern_match; is_imports = rules.is_imports }
+
+-- the same names stand in both lists
+abbrev pub IsSameSet : List (List ℕ) → List (List ℕ) → Type 0
+IsSameSet some other = (name : List ℕ) → Contains some name ↔ Contains other name
+
+-- own law: two lists of conditions that name the same set give one outcome, and ask for the same texts
+abbrev pub ConditionsAreASet : Type 0
+ConditionsAreASet = (other : List (List ℕ)) (rules : Rules) (target : Json) (asked : List Call) (out : Outcome) → IsSameSet rules.conditions other → ResolvesTarget rules target asked out → ResolvesTarget (under_conditions other rules) target asked out
+
+-- the pattern match stands between the pattern base and the pattern trailer and isn't empty
+pub record PartStands (asked base trailer : List ℕ) : Type 0 where
+  pub part : List ℕ
+  pub stands : asked ≡ base ++ (part ++ trailer)
+  pub some : 0 < length part
+
+-- own law: a pattern fits a text exactly where something that isn't empty stands between its base and its trailer
+abbrev pub PatternMatchStands : Type 0
+PatternMatchStands = (asked key base trailer : List ℕ) → IsPattern key base trailer → (FitsPattern asked key base trailer ↔ PartStands asked base trailer)
+
+-- own law: the order among the keys that match is total
+pub record KeysAreInOrder : Type 0 where
+  pub total : (asked key other : List ℕ) (found also : KeyMatch) → Matches asked key found → Matches asked other also → (key ≡ other) ⊎ (Precedes key other ⊎ Precedes other key)
+  pub through : (asked key middle other : List ℕ) (found between also : KeyMatch) → Matches asked key found → Matches asked middle between → Matches asked other also → Precedes key middle → Precedes middle other → Precedes key other
+  pub never_itself : (asked key : List ℕ) (found : KeyMatch) → Matches asked key found → Precedes key key → ⊥
+
+-- own law: among a set of keys one key is chosen, and it matches in one way
+abbrev pub OneChoice : Type 0
+OneChoice = (keys : List (List ℕ)) (asked key other : List ℕ) (found also : KeyMatch) → IsChoice keys asked key found → IsChoice keys asked other also → (key ≡ other) × (found ≡ also)
+
+-- own law: among a set of keys there is a choice, unless none of them matches
+abbrev pub SomeChoice : Type 0
+SomeChoice = (keys : List (List ℕ)) (asked : List ℕ) → ((key : List ℕ) × (found : KeyMatch) × IsChoice keys asked key found) ⊎ MatchesNone keys asked

@@ -2,19 +2,11 @@ pub mod Resolution
 pub mod Looking
 pub mod Records
 pub mod PackageTargets
-pub mod TargetLaws
-pub mod TargetsUnder
-pub mod ConditionSets
-pub mod AnswersInTurn
-pub mod TargetExamples
-pub mod Laws
-pub mod Some
+pub mod BareCalls
 pub mod PatternKeys
-pub mod PatternParts
-pub mod PatternOrder
-pub mod PatternChoice
-pub mod RecordLaws
-pub mod Examples
+pub mod Laws
+pub mod WorkedExamples
+pub mod TargetExamples
 pub mod RecordExamples
 pub mod PatternExamples
 

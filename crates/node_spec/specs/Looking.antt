@@ -1,4 +1,5 @@
 -- What Node's resolution of a specifier looks at.
+--     LooksAt parent specifier path      it looks at this path
 use Rattle.std.specs.Prelude.{◌≡◌, ℕ, false, List, Some}
 use Rattle.url_spec.specs.FileUrls.{names_host, url_path, NamesPath}
 use Rattle.node_spec.specs.Resolution.{joined_url}

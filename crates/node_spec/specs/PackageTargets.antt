@@ -1,21 +1,22 @@
 -- Package targets: what a target in `exports` or `imports` comes to (Node.js, ECMAScript modules: PACKAGE_TARGET_RESOLVE).
---     Resolves rules target asked out      the target comes to out, and asks for these bare texts in this order, each with its answer
+--     ResolvesTarget rules target asked out      the target comes to out, and asks for these bare texts in this order, each with its answer
+--     ResolvesText, ResolvesMembers, ResolvesItems      the same of a string, of the members of an object, of the items of a list
 --     ResolvesUnder answers rules target out      the same where a map answers each text
-use Rattle.std.specs.Prelude.{◌≡◌, ◌==◌, ◌&&◌, ◌||◌, not, ℕ, ◌+◌, ◌*◌, ◌-◌, nat_le, Bool, true, false, List, [], ◌∷◌, ◌++◌, drop, codes, bytes_eq, flat_map, Option, Some, None, is_none, if◌then◌else◌, ⊤}
-use Rattle.std.specs.List.{list_any, list_all, slice_split}
-use Rattle.std.specs.Char.{is_ascii_digit}
-use Rattle.std.specs.Ordering.{nat_cmp}
 use Rattle.std.specs.Cmp.Lexicographic.{slice_cmp}
 use Rattle.std.specs.FinMap.{FinMap, get}
+use Rattle.std.specs.List.{slice_split, list_any}
+use Rattle.std.specs.Ordering.{nat_cmp}
+use Rattle.std.specs.Prelude.{ℕ, Bool, List, Option, ◌==◌, ◌||◌, [], ◌∷◌, codes, bytes_eq, drop, false, Some, None, flat_map, if◌then◌else◌, ◌&&◌, not, is_none, ◌≡◌, true, ◌++◌, ⊤}
 use Rattle.percent_encoding.specs.Percent.{percent_decode}
 use Rattle.url.specs.Input.{lowercase, strip_tabs_and_new_lines}
-use Rattle.json_spec.specs.Value.{Json, a_null, a_bool, a_number, a_text, a_list, an_object, Items, no_items, an_item, Members, no_members, a_member}
+use Rattle.json_spec.specs.PropertyOrder.{is_array_index}
+use Rattle.json_spec.specs.Value.{Members, no_members, a_member, Json, a_null, a_bool, a_number, a_text, a_list, an_object, Items, no_items, an_item}
 use Rattle.url_spec.specs.Parsing.{parse_alone}
 use Rattle.url_spec.specs.Specifiers.{begins}
 use Rattle.node_spec.specs.declared.BareAnswer.{BareAnswer}
 use Rattle.node_spec.specs.declared.BareAnswer.TheVariants as bare_answer
 use Rattle.node_spec.specs.declared.Outcome.{Outcome}
-use Rattle.node_spec.specs.declared.Outcome.TheVariants.{Undefined, Null, Place, Bare, Stopped, InvalidTarget, InvalidSpecifier, InvalidConfig}
+use Rattle.node_spec.specs.declared.Outcome.TheVariants.{Place, InvalidTarget, InvalidSpecifier, Bare, Stopped, Undefined, Null, InvalidConfig}
 
 -- what a target is judged by, beside the package: the names of the conditions, which count as a set, what stands for each `*`
 -- (Node's patternMatch), and whether the target stands in `imports`
@@ -73,21 +74,7 @@ pub data ResolvesText (rules : Rules) (target : List ℕ) : List Call → Outcom
 
 -- ---- objects and lists
 
--- the number that these digits are, behind those that were n
-abbrev pub number_behind : ℕ → List ℕ → ℕ
-number_behind n [] = n
-number_behind n (b ∷ digits) = number_behind (n * 10 + (b - 48)) digits
-
--- no more than one digit, or no leading zero
-abbrev pub has_no_leading_zero : List ℕ → Bool
-has_no_leading_zero [] = false
-has_no_leading_zero (b ∷ []) = true
-has_no_leading_zero (b ∷ c ∷ digits) = not (b == 48)
-
--- an array index: the decimal form of a number below 2^32 - 1 (ECMA-262, 6.1.7)
-unfoldable pub is_array_index : List ℕ → Bool
-is_array_index key = list_all is_ascii_digit key && (has_no_leading_zero key && nat_le (number_behind 0 key) 4294967294)
-
+-- a member's name is an array index
 abbrev pub has_index_key : Members → Bool
 has_index_key no_members = false
 has_index_key (a_member key value more) = is_array_index key || has_index_key more
@@ -122,28 +109,28 @@ abbrev pub last_of : Outcome → Outcome → Outcome
 last_of first rest = if is_undefined rest then first else rest
 
 mutual
-  pub data Resolves (rules : Rules) : Json → List Call → Outcome → Type 0 where
-    text_target : (text : List ℕ) (asked : List Call) (out : Outcome) → ResolvesText rules text asked out → Resolves rules (a_text text) asked out
-    index_key : (members : Members) → has_index_key members ≡ true → Resolves rules (an_object members) [] InvalidConfig
-    object_target : (members : Members) (asked : List Call) (out : Outcome) → has_index_key members ≡ false → ResolvesMembers rules members asked out → Resolves rules (an_object members) asked out
-    empty_list : Resolves rules (a_list no_items) [] Null
-    list_target : (item : Json) (more : Items) (asked : List Call) (out : Outcome) → ResolvesItems rules (an_item item more) asked out → Resolves rules (a_list (an_item item more)) asked out
-    null_target : Resolves rules a_null [] Null
-    bool_target : (b : Bool) → Resolves rules (a_bool b) [] InvalidTarget
-    number_target : (number : List ℕ) → Resolves rules (a_number number) [] InvalidTarget
+  pub data ResolvesTarget (rules : Rules) : Json → List Call → Outcome → Type 0 where
+    text_target : (text : List ℕ) (asked : List Call) (out : Outcome) → ResolvesText rules text asked out → ResolvesTarget rules (a_text text) asked out
+    index_key : (members : Members) → has_index_key members ≡ true → ResolvesTarget rules (an_object members) [] InvalidConfig
+    object_target : (members : Members) (asked : List Call) (out : Outcome) → has_index_key members ≡ false → ResolvesMembers rules members asked out → ResolvesTarget rules (an_object members) asked out
+    empty_list : ResolvesTarget rules (a_list no_items) [] Null
+    list_target : (item : Json) (more : Items) (asked : List Call) (out : Outcome) → ResolvesItems rules (an_item item more) asked out → ResolvesTarget rules (a_list (an_item item more)) asked out
+    null_target : ResolvesTarget rules a_null [] Null
+    bool_target : (b : Bool) → ResolvesTarget rules (a_bool b) [] InvalidTarget
+    number_target : (number : List ℕ) → ResolvesTarget rules (a_number number) [] InvalidTarget
 
   -- the members of an object in their order: the first tried one that isn't undefined
   pub data ResolvesMembers (rules : Rules) : Members → List Call → Outcome → Type 0 where
     no_member : ResolvesMembers rules no_members [] Undefined
     untried : (key : List ℕ) (value : Json) (more : Members) (asked : List Call) (out : Outcome) → is_tried rules.conditions key ≡ false → ResolvesMembers rules more asked out → ResolvesMembers rules (a_member key value more) asked out
-    defined : (key : List ℕ) (value : Json) (more : Members) (asked : List Call) (out : Outcome) → is_tried rules.conditions key ≡ true → Resolves rules value asked out → is_undefined out ≡ false → ResolvesMembers rules (a_member key value more) asked out
-    undefined : (key : List ℕ) (value : Json) (more : Members) (front back : List Call) (out : Outcome) → is_tried rules.conditions key ≡ true → Resolves rules value front Undefined → ResolvesMembers rules more back out → ResolvesMembers rules (a_member key value more) (front ++ back) out
+    defined : (key : List ℕ) (value : Json) (more : Members) (asked : List Call) (out : Outcome) → is_tried rules.conditions key ≡ true → ResolvesTarget rules value asked out → is_undefined out ≡ false → ResolvesMembers rules (a_member key value more) asked out
+    undefined : (key : List ℕ) (value : Json) (more : Members) (front back : List Call) (out : Outcome) → is_tried rules.conditions key ≡ true → ResolvesTarget rules value front Undefined → ResolvesMembers rules more back out → ResolvesMembers rules (a_member key value more) (front ++ back) out
 
   -- the items of a list in their order: the first that isn't passed
   pub data ResolvesItems (rules : Rules) : Items → List Call → Outcome → Type 0 where
     no_item : ResolvesItems rules no_items [] Undefined
-    decided : (item : Json) (more : Items) (asked : List Call) (out : Outcome) → Resolves rules item asked out → is_passed out ≡ false → ResolvesItems rules (an_item item more) asked out
-    passed : (item : Json) (more : Items) (front back : List Call) (first rest : Outcome) → Resolves rules item front first → is_passed first ≡ true → ResolvesItems rules more back rest → ResolvesItems rules (an_item item more) (front ++ back) (last_of first rest)
+    decided : (item : Json) (more : Items) (asked : List Call) (out : Outcome) → ResolvesTarget rules item asked out → is_passed out ≡ false → ResolvesItems rules (an_item item more) asked out
+    passed : (item : Json) (more : Items) (front back : List Call) (first rest : Outcome) → ResolvesTarget rules item front first → is_passed first ≡ true → ResolvesItems rules more back rest → ResolvesItems rules (an_item item more) (front ++ back) (last_of first rest)
 
 -- ---- answers given beforehand
 
@@ -160,4 +147,4 @@ Agrees answers (call ∷ more) = (get answers call.0 ≡ Some call.1) × Agrees 
 pub record ResolvesUnder (answers : Answers) (rules : Rules) (target : Json) (out : Outcome) : Type 0 where
   pub asked : List Call
   pub agrees : Agrees answers asked
-  pub resolves : Resolves rules target asked out
+  pub resolves : ResolvesTarget rules target asked out

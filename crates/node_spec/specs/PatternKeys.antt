@@ -3,9 +3,10 @@
 -- as it has more code units. Whether a text that ends in `/` may be asked for isn't judged here.
 --     Matches asked key found      the key matches the text that is asked for
 --     Precedes key other      of two keys that match, this one goes first
+--     GoesBefore found other      the same, told by how the two keys match
 --     IsChoice keys asked key found      among these keys the one that matches and that no other one that matches precedes
 --     MatchesNone keys asked      none of these keys matches
-use Rattle.std.specs.Prelude.{◌≡◌, ◌≢◌, ◌<◌, ◌≤◌, ◌-◌, ◌⊎◌, ℕ, List, [], ◌∷◌, ◌++◌, length, All, Contains}
+use Rattle.std.specs.Prelude.{◌≢◌, ℕ, List, All, ◌≡◌, ◌∷◌, ◌++◌, ◌≤◌, ◌⊎◌, [], length, ◌-◌, ◌<◌, Contains, ⊤}
 
 -- no `*` stands in the text
 abbrev pub HasNoStar : List ℕ → Type 0
@@ -54,3 +55,10 @@ pub record IsChoice (keys : List (List ℕ)) (asked key : List ℕ) (found : Key
 
 abbrev pub MatchesNone : List (List ℕ) → List ℕ → Type 0
 MatchesNone keys asked = (key : List ℕ) (found : KeyMatch) → Contains keys key → Matches asked key found → ⊥
+
+-- own: the order of keys that match one text, told by how they match: the longer of two keys with one base has its pattern match end earlier
+abbrev pub GoesBefore : KeyMatch → KeyMatch → Type 0
+GoesBefore Itself Itself = ⊥
+GoesBefore Itself (PatternMatch from to) = ⊤
+GoesBefore (PatternMatch from to) Itself = ⊥
+GoesBefore (PatternMatch from to) (PatternMatch other_from other_to) = (other_from < from) ⊎ ((from ≡ other_from) × (to < other_to))

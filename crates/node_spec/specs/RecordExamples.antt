@@ -1,13 +1,8 @@
 -- Worked examples of records.
-use Rattle.std.specs.Prelude.{◌≡◌, ℕ, List, ◌∷◌, codes, replicate, Some, None, Result, Ok, Err}
-use Rattle.std.specs.Char.{encode_utf8}
-use Rattle.std.specs.Str.{is_utf8, chars}
-use Rattle.std.proofs.Common.{refl}
+use Rattle.std.specs.Prelude.{◌∷◌, codes, replicate, Some, None, Ok, Err}
 use Rattle.json_spec.specs.Value.{a_null, a_text, an_object, no_members, a_member}
-use Rattle.json_spec.specs.Grammar.{most_brackets}
-use Rattle.json_spec.proofs.PlainReader.{read_json, json_sound}
+use Rattle.node_spec.specs.Records.{InvalidRecord, DeepRecord, ReadsRecord}
 use Rattle.node_spec.specs.declared.PackageKind.TheVariants.{Module, CommonJs, Unstated}
-use Rattle.node_spec.specs.Records.{Record, RecordFault, InvalidRecord, DeepRecord, record_outcome, after_mark, ReadsRecord, reads_record}
 
 pub record RecordExamples : Type 0 where
   pub module_type : ReadsRecord (codes "{\"type\":\"module\"}") (Ok (record { name = None; kind = Module; main = None; exports = a_null; imports = a_null }))
@@ -27,20 +22,3 @@ pub record RecordExamples : Type 0 where
   pub a_list : ReadsRecord (codes "[]") (Err InvalidRecord)
   pub cut_off : ReadsRecord (codes "{\"name\":") (Err InvalidRecord)
   pub deep : ReadsRecord (replicate 129 91) (Err DeepRecord)
-
-reads : (bytes : List ℕ) (out : Result Record RecordFault) → record_outcome (read_json (after_mark bytes)) ≡ out → ReadsRecord bytes out
-reads bytes out e = rw (← e) (reads_record (read_json (after_mark bytes)) (json_sound (after_mark bytes)))
-
-pub record_examples : RecordExamples
-unfolding most_brackets is_utf8 chars encode_utf8
-record_examples = record {
-  module_type = reads _ _ refl;
-  commonjs_type = reads _ _ refl;
-  other_type = reads _ _ refl;
-  repeated_key = reads _ _ refl;
-  byte_order_mark = reads _ _ refl;
-  two_marks = reads _ _ refl;
-  a_list = reads _ _ refl;
-  cut_off = reads _ _ refl;
-  deep = reads _ _ refl;
-}

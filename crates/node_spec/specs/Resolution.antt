@@ -1,14 +1,16 @@
 -- Node's resolution of a specifier in a parent file (Node.js, ECMAScript modules: resolution algorithm).
 --     Resolves tree parent specifier answer      the answer for a specifier in the file at the path `parent`
-use Rattle.std.specs.Prelude.{◌≡◌, ℕ, Bool, true, false, List, codes, nat_eq, Option, Some, None}
-use Rattle.std.specs.List.{ends_with}
+--     Judges tree url answer      what stands at a file URL
+--     joined_url parent specifier      the URL of a relative specifier in that file
 use Rattle.std.specs.FinMap.{get}
-use Rattle.tree_spec.specs.declared.Entry.TheVariants.{Stored, Directory}
+use Rattle.std.specs.List.{ends_with}
+use Rattle.std.specs.Prelude.{ℕ, List, Bool, codes, nat_eq, ◌≡◌, true, false, Some, None, Option}
 use Rattle.tree_spec.specs.Trees.{Tree}
-use Rattle.url_spec.specs.Parsing.{parse_alone, parse_against}
+use Rattle.tree_spec.specs.declared.Entry.TheVariants.{Stored, Directory}
+use Rattle.url_spec.specs.FileUrls.{url_path, escapes_separator, NamesPath, file_text, names_host}
+use Rattle.url_spec.specs.Parsing.{parse_against, parse_alone}
 use Rattle.url_spec.specs.Specifiers.{is_relative}
 use Rattle.url_spec.specs.Suffixes.{suffix_of}
-use Rattle.url_spec.specs.FileUrls.{file_text, names_host, url_path, escapes_separator, NamesPath}
 use Rattle.node_spec.specs.declared.Cause.{Cause}
 use Rattle.node_spec.specs.declared.Cause.TheVariants.{InvalidSpecifier, NotFound, DirectoryImport}
 

@@ -2,21 +2,12 @@
 //! comes to: definitions and their laws.
 #![tactic(auto)]
 
-ghost use Rattle.node_spec.specs.AnswersInTurn.{SomeOutcomeInTurn};
-ghost use Rattle.node_spec.specs.ConditionSets.{ConditionsAreASet};
-ghost use Rattle.node_spec.specs.Examples.{WorkedExamples};
-ghost use Rattle.node_spec.specs.Laws.{OneAnswer};
-ghost use Rattle.node_spec.specs.PatternChoice.{OneChoice, SomeChoice};
+ghost use Rattle.node_spec.specs.Laws.{SomeOutcomeInTurn, ConditionsAreASet, OneAnswer, OneChoice, SomeChoice, KeysAreInOrder, PatternMatchStands, OneRecord, RecordNamesAreDistinct, SomeRecord, SomeAnswer, AnswersDetermine, OneOutcome, OneUnder, PlacesInPackage, SomeOutcome};
+ghost use Rattle.node_spec.specs.WorkedExamples.{WorkedExamples};
 ghost use Rattle.node_spec.specs.PatternExamples.{PatternExamples};
-ghost use Rattle.node_spec.specs.PatternOrder.{KeysAreInOrder};
-ghost use Rattle.node_spec.specs.PatternParts.{PatternMatchStands};
 ghost use Rattle.node_spec.specs.RelativeResolution.{FindsRelative};
 ghost use Rattle.node_spec.specs.RecordExamples.{RecordExamples};
-ghost use Rattle.node_spec.specs.RecordLaws.{OneRecord, RecordNamesAreDistinct, SomeRecord};
-ghost use Rattle.node_spec.specs.Some.{SomeAnswer};
 ghost use Rattle.node_spec.specs.TargetExamples.{TargetExamples};
-ghost use Rattle.node_spec.specs.TargetLaws.{AnswersDetermine, OneOutcome, OneUnder, PlacesInPackage};
-ghost use Rattle.node_spec.specs.TargetsUnder.{SomeOutcome};
 
 use primitives::Text;
 
@@ -87,13 +78,13 @@ pub enum Outcome {
 }
 
 /// A specifier in a file of a tree has one answer at most.
-#[tactic(auto, using(crate::specs::Laws::one_answer))]
+#[tactic(auto, using(crate::proofs::OneAnswer::one_answer))]
 pub fn one_answer()
     ensures { OneAnswer }
 {}
 
 /// A relative specifier has an answer in each tree.
-#[tactic(auto, using(crate::specs::Some::some_answer))]
+#[tactic(auto, using(crate::proofs::SomeAnswer::some_answer))]
 pub fn some_answer()
     ensures { SomeAnswer }
 {}
@@ -105,19 +96,19 @@ pub fn finds_relative()
 {}
 
 /// The bytes of a package.json have one record, or one reason for having none.
-#[tactic(auto, using(crate::specs::RecordLaws::one_record))]
+#[tactic(auto, using(crate::proofs::OneRecord::one_record))]
 pub fn one_record()
     ensures { OneRecord }
 {}
 
 /// The bytes of a package.json have a record, or a reason for having none.
-#[tactic(auto, using(crate::specs::RecordLaws::some_record))]
+#[tactic(auto, using(crate::proofs::OneRecord::some_record))]
 pub fn some_record()
     ensures { SomeRecord }
 {}
 
 /// No object in a record holds a name twice, at any level.
-#[tactic(auto, using(crate::specs::RecordLaws::record_names_are_distinct))]
+#[tactic(auto, using(crate::proofs::OneRecord::record_names_are_distinct))]
 pub fn record_names_are_distinct()
     ensures { RecordNamesAreDistinct }
 {}
@@ -138,7 +129,7 @@ pub fn one_under()
 {}
 
 /// A target comes to no place but one that begins with `./`.
-#[tactic(auto, using(crate::specs::TargetLaws::places_in_package))]
+#[tactic(auto, using(crate::proofs::PlacesInPackage::places_in_package))]
 pub fn places_in_package()
     ensures { PlacesInPackage }
 {}
@@ -149,31 +140,31 @@ pub fn some_outcome()
 {}
 
 /// Each target comes to an outcome also where one text is answered differently at two places.
-#[tactic(auto, using(crate::specs::AnswersInTurn::some_outcome_in_turn))]
+#[tactic(auto, using(crate::proofs::AnswersInTurn::some_outcome_in_turn))]
 pub fn some_outcome_in_turn()
     ensures { SomeOutcomeInTurn }
 {}
 
 /// Conditions are a set: neither their order nor how often one is named changes an outcome or the texts asked for.
-#[tactic(auto, using(crate::specs::ConditionSets::conditions_are_a_set))]
+#[tactic(auto, using(crate::proofs::ConditionSets::conditions_are_a_set))]
 pub fn conditions_are_a_set()
     ensures { ConditionsAreASet }
 {}
 
 /// Worked examples of targets.
-#[tactic(auto, using(crate::specs::TargetExamples::target_examples))]
+#[tactic(auto, using(crate::proofs::examples::TargetExamples::target_examples))]
 pub fn target_examples()
     ensures { TargetExamples }
 {}
 
 /// Worked examples of records.
-#[tactic(auto, using(crate::specs::RecordExamples::record_examples))]
+#[tactic(auto, using(crate::proofs::examples::RecordExamples::record_examples))]
 pub fn record_examples()
     ensures { RecordExamples }
 {}
 
 /// Worked examples.
-#[tactic(auto, using(crate::specs::Examples::worked_examples))]
+#[tactic(auto, using(crate::proofs::examples::WorkedExamples::worked_examples))]
 pub fn worked_examples()
     ensures { WorkedExamples }
 {}
@@ -184,7 +175,7 @@ pub fn pattern_match_stands()
 {}
 
 /// The order among the keys that match one text is total.
-#[tactic(auto, using(crate::specs::PatternOrder::keys_are_in_order))]
+#[tactic(auto, using(crate::proofs::PatternOrder::keys_are_in_order))]
 pub fn keys_are_in_order()
     ensures { KeysAreInOrder }
 {}
@@ -200,7 +191,7 @@ pub fn some_choice()
 {}
 
 /// Worked examples of keys that are chosen.
-#[tactic(auto, using(crate::specs::PatternExamples::pattern_examples))]
+#[tactic(auto, using(crate::proofs::examples::PatternExamples::pattern_examples))]
 pub fn pattern_examples()
     ensures { PatternExamples }
 {}

@@ -5,7 +5,7 @@ use Rattle.std.specs.Prelude.{◌≡◌, ◌≢◌, ◌⊎◌, ℕ, List, Some, 
 use Rattle.tree_spec.proofs.Insertion.{same_tree, found_or_not, get_here, get_other}
 use Rattle.tree_spec.proofs.PathsAbove.{text_same_or_not, above_or_not, above_is_path, parent_above, above_other, above_by_parent}
 use Rattle.tree_spec.specs.Laws.{PlacingInRoot}
-use Rattle.tree_spec.specs.Paths.{IsAbove, IsPath, IsParent, parent_of, root, further}
+use Rattle.tree_spec.specs.Paths.{IsAbove, IsPath, IsParent, parent_of, further}
 use Rattle.tree_spec.specs.Trees.{Tree, Places, IsTree}
 use Rattle.tree_spec.specs.declared.Entry.{Entry}
 use Rattle.tree_spec.specs.declared.Entry.TheVariants.{Directory}

@@ -4,4 +4,5 @@ pub mod Looks
 pub mod LookAskings
 pub mod Limits
 pub mod Counts
+pub mod States
 pub mod Laws

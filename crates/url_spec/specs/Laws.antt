@@ -1,9 +1,8 @@
 -- The laws of URLs as texts. Each is the contract of a function of this crate.
 --     IsNoStart b      the byte is neither a letter nor one that the URL parser trims or drops
-use Rattle.std.proofs.Common.{◌≡◌, ℕ, List, Some, None, false, [], ◌∷◌, ◌≢◌, ◌<◌, ◌++◌, drop, All, codes, Bool, Option}
+use Rattle.std.specs.Prelude.{◌≡◌, ℕ, List, Some, None, false, [], ◌∷◌, ◌≢◌, ◌<◌, ◌++◌, drop, All, codes, Bool, Option, Ok, nat_eq}
 use Rattle.std.specs.Char.{is_ascii_alphabetic}
 use Rattle.std.specs.List.{ends_with}
-use Rattle.std.specs.Prelude.{Ok, nat_eq}
 use Rattle.std.specs.Str.{IsAscii}
 use Rattle.url.specs.Canonical.{IsCanonical}
 use Rattle.url.specs.Input.{is_c0_control_or_space, is_tab_or_new_line}

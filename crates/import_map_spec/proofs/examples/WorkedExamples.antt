@@ -16,7 +16,7 @@ use Rattle.import_map_spec.proofs.Entries.{insert_again}
 use Rattle.import_map_spec.proofs.WrittenMaps.{ListsAnswer, answered}
 use Rattle.import_map_spec.specs.ParsedMap.{Texts, Addresses, ParsedMap}
 use Rattle.import_map_spec.specs.Parsing.{parsed_map}
-use Rattle.import_map_spec.specs.WorkedExamples.{page, IsExample, ImportExamples, ScopeExamples, ReplacedExamples, scope, FaultExamples, IntegrityExamples, OrderExamples, ByteExamples, WorkedExamples}
+use Rattle.import_map_spec.specs.WorkedExamples.{page, IsExample, ImportExamples, ScopeExamples, ReplacedExamples, FaultExamples, IntegrityExamples, OrderExamples, ByteExamples, WorkedExamples}
 use Rattle.import_map_spec.specs.WrittenMaps.{Lists, map_of_lists, Questions}
 use Rattle.import_map_spec.specs.declared.MapPart.{MapPart}
 

@@ -1,4 +1,4 @@
-use Rattle.node_spec.specs.PatternChoice.{one_choice}
+use Rattle.node_spec.proofs.PatternChoice.{one_choice}
 use Rattle.node_spec.proofs.one_choice.Goals as goal
 
 pub returns : goal.returns

@@ -1,4 +1,4 @@
-use Rattle.node_spec.specs.PatternChoice.{some_choice}
+use Rattle.node_spec.proofs.PatternChoice.{some_choice}
 use Rattle.node_spec.proofs.some_choice.Goals as goal
 
 pub returns : goal.returns

@@ -1,5 +1,5 @@
 use Rattle.std.proofs.Common.{refl, rules}
-use Rattle.node_spec.specs.PatternParts.{no_exact_match}
+use Rattle.node_spec.proofs.PatternParts.{no_exact_match}
 use Rattle.exports_patterns.proofs.KeyLemmas.{is_exact_match, span_of_key}
 use Rattle.exports_patterns.proofs.pattern_keys.exact_match.Goals as goal
 

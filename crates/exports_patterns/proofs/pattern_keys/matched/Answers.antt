@@ -1,4 +1,4 @@
-use Rattle.node_spec.specs.PatternParts.{many_stars}
+use Rattle.node_spec.proofs.PatternParts.{many_stars}
 use Rattle.exports_patterns.proofs.pattern_keys.matched.Goals as goal
 
 pub returns-in-Some-at_star-clause-matches : goal.returns-in-Some-at_star-clause-matches

@@ -1,5 +1,5 @@
 use Rattle.std.proofs.Common.{refl, rules}
-use Rattle.node_spec.specs.PatternParts.{no_pattern_match}
+use Rattle.node_spec.proofs.PatternParts.{no_pattern_match}
 use Rattle.exports_patterns.proofs.KeyLemmas.{is_pattern_match, span_of_pattern}
 use Rattle.exports_patterns.proofs.pattern_keys.pattern_match.Goals as goal
 

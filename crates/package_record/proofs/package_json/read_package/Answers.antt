@@ -1,4 +1,4 @@
-use Rattle.node_spec.specs.RecordLaws.{record_names_are_distinct}
+use Rattle.node_spec.proofs.OneRecord.{record_names_are_distinct}
 use Rattle.package_record.proofs.RecordLemmas.{record_from, object_record, no_object}
 use Rattle.package_record.proofs.package_json.read_package.Goals as goal
 

@@ -1,53 +1,26 @@
--- Worked examples: what the file `/a/main.mjs` gets for a specifier, in each tree in which an entry stands at a path, or nothing does.
-use Rattle.std.specs.Prelude.{◌≡◌, ◌≢◌, ◌≤◌, ◌&&◌, ◌==◌, not, ℕ, Bool, true, false, List, [], ◌∷◌, ◌++◌, length, codes, bytes_eq, Option, Some, None, All}
-use Prim.Native.String.{String}
-use Rattle.std.specs.Char.{encode_utf8}
-use Rattle.std.specs.Str.{is_utf8, chars}
-use Rattle.std.specs.FinMap.{get}
+-- The worked examples of resolution.
 use Rattle.std.proofs.Common.{refl, arith}
 use Rattle.std.proofs.lemmas.Bool.{and_parts, eqb-false, not-true}
 use Rattle.std.proofs.lemmas.List.Elements.{All-nil, All-cons}
 use Rattle.std.proofs.lemmas.Slice.Eq.{bytes_eq-Decides}
 use Rattle.std.proofs.lemmas.Str.{IsUtf8-from_is_utf8}
+use Rattle.std.specs.Char.{encode_utf8}
+use Rattle.std.specs.Prelude.{◌&&◌, ◌==◌, not, ℕ, Bool, true, List, [], ◌∷◌, ◌≡◌, ◌≢◌, All, false, bytes_eq, codes, ◌≤◌, length, ◌++◌, Some}
+use Rattle.std.specs.Str.{is_utf8, chars}
 use Rattle.percent_encoding.specs.Percent.{percent_encode_byte, percent_decode}
 use Rattle.url.proofs.OnLiterals.{url_on_literals}
-use Rattle.tree_spec.specs.declared.Entry.{Entry}
-use Rattle.tree_spec.specs.declared.Entry.TheVariants.{Stored, Directory}
 use Rattle.tree_spec.specs.Paths.{IsSegment, HasDepth, root, child, IsPath}
 use Rattle.tree_spec.specs.Trees.{Tree}
+use Rattle.url_spec.specs.FileUrls.{escapes_separator, spelled_path, NamesPath, names_host, file_text, url_path}
 use Rattle.url_spec.specs.Parsing.{text_of, parse_alone, parse_against}
+use Rattle.url_spec.specs.ServedPaths.{holds_escape}
 use Rattle.url_spec.specs.Specifiers.{is_relative}
 use Rattle.url_spec.specs.WebNames.{escaped}
-use Rattle.url_spec.specs.ServedPaths.{holds_escape}
-use Rattle.url_spec.specs.FileUrls.{file_text, names_host, url_path, escapes_separator, spelled_path, NamesPath}
-use Rattle.node_spec.specs.declared.Cause.TheVariants.{InvalidSpecifier, NotFound, DirectoryImport}
-use Rattle.node_spec.specs.Resolution.{Answer, Resolved, Refused, joined_url, Judges, Resolves}
-use Rattle.node_spec.specs.Resolution.Judges.{separator, folder, absent, no_folder, file}
-use Rattle.node_spec.specs.Resolution.Joins.{other_host, joined}
+use Rattle.node_spec.specs.Resolution.{Answer, joined_url, Judges, Resolves}
+use Rattle.node_spec.specs.Resolution.Joins.{joined, other_host}
+use Rattle.node_spec.specs.Resolution.Judges.{file, separator, folder, absent, no_folder}
 use Rattle.node_spec.specs.Resolution.Resolves.{relative}
-
-abbrev main : List ℕ
-main = codes "/a/main.mjs"
-
-abbrev Gets : String → Option Entry → String → Answer → Type 0
-Gets path found specifier answer = (tree : Tree) → get tree (codes path) ≡ found → Resolves tree main (codes specifier) answer
-
-pub record FileExamples : Type 0 where
-  pub beside : (bytes : List ℕ) → Gets "/a/b.mjs" (Some (Stored bytes)) "./b.mjs" (Resolved (codes "/a/b.mjs") [])
-  pub above : (bytes : List ℕ) → Gets "/c.mjs" (Some (Stored bytes)) "../c.mjs" (Resolved (codes "/c.mjs") [])
-  pub from_root : (bytes : List ℕ) → Gets "/c.mjs" (Some (Stored bytes)) "/c.mjs" (Resolved (codes "/c.mjs") [])
-  pub with_suffix : (bytes : List ℕ) → Gets "/a/b.mjs" (Some (Stored bytes)) "./b.mjs?q#f" (Resolved (codes "/a/b.mjs") (codes "?q#f"))
-  pub with_escape : (bytes : List ℕ) → Gets "/a/b.mjs" (Some (Stored bytes)) "./%62.mjs" (Resolved (codes "/a/b.mjs") [])
-
-pub record RefusedExamples : Type 0 where
-  pub a_folder : Gets "/a/c" (Some Directory) "./c" (Refused DirectoryImport)
-  pub a_folder_with_slash : Gets "/a/c" (Some Directory) "./c/" (Refused DirectoryImport)
-  pub a_file_with_slash : (bytes : List ℕ) → Gets "/a/b.mjs" (Some (Stored bytes)) "./b.mjs/" (Refused NotFound)
-  pub missing : Gets "/a/b.mjs" None "./b.mjs" (Refused NotFound)
-  pub escaped_slash : (tree : Tree) → Resolves tree main (codes "./b%2Fc.mjs") (Refused InvalidSpecifier)
-  pub host : (tree : Tree) → Resolves tree main (codes "//h/c.mjs") (Refused InvalidSpecifier)
-
--- ---- the paths
+use Rattle.node_spec.specs.WorkedExamples.{main, FileExamples, RefusedExamples, WorkedExamples}
 
 abbrev has_no_mark : List ℕ → Bool
 has_no_mark [] = true
@@ -113,9 +86,6 @@ refused_examples = record {
   escaped_slash = λ tree. by_url tree _ (codes "file:///a/b%2Fc.mjs") _ refl refl refl (separator refl);
   host = λ tree. relative _ refl (other_host (codes "file://h/c.mjs") refl refl);
 }
-
-abbrev pub WorkedExamples : Type 0
-WorkedExamples = FileExamples × RefusedExamples
 
 pub worked_examples : WorkedExamples
 worked_examples = (file_examples, refused_examples)

@@ -1,31 +1,18 @@
 -- Conditions are a set: what a target comes to doesn't depend on the order in which they are named, nor on how often.
-use Rattle.std.proofs.Common.{◌≡◌, ◌||◌, ◌↔◌, ℕ, Bool, true, false, List, refl, sym, ap, ◌∙◌}
-use Rattle.std.specs.Prelude.{codes, bytes_eq}
-use Rattle.std.specs.List.{list_any, Contains}
+use Rattle.std.proofs.Common.{◌≡◌, ℕ, true, List, sym, Bool, false, refl, ◌||◌, ap, ◌∙◌}
 use Rattle.std.proofs.lemmas.List.Folds.{list_any_at}
 use Rattle.std.proofs.lemmas.Map.Views.{Contains-from_any}
 use Rattle.std.proofs.lemmas.Slice.Eq.{bytes_eq-Decides}
+use Rattle.std.specs.List.{list_any, Contains}
+use Rattle.std.specs.Prelude.{bytes_eq, codes}
 use Rattle.json_spec.specs.Value.{Json, Items, Members}
-use Rattle.node_spec.specs.declared.Outcome.{Outcome}
-use Rattle.node_spec.specs.PackageTargets.{Rules, Call, ResolvesText, is_tried, Resolves, ResolvesMembers, ResolvesItems}
-use Rattle.node_spec.specs.PackageTargets.ResolvesText.{own_place, bare, no_target}
-use Rattle.node_spec.specs.PackageTargets.Resolves.{text_target, index_key, object_target, empty_list, list_target, null_target, bool_target, number_target}
-use Rattle.node_spec.specs.PackageTargets.ResolvesMembers.{no_member, untried, defined, undefined}
+use Rattle.node_spec.specs.Laws.{IsSameSet, under_conditions, ConditionsAreASet}
+use Rattle.node_spec.specs.PackageTargets.{is_tried, Rules, Call, ResolvesText, ResolvesTarget, ResolvesMembers, ResolvesItems}
 use Rattle.node_spec.specs.PackageTargets.ResolvesItems.{no_item, decided, passed}
-
--- the same rules under other conditions
-abbrev pub under_conditions : List (List ℕ) → Rules → Rules
-under_conditions conditions rules = record { conditions = conditions; pattern_match = rules.pattern_match; is_imports = rules.is_imports }
-
--- the same names stand in both lists
-abbrev pub IsSameSet : List (List ℕ) → List (List ℕ) → Type 0
-IsSameSet some other = (name : List ℕ) → Contains some name ↔ Contains other name
-
--- own law: two lists of conditions that name the same set give one outcome, and ask for the same texts
-abbrev pub ConditionsAreASet : Type 0
-ConditionsAreASet = (other : List (List ℕ)) (rules : Rules) (target : Json) (asked : List Call) (out : Outcome) → IsSameSet rules.conditions other → Resolves rules target asked out → Resolves (under_conditions other rules) target asked out
-
--- ---- a key is tried under both
+use Rattle.node_spec.specs.PackageTargets.ResolvesMembers.{no_member, untried, defined, undefined}
+use Rattle.node_spec.specs.PackageTargets.ResolvesTarget.{text_target, index_key, object_target, empty_list, list_target, null_target, bool_target, number_target}
+use Rattle.node_spec.specs.PackageTargets.ResolvesText.{own_place, bare, no_target}
+use Rattle.node_spec.specs.declared.Outcome.{Outcome}
 
 found_in : (name : List ℕ) (names : List (List ℕ)) → Contains names name → list_any (bytes_eq name) names ≡ true
 found_in name names c = list_any_at (bytes_eq name) names c.0 name c.1 ((bytes_eq-Decides _ _).1 (sym c.2))
@@ -51,7 +38,7 @@ module _ (other : List (List ℕ)) (rules : Rules) (same : IsSameSet rules.condi
   text_under target asked out (no_target e n) = no_target e n
 
   mutual
-    target_under : (target : Json) (asked : List Call) (out : Outcome) → Resolves rules target asked out → Resolves (under_conditions other rules) target asked out
+    target_under : (target : Json) (asked : List Call) (out : Outcome) → ResolvesTarget rules target asked out → ResolvesTarget (under_conditions other rules) target asked out
     target_under target asked out (text_target text _ _ r) = text_target text _ _ (text_under text asked out r)
     target_under target asked out (index_key ms e) = index_key ms e
     target_under target asked out (object_target ms _ _ e r) = object_target ms _ _ e (members_under ms asked out r)

@@ -1,17 +1,19 @@
 -- What a target comes to under answers that a function gives: a way to compute it, and that each target comes to something.
-use Rattle.std.specs.Prelude.{◌≡◌, ℕ, true, List, [], ◌∷◌, ◌++◌, codes, if◌then◌else◌, ⊤, refl}
 use Rattle.std.proofs.Common.{subst}
 use Rattle.std.proofs.lemmas.Bool.{cond_both}
+use Rattle.std.specs.Prelude.{List, [], ◌++◌, ℕ, ◌∷◌, codes, if◌then◌else◌, ◌≡◌, true, refl}
 use Rattle.json_spec.specs.Value.{Json, a_null, a_bool, a_number, a_text, a_list, an_object, Items, no_items, an_item, Members, no_members, a_member}
 use Rattle.url_spec.specs.Specifiers.{begins}
+use Rattle.node_spec.specs.BareCalls.{Tells}
+use Rattle.node_spec.specs.Laws.{SomeOutcome}
+use Rattle.node_spec.specs.PackageTargets.{Call, bare_outcome, Rules, own_outcome, names_package, with_match, is_undefined, is_passed, last_of, has_index_key, is_tried, ResolvesText, ResolvesTarget, ResolvesItems, ResolvesMembers}
+use Rattle.node_spec.specs.PackageTargets.ResolvesItems.{decided, passed, no_item}
+use Rattle.node_spec.specs.PackageTargets.ResolvesMembers.{defined, undefined, no_member, untried}
+use Rattle.node_spec.specs.PackageTargets.ResolvesTarget.{text_target, index_key, object_target, empty_list, list_target, null_target, bool_target, number_target}
+use Rattle.node_spec.specs.PackageTargets.ResolvesText.{own_place, bare, no_target}
 use Rattle.node_spec.specs.declared.BareAnswer.{BareAnswer}
 use Rattle.node_spec.specs.declared.Outcome.{Outcome}
-use Rattle.node_spec.specs.declared.Outcome.TheVariants.{Undefined, Null, Place, Bare, Stopped, InvalidTarget, InvalidSpecifier, InvalidConfig}
-use Rattle.node_spec.specs.PackageTargets.{Rules, Call, own_outcome, names_package, with_match, bare_outcome, ResolvesText, has_index_key, is_tried, is_undefined, is_passed, last_of, Resolves, ResolvesMembers, ResolvesItems}
-use Rattle.node_spec.specs.PackageTargets.ResolvesText.{own_place, bare, no_target}
-use Rattle.node_spec.specs.PackageTargets.Resolves.{text_target, index_key, object_target, empty_list, list_target, null_target, bool_target, number_target}
-use Rattle.node_spec.specs.PackageTargets.ResolvesMembers.{no_member, untried, defined, undefined}
-use Rattle.node_spec.specs.PackageTargets.ResolvesItems.{no_item, decided, passed}
+use Rattle.node_spec.specs.declared.Outcome.TheVariants.{InvalidTarget, Undefined, Null, InvalidConfig, Place, Bare, Stopped, InvalidSpecifier}
 
 -- the calls, and the outcome
 pub record Found : Type 0 where
@@ -75,17 +77,17 @@ text_found answer rules target =
     cond_both (begins target (codes "./")) _ _ (λ (f : Found). ResolvesText rules target f.asked f.out) (λ e. own_place e)
     (λ e. cond_both (names_package rules.is_imports target) _ _ (λ (f : Found). ResolvesText rules target f.asked f.out) (λ n. bare (answer (with_match rules.pattern_match target)) e n) (λ n. no_target e n))
 
-item_found : (rules : Rules) (item : Json) (more : Items) (first rest : Found) → Resolves rules item first.asked first.out → ResolvesItems rules more rest.asked rest.out → ResolvesItems rules (an_item item more) (found_last first rest).asked (found_last first rest).out
+item_found : (rules : Rules) (item : Json) (more : Items) (first rest : Found) → ResolvesTarget rules item first.asked first.out → ResolvesItems rules more rest.asked rest.out → ResolvesItems rules (an_item item more) (found_last first rest).asked (found_last first rest).out
 item_found rules item more first rest r s =
     cond_both (is_passed first.out) _ _ (λ (f : Found). ResolvesItems rules (an_item item more) f.asked f.out) (λ p. passed item more first.asked rest.asked first.out rest.out r p s) (λ p. decided item more first.asked first.out r p)
 
-member_found : (rules : Rules) (key : List ℕ) (value : Json) (more : Members) (first rest : Found) → is_tried rules.conditions key ≡ true → Resolves rules value first.asked first.out → ResolvesMembers rules more rest.asked rest.out → ResolvesMembers rules (a_member key value more) (found_first first rest).asked (found_first first rest).out
+member_found : (rules : Rules) (key : List ℕ) (value : Json) (more : Members) (first rest : Found) → is_tried rules.conditions key ≡ true → ResolvesTarget rules value first.asked first.out → ResolvesMembers rules more rest.asked rest.out → ResolvesMembers rules (a_member key value more) (found_first first rest).asked (found_first first rest).out
 member_found rules key value more first rest t r s =
     cond_both (is_undefined first.out) _ _ (λ (f : Found). ResolvesMembers rules (a_member key value more) f.asked f.out)
-    (λ u. undefined key value more first.asked rest.asked rest.out t (subst (λ o. Resolves rules value first.asked o) (undefined_from first.out u) r) s) (λ u. defined key value more first.asked first.out t r u)
+    (λ u. undefined key value more first.asked rest.asked rest.out t (subst (λ o. ResolvesTarget rules value first.asked o) (undefined_from first.out u) r) s) (λ u. defined key value more first.asked first.out t r u)
 
 mutual
-  pub sound : (answer : List ℕ → BareAnswer) (rules : Rules) (target : Json) → Resolves rules target (found answer rules target).asked (found answer rules target).out
+  pub sound : (answer : List ℕ → BareAnswer) (rules : Rules) (target : Json) → ResolvesTarget rules target (found answer rules target).asked (found answer rules target).out
   sound answer rules a_null = null_target
   sound answer rules (a_bool b) = bool_target b
   sound answer rules (a_number number) = number_target number
@@ -93,7 +95,7 @@ mutual
   sound answer rules (a_list no_items) = empty_list
   sound answer rules (a_list (an_item item more)) = list_target item more _ _ (item_found rules item more (found answer rules item) (found_items answer rules more) (sound answer rules item) (sound_items answer rules more))
   sound answer rules (an_object ms) =
-      cond_both (has_index_key ms) _ _ (λ (f : Found). Resolves rules (an_object ms) f.asked f.out) (λ e. index_key ms e) (λ e. object_target ms _ _ e (sound_members answer rules ms))
+      cond_both (has_index_key ms) _ _ (λ (f : Found). ResolvesTarget rules (an_object ms) f.asked f.out) (λ e. index_key ms e) (λ e. object_target ms _ _ e (sound_members answer rules ms))
 
   pub sound_items : (answer : List ℕ → BareAnswer) (rules : Rules) (vs : Items) → ResolvesItems rules vs (found_items answer rules vs).asked (found_items answer rules vs).out
   sound_items answer rules no_items = no_item
@@ -105,12 +107,6 @@ mutual
       cond_both (is_tried rules.conditions key) _ _ (λ (f : Found). ResolvesMembers rules (a_member key value more) f.asked f.out)
       (λ t. member_found rules key value more (found answer rules value) (found_members answer rules more) t (sound answer rules value) (sound_members answer rules more))
       (λ t. untried key value more _ _ t (sound_members answer rules more))
-
--- ---- and each call has the function's answer
-
-abbrev pub Tells : (List ℕ → BareAnswer) → List Call → Type 0
-Tells answer [] = ⊤
-Tells answer (call ∷ more) = (call.1 ≡ answer call.0) × Tells answer more
 
 tells_both : (answer : List ℕ → BareAnswer) (front back : List Call) → Tells answer front → Tells answer back → Tells answer (front ++ back)
 tells_both answer [] back t u = u
@@ -142,10 +138,6 @@ mutual
   told_members answer rules (a_member key value more) =
       cond_both (is_tried rules.conditions key) _ _ (λ (f : Found). Tells answer f.asked)
       (λ t. told_first answer (found answer rules value) (found_members answer rules more) (told answer rules value) (told_members answer rules more)) (λ t. told_members answer rules more)
-
--- own law: whatever answers bare texts, each target comes to an outcome
-abbrev pub SomeOutcome : Type 0
-SomeOutcome = (answer : List ℕ → BareAnswer) (rules : Rules) (target : Json) → (asked : List Call) × (out : Outcome) × Resolves rules target asked out × Tells answer asked
 
 pub some_outcome : SomeOutcome
 some_outcome answer rules target = let f = found answer rules target in (f.asked, f.out, sound answer rules target, told answer rules target)

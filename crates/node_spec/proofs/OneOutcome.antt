@@ -1,25 +1,17 @@
 -- One outcome of a target, and one list of texts that it asks for.
-use Rattle.std.proofs.Common.{◌≡◌, ◌++◌, ℕ, Bool, true, false, List, [], ◌∷◌, Option, Some, None, refl, sym, ap, ◌∙◌, subst, map}
-use Rattle.std.specs.Prelude.{⊤, codes}
+use Rattle.std.proofs.Common.{◌++◌, List, [], ◌∷◌, refl, sym, ap, ◌∙◌, subst, ◌≡◌, Bool, true, false, ℕ, Some}
+use Rattle.std.proofs.lemmas.Bool.{true≢false}
 use Rattle.std.specs.FinMap.{get}
-use Rattle.std.proofs.lemmas.Bool.{true≢false, and_parts, eqb-true, cond_both}
 use Rattle.json_spec.specs.Value.{Json, Items, Members}
-use Rattle.url_spec.specs.Specifiers.{begins}
-use Rattle.node_spec.specs.declared.BareAnswer.{BareAnswer}
-use Rattle.node_spec.specs.declared.BareAnswer.TheVariants as bare_answer
-use Rattle.node_spec.specs.declared.Outcome.{Outcome}
-use Rattle.node_spec.specs.declared.Outcome.TheVariants.{Undefined, Null, Place, Bare, Stopped, InvalidTarget, InvalidSpecifier, InvalidConfig}
-use Rattle.node_spec.specs.PackageTargets.{Rules, Call, leaves_package, is_invalid_match, with_match, own_outcome, bare_outcome, ResolvesText, is_undefined, is_passed, last_of, Resolves, ResolvesMembers, ResolvesItems, Answers, Agrees, ResolvesUnder}
-use Rattle.node_spec.specs.PackageTargets.ResolvesText.{own_place, bare, no_target}
-use Rattle.node_spec.specs.PackageTargets.Resolves.{text_target, index_key, object_target, empty_list, list_target, null_target, bool_target, number_target}
-use Rattle.node_spec.specs.PackageTargets.ResolvesMembers.{no_member, untried, defined, undefined}
+use Rattle.node_spec.specs.BareCalls.{Alike, IsSame, answers_of}
+use Rattle.node_spec.specs.Laws.{OneOutcome, AnswersDetermine, OneUnder}
+use Rattle.node_spec.specs.PackageTargets.{Call, last_of, Rules, with_match, bare_outcome, ResolvesText, is_undefined, is_passed, ResolvesTarget, ResolvesMembers, ResolvesItems, Answers, Agrees}
 use Rattle.node_spec.specs.PackageTargets.ResolvesItems.{no_item, decided, passed}
-
--- two lists of calls with the same answers, for as long as they ask for the same texts
-abbrev pub Alike : List Call → List Call → Type 0
-Alike [] b = ⊤
-Alike (x ∷ a) [] = ⊤
-Alike (x ∷ a) (y ∷ b) = x.0 ≡ y.0 → (x.1 ≡ y.1) × Alike a b
+use Rattle.node_spec.specs.PackageTargets.ResolvesMembers.{no_member, untried, defined, undefined}
+use Rattle.node_spec.specs.PackageTargets.ResolvesTarget.{text_target, index_key, object_target, empty_list, list_target, null_target, bool_target, number_target}
+use Rattle.node_spec.specs.PackageTargets.ResolvesText.{own_place, bare, no_target}
+use Rattle.node_spec.specs.declared.Outcome.{Outcome}
+use Rattle.node_spec.specs.declared.Outcome.TheVariants.{Undefined}
 
 front_alike : (a b c : List Call) → Alike (a ++ c) b → Alike a b
 front_alike [] b c h = tt
@@ -34,10 +26,6 @@ other_front_alike (x ∷ a) (y ∷ b) c h = λ e. ((h e).0, other_front_alike a 
 back_alike : (front a b : List Call) → Alike (front ++ a) (front ++ b) → Alike a b
 back_alike [] a b h = h
 back_alike (x ∷ front) a b h = back_alike front a b (h refl).1
-
-pub record IsSame (a b : List Call) (x y : Outcome) : Type 0 where
-  pub calls : a ≡ b
-  pub outcome : x ≡ y
 
 same : (a : List Call) (x : Outcome) → IsSame a a x x
 same a x = record { calls = refl; outcome = refl }
@@ -73,7 +61,7 @@ one_text rules target a b x y (no_target e m) (bare answer f n) alike = absurd (
 one_text rules target a b x y (no_target e m) (no_target f n) alike = same _ _
 
 mutual
-  one : (rules : Rules) (target : Json) (a b : List Call) (x y : Outcome) → Resolves rules target a x → Resolves rules target b y → Alike a b → IsSame a b x y
+  one : (rules : Rules) (target : Json) (a b : List Call) (x y : Outcome) → ResolvesTarget rules target a x → ResolvesTarget rules target b y → Alike a b → IsSame a b x y
   one rules target a b x y (text_target text _ _ r) (text_target _ _ _ s) alike = one_text rules text a b x y r s alike
   one rules target a b x y (index_key ms e) (index_key _ f) alike = same _ _
   one rules target a b x y (index_key ms e) (object_target _ _ _ f s) alike = absurd (true≢false (sym e ∙ f))
@@ -110,24 +98,13 @@ mutual
   one_item rules items a b x y (passed v more front back first rest r p t) (passed _ _ front' back' first' rest' s q u) alike =
       joined front front' back back' first first' rest rest' (one rules v front front' first first' r s (other_front_alike front front' back' (front_alike front _ back alike))) (one_item rules more back back' rest rest' t u) alike
 
--- own law: a target asks for one list of texts and comes to one outcome, if the same texts in turn get the same answers
-abbrev pub OneOutcome : Type 0
-OneOutcome = (rules : Rules) (target : Json) (asked others : List Call) (some other : Outcome) → Resolves rules target asked some → Resolves rules target others other → Alike asked others → IsSame asked others some other
-
 pub one_outcome : OneOutcome
 one_outcome rules target asked others some other r s alike = one rules target asked others some other r s alike
-
-abbrev pub answers_of : List Call → List BareAnswer
-answers_of asked = map (λ (call : Call). call.1) asked
 
 answers_alike : (a b : List Call) → answers_of a ≡ answers_of b → Alike a b
 answers_alike [] b e = tt
 answers_alike (x ∷ a) [] e = tt
 answers_alike (x ∷ a) (y ∷ b) e = λ same_text. (cc, answers_alike a b cc)
-
--- own law: the answers in their order determine the texts and the outcome
-abbrev pub AnswersDetermine : Type 0
-AnswersDetermine = (rules : Rules) (target : Json) (asked others : List Call) (some other : Outcome) → Resolves rules target asked some → Resolves rules target others other → answers_of asked ≡ answers_of others → IsSame asked others some other
 
 pub answers_determine : AnswersDetermine
 answers_determine rules target asked others some other r s e = one rules target asked others some other r s (answers_alike asked others e)
@@ -137,70 +114,5 @@ agrees_alike answers [] b m n = tt
 agrees_alike answers (x ∷ a) [] m n = tt
 agrees_alike answers (x ∷ a) (y ∷ b) m n = λ same_text. (let found : Some x.1 ≡ Some y.1 = sym m.0 ∙ (ap (get answers) same_text ∙ n.0) in cc, agrees_alike answers a b m.1 n.1)
 
--- own law: under a map from texts to answers a target comes to one outcome
-abbrev pub OneUnder : Type 0
-OneUnder = (answers : Answers) (rules : Rules) (target : Json) (some other : Outcome) → ResolvesUnder answers rules target some → ResolvesUnder answers rules target other → some ≡ other
-
 pub one_under : OneUnder
 one_under answers rules target some other r s = (one rules target r.asked s.asked some other r.resolves s.resolves (agrees_alike answers r.asked s.asked r.agrees s.agrees)).outcome
-
--- a place begins with `./`
-abbrev pub IsInPackage : Outcome → Type 0
-IsInPackage Undefined = ⊤
-IsInPackage Null = ⊤
-IsInPackage (Place text) = begins text (codes "./") ≡ true
-IsInPackage Bare = ⊤
-IsInPackage Stopped = ⊤
-IsInPackage InvalidTarget = ⊤
-IsInPackage InvalidSpecifier = ⊤
-IsInPackage InvalidConfig = ⊤
-
-kept_front : (part : Option (List ℕ)) (target : List ℕ) → begins target (codes "./") ≡ true → begins (with_match part target) (codes "./") ≡ true
-kept_front None target e = e
-kept_front (Some text) [] e = absurd (true≢false (sym e))
-kept_front (Some text) (a ∷ []) e = absurd (true≢false (sym (and_parts _ _ e).1))
-kept_front (Some text) (a ∷ b ∷ rest) e =
-    let first : a ≡ 46 = sym (eqb-true 46 a (and_parts _ _ e).0) in
-    let second : b ≡ 47 = sym (eqb-true 47 b (and_parts _ _ (and_parts _ _ e).1).0) in
-    subst (λ c. begins (with_match (Some text) (c ∷ b ∷ rest)) (codes "./") ≡ true) (sym first) (subst (λ c. begins (with_match (Some text) (46 ∷ c ∷ rest)) (codes "./") ≡ true) (sym second) refl)
-
-own_in_package : (part : Option (List ℕ)) (target : List ℕ) → begins target (codes "./") ≡ true → IsInPackage (own_outcome part target)
-own_in_package part target e =
-    cond_both (leaves_package target) _ _ IsInPackage (λ leaves. tt) (λ stays. cond_both (is_invalid_match part) _ _ IsInPackage (λ invalid. tt) (λ valid. kept_front part target e))
-
-text_in_package : (rules : Rules) (target : List ℕ) (a : List Call) (x : Outcome) → ResolvesText rules target a x → IsInPackage x
-text_in_package rules target a x (own_place e) = own_in_package rules.pattern_match target e
-text_in_package rules target a x (bare bare_answer.Found e n) = tt
-text_in_package rules target a x (bare bare_answer.InvalidTarget e n) = tt
-text_in_package rules target a x (bare bare_answer.Stop e n) = tt
-text_in_package rules target a x (no_target e n) = tt
-
-mutual
-  in_package : (rules : Rules) (target : Json) (a : List Call) (x : Outcome) → Resolves rules target a x → IsInPackage x
-  in_package rules target a x (text_target text _ _ r) = text_in_package rules text a x r
-  in_package rules target a x (index_key ms e) = tt
-  in_package rules target a x (object_target ms _ _ e r) = member_in_package rules ms a x r
-  in_package rules target a x empty_list = tt
-  in_package rules target a x (list_target v more _ _ r) = item_in_package rules _ a x r
-  in_package rules target a x null_target = tt
-  in_package rules target a x (bool_target p) = tt
-  in_package rules target a x (number_target n) = tt
-
-  member_in_package : (rules : Rules) (ms : Members) (a : List Call) (x : Outcome) → ResolvesMembers rules ms a x → IsInPackage x
-  member_in_package rules ms a x no_member = tt
-  member_in_package rules ms a x (untried key v more _ _ e r) = member_in_package rules more a x r
-  member_in_package rules ms a x (defined key v more _ _ e r u) = in_package rules v a x r
-  member_in_package rules ms a x (undefined key v more front back _ e r t) = member_in_package rules more back x t
-
-  item_in_package : (rules : Rules) (vs : Items) (a : List Call) (x : Outcome) → ResolvesItems rules vs a x → IsInPackage x
-  item_in_package rules vs a x no_item = tt
-  item_in_package rules vs a x (decided v more _ _ r d) = in_package rules v a x r
-  item_in_package rules vs a x (passed v more front back first rest r p t) =
-      cond_both (is_undefined rest) first rest IsInPackage (λ none. in_package rules v front first r) (λ some. item_in_package rules more back rest t)
-
--- own law: a target comes to no place but one that begins with `./`
-abbrev pub PlacesInPackage : Type 0
-PlacesInPackage = (rules : Rules) (target : Json) (asked : List Call) (out : Outcome) → Resolves rules target asked out → IsInPackage out
-
-pub places_in_package : PlacesInPackage
-places_in_package rules target asked out r = in_package rules target asked out r

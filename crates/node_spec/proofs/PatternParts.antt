@@ -1,13 +1,12 @@
 -- The parts of a pattern key, and the parts of a text that it matches.
-use Rattle.std.specs.Prelude.{◌≡◌, ◌≢◌, ◌<◌, ◌≤◌, ◌+◌, ◌↔◌, ℕ, List, [], ◌∷◌, ◌++◌, length}
-use Rattle.std.proofs.Common.{refl, sym, ap, ◌∙◌, subst, arith, length-append, append_assoc}
+use Rattle.std.proofs.Common.{refl, arith, sym, ◌∙◌, subst, ap, length-append, append_assoc}
 use Rattle.std.proofs.lemmas.List.{append-nil}
 use Rattle.std.proofs.lemmas.List.Elements.{All-head, All-tail}
+use Rattle.std.specs.Prelude.{◌≡◌, ◌≤◌, ℕ, List, [], ◌∷◌, ◌++◌, length, ◌≢◌, ◌+◌, ◌<◌}
 use mathlib.Core.Logic.{inl, inr}
+use Rattle.node_spec.specs.Laws.{PartStands, PatternMatchStands}
 use Rattle.node_spec.specs.PatternKeys.{HasNoStar, IsPattern, FitsPattern, KeyMatch, Matches}
 use Rattle.node_spec.specs.PatternKeys.Matches.{by_itself, by_pattern}
-
--- ---- texts in parts
 
 -- of two fronts of one text the longer one goes on behind the shorter
 pub between_fronts : (a x b y : List ℕ) → a ++ x ≡ b ++ y → length a ≤ length b → (m : List ℕ) × (b ≡ a ++ m) × (x ≡ m ++ y)
@@ -58,12 +57,6 @@ no_pattern key base trailer p n = no_star_inside base trailer (subst HasNoStar p
 pub pattern_length : (key base trailer : List ℕ) → IsPattern key base trailer → length key ≡ length base + (1 + length trailer)
 pattern_length key base trailer p = let e : length key ≡ length (base ++ 42 ∷ trailer) = ap length p.parts in omega (arith, length-append base (42 ∷ trailer))
 
--- the pattern match stands between the pattern base and the pattern trailer and isn't empty
-pub record PartStands (asked base trailer : List ℕ) : Type 0 where
-  pub part : List ℕ
-  pub stands : asked ≡ base ++ (part ++ trailer)
-  pub some : 0 < length part
-
 nonempty : (text rest front : List ℕ) → text ≡ front ++ rest → text ≢ front → 0 < length rest
 nonempty text [] front e n = absurd (n (e ∙ append-nil front))
 nonempty text (c ∷ rest) front e n = omega arith
@@ -99,10 +92,6 @@ fits_from_part asked key base trailer p s =
       is_longer = λ e. (let l : length asked ≡ length base = ap length e in absurd (omega arith));
       ends = inr ((base ++ s.part, s.stands ∙ sym (append_assoc base s.part trailer)), omega arith);
     }
-
--- own law: a pattern fits a text exactly where something that isn't empty stands between its base and its trailer
-abbrev pub PatternMatchStands : Type 0
-PatternMatchStands = (asked key base trailer : List ℕ) → IsPattern key base trailer → (FitsPattern asked key base trailer ↔ PartStands asked base trailer)
 
 pub pattern_match_stands : PatternMatchStands
 pattern_match_stands asked key base trailer p = (part_of_match asked key base trailer p, fits_from_part asked key base trailer p)

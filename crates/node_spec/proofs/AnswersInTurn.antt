@@ -1,33 +1,22 @@
 -- What a target comes to where each answer may depend on what was asked and answered before it.
---     TellsBehind answer before asked      each of these calls has the answer that is given behind the calls before it
 use Rattle.std.proofs.Common.{◌≡◌, ◌++◌, ℕ, true, List, [], ◌∷◌, refl, sym, subst, append_assoc}
-use Rattle.std.specs.Prelude.{⊤, codes}
 use Rattle.std.proofs.lemmas.Bool.{cases_Bool}
 use Rattle.std.proofs.lemmas.List.{append-nil}
+use Rattle.std.specs.Prelude.{codes}
+use mathlib.Core.Logic.{inl, inr}
 use Rattle.json_spec.specs.Value.{Json, a_null, a_bool, a_number, a_text, a_list, an_object, Items, no_items, an_item, Members, no_members, a_member}
 use Rattle.url_spec.specs.Specifiers.{begins}
-use mathlib.Core.Logic.{inl, inr}
+use Rattle.node_spec.proofs.SomeOutcome.{undefined_from}
+use Rattle.node_spec.specs.BareCalls.{AnswersBehind, TellsBehind}
+use Rattle.node_spec.specs.Laws.{SomeOutcomeInTurn}
+use Rattle.node_spec.specs.PackageTargets.{Rules, Call, names_package, with_match, own_outcome, bare_outcome, ResolvesText, has_index_key, is_tried, is_undefined, is_passed, last_of, ResolvesTarget, ResolvesMembers, ResolvesItems}
+use Rattle.node_spec.specs.PackageTargets.ResolvesItems.{no_item, decided, passed}
+use Rattle.node_spec.specs.PackageTargets.ResolvesMembers.{no_member, untried, defined, undefined}
+use Rattle.node_spec.specs.PackageTargets.ResolvesTarget.{text_target, index_key, object_target, empty_list, list_target, null_target, bool_target, number_target}
+use Rattle.node_spec.specs.PackageTargets.ResolvesText.{own_place, bare, no_target}
 use Rattle.node_spec.specs.declared.BareAnswer.{BareAnswer}
 use Rattle.node_spec.specs.declared.Outcome.{Outcome}
 use Rattle.node_spec.specs.declared.Outcome.TheVariants.{Undefined, Null, InvalidTarget, InvalidConfig}
-use Rattle.node_spec.specs.PackageTargets.{Rules, Call, names_package, with_match, own_outcome, bare_outcome, ResolvesText, has_index_key, is_tried, is_undefined, is_passed, last_of, Resolves, ResolvesMembers, ResolvesItems}
-use Rattle.node_spec.specs.PackageTargets.ResolvesText.{own_place, bare, no_target}
-use Rattle.node_spec.specs.PackageTargets.Resolves.{text_target, index_key, object_target, empty_list, list_target, null_target, bool_target, number_target}
-use Rattle.node_spec.specs.PackageTargets.ResolvesMembers.{no_member, untried, defined, undefined}
-use Rattle.node_spec.specs.PackageTargets.ResolvesItems.{no_item, decided, passed}
-use Rattle.node_spec.specs.TargetsUnder.{undefined_from}
-
--- an answer for each text, behind the calls so far
-abbrev pub AnswersBehind : Type 0
-AnswersBehind = List Call → List ℕ → BareAnswer
-
-abbrev pub TellsBehind : AnswersBehind → List Call → List Call → Type 0
-TellsBehind answer before [] = ⊤
-TellsBehind answer before (call ∷ more) = (call.1 ≡ answer before call.0) × TellsBehind answer (before ++ call ∷ []) more
-
--- own law: also what answers one text differently at two places brings each target to an outcome
-abbrev pub SomeOutcomeInTurn : Type 0
-SomeOutcomeInTurn = (answer : AnswersBehind) (rules : Rules) (target : Json) → (asked : List Call) × (out : Outcome) × Resolves rules target asked out × TellsBehind answer [] asked
 
 module _ (answer : AnswersBehind) (rules : Rules) where
   tells_both : (before front back : List Call) → TellsBehind answer before front → TellsBehind answer (before ++ front) back → TellsBehind answer before (front ++ back)
@@ -58,34 +47,34 @@ module _ (answer : AnswersBehind) (rules : Rules) where
         ]
       ]
 
-  item_comes : (before : List Call) (item : Json) (more : Items) → Comes (Resolves rules item) before → ((later : List Call) → Comes (ResolvesItems rules more) later) → Comes (ResolvesItems rules (an_item item more)) before
+  item_comes : (before : List Call) (item : Json) (more : Items) → Comes (ResolvesTarget rules item) before → ((later : List Call) → Comes (ResolvesItems rules more) later) → Comes (ResolvesItems rules (an_item item more)) before
   item_comes before item more first behind =
       elim (cases_Bool (is_passed first.out)) [
         | inl p ↦ (let rest = behind (before ++ first.asked) in record { asked = first.asked ++ rest.asked; out = last_of first.out rest.out; is = passed item more first.asked rest.asked first.out rest.out first.is p rest.is; tells = tells_both before first.asked rest.asked first.tells rest.tells })
         | inr d ↦ record { asked = first.asked; out = first.out; is = decided item more first.asked first.out first.is d; tells = first.tells }
       ]
 
-  tried_comes : (before : List Call) (key : List ℕ) (value : Json) (more : Members) → is_tried rules.conditions key ≡ true → Comes (Resolves rules value) before → ((later : List Call) → Comes (ResolvesMembers rules more) later) → Comes (ResolvesMembers rules (a_member key value more)) before
+  tried_comes : (before : List Call) (key : List ℕ) (value : Json) (more : Members) → is_tried rules.conditions key ≡ true → Comes (ResolvesTarget rules value) before → ((later : List Call) → Comes (ResolvesMembers rules more) later) → Comes (ResolvesMembers rules (a_member key value more)) before
   tried_comes before key value more t first behind =
       elim (cases_Bool (is_undefined first.out)) [
-        | inl u ↦ (let rest = behind (before ++ first.asked) in record { asked = first.asked ++ rest.asked; out = rest.out; is = undefined key value more first.asked rest.asked rest.out t (subst (λ o. Resolves rules value first.asked o) (undefined_from first.out u) first.is) rest.is; tells = tells_both before first.asked rest.asked first.tells rest.tells })
+        | inl u ↦ (let rest = behind (before ++ first.asked) in record { asked = first.asked ++ rest.asked; out = rest.out; is = undefined key value more first.asked rest.asked rest.out t (subst (λ o. ResolvesTarget rules value first.asked o) (undefined_from first.out u) first.is) rest.is; tells = tells_both before first.asked rest.asked first.tells rest.tells })
         | inr d ↦ record { asked = first.asked; out = first.out; is = defined key value more first.asked first.out t first.is d; tells = first.tells }
       ]
 
   mutual
-    comes : (before : List Call) (target : Json) → Comes (Resolves rules target) before
-    comes before a_null = silently (Resolves rules a_null) before Null null_target
-    comes before (a_bool b) = silently (Resolves rules (a_bool b)) before InvalidTarget (bool_target b)
-    comes before (a_number number) = silently (Resolves rules (a_number number)) before InvalidTarget (number_target number)
-    comes before (a_text text) = comes_as (ResolvesText rules text) (Resolves rules (a_text text)) before (λ asked out r. text_target text asked out r) (text_comes before text)
-    comes before (a_list no_items) = silently (Resolves rules (a_list no_items)) before Null empty_list
+    comes : (before : List Call) (target : Json) → Comes (ResolvesTarget rules target) before
+    comes before a_null = silently (ResolvesTarget rules a_null) before Null null_target
+    comes before (a_bool b) = silently (ResolvesTarget rules (a_bool b)) before InvalidTarget (bool_target b)
+    comes before (a_number number) = silently (ResolvesTarget rules (a_number number)) before InvalidTarget (number_target number)
+    comes before (a_text text) = comes_as (ResolvesText rules text) (ResolvesTarget rules (a_text text)) before (λ asked out r. text_target text asked out r) (text_comes before text)
+    comes before (a_list no_items) = silently (ResolvesTarget rules (a_list no_items)) before Null empty_list
     comes before (a_list (an_item item more)) =
-        comes_as (ResolvesItems rules (an_item item more)) (Resolves rules (a_list (an_item item more))) before (λ asked out r. list_target item more asked out r)
+        comes_as (ResolvesItems rules (an_item item more)) (ResolvesTarget rules (a_list (an_item item more))) before (λ asked out r. list_target item more asked out r)
         (item_comes before item more (comes before item) (λ later. items_come later more))
     comes before (an_object ms) =
         elim (cases_Bool (has_index_key ms)) [
-          | inl e ↦ silently (Resolves rules (an_object ms)) before InvalidConfig (index_key ms e)
-          | inr e ↦ comes_as (ResolvesMembers rules ms) (Resolves rules (an_object ms)) before (λ asked out r. object_target ms asked out e r) (members_come before ms)
+          | inl e ↦ silently (ResolvesTarget rules (an_object ms)) before InvalidConfig (index_key ms e)
+          | inr e ↦ comes_as (ResolvesMembers rules ms) (ResolvesTarget rules (an_object ms)) before (λ asked out r. object_target ms asked out e r) (members_come before ms)
         ]
 
     items_come : (before : List Call) (vs : Items) → Comes (ResolvesItems rules vs) before

@@ -1,19 +1,13 @@
 -- The order among the keys that match one text.
-use Rattle.std.specs.Prelude.{◌≡◌, ◌<◌, ◌-◌, ◌⊎◌, ℕ, List, ◌∷◌, ◌++◌, length, ⊤}
 use Rattle.std.proofs.Common.{refl, sym, ap, ◌∙◌, arith}
 use Rattle.std.proofs.lemmas.Bool.{cases_order}
+use Rattle.std.specs.Prelude.{◌≡◌, ◌-◌, ℕ, List, ◌∷◌, ◌++◌, length, ◌<◌, ◌⊎◌}
 use mathlib.Core.Logic.{inl, inr}
-use Rattle.node_spec.specs.PatternKeys.{KeyMatch, Itself, PatternMatch, Matches, Precedes}
+use Rattle.node_spec.proofs.PatternParts.{same_fronts, same_pattern, no_pattern, pattern_length, part_of_match, part_length}
+use Rattle.node_spec.specs.Laws.{KeysAreInOrder}
+use Rattle.node_spec.specs.PatternKeys.{KeyMatch, PatternMatch, Matches, Precedes, GoesBefore, Itself}
 use Rattle.node_spec.specs.PatternKeys.Matches.{by_itself, by_pattern}
 use Rattle.node_spec.specs.PatternKeys.Precedes.{without_star, by_longer_base, by_longer_key}
-use Rattle.node_spec.specs.PatternParts.{same_fronts, same_pattern, no_pattern, pattern_length, part_of_match, part_length}
-
--- own: the order of keys that match one text, told by how they match: the longer of two keys with one base has its pattern match end earlier
-abbrev pub GoesBefore : KeyMatch → KeyMatch → Type 0
-GoesBefore Itself Itself = ⊥
-GoesBefore Itself (PatternMatch from to) = ⊤
-GoesBefore (PatternMatch from to) Itself = ⊥
-GoesBefore (PatternMatch from to) (PatternMatch other_from other_to) = (other_from < from) ⊎ ((from ≡ other_from) × (to < other_to))
 
 module _ (asked key other : List ℕ) where
   pub precedes_before : (found also : KeyMatch) → Matches asked key found → Matches asked other also → Precedes key other → GoesBefore found also
@@ -105,12 +99,6 @@ pub never_before_itself : (a : KeyMatch) → GoesBefore a a → ⊥
 never_before_itself Itself x = x
 never_before_itself (PatternMatch f t) (inl x) = omega arith
 never_before_itself (PatternMatch f t) (inr x) = omega arith
-
--- own law: the order among the keys that match is total
-pub record KeysAreInOrder : Type 0 where
-  pub total : (asked key other : List ℕ) (found also : KeyMatch) → Matches asked key found → Matches asked other also → (key ≡ other) ⊎ (Precedes key other ⊎ Precedes other key)
-  pub through : (asked key middle other : List ℕ) (found between also : KeyMatch) → Matches asked key found → Matches asked middle between → Matches asked other also → Precedes key middle → Precedes middle other → Precedes key other
-  pub never_itself : (asked key : List ℕ) (found : KeyMatch) → Matches asked key found → Precedes key key → ⊥
 
 total_order : (asked key other : List ℕ) (found also : KeyMatch) → Matches asked key found → Matches asked other also → (found ≡ also) ⊎ (GoesBefore found also ⊎ GoesBefore also found) → (key ≡ other) ⊎ (Precedes key other ⊎ Precedes other key)
 total_order asked key other found also m n (inl e) = inl (same_key asked key other found also m n e)

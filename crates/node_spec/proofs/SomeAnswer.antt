@@ -1,27 +1,23 @@
 -- Each relative specifier has an answer.
-use Rattle.std.specs.Prelude.{◌≡◌, ◌⊎◌, ℕ, Bool, true, false, List, Option, Some, None, IsUtf8}
-use Rattle.std.specs.Str.{is_utf8}
-use Rattle.std.specs.FinMap.{get}
 use Rattle.std.proofs.Common.{refl, subst}
+use Rattle.std.proofs.lemmas.Str.{is_utf8-from_IsUtf8, IsUtf8-from_is_utf8}
+use Rattle.std.specs.FinMap.{get}
+use Rattle.std.specs.Prelude.{ℕ, List, ◌≡◌, Bool, true, false, Option, Some, None, IsUtf8, ◌⊎◌}
+use Rattle.std.specs.Str.{is_utf8}
 use mathlib.Core.Logic.{inl, inr}
-use Rattle.std.proofs.lemmas.Str.{IsUtf8-from_is_utf8, is_utf8-from_IsUtf8}
-use Rattle.tree_spec.specs.declared.Entry.{Entry}
-use Rattle.tree_spec.specs.declared.Entry.TheVariants.{Stored, Directory}
 use Rattle.tree_spec.proofs.DecidedTrees.{path_or_not}
 use Rattle.tree_spec.specs.Paths.{IsPath}
 use Rattle.tree_spec.specs.Trees.{Tree}
-use Rattle.url_spec.specs.FileUrls.{names_host, url_path, escapes_separator, spelled_path, NamesPath}
-use Rattle.url_spec.specs.Specifiers.{is_relative}
+use Rattle.tree_spec.specs.declared.Entry.{Entry}
+use Rattle.tree_spec.specs.declared.Entry.TheVariants.{Stored, Directory}
+use Rattle.url_spec.specs.FileUrls.{url_path, NamesPath, escapes_separator, spelled_path, names_host}
 use Rattle.url_spec.specs.Suffixes.{suffix_of}
-use Rattle.node_spec.specs.declared.Cause.TheVariants.{InvalidSpecifier, NotFound, DirectoryImport}
-use Rattle.node_spec.specs.Resolution.{Answer, Resolved, Refused, is_folder_path, joined_url, Judges, Joins, Resolves}
-use Rattle.node_spec.specs.Resolution.Judges.{separator, folder, nameless, absent, no_folder, file}
-use Rattle.node_spec.specs.Resolution.Joins.{no_url, other_host, joined}
+use Rattle.node_spec.specs.Laws.{SomeAnswer}
+use Rattle.node_spec.specs.Resolution.{Answer, Judges, Resolved, Refused, is_folder_path, joined_url, Joins}
+use Rattle.node_spec.specs.Resolution.Joins.{other_host, joined, no_url}
+use Rattle.node_spec.specs.Resolution.Judges.{folder, absent, no_folder, file, nameless, separator}
 use Rattle.node_spec.specs.Resolution.Resolves.{relative}
-
--- own law: in each tree a relative specifier has an answer
-abbrev pub SomeAnswer : Type 0
-SomeAnswer = (tree : Tree) (parent specifier : List ℕ) → is_relative specifier ≡ true → (answer : Answer) × Resolves tree parent specifier answer
+use Rattle.node_spec.specs.declared.Cause.TheVariants.{NotFound, DirectoryImport, InvalidSpecifier}
 
 abbrev Judged : Tree → List ℕ → Type 0
 Judged tree url = (answer : Answer) × Judges tree url answer

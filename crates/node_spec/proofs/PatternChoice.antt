@@ -1,18 +1,15 @@
 -- Among a set of keys one is the choice, unless none of them matches.
-use Rattle.std.specs.Prelude.{◌≡◌, ◌≢◌, ◌<◌, ◌-◌, ◌⊎◌, ℕ, List, [], ◌∷◌, ◌++◌, length}
-use Rattle.std.proofs.Common.{refl, sym, ap, ◌∙◌, subst, arith, append_assoc}
-use Rattle.std.proofs.lemmas.List.{append-nil, append_cancel_left, append_cancel_right}
-use Rattle.std.proofs.lemmas.List.Elements.{All-nil, All-cons, Contains-push, Contains-push_cases, Contains-append_left}
+use Rattle.std.proofs.Common.{sym, subst, ap, refl, ◌∙◌, arith, append_assoc}
 use Rattle.std.proofs.lemmas.Bool.{cases_eq}
+use Rattle.std.proofs.lemmas.List.{append_cancel_left, append_cancel_right, append-nil}
+use Rattle.std.proofs.lemmas.List.Elements.{Contains-push, Contains-push_cases, Contains-append_left, All-nil, All-cons}
+use Rattle.std.specs.Prelude.{◌≡◌, ℕ, List, ◌⊎◌, [], ◌∷◌, ◌++◌, ◌≢◌, ◌-◌, length, ◌<◌}
 use mathlib.Core.Logic.{inl, inr}
-use Rattle.node_spec.specs.PatternKeys.{HasNoStar, IsPattern, StartsWith, EndsWith, KeyMatch, Itself, PatternMatch, Matches, Precedes, IsChoice, MatchesNone}
+use Rattle.node_spec.proofs.PatternOrder.{one_match, keys_are_in_order}
+use Rattle.node_spec.proofs.PatternParts.{fits_from_part, no_exact_match, no_pattern_match, many_stars}
+use Rattle.node_spec.specs.Laws.{OneChoice, PartStands, SomeChoice}
+use Rattle.node_spec.specs.PatternKeys.{KeyMatch, Matches, Precedes, IsChoice, MatchesNone, HasNoStar, StartsWith, EndsWith, IsPattern, Itself, PatternMatch}
 use Rattle.node_spec.specs.PatternKeys.Matches.{by_itself, by_pattern}
-use Rattle.node_spec.specs.PatternParts.{PartStands, fits_from_part, no_exact_match, no_pattern_match, many_stars}
-use Rattle.node_spec.specs.PatternOrder.{one_match, keys_are_in_order}
-
--- own law: among a set of keys one key is chosen, and it matches in one way
-abbrev pub OneChoice : Type 0
-OneChoice = (keys : List (List ℕ)) (asked key other : List ℕ) (found also : KeyMatch) → IsChoice keys asked key found → IsChoice keys asked other also → (key ≡ other) × (found ≡ also)
 
 choices_agree : (asked key other : List ℕ) (found also : KeyMatch) → Matches asked key found → Matches asked other also → key ≡ other → (key ≡ other) × (found ≡ also)
 choices_agree asked key other found also m n e = (e, one_match asked key other found also m (subst (λ k. Matches asked k also) (sym e) n))
@@ -156,10 +153,6 @@ module _ (asked key : List ℕ) where
 
 abbrev Chosen : List (List ℕ) → List ℕ → Type 0
 Chosen keys asked = ((key : List ℕ) × (found : KeyMatch) × IsChoice keys asked key found) ⊎ MatchesNone keys asked
-
--- own law: among a set of keys there is a choice, unless none of them matches
-abbrev pub SomeChoice : Type 0
-SomeChoice = (keys : List (List ℕ)) (asked : List ℕ) → ((key : List ℕ) × (found : KeyMatch) × IsChoice keys asked key found) ⊎ MatchesNone keys asked
 
 module _ (keys : List (List ℕ)) (asked key : List ℕ) where
   not_before : (held : List ℕ) (holds : KeyMatch) → Matches asked held holds → (found : KeyMatch) → Matches asked key found → Precedes held key → Precedes key held → ⊥

@@ -1,0 +1,4 @@
+pub mod WorkedExamples
+pub mod TargetExamples
+pub mod RecordExamples
+pub mod PatternExamples
