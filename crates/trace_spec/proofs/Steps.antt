@@ -1,5 +1,5 @@
 -- What one step of a config's rules does: an opening, and a request that goes through its checks.
-use Rattle.std.specs.Prelude.{◌≡◌, ◌≤◌, ◌+◌, ◌&&◌, ℕ, Bool, true, false, List, [], ◌∷◌, ◌++◌, length, Option, Some, None, Result, Ok, Err, unwrap_or, if◌then◌else◌, nat_lt}
+use Rattle.std.specs.Prelude.{◌≡◌, ◌≤◌, ◌+◌, ◌&&◌, ℕ, Bool, true, false, List, [], ◌∷◌, ◌++◌, length, Option, Some, None, option_map, Result, Ok, Err, unwrap_or, if◌then◌else◌, nat_lt}
 use Rattle.std.specs.List.{list_any}
 use Rattle.std.proofs.Common.{refl, sym, ap, ◌∙◌, subst}
 use mathlib.Core.Logic.{inl, inr}
@@ -21,14 +21,14 @@ use Rattle.url_spec.specs.PathTests.{is_served}
 use Rattle.url_spec.proofs.PathTestLemmas.{served_by_test}
 use Rattle.node_spec.specs.Resolution as node
 use Rattle.layout_spec.specs.declared.Need.{Need}
-use Rattle.trace_spec.specs.declared.TraceRefusal.{TraceRefusal}
-use Rattle.trace_spec.specs.declared.TraceRefusal.TheVariants.{RequestNotBuilt, Limit}
+use Rattle.trace_spec.specs.declared.TraceFault.{TraceFault}
+use Rattle.trace_spec.specs.declared.TraceFault.TheVariants.{RequestNotBuilt, Limit}
 use Rattle.trace_spec.specs.Walking.{Referrer, the_page, a_module, Opened}
 use Rattle.trace_spec.specs.Modules.{Config, Module, path_of, web_name, shown, IsServable, served_name, not_folder, file_name}
-use Rattle.trace_spec.specs.Questions.{Question, of_module, of_request, Answer, Trail, within_limit, limited, answers, always, put}
-use Rattle.trace_spec.specs.Checks.{Before, page_opened, module_opened, opens, Wanted, file_wanted, wanted_by, wanted, clashes, with_request, has_room, placed, needed, named, led, followed_by, follows}
-use Rattle.trace_spec.specs.Traces.{trace, refusal_of, traced, requests, specifiers, resolution, module_in, leads}
-use Rattle.trace_spec.specs.Laws.{opening}
+use Rattle.trace_spec.specs.Questions.{Source, Question, of_module, of_request, Answer, Trail, within_limit, limited, answers, always, put}
+use Rattle.trace_spec.specs.Checks.{Before, page_opened, with_source, module_opened, opens, Wanted, file_wanted, wanted_by, wanted, clashes, with_request, has_room, placed, needed, named, led, followed_by, follows}
+use Rattle.trace_spec.specs.Traces.{trace, result_of, traced, source, requests, specifiers, resolution, module_in, leads}
+use Rattle.trace_spec.specs.Laws.{opening, opening_put, no_source}
 
 -- ---- without limits
 
@@ -47,7 +47,7 @@ limited_always sights trail after path answer e = within_is (sights path) trail 
 pub answers_always : (sights : Sights) (trail after : Trail) (question : Question) (answer : Answer question) → answers sights trail question ≡ ends answer after → answer ≡ always sights question
 answers_always sights trail after question answer e = ends_outcome (limited sights) sights (limited_always sights) trail after (put question) answer e
 
-ok_end : (all : Before) (end : Ended (Result Before TraceRefusal) Trail LimitName) → refusal_of end ≡ Ok all → (trail : Trail) × (end ≡ ends (Ok all) trail)
+ok_end : (all : Before) (end : Ended (Result Before TraceFault) Trail LimitName) → result_of end ≡ Ok all → (trail : Trail) × (end ≡ ends (Ok all) trail)
 ok_end all (ends result trail) e = (trail, ap (λ r. ends r trail) e)
 ok_end all (stopped limit trail) e = absurd (cc)
 
@@ -100,19 +100,21 @@ page_opens config before (Some url) opened e =
     let same : opened ≡ record { specifiers = config.entries; after = before } = cc in
     record { specifiers = ap (λ o. o.specifiers) same; after = ap (λ o. o.after) same }
 
-record ModuleOpens (before : Before) (found : Option (List (List ℕ))) (opened : Opened Before) : Type 0 where
-  found_is : found ≡ Some opened.specifiers
-  after : opened.after ≡ before
+record ModuleOpens (before : Before) (found : Option Source) (opened : Opened Before) : Type 0 where
+  found_is : Source
+  is_found : found ≡ Some found_is
+  specifiers : opened.specifiers ≡ found_is.specifiers
+  after : opened.after ≡ with_source before found_is
 
-module_opens : (config : Config) (before : Before) (m : Module) (found : Option (List (List ℕ))) (opened : Opened Before) → module_opened config before m found ≡ Ok opened → ModuleOpens before found opened
+module_opens : (config : Config) (before : Before) (m : Module) (found : Option Source) (opened : Opened Before) → module_opened config before m found ≡ Ok opened → ModuleOpens before found opened
 module_opens config before m None opened e = absurd (cc)
 module_opens config before m (Some some) opened e =
-    let same : opened ≡ record { specifiers = some; after = before } = cc in
-    record { found_is = ap Some (ap (λ o. o.specifiers) (sym same)); after = ap (λ o. o.after) same }
+    let same : opened ≡ record { specifiers = some.specifiers; after = with_source before some } = cc in
+    record { found_is = some; is_found = refl; specifiers = ap (λ o. o.specifiers) same; after = ap (λ o. o.after) same }
 
 pub record Opens (sights : Sights) (config : Config) (before : Before) (referrer : Referrer Module) (opened : Opened Before) : Type 0 where
   pub asks : requests sights config referrer ≡ Some opened.specifiers
-  pub after : opened.after ≡ before
+  pub after : opened.after ≡ opening_put sights before referrer
   pub questions : questions (always sights) (opens config before referrer) ≡ opening referrer
 
 pub opens_is : (sights : Sights) (config : Config) (before : Before) (referrer : Referrer Module) (opened : Opened Before) → outcome (always sights) (opens config before referrer) ≡ Ok opened → Opens sights config before referrer opened
@@ -120,8 +122,24 @@ opens_is sights config before the_page opened e =
     let parts = page_opens config before (served_name config.base config.page (web config.base config.page [])) opened e in
     record { asks = ap Some (sym parts.specifiers); after = parts.after; questions = refl }
 opens_is sights config before (a_module m) opened e =
-    let parts = module_opens config before m (always sights (of_module m.path)) opened e in
-    record { asks = parts.found_is; after = parts.after; questions = refl }
+    let parts = module_opens config before m (source sights m) opened e in
+    record {
+      asks = ap (option_map (λ (s : Source). s.specifiers)) parts.is_found ∙ ap Some (sym parts.specifiers);
+      after = parts.after ∙ ap (λ o. with_source before (unwrap_or o no_source)) (sym parts.is_found);
+      questions = refl;
+    }
+
+-- an opening leaves modules and needs as they are
+pub record Leaves (before after : Before) : Type 0 where
+  pub modules : after.modules ≡ before.modules
+  pub needs : after.needs ≡ before.needs
+
+leaves_by : (sights : Sights) (before : Before) (referrer : Referrer Module) → Leaves before (opening_put sights before referrer)
+leaves_by sights before the_page = record { modules = refl; needs = refl }
+leaves_by sights before (a_module m) = record { modules = refl; needs = refl }
+
+pub opens_leaves : (sights : Sights) (config : Config) (before : Before) (referrer : Referrer Module) (opened : Opened Before) → outcome (always sights) (opens config before referrer) ≡ Ok opened → Leaves before opened.after
+opens_leaves sights config before referrer opened e = subst (Leaves before) (sym (opens_is sights config before referrer opened e).after) (leaves_by sights before referrer)
 
 -- ---- requests
 
@@ -165,14 +183,14 @@ pub record Fits (before : Before) (need : Need) (target : Module) (after : Befor
 placed_parts : (before : Before) (need : Need) (target : Module) (after : Before) → placed before need target ≡ Ok after → (has_room before.modules target ≡ true) × (after ≡ with_request before need target)
 placed_parts before need target after e =
     elim (cases_Bool (has_room before.modules target)) [
-      | inl room ↦ (let f : ◌≡◌ {A = Result Before TraceRefusal} (Ok (with_request before need target)) (Ok after) = sym (cond-true _ (Ok (with_request before need target)) (Err (Limit Modules)) room) ∙ e in (room, (let p : after ≡ with_request before need target = cc in p)))
-      | inr full ↦ absurd (let f : ◌≡◌ {A = Result Before TraceRefusal} (Err (Limit Modules)) (Ok after) = sym (cond-false _ (Ok (with_request before need target)) (Err (Limit Modules)) full) ∙ e in cc)
+      | inl room ↦ (let f : ◌≡◌ {A = Result Before TraceFault} (Ok (with_request before need target)) (Ok after) = sym (cond-true _ (Ok (with_request before need target)) (Err (Limit Modules)) room) ∙ e in (room, (let p : after ≡ with_request before need target = cc in p)))
+      | inr full ↦ absurd (let f : ◌≡◌ {A = Result Before TraceFault} (Err (Limit Modules)) (Ok after) = sym (cond-false _ (Ok (with_request before need target)) (Err (Limit Modules)) full) ∙ e in cc)
     ]
 
-needed_parts : (refusal : TraceRefusal) (before : Before) (need : Need) (target : Module) (after : Before) → needed refusal before need target ≡ Ok after → Fits before need target after
+needed_parts : (refusal : TraceFault) (before : Before) (need : Need) (target : Module) (after : Before) → needed refusal before need target ≡ Ok after → Fits before need target after
 needed_parts refusal before need target after e =
     elim (cases_Bool (list_any (clashes need) before.needs)) [
-      | inl clash ↦ absurd (let f : ◌≡◌ {A = Result Before TraceRefusal} (Err refusal) (Ok after) = sym (cond-true _ (Err refusal) (placed before need target) clash) ∙ e in cc)
+      | inl clash ↦ absurd (let f : ◌≡◌ {A = Result Before TraceFault} (Err refusal) (Ok after) = sym (cond-true _ (Err refusal) (placed before need target) clash) ∙ e in cc)
       | inr clear ↦ (let parts = placed_parts before need target after (sym (cond-false _ (Err refusal) (placed before need target) clear) ∙ e) in record { clear = clear; room = parts.0; is = parts.1 })
     ]
 

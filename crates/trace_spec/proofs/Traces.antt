@@ -1,7 +1,7 @@
 -- The laws of a config's trace, by what its steps do.
-use Rattle.std.specs.Prelude.{◌≡◌, ◌≤◌, ◌<◌, ◌↔◌, ◌&&◌, ◌||◌, ◌⊎◌, not, ℕ, Bool, true, false, List, [], ◌∷◌, ◌++◌, length, map, flat_map, slice_get, Option, Some, None, Result, Ok, Err, unwrap_or, filter_map, bytes_eq, nat_lt, Contains, if◌then◌else◌}
+use Rattle.std.specs.Prelude.{◌≡◌, ◌≤◌, ◌<◌, ◌↔◌, ◌&&◌, ◌||◌, ◌⊎◌, not, ℕ, Bool, true, false, List, [], ◌∷◌, ◌++◌, length, map, flat_map, slice_get, Option, Some, None, option_map, Result, Ok, Err, unwrap_or, filter_map, bytes_eq, nat_lt, Contains, if◌then◌else◌}
 use Rattle.std.specs.List.{list_any}
-use Rattle.std.proofs.Common.{refl, sym, ap, ◌∙◌, subst, arith, length-append}
+use Rattle.std.proofs.Common.{refl, sym, ap, ◌∙◌, subst, arith, length-append, append_assoc, append-nil}
 use mathlib.Core.Logic.{inl, inr}
 use Rattle.std.proofs.lemmas.Bool.{cases_Bool, cond-true, cond-false, true≢false, ltb-true, and_parts}
 use Rattle.std.proofs.lemmas.Slice.Eq.{bytes_eq-Decides}
@@ -19,20 +19,20 @@ use Rattle.url_spec.specs.Specifiers.{is_relative, as_url}
 use Rattle.node_spec.specs.Resolution as node
 use Rattle.layout_spec.specs.declared.Need.{Need}
 use Rattle.layout_spec.specs.Needs.{is_need, NoClash}
-use Rattle.layout_spec.proofs.Contained.{contains_none}
+use Rattle.layout_spec.proofs.Contained.{contains_none, contains_here, contains_there}
 use Rattle.layout_spec.proofs.CountedNeeds.{same_need}
-use Rattle.trace_spec.specs.declared.TraceRefusal.{TraceRefusal}
-use Rattle.trace_spec.specs.declared.TraceRefusal.TheVariants.{Limit}
+use Rattle.trace_spec.specs.declared.TraceFault.{TraceFault}
+use Rattle.trace_spec.specs.declared.TraceFault.TheVariants.{Limit}
 use Rattle.trace_spec.specs.Walking.{Referrer, the_page, a_module, new_modules, Opened}
 use Rattle.trace_spec.specs.Levels.{Reached, page, requested}
 use Rattle.trace_spec.specs.FirstRefusals.{Failure, refused, halted, failed, AllPassed, FirstFailure}
 use Rattle.trace_spec.specs.Modules.{Config, Module, is_module, path_of, web_name, IsServable, file_name}
-use Rattle.trace_spec.specs.Questions.{Question, of_request, Answer, Trail, answers, always}
+use Rattle.trace_spec.specs.Questions.{Source, Question, of_request, Answer, Trail, answers, always}
 use Rattle.trace_spec.specs.Checks.{Before, opens, follows, clashes, with_need, with_request, has_room, begun, rules}
-use Rattle.trace_spec.specs.Traces.{trace, refusal_of, traced, requests, specifiers, resolution, module_in, leads, targets, Reachable}
-use Rattle.trace_spec.specs.Laws.{HasLevels, IsWhatIsReached, ModulesOnce, FewModules, refusal_by, IsFirst, Decides, FirstRefusalDecides, Request, requests_in_order, no_module, target_of, need_of, all_put, opening, asked_in, visits_of, InOrder, GoesInOrder, Passes, AllPass, RequestsPass, IsNeed, NeedsAre, NeedsAreRequests}
+use Rattle.trace_spec.specs.Traces.{trace, result_of, traced, source, requests, specifiers, resolution, module_in, leads, targets, Reachable}
+use Rattle.trace_spec.specs.Laws.{HasLevels, IsWhatIsReached, ModulesOnce, FewModules, refusal_by, IsFirst, Decides, FirstRefusalDecides, Request, no_module, no_source, target_of, need_of, requests_put, opening_put, visits_put, opening, asked_in, visits_of, InOrder, GoesInOrder, Passes, AllPass, RequestsPass, IsNeed, NeedsAre, NeedsAreRequests}
 use Rattle.trace_spec.proofs.Lists.{none_by_test, same_module, AreOnce, new_module, once_more}
-use Rattle.trace_spec.proofs.Steps.{answers_always, traced_outcome, file_name_parts, Opens, opens_is, Wants, Fits, Follows, follows_is}
+use Rattle.trace_spec.proofs.Steps.{answers_always, traced_outcome, file_name_parts, Opens, opens_is, Leaves, opens_leaves, Wants, Fits, Follows, follows_is}
 use Rattle.trace_spec.proofs.WalkModules.{LeadsBy, walk_has_levels, walk_is_reached}
 use Rattle.trace_spec.proofs.WalkOrder.{all_in, PutsBy, walk_in_order}
 use Rattle.trace_spec.proofs.WalkRefusals.{Grows, KeepsFew, walk_where_all_pass, walk_fails_first, walk_few}
@@ -47,7 +47,7 @@ module _ (sights : Sights) (config : Config) where
   lead : LeadsBy (always sights) (rules config) (specifiers sights config) (leads sights config)
   lead = record {
     starts = refl;
-    opens = λ before referrer opened e. let is = opens_is sights config before referrer opened e in (sym (ap (λ o. unwrap_or o []) is.asks), ap (λ b. b.modules) is.after);
+    opens = λ before referrer opened e. let is = opens_is sights config before referrer opened e in (sym (ap (λ o. unwrap_or o []) is.asks), (opens_leaves sights config before referrer opened e).modules);
     follows = λ before referrer specifier after e.
         let is = follows_is sights config before referrer specifier after e in
         (is.target, leads_there referrer specifier is.target is.wants.relative is.answers, ap (λ b. b.modules) is.fits.is);
@@ -73,8 +73,8 @@ module _ (sights : Sights) (config : Config) where
   keep_few = record {
     starts = refl;
     opens = λ before state referrer opened after e.
-        let is = opens_is sights config before referrer opened (sym (ends_outcome (answers sights) (always sights) (answers_always sights) state after (opens config before referrer) (Ok opened) e)) in
-        subst (Grows (answers sights) (rules config) tt before) (sym is.after) (record { few = λ few. few; longer = omega arith });
+        let is = opens_leaves sights config before referrer opened (sym (ends_outcome (answers sights) (always sights) (answers_always sights) state after (opens config before referrer) (Ok opened) e)) in
+        record { few = λ few. subst (λ ms. length ms ≤ limit_number Modules) (sym is.modules) few; longer = omega (arith, ap length is.modules) };
     follows = λ before state referrer specifier after later e.
         let is = follows_is sights config before referrer specifier after (sym (ends_outcome (answers sights) (always sights) (answers_always sights) state later (follows config before referrer specifier) (Ok after) e)) in
         grows_by before after _ is.target is.fits;
@@ -100,7 +100,7 @@ module _ (sights : Sights) (config : Config) where
   target_is : (before : Before) (referrer : Referrer Module) (specifier : List ℕ) (after : Before) (is : Follows sights config before referrer specifier after) → target_of sights config (request_of referrer specifier) ≡ is.target
   target_is before referrer specifier after is = ap (λ o. unwrap_or o no_module) (leads_there referrer specifier is.target is.wants.relative is.answers)
 
-  put_in : PutsBy (always sights) (rules config) (specifiers sights config) (leads sights config) opening (λ referrer. of_request (path_of config referrer)) put_request request_of
+  put_in : PutsBy (always sights) (rules config) (specifiers sights config) (leads sights config) opening (λ referrer. of_request (path_of config referrer)) (opening_put sights) put_request request_of
   put_in = record {
     opens = λ before referrer opened e. let is = opens_is sights config before referrer opened e in (sym (ap (λ o. unwrap_or o []) is.asks), is.after, is.questions);
     follows = λ before referrer specifier after e.
@@ -109,9 +109,43 @@ module _ (sights : Sights) (config : Config) where
         (same, is.questions);
   }
 
-  all_put_is : (before : Before) (some : List Request) → all_put sights config before some ≡ all_in put_request before some
-  all_put_is before [] = refl
-  all_put_is before (request ∷ more) = all_put_is (put_request before request) more
+  requests_put_is : (referrer : Referrer Module) (some : List (List ℕ)) (before : Before) → requests_put sights config referrer before some ≡ all_in put_request before (map (request_of referrer) some)
+  requests_put_is referrer [] before = refl
+  requests_put_is referrer (specifier ∷ more) before = requests_put_is referrer more (put_request before (request_of referrer specifier))
+
+  abbrev visit_in : Before → Referrer Module → Before
+  visit_in before referrer = all_in put_request (opening_put sights before referrer) (map (request_of referrer) (specifiers sights config referrer))
+
+  visits_put_is : (before : Before) (visits : List (Referrer Module)) → visits_put sights config before visits ≡ all_in visit_in before visits
+  visits_put_is before [] = refl
+  visits_put_is before (referrer ∷ more) =
+      ap (λ b. visits_put sights config b more) (requests_put_is referrer (specifiers sights config referrer) (opening_put sights before referrer)) ∙ visits_put_is (visit_in before referrer) more
+
+  -- requests leave the sources as they are, and a visit puts one there
+  sources_left : (some : List Request) (before : Before) → (all_in put_request before some).sources ≡ before.sources
+  sources_left [] before = refl
+  sources_left (request ∷ more) before = sources_left more (put_request before request)
+
+  abbrev opened_source : Module → Source
+  opened_source m = unwrap_or (source sights m) no_source
+
+  sources_put : (modules : List Module) (before : Before) → (all_in visit_in before (map a_module modules)).sources ≡ before.sources ++ map opened_source modules
+  sources_put [] before = sym (append-nil before.sources)
+  sources_put (m ∷ more) before =
+      sources_put more (visit_in before (a_module m))
+      ∙ (ap (λ ss. ss ++ map opened_source more) (sources_left (map (request_of (a_module m)) (specifiers sights config (a_module m))) (opening_put sights before (a_module m))) ∙ append_assoc before.sources (opened_source m ∷ []) (map opened_source more))
+
+  -- where each module has a source
+  sources_are : (modules : List Module) → ((m : Module) → Contains modules m → (found : Source) × (source sights m ≡ Some found)) → map Some (map opened_source modules) ≡ map (source sights) modules
+  sources_are [] has = refl
+  sources_are (m ∷ more) has =
+      let found = has m (contains_here m more) in
+      let first : Some (opened_source m) ≡ source sights m = ap (λ o. Some (unwrap_or o no_source)) found.1 ∙ sym found.1 in
+      (λ i. first i ∷ sources_are more (λ n c. has n (contains_there n m more c)) i)
+
+  source_by : (m : Module) (some : List (List ℕ)) (found : Option Source) → option_map (λ (s : Source). s.specifiers) found ≡ Some some → (is : Source) × (found ≡ Some is)
+  source_by m some None e = absurd (cc)
+  source_by m some (Some is) e = (is, refl)
 
   -- ---- what holds of the tables
 
@@ -247,10 +281,42 @@ module _ (sights : Sights) (config : Config) where
         is_need = with_need_old before.needs need passes.need passes.is_need;
       })
 
+  of_on : (before after : Before) (need : Need) → Leaves before after → IsOf before need → IsOf after need
+  of_on before after need leaves is = record {
+    referrer = is.referrer;
+    visited = subst (λ ms. IsVisited ms is.referrer) (sym leaves.modules) is.visited;
+    named = is.named;
+    specifier = is.specifier;
+    asks = is.asks;
+    asked_is_file = is.asked_is_file;
+    target = is.target;
+    is_name = is.is_name;
+  }
+
+  stand_on : (before after : Before) → Leaves before after → Stands before → Stands after
+  stand_on before after leaves stands = record {
+    each = λ need c. of_on before after need leaves (stands.each need (subst (λ ns. Contains ns need) leaves.needs c));
+    no_clash = subst NoClash (sym leaves.needs) stands.no_clash;
+    once = subst AreOnce (sym leaves.modules) stands.once;
+  }
+
+  pass_on : (before after : Before) (referrer : Referrer Module) (specifier : List ℕ) → Leaves before after → Passes sights config before referrer specifier → Passes sights config after referrer specifier
+  pass_on before after referrer specifier leaves passes = record {
+    need = passes.need;
+    target = passes.target;
+    named = passes.named;
+    relative = passes.relative;
+    asks = passes.asks;
+    answers = passes.answers;
+    servable = passes.servable;
+    is_need = subst (λ ns. Contains ns passes.need) (sym leaves.needs) passes.is_need;
+  }
+
   keep : Keeps (always sights) (rules config) (specifiers sights config) (leads sights config) lead Stands (λ referrer specifier before. Passes sights config before referrer specifier)
   keep = record {
     starts = record { each = λ need c. absurd (contains_none need c); no_clash = λ one other c d. absurd (contains_none one c); once = λ i j m e f. absurd (cc) };
-    opens = λ before referrer opened e. (opens_is sights config before referrer opened e).after;
+    opens = λ before referrer opened e stands. stand_on before opened.after (opens_leaves sights config before referrer opened e) stands;
+    still = λ before referrer opened e other earlier passes. pass_on before opened.after other earlier (opens_leaves sights config before referrer opened e) passes;
     follows = λ before referrer specifier after visited stands e. stand_more before referrer specifier after visited stands (follows_is sights config before referrer specifier after e);
     leaves = λ before referrer specifier after e. passes_now before referrer specifier after (follows_is sights config before referrer specifier after e);
     stays = λ before referrer specifier after e other earlier passes.
@@ -306,38 +372,45 @@ module _ (sights : Sights) (config : Config) where
 
     in_order : InOrder sights config all
     in_order =
-        let order = walk_in_order (always sights) (rules config) (specifiers sights config) (leads sights config) opening (λ referrer. of_request (path_of config referrer)) put_request request_of lead put_in all whole in
-        record { tables = order.tables ∙ sym (all_put_is begun (requests_in_order sights config (visits_of all))); asked = order.asked }
+        let order = walk_in_order (always sights) (rules config) (specifiers sights config) (leads sights config) opening (λ referrer. of_request (path_of config referrer)) (opening_put sights) put_request request_of lead put_in all whole in
+        let page : Before = visit_in begun the_page in
+        let sources : all.sources ≡ map opened_source all.modules =
+            ap (λ b. b.sources) order.tables ∙ (sources_put all.modules page ∙ ap (λ ss. ss ++ map opened_source all.modules) (sources_left (map (request_of the_page) (specifiers sights config the_page)) begun)) in
+        record {
+          tables = order.tables ∙ sym (visits_put_is begun (visits_of all));
+          sources = ap (map Some) sources ∙ sources_are all.modules (λ m c. let pass = all_pass (a_module m) (end.each m c) in source_by m pass.specifiers (source sights m) pass.asks);
+          asked = order.asked;
+        }
 
   -- ---- the first refusal
 
-  ok_ended : (all : Before) (end : Ended (Result Before TraceRefusal) Trail LimitName) → refusal_of end ≡ Ok all → end ≡ ends (Ok all) tt
+  ok_ended : (all : Before) (end : Ended (Result Before TraceFault) Trail LimitName) → result_of end ≡ Ok all → end ≡ ends (Ok all) tt
   ok_ended all (ends result trail) e = ap (λ r. ends r trail) e
   ok_ended all (stopped limit trail) e = absurd (cc)
 
-  err_ended : (refusal : TraceRefusal) (end : Ended (Result Before TraceRefusal) Trail LimitName) → refusal_of end ≡ Err refusal → (why : Failure TraceRefusal LimitName) × (refusal ≡ refusal_by why) × (end ≡ failed why tt)
+  err_ended : (refusal : TraceFault) (end : Ended (Result Before TraceFault) Trail LimitName) → result_of end ≡ Err refusal → (why : Failure TraceFault LimitName) × (refusal ≡ refusal_by why) × (end ≡ failed why tt)
   err_ended refusal (ends (Ok all) trail) e = absurd (cc)
   err_ended refusal (ends (Err other) trail) e = let p : refusal ≡ other = cc in (refused other, p, refl)
   err_ended refusal (stopped limit trail) e = let p : refusal ≡ Limit limit = cc in (halted limit, p, refl)
 
-  failed_refuses : (why : Failure TraceRefusal LimitName) (trail : Trail) → refusal_of (failed why trail) ≡ Err (refusal_by why)
+  failed_refuses : (why : Failure TraceFault LimitName) (trail : Trail) → result_of {X = Before} (failed why trail) ≡ Err (refusal_by why)
   failed_refuses (refused refusal) trail = refl
   failed_refuses (halted limit) trail = refl
 
-  first_of : (refusal : TraceRefusal) → traced sights config ≡ Err refusal → IsFirst sights config refusal
+  first_of : (refusal : TraceFault) → traced sights config ≡ Err refusal → IsFirst sights config refusal
   first_of refusal e =
       let end = err_ended refusal (evaluated (answers sights) tt (trace config)) e in
       record { why = end.0; shown = end.1; trail = tt; first = (walk_fails_first (answers sights) (rules config) tt keep_few end.0 tt).0 end.2 }
 
-  refusal_from : (refusal : TraceRefusal) → IsFirst sights config refusal → traced sights config ≡ Err refusal
+  refusal_from : (refusal : TraceFault) → IsFirst sights config refusal → traced sights config ≡ Err refusal
   refusal_from refusal first =
-      ap refusal_of ((walk_fails_first (answers sights) (rules config) tt keep_few first.why first.trail).1 first.first) ∙ (failed_refuses first.why first.trail ∙ ap Err (sym first.shown))
+      ap result_of ((walk_fails_first (answers sights) (rules config) tt keep_few first.why first.trail).1 first.first) ∙ (failed_refuses first.why first.trail ∙ ap Err (sym first.shown))
 
   pub decides : Decides sights config
   decides = record {
     passes = λ all. (
       (λ e. (walk_where_all_pass (answers sights) (rules config) tt keep_few all tt).0 (ok_ended all (evaluated (answers sights) tt (trace config)) e)),
-      (λ passed. ap refusal_of ((walk_where_all_pass (answers sights) (rules config) tt keep_few all tt).1 passed)),
+      (λ passed. ap result_of ((walk_where_all_pass (answers sights) (rules config) tt keep_few all tt).1 passed)),
     );
     refuses = λ refusal. (first_of refusal, refusal_from refusal);
   }

@@ -19,7 +19,8 @@ module _ {M B R Q : Type 0} {A : Q → Type 0} (answers : (question : Q) → A q
   -- what holds of the tables is kept; what a request leaves holds from then on
   pub record Keeps : Type 0 where
     pub starts : Holds rules.start
-    pub opens : (before : B) (referrer : Referrer M) (opened : Opened B) → outcome answers (rules.opens before referrer) ≡ Ok opened → opened.after ≡ before
+    pub opens : (before : B) (referrer : Referrer M) (opened : Opened B) → outcome answers (rules.opens before referrer) ≡ Ok opened → Holds before → Holds opened.after
+    pub still : (before : B) (referrer : Referrer M) (opened : Opened B) → outcome answers (rules.opens before referrer) ≡ Ok opened → (other : Referrer M) (earlier : List ℕ) → Leaves other earlier before → Leaves other earlier opened.after
     pub follows : (before : B) (referrer : Referrer M) (specifier : List ℕ) (after : B) → IsVisited (rules.modules before) referrer → Holds before → outcome answers (rules.follows before referrer specifier) ≡ Ok after → Holds after
     pub leaves : (before : B) (referrer : Referrer M) (specifier : List ℕ) (after : B) → outcome answers (rules.follows before referrer specifier) ≡ Ok after → Leaves referrer specifier after
     pub stays : (before : B) (referrer : Referrer M) (specifier : List ℕ) (after : B) → outcome answers (rules.follows before referrer specifier) ≡ Ok after → (other : Referrer M) (earlier : List ℕ) → Leaves other earlier before → Leaves other earlier after
@@ -62,16 +63,19 @@ module _ {M B R Q : Type 0} {A : Q → Type 0} (answers : (question : Q) → A q
       opened : (opened : Opened B) × (outcome answers (rules.opens before referrer) ≡ Ok opened)
       leaves : (specifier : List ℕ) → Contains (specifiers referrer) specifier → Leaves referrer specifier after
 
+    later_then : (before middle after : B) → Later before middle → Later middle after → Later before after
+    later_then before middle after one rest = record { holds = λ h. rest.holds (one.holds h); stays = λ other earlier l. rest.stays other earlier (one.stays other earlier l) }
+
     visit : (referrer : Referrer M) (before after : B) → IsVisited (rules.modules before) referrer → outcome answers (visited rules before referrer) ≡ Ok after → Visit before after referrer
     visit referrer before after is e =
         let parts = ok_parts answers (rules.opens before referrer) (λ opened. followed rules opened.after referrer opened.specifiers) after e in
-        let same = keeps.opens before referrer parts.value parts.first_is in
-        let asks = (by.opens before referrer parts.value parts.first_is).0 in
-        let followed_is : outcome answers (followed rules before referrer parts.value.specifiers) ≡ Ok after = ap (λ b. outcome answers (followed rules b referrer parts.value.specifiers)) (sym same) ∙ parts.next_is in
+        let opened = by.opens before referrer parts.value parts.first_is in
+        let still : IsVisited (rules.modules parts.value.after) referrer = subst (λ ms. IsVisited ms referrer) (sym opened.1) is in
         record {
-          later = followed_later referrer parts.value.specifiers before after is followed_is;
+          later = later_then before parts.value.after after (record { holds = keeps.opens before referrer parts.value parts.first_is; stays = keeps.still before referrer parts.value parts.first_is })
+              (followed_later referrer parts.value.specifiers parts.value.after after still parts.next_is);
           opened = (parts.value, parts.first_is);
-          leaves = λ specifier c. followed_leaves referrer parts.value.specifiers before after is followed_is specifier (subst (λ some. Contains some specifier) (sym asks) c);
+          leaves = λ specifier c. followed_leaves referrer parts.value.specifiers parts.value.after after still parts.next_is specifier (subst (λ some. Contains some specifier) (sym opened.0) c);
         }
 
     -- a referrer was visited over some tables, and its requests left what they leave
@@ -85,9 +89,6 @@ module _ {M B R Q : Type 0} {A : Q → Type 0} (answers : (question : Q) → A q
 
     visit_was : (before after : B) (referrer : Referrer M) → Visit before after referrer → WasVisited after referrer
     visit_was before after referrer v = record { before = before; opened = v.opened; leaves = v.leaves }
-
-    later_then : (before middle after : B) → Later before middle → Later middle after → Later before after
-    later_then before middle after one rest = record { holds = λ h. rest.holds (one.holds h); stays = λ other earlier l. rest.stays other earlier (one.stays other earlier l) }
 
     record Walked (before all : B) (rest : List M) : Type 0 where
       later : Later before all

@@ -16,30 +16,35 @@ use Rattle.node_spec.specs.declared.Cause.TheVariants as cause
 use Rattle.node_spec.specs.Resolution as node
 use Rattle.layout_spec.specs.declared.Need.{Need}
 use Rattle.layout_spec.specs.Needs.{is_need}
-use Rattle.trace_spec.specs.declared.TraceRefusal.{TraceRefusal}
-use Rattle.trace_spec.specs.declared.TraceRefusal.TheVariants.{Unservable, Refused, RequestNotBuilt, ModuleNotBuilt, Limit}
+use Rattle.trace_spec.specs.declared.TraceFault.{TraceFault}
+use Rattle.trace_spec.specs.declared.TraceFault.TheVariants.{Unservable, Refused, RequestNotBuilt, ModuleNotBuilt, Limit}
 use Rattle.trace_spec.specs.Walking.{Referrer, the_page, a_module, new_modules, Opened, Rules}
 use Rattle.trace_spec.specs.Modules.{Config, Module, is_module, path_of, web_name, shown, served_name, file_name}
-use Rattle.trace_spec.specs.Questions.{Question, of_module, of_request, Answer}
+use Rattle.trace_spec.specs.Questions.{Source, Question, of_module, of_request, Answer}
 
--- own: the modules that were asked for and the needs, each once at its first place, and the number of requests
+-- own: the modules that were asked for and the needs, each once at its first place; the sources of those modules that had their visits; and the
+-- number of requests
 pub record Before : Type 0 where
   pub modules : List Module
+  pub sources : List Source
   pub needs : List Need
   pub requests : ℕ
 
 -- ---- what opens a visit
 
 -- own: the page is servable
-abbrev pub page_opened : Config → Before → Option (List ℕ) → Result (Opened Before) TraceRefusal
+abbrev pub page_opened : Config → Before → Option (List ℕ) → Result (Opened Before) TraceFault
 page_opened config before None = Err (Unservable config.page (web config.base config.page []))
 page_opened config before (Some url) = Ok (record { specifiers = config.entries; after = before })
 
-abbrev pub module_opened : Config → Before → Module → Option (List (List ℕ)) → Result (Opened Before) TraceRefusal
-module_opened config before m None = Err (ModuleNotBuilt (shown config (a_module m)))
-module_opened config before m (Some specifiers) = Ok (record { specifiers = specifiers; after = before })
+abbrev pub with_source : Before → Source → Before
+with_source before source = record { modules = before.modules; sources = before.sources ++ source ∷ []; needs = before.needs; requests = before.requests }
 
-abbrev pub opens : Config → Before → Referrer Module → Asking Question Answer (Result (Opened Before) TraceRefusal)
+abbrev pub module_opened : Config → Before → Module → Option Source → Result (Opened Before) TraceFault
+module_opened config before m None = Err (ModuleNotBuilt (shown config (a_module m)))
+module_opened config before m (Some source) = Ok (record { specifiers = source.specifiers; after = with_source before source })
+
+abbrev pub opens : Config → Before → Referrer Module → Asking Question Answer (Result (Opened Before) TraceFault)
 opens config before the_page = answered (page_opened config before (served_name config.base config.page (web config.base config.page [])))
 opens config before (a_module m) = ask (of_module m.path) (λ found. answered (module_opened config before m found))
 
@@ -63,7 +68,7 @@ abbrev pub wanted : Config → Referrer Module → List ℕ → Option Wanted
 wanted config referrer specifier = wanted_by specifier (web_name config referrer)
 
 -- own: of Node's causes one has a line of its own, the others aren't built
-abbrev pub refused_by : Cause → List ℕ → List ℕ → TraceRefusal
+abbrev pub refused_by : Cause → List ℕ → List ℕ → TraceFault
 refused_by cause.Builtin referrer specifier = RequestNotBuilt referrer specifier
 refused_by cause.ExternalUrl referrer specifier = RequestNotBuilt referrer specifier
 refused_by cause.InvalidSpecifier referrer specifier = RequestNotBuilt referrer specifier
@@ -82,39 +87,39 @@ abbrev pub with_need : List Need → Need → List Need
 with_need needs need = if list_any (is_need need) needs then needs else needs ++ need ∷ []
 
 abbrev pub with_request : Before → Need → Module → Before
-with_request before need target = record { modules = before.modules ++ new_modules is_module before.modules (target ∷ []); needs = with_need before.needs need; requests = before.requests + 1 }
+with_request before need target = record { modules = before.modules ++ new_modules is_module before.modules (target ∷ []); sources = before.sources; needs = with_need before.needs need; requests = before.requests + 1 }
 
 -- own: the module is known, or there is room for one more
 abbrev pub has_room : List Module → Module → Bool
 has_room modules target = list_any (is_module target) modules || nat_lt (length modules) (limit_number Modules)
 
-abbrev pub placed : Before → Need → Module → Result Before TraceRefusal
+abbrev pub placed : Before → Need → Module → Result Before TraceFault
 placed before need target = if has_room before.modules target then Ok (with_request before need target) else Err (Limit Modules)
 
-abbrev pub needed : TraceRefusal → Before → Need → Module → Result Before TraceRefusal
+abbrev pub needed : TraceFault → Before → Need → Module → Result Before TraceFault
 needed refusal before need target = if list_any (clashes need) before.needs then Err refusal else placed before need target
 
-abbrev pub named : TraceRefusal → Before → Wanted → Module → Option (List ℕ) → Result Before TraceRefusal
+abbrev pub named : TraceFault → Before → Wanted → Module → Option (List ℕ) → Result Before TraceFault
 named refusal before want target None = Err refusal
 named refusal before want target (Some url) = needed refusal before (record { referrer = want.referrer; asked = want.asked; target = url }) target
 
 -- by Node's answer
-abbrev pub led : Config → Before → Referrer Module → List ℕ → Wanted → node.Answer → Result Before TraceRefusal
+abbrev pub led : Config → Before → Referrer Module → List ℕ → Wanted → node.Answer → Result Before TraceFault
 led config before referrer specifier want (node.Refused why) = Err (refused_by why (shown config referrer) specifier)
 led config before referrer specifier want (node.Resolved path suffix) =
     named (RequestNotBuilt (shown config referrer) specifier) before want (record { path = path; suffix = suffix }) (file_name config (record { path = path; suffix = suffix }))
 
-abbrev pub followed_by : Config → Before → Referrer Module → List ℕ → Option Wanted → Asking Question Answer (Result Before TraceRefusal)
+abbrev pub followed_by : Config → Before → Referrer Module → List ℕ → Option Wanted → Asking Question Answer (Result Before TraceFault)
 followed_by config before referrer specifier None = answered (Err (RequestNotBuilt (shown config referrer) specifier))
 followed_by config before referrer specifier (Some want) = ask (of_request (path_of config referrer) specifier) (λ found. answered (led config before referrer specifier want found))
 
-abbrev pub follows : Config → Before → Referrer Module → List ℕ → Asking Question Answer (Result Before TraceRefusal)
+abbrev pub follows : Config → Before → Referrer Module → List ℕ → Asking Question Answer (Result Before TraceFault)
 follows config before referrer specifier = followed_by config before referrer specifier (wanted config referrer specifier)
 
 -- ---- the rules of a walk
 
 abbrev pub begun : Before
-begun = record { modules = []; needs = []; requests = 0 }
+begun = record { modules = []; sources = []; needs = []; requests = 0 }
 
-abbrev pub rules : Config → Rules Module Before TraceRefusal Question Answer
+abbrev pub rules : Config → Rules Module Before TraceFault Question Answer
 rules config = record { same = is_module; start = begun; modules = λ before. before.modules; most = limit_number Modules; above = Limit Modules; opens = opens config; follows = follows config }

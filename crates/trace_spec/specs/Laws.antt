@@ -10,15 +10,15 @@ use Rattle.url_spec.specs.Specifiers.{is_relative, as_url}
 use Rattle.node_spec.specs.Resolution as node
 use Rattle.layout_spec.specs.declared.Need.{Need}
 use Rattle.layout_spec.specs.Needs.{NoClash}
-use Rattle.trace_spec.specs.declared.TraceRefusal.{TraceRefusal}
-use Rattle.trace_spec.specs.declared.TraceRefusal.TheVariants.{Limit}
+use Rattle.trace_spec.specs.declared.TraceFault.{TraceFault}
+use Rattle.trace_spec.specs.declared.TraceFault.TheVariants.{Limit}
 use Rattle.trace_spec.specs.Walking.{Referrer, the_page, a_module}
 use Rattle.trace_spec.specs.Levels.{Levels}
 use Rattle.trace_spec.specs.FirstRefusals.{Failure, refused, halted, AllPassed, FirstFailure}
 use Rattle.trace_spec.specs.Modules.{Config, Module, is_module, path_of, web_name, IsServable, file_name}
-use Rattle.trace_spec.specs.Questions.{Question, of_module, of_request, Trail, answers, always}
-use Rattle.trace_spec.specs.Checks.{Before, with_request, begun, rules}
-use Rattle.trace_spec.specs.Traces.{trace, traced, requests, specifiers, resolution, leads, targets, Reachable}
+use Rattle.trace_spec.specs.Questions.{Source, Question, of_module, of_request, Trail, answers, always}
+use Rattle.trace_spec.specs.Checks.{Before, with_source, with_request, begun, rules}
+use Rattle.trace_spec.specs.Traces.{trace, traced, source, requests, specifiers, resolution, leads, targets, Reachable}
 
 -- the modules of a trace are its levels, one behind another
 abbrev pub HasLevels : Type 0
@@ -39,12 +39,12 @@ FewModules = (sights : Sights) (config : Config) (all : Before) → traced sight
 
 -- ---- the first refusal
 
-abbrev pub refusal_by : Failure TraceRefusal LimitName → TraceRefusal
+abbrev pub refusal_by : Failure TraceFault LimitName → TraceFault
 refusal_by (refused refusal) = refusal
 refusal_by (halted limit) = Limit limit
 
-pub record IsFirst (sights : Sights) (config : Config) (refusal : TraceRefusal) : Type 0 where
-  pub why : Failure TraceRefusal LimitName
+pub record IsFirst (sights : Sights) (config : Config) (refusal : TraceFault) : Type 0 where
+  pub why : Failure TraceFault LimitName
   pub shown : refusal ≡ refusal_by why
   pub trail : Trail
   pub first : FirstFailure (answers sights) (rules config) tt why trail
@@ -53,7 +53,7 @@ pub record IsFirst (sights : Sights) (config : Config) (refusal : TraceRefusal) 
 -- it in its own visit
 pub record Decides (sights : Sights) (config : Config) : Type 0 where
   pub passes : (all : Before) → traced sights config ≡ Ok all ↔ AllPassed (answers sights) (rules config) tt all tt
-  pub refuses : (refusal : TraceRefusal) → traced sights config ≡ Err refusal ↔ IsFirst sights config refusal
+  pub refuses : (refusal : TraceFault) → traced sights config ≡ Err refusal ↔ IsFirst sights config refusal
 
 abbrev pub FirstRefusalDecides : Type 0
 FirstRefusalDecides = (sights : Sights) (config : Config) → Decides sights config
@@ -64,12 +64,11 @@ pub record Request : Type 0 where
   pub referrer : Referrer Module
   pub specifier : List ℕ
 
--- the requests of these referrers, in order
-abbrev pub requests_in_order : Sights → Config → List (Referrer Module) → List Request
-requests_in_order sights config visits = flat_map (λ referrer. map (λ specifier. record { referrer = referrer; specifier = specifier }) (specifiers sights config referrer)) visits
-
 abbrev pub no_module : Module
 no_module = record { path = []; suffix = [] }
+
+abbrev pub no_source : Source
+no_source = record { bytes = []; specifiers = [] }
 
 abbrev pub target_of : Sights → Config → Request → Module
 target_of sights config request = unwrap_or (leads sights config request.referrer request.specifier) no_module
@@ -80,10 +79,22 @@ need_of sights config request =
     let name = unwrap_or (web_name config request.referrer) [] in
     record { referrer = name; asked = unwrap_or (as_url name request.specifier) []; target = unwrap_or (file_name config (target_of sights config request)) [] }
 
--- these requests are put into the tables one after another
-abbrev pub all_put : Sights → Config → Before → List Request → Before
-all_put sights config before [] = before
-all_put sights config before (request ∷ more) = all_put sights config (with_request before (need_of sights config request) (target_of sights config request)) more
+-- requests of a referrer are put into the tables one after another
+abbrev pub requests_put : Sights → Config → Referrer Module → Before → List (List ℕ) → Before
+requests_put sights config referrer before [] = before
+requests_put sights config referrer before (specifier ∷ more) =
+    let request : Request = record { referrer = referrer; specifier = specifier } in
+    requests_put sights config referrer (with_request before (need_of sights config request) (target_of sights config request)) more
+
+-- what the opening of a visit puts there
+abbrev pub opening_put : Sights → Before → Referrer Module → Before
+opening_put sights before the_page = before
+opening_put sights before (a_module m) = with_source before (unwrap_or (source sights m) no_source)
+
+-- visits are put into the tables one after another
+abbrev pub visits_put : Sights → Config → Before → List (Referrer Module) → Before
+visits_put sights config before [] = before
+visits_put sights config before (referrer ∷ more) = visits_put sights config (requests_put sights config referrer (opening_put sights before referrer) (specifiers sights config referrer)) more
 
 -- what is asked as the visit of a referrer opens
 abbrev pub opening : Referrer Module → List Question
@@ -97,9 +108,11 @@ asked_in sights config visits = flat_map (λ referrer. opening referrer ++ map (
 abbrev pub visits_of : Before → List (Referrer Module)
 visits_of all = the_page ∷ map a_module all.modules
 
--- the tables hold the requests of the page and of the modules, in the order of the trace; and these are the questions, each at its place
+-- the tables hold the requests of the page and of the modules, in the order of the trace, and the source of each module at its place; and these
+-- are the questions, each at its place
 pub record InOrder (sights : Sights) (config : Config) (all : Before) : Type 0 where
-  pub tables : all ≡ all_put sights config begun (requests_in_order sights config (visits_of all))
+  pub tables : all ≡ visits_put sights config begun (visits_of all)
+  pub sources : map Some all.sources ≡ map (source sights) all.modules
   pub asked : questions (always sights) (trace config) ≡ asked_in sights config (visits_of all)
 
 abbrev pub GoesInOrder : Type 0

@@ -1,5 +1,6 @@
 -- What the walk of a config asks: what a module asks for, and where a request leads. Each question is an asking over looks.
 --     Question, Answer            the questions, and the answer to each
+--     Source                      the bytes of a module and its requests
 --     put question                the question as an asking over looks
 --     Trail                       what was looked at so far, as far as limits count it
 --     answers sights              the answers by what stands at each path; a file above its limit stops the walk
@@ -24,25 +25,30 @@ pub data Question : Type 0 where
   of_module : List ℕ → Question
   of_request : List ℕ → List ℕ → Question
 
--- own: the requests of the module at a path, or none where its file isn't of the form that is read; Node's answer for a specifier in the
--- file at a path
+-- own: the bytes of a module, and the specifiers of its requests, in text order
+pub record Source : Type 0 where
+  pub bytes : List ℕ
+  pub specifiers : List (List ℕ)
+
+-- own: the source of the module at a path, or none where its file isn't of the form that is read; Node's answer for a specifier in the file at
+-- a path
 abbrev pub Answer : Question → Type 0
-Answer (of_module path) = Option (List (List ℕ))
+Answer (of_module path) = Option Source
 Answer (of_request parent specifier) = Resolution
 
 -- the requests of a text of the plain form
-abbrev pub in_reading : {text : List ℕ} → HasReading text ⊎ NoReading text → Option (List (List ℕ))
-in_reading (inl reading) = Some reading.specifiers
-in_reading (inr none) = None
+abbrev pub as_read : (bytes : List ℕ) → HasReading bytes ⊎ NoReading bytes → Option Source
+as_read bytes (inl reading) = Some (record { bytes = bytes; specifiers = reading.specifiers })
+as_read bytes (inr none) = None
 
 -- own: a module's file has a name that ends in `.mjs`, and a text of the plain form
-abbrev pub requests_in : List ℕ → Option Entry → Option (List (List ℕ))
-requests_in path None = None
-requests_in path (Some Directory) = None
-requests_in path (Some (Stored bytes)) = if ends_with nat_eq path (codes ".mjs") && is_utf8 bytes then in_reading (reading_or_not bytes) else None
+abbrev pub source_in : List ℕ → Option Entry → Option Source
+source_in path None = None
+source_in path (Some Directory) = None
+source_in path (Some (Stored bytes)) = if ends_with nat_eq path (codes ".mjs") && is_utf8 bytes then as_read bytes (reading_or_not bytes) else None
 
 abbrev pub put : (question : Question) → LookAsking (Answer question)
-put (of_module path) = ask path (λ found. answered (requests_in path found))
+put (of_module path) = ask path (λ found. answered (source_in path found))
 put (of_request parent specifier) = relative_resolution parent specifier
 
 -- own: nothing yet

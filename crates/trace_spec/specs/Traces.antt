@@ -1,10 +1,11 @@
 -- The trace of a tree and a config, or its first refusal.
 --     trace config                the walk of a config, over its questions
+--     result_of end, state_of end      what an evaluation of it comes to, and the state that it leaves
 --     traced sights config        what it comes to: the tables of the trace, or the first refusal
 --     requests sights config referrer      what a referrer asks for, if it is of the form
 --     targets sights config referrer       the modules that Node answers for these requests
 --     Reachable sights config referrer     the page reaches it by requests
-use Rattle.std.specs.Prelude.{◌≡◌, ℕ, List, [], Option, Some, None, Result, Ok, Err, filter_map, unwrap_or, if◌then◌else◌}
+use Rattle.std.specs.Prelude.{◌≡◌, ℕ, List, [], Option, Some, None, Result, Ok, Err, filter_map, option_map, unwrap_or, if◌then◌else◌}
 use Rattle.asking_spec.specs.Askings.{Asking, outcome}
 use Rattle.asking_spec.specs.Evaluation.{Ended, ends, stopped, evaluated}
 use Rattle.tree_spec.specs.declared.LimitName.{LimitName}
@@ -12,30 +13,39 @@ use Rattle.tree_spec.specs.LookAskings.{Sights}
 use Rattle.url_spec.specs.Specifiers.{is_relative}
 use Rattle.node_spec.specs.Resolution as node
 use Rattle.node_spec.specs.RelativeResolution.{relative_resolution}
-use Rattle.trace_spec.specs.declared.TraceRefusal.{TraceRefusal}
-use Rattle.trace_spec.specs.declared.TraceRefusal.TheVariants.{Limit}
+use Rattle.trace_spec.specs.declared.TraceFault.{TraceFault}
+use Rattle.trace_spec.specs.declared.TraceFault.TheVariants.{Limit}
 use Rattle.trace_spec.specs.Walking.{Referrer, the_page, a_module, walk}
 use Rattle.trace_spec.specs.Levels.{Reached}
 use Rattle.trace_spec.specs.Modules.{Config, Module, path_of}
-use Rattle.trace_spec.specs.Questions.{Question, of_module, Answer, Trail, answers, always}
+use Rattle.trace_spec.specs.Questions.{Source, Question, of_module, Answer, Trail, answers, always}
 use Rattle.trace_spec.specs.Checks.{Before, rules}
 
-abbrev pub trace : Config → Asking Question Answer (Result Before TraceRefusal)
+abbrev pub trace : Config → Asking Question Answer (Result Before TraceFault)
 trace config = walk (rules config)
 
--- own: a limit that stops the walk refuses it
-abbrev pub refusal_of : Ended (Result Before TraceRefusal) Trail LimitName → Result Before TraceRefusal
-refusal_of (ends result trail) = result
-refusal_of (stopped limit trail) = Err (Limit limit)
+-- own: what an evaluation comes to, where a limit that stops it refuses it
+abbrev pub result_of : {X T : Type 0} → Ended (Result X TraceFault) T LimitName → Result X TraceFault
+result_of (ends result state) = result
+result_of (stopped limit state) = Err (Limit limit)
 
-abbrev pub traced : Sights → Config → Result Before TraceRefusal
-traced sights config = refusal_of (evaluated (answers sights) tt (trace config))
+-- the state that it leaves
+abbrev pub state_of : {X T : Type 0} → Ended X T LimitName → T
+state_of (ends value state) = state
+state_of (stopped limit state) = state
+
+abbrev pub traced : Sights → Config → Result Before TraceFault
+traced sights config = result_of (evaluated (answers sights) tt (trace config))
 
 -- ---- what is reached
 
+-- the source of a module
+abbrev pub source : Sights → Module → Option Source
+source sights m = always sights (of_module m.path)
+
 abbrev pub requests : Sights → Config → Referrer Module → Option (List (List ℕ))
 requests sights config the_page = Some config.entries
-requests sights config (a_module m) = always sights (of_module m.path)
+requests sights config (a_module m) = option_map (λ source. source.specifiers) (source sights m)
 
 abbrev pub specifiers : Sights → Config → Referrer Module → List (List ℕ)
 specifiers sights config referrer = unwrap_or (requests sights config referrer) []

@@ -8,9 +8,10 @@ use node_spec::Cause;
 use primitives::Text;
 use tree_spec::LimitName;
 
-/// Why there is no trace, with what is shown of it: a referrer is shown by its path and suffix.
+/// Why there is no trace: its first refusal, with what is shown of it, or what ends the work on it. A referrer and a module are shown by path
+/// and suffix.
 #[derive(Debug, Drop)]
-pub enum TraceRefusal {
+pub enum TraceFault {
     /// The path isn't served at its web name, which is given where it has one.
     Unservable {
         path: Text,
