@@ -21,12 +21,13 @@ use Rattle.url_spec.specs.PathTests.{is_served}
 use Rattle.url_spec.proofs.PathTestLemmas.{served_by_test}
 use Rattle.node_spec.specs.Resolution as node
 use Rattle.layout_spec.specs.declared.Need.{Need}
+use Rattle.layout_spec.specs.Needs.{clashes}
 use Rattle.trace_spec.specs.declared.TraceFault.{TraceFault}
 use Rattle.trace_spec.specs.declared.TraceFault.TheVariants.{RequestNotBuilt, Limit}
 use Rattle.trace_spec.specs.Walking.{Referrer, the_page, a_module, Opened}
 use Rattle.trace_spec.specs.Modules.{Config, Module, path_of, web_name, shown, IsServable, served_name, not_folder, file_name}
 use Rattle.trace_spec.specs.Questions.{Source, Question, of_module, of_request, Answer, Trail, within_limit, limited, answers, always, put}
-use Rattle.trace_spec.specs.Checks.{Before, page_opened, with_source, module_opened, opens, Wanted, file_wanted, wanted_by, wanted, clashes, with_request, has_room, placed, needed, named, led, followed_by, follows}
+use Rattle.trace_spec.specs.Checks.{Before, page_opened, with_source, module_opened, opens, Wanted, file_wanted, wanted_by, wanted, with_request, has_room, placed, needed, named, led, followed_by, follows}
 use Rattle.trace_spec.specs.Traces.{trace, result_of, traced, source, requests, specifiers, resolution, module_in, leads}
 use Rattle.trace_spec.specs.Laws.{opening, opening_put, no_source}
 

@@ -18,7 +18,7 @@ use Rattle.import_map_spec.specs.Parsing.{ends_in_slash}
 use Rattle.url_spec.specs.Specifiers.{is_relative, as_url}
 use Rattle.node_spec.specs.Resolution as node
 use Rattle.layout_spec.specs.declared.Need.{Need}
-use Rattle.layout_spec.specs.Needs.{is_need, NoClash}
+use Rattle.layout_spec.specs.Needs.{is_need, with_need, clashes, NoClash}
 use Rattle.layout_spec.proofs.Contained.{contains_none, contains_here, contains_there}
 use Rattle.layout_spec.proofs.CountedNeeds.{same_need}
 use Rattle.trace_spec.specs.declared.TraceFault.{TraceFault}
@@ -28,7 +28,7 @@ use Rattle.trace_spec.specs.Levels.{Reached, page, requested}
 use Rattle.trace_spec.specs.FirstRefusals.{Failure, refused, halted, failed, AllPassed, FirstFailure}
 use Rattle.trace_spec.specs.Modules.{Config, Module, is_module, path_of, web_name, IsServable, file_name}
 use Rattle.trace_spec.specs.Questions.{Source, Question, of_request, Answer, Trail, answers, always}
-use Rattle.trace_spec.specs.Checks.{Before, opens, follows, clashes, with_need, with_request, has_room, begun, rules}
+use Rattle.trace_spec.specs.Checks.{Before, opens, follows, with_request, has_room, begun, rules}
 use Rattle.trace_spec.specs.Traces.{trace, result_of, traced, source, requests, specifiers, resolution, module_in, leads, targets, Reachable}
 use Rattle.trace_spec.specs.Laws.{HasLevels, IsWhatIsReached, ModulesOnce, FewModules, refusal_by, IsFirst, Decides, FirstRefusalDecides, Request, no_module, no_source, target_of, need_of, requests_put, opening_put, visits_put, opening, asked_in, visits_of, InOrder, GoesInOrder, Passes, AllPass, RequestsPass, IsNeed, NeedsAre, NeedsAreRequests}
 use Rattle.trace_spec.proofs.Lists.{none_by_test, same_module, AreOnce, new_module, once_more}

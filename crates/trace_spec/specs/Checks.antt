@@ -15,7 +15,7 @@ use Rattle.node_spec.specs.declared.Cause.{Cause}
 use Rattle.node_spec.specs.declared.Cause.TheVariants as cause
 use Rattle.node_spec.specs.Resolution as node
 use Rattle.layout_spec.specs.declared.Need.{Need}
-use Rattle.layout_spec.specs.Needs.{is_need}
+use Rattle.layout_spec.specs.Needs.{clashes, with_need}
 use Rattle.trace_spec.specs.declared.TraceFault.{TraceFault}
 use Rattle.trace_spec.specs.declared.TraceFault.TheVariants.{Unservable, Refused, RequestNotBuilt, ModuleNotBuilt, Limit}
 use Rattle.trace_spec.specs.Walking.{Referrer, the_page, a_module, new_modules, Opened, Rules}
@@ -78,13 +78,6 @@ refused_by cause.NotExported referrer specifier = RequestNotBuilt referrer speci
 refused_by cause.ImportNotDefined referrer specifier = RequestNotBuilt referrer specifier
 refused_by cause.NotFound referrer specifier = Refused referrer specifier cause.NotFound
 refused_by cause.DirectoryImport referrer specifier = RequestNotBuilt referrer specifier
-
--- own: a need of the list agrees with this one in referrer and normalized specifier, and has another target
-abbrev pub clashes : Need → Need → Bool
-clashes need other = bytes_eq other.referrer need.referrer && bytes_eq other.asked need.asked && not (bytes_eq other.target need.target)
-
-abbrev pub with_need : List Need → Need → List Need
-with_need needs need = if list_any (is_need need) needs then needs else needs ++ need ∷ []
 
 abbrev pub with_request : Before → Need → Module → Before
 with_request before need target = record { modules = before.modules ++ new_modules is_module before.modules (target ∷ []); sources = before.sources; needs = with_need before.needs need; requests = before.requests + 1 }

@@ -6,6 +6,7 @@ ghost use Rattle.trace_spec.specs.Laws.{HasLevels, IsWhatIsReached, ModulesOnce,
 
 use node_spec::Cause;
 use primitives::Text;
+use std::alloc::AllocError;
 use tree_spec::LimitName;
 
 /// Why there is no trace: its first refusal, with what is shown of it, or what ends the work on it. A referrer and a module are shown by path

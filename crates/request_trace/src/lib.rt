@@ -1,0 +1,22 @@
+//! The trace of a folder and a config: what the page reaches by requests, in order, or its first refusal. The walk asks an answerer what a module
+//! asks for and where a request leads, and knows no folder.
+#![tactic(auto)]
+
+mod answerer;
+mod config;
+mod folder_answers;
+mod known;
+mod module;
+mod referrer;
+mod requests;
+mod resolve;
+mod tables;
+mod trace;
+mod walk;
+
+pub use answerer::{Answerer, NodeAnswer, Source};
+pub use config::Config;
+pub use module::Module;
+pub use trace::{Trace, trace};
+pub use trace_spec::TraceFault;
+pub use walk::walk;
