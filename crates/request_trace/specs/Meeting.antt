@@ -27,8 +27,8 @@ abbrev pub IsTold : {X : Type 0} → Result X TraceFault → Type 0
 IsTold result = (result ≢ Err ReadFault) × (result ≢ Err Memory)
 
 pub record Comes {T Q X : Type 0} {A : Q → Type 0} (answers : Answers T LimitName Q A) (before : T) (asking : Asking Q A (Result X TraceFault)) (result : Result X TraceFault) (after : T) : Type 0 where
-  pub result : result_of (evaluated answers before asking) ≡ result
-  pub state : state_of (evaluated answers before asking) ≡ after
+  pub is : result_of (evaluated answers before asking) ≡ result
+  pub leaves : state_of (evaluated answers before asking) ≡ after
 
 pub record Met {T Q X : Type 0} {A : Q → Type 0} (before : Outside T Q A) (asking : Asking Q A (Result X TraceFault)) (result : Result X TraceFault) (after : Outside T Q A) : Type 0 where
   pub comes : IfSome before.told (λ answers. IsTold result → Comes answers before.state asking result after.state)

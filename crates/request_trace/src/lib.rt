@@ -4,19 +4,12 @@
 
 mod answerer;
 mod config;
-mod folder_answers;
-mod known;
 mod module;
 mod referrer;
 mod requests;
-mod resolve;
 mod tables;
-mod trace;
-mod walk;
 
 pub use answerer::{Answerer, NodeAnswer, Source};
 pub use config::Config;
 pub use module::Module;
-pub use trace::{Trace, trace};
 pub use trace_spec::TraceFault;
-pub use walk::walk;

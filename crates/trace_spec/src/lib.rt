@@ -37,6 +37,21 @@ pub enum TraceFault {
     Limit {
         which: LimitName,
     },
+    /// A look failed, and was counted. No definition refuses so.
+    ReadFault,
+    /// Want of memory. No definition refuses so.
+    Memory,
+}
+
+impl From<AllocError> for TraceFault {
+    ghost use Rattle.std.specs.Prelude.{◌≡◌};
+    ghost use Rattle.trace_spec.specs.declared.TraceFault.TheVariants.{Memory};
+
+    ghost from_gives = { λ _ fault. fault ≡ Memory };
+
+    fn from(_: AllocError) -> Self {
+        TraceFault::Memory
+    }
 }
 
 /// The modules of a trace are its levels, one behind another.
