@@ -5,4 +5,5 @@ pub mod Modules
 pub mod Questions
 pub mod Checks
 pub mod Traces
+pub mod Kinds
 pub mod Laws
