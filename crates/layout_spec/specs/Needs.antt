@@ -4,7 +4,7 @@
 --     NoClash needs      needs of one referrer and one specifier have one target
 --     NamesFiles need      the texts are those of URLs, and neither the referrer nor what is asked for is a folder
 use Rattle.std.specs.List.{list_any}
-use Rattle.std.specs.Prelude.{Bool, ◌&&◌, bytes_eq, List, [], ◌∷◌, ◌++◌, if◌then◌else◌, ◌≡◌, Contains, ⊤, false}
+use Rattle.std.specs.Prelude.{Bool, ◌&&◌, not, bytes_eq, List, [], ◌∷◌, ◌++◌, if◌then◌else◌, ◌≡◌, Contains, ⊤, false}
 use Rattle.url_spec.specs.Parsing.{IsUrl}
 use Rattle.url_spec.specs.Specifiers.{ends_in_slash}
 use Rattle.layout_spec.specs.declared.Need.{Need}
@@ -14,11 +14,18 @@ abbrev pub is_need : Need → Need → Bool
 is_need one other =
     bytes_eq one.referrer other.referrer && bytes_eq one.asked other.asked && bytes_eq one.target other.target
 
+-- own: a need is put at the end, unless it is there
+abbrev pub with_need : List Need → Need → List Need
+with_need needs need = if list_any (is_need need) needs then needs else needs ++ need ∷ []
+
 -- own: each need once, at its first place
 abbrev pub counted_onto : List Need → List Need → List Need
 counted_onto needs [] = needs
-counted_onto needs (need ∷ more) =
-    counted_onto (if list_any (is_need need) needs then needs else needs ++ need ∷ []) more
+counted_onto needs (need ∷ more) = counted_onto (with_need needs need) more
+
+-- own: another need agrees with this one in referrer and normalized specifier, and has another target
+abbrev pub clashes : Need → Need → Bool
+clashes need other = bytes_eq other.referrer need.referrer && bytes_eq other.asked need.asked && not (bytes_eq other.target need.target)
 
 abbrev pub counted : List Need → List Need
 counted needs = counted_onto [] needs

@@ -8,3 +8,4 @@ pub mod Terminals
 pub mod FormLaws
 pub mod OutlineLaws
 pub mod examples
+pub mod PlainReadings

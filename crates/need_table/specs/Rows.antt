@@ -1,8 +1,33 @@
--- When two needs are of one row.
-use Rattle.std.specs.Prelude.{Bool, bytes_eq}
+-- Rows of the table of needs, and what adding a need finds.
+--     asks_alike one other           two needs are of one row
+--     IsFresh needs need after       the need is of a row of its own, and is put at the end
+--     IsKnown needs need             the need is there, and clashes with none
+--     ClashesAt needs need first     the need at this place clashes with it
+use Rattle.std.specs.Prelude.{◌≡◌, ◌≢◌, ℕ, Bool, true, false, List, [], ◌∷◌, ◌++◌, bytes_eq, Some, slice_get, Contains}
+use Rattle.std.specs.List.{list_any}
 use Rattle.std.specs.Ordering.{on, eq_of_both}
 use Rattle.layout_spec.specs.declared.Need.{Need}
+use Rattle.layout_spec.specs.Needs.{clashes, with_need}
 
 -- own: they have one referrer and one specifier
 abbrev pub asks_alike : Need → Need → Bool
 asks_alike = eq_of_both (on (λ need. need.referrer) bytes_eq) (on (λ need. need.asked) bytes_eq)
+
+pub record IsFresh (needs : List Need) (need : Need) (after : List Need) : Type 0 where
+  pub none_alike : list_any (asks_alike need) needs ≡ false
+  pub clear : list_any (clashes need) needs ≡ false
+  pub is_new : after ≡ with_need needs need
+  pub at_end : after ≡ needs ++ need ∷ []
+
+pub record IsKnown (needs : List Need) (need : Need) : Type 0 where
+  pub stands : Contains needs need
+  pub clear : list_any (clashes need) needs ≡ false
+  pub stays : with_need needs need ≡ needs
+
+pub record ClashesAt (needs : List Need) (need : Need) (first : ℕ) : Type 0 where
+  pub other : Need
+  pub stands : slice_get needs first ≡ Some other
+  pub alike : asks_alike need other ≡ true
+  pub apart : other.target ≢ need.target
+  pub clash : clashes need other ≡ true
+  pub found : list_any (clashes need) needs ≡ true

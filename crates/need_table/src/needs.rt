@@ -1,7 +1,7 @@
-ghost use Rattle.std.specs.Prelude.{◌≡◌, ◌≢◌, ◌==◌, ◌++◌, ◌∷◌, List, [], ℕ, Bool, length, true, false, slice_get, option_copied, Some, IfErr, Contains, MatchOption};
+ghost use Rattle.std.specs.Prelude.{◌≡◌, ◌≢◌, ◌==◌, ◌++◌, ◌∷◌, List, [], ℕ, Bool, length, true, false, slice_get, option_copied, Some, OnOk, OnErr, IfErr, MatchOption};
 ghost use Rattle.std.specs.List.{list_any};
 ghost use Rattle.layout_spec.specs.declared.Need.{Need};
-ghost use Rattle.need_table.specs.Rows.{asks_alike};
+ghost use Rattle.need_table.specs.Rows.{asks_alike, IsFresh, IsKnown, ClashesAt};
 
 use crate::asking::Asking;
 use indexmap::IndexSet;
@@ -79,25 +79,53 @@ impl Needs {
 
     /// Adds a need that isn't there yet.
     pub fn add(&mut self, need: Need) -> Result<Added, NeedFault>
-        ensures new { result ≡ Ok Added.New → (list_any (asks_alike need) self.old ≡ false) × (self.new ≡ self.old ++ need ∷ []) }
-        ensures known { result ≡ Ok Added.Known → Contains self.old need }
-        ensures clash { IfErr result (λ fault. (first : ℕ) → fault ≡ NeedFault.Clash first → (other : Need) × (slice_get self.old first ≡ Some other) × (asks_alike need other ≡ true) × (other.target ≢ need.target)) }
+        ensures new { result ≡ Ok Added.New → IsFresh self.old need self.new }
+        ensures known { result ≡ Ok Added.Known → IsKnown self.old need }
+        ensures clash { IfErr result (λ fault. (first : ℕ) → fault ≡ NeedFault.Clash first → ClashesAt self.old need first) }
         ensures same { result ≢ Ok Added.New → self.new ≡ self.old }
     {
+        let _apart = self.rows.len();
         let row = Asking::new(need);
         match place_of(&self.rows, &row) {
-            Some((first, other)) => {
-                if other.target == row.need().target {
-                    return Ok(Added::Known);
-                }
-                Err(NeedFault::Clash { first })
+            Some((first, other)) => judge(first, other, row.need()),
+            None => {
+                put_row(&mut self.rows, row)?;
+                Ok(Added::New)
             }
-            None => match self.rows.insert(row) {
-                Ok(_) => Ok(Added::New),
-                Err(_) => Err(NeedFault::Memory),
-            },
         }
     }
+}
+
+impl From<Memory> for NeedFault {
+    ghost use Rattle.std.specs.Prelude.{◌≡◌};
+    ghost use Rattle.need_table.specs.declared.needs.NeedFault.TheVariants.{Memory};
+
+    ghost from_gives = { λ _ fault. fault ≡ Memory };
+
+    fn from(_: Memory) -> Self {
+        NeedFault::Memory
+    }
+}
+
+// A need that asks as another one at this place does.
+fn judge(first: usize, other: &Need, need: &Need) -> Result<Added, NeedFault>
+    ensures known { result ≡ Ok Added.Known → other.now.target ≡ need.now.target }
+    ensures clash { IfErr result (λ fault. (fault ≡ NeedFault.Clash first) × (other.now.target ≢ need.now.target)) }
+    ensures not_new { result ≢ Ok Added.New }
+{
+    if other.target == need.target {
+        return Ok(Added::Known);
+    }
+    Err(NeedFault::Clash { first })
+}
+
+fn put_row(rows: &mut IndexSet<Asking>, row: Asking) -> Result<(), Memory>
+    requires { list_any (asks_alike row) rows.old.keys ≡ false }
+    ensures put { OnOk result (rows.new.keys ≡ rows.old.keys ++ row ∷ []) }
+    ensures same { OnErr result (rows.new.keys ≡ rows.old.keys) }
+{
+    rows.insert(row)?;
+    Ok(())
 }
 
 // The need that asks alike, with its place.

@@ -12,3 +12,4 @@ pub mod PatternParts
 pub mod PatternOrder
 pub mod PatternChoice
 pub mod examples
+pub mod RelativeLemmas

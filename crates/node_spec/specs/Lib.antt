@@ -9,3 +9,5 @@ pub mod WorkedExamples
 pub mod TargetExamples
 pub mod RecordExamples
 pub mod PatternExamples
+
+pub mod RelativeResolution

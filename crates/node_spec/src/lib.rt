@@ -5,6 +5,7 @@
 ghost use Rattle.node_spec.specs.Laws.{AnswersDetermine, ConditionsAreASet, DecidingCallIsLast, ExportsAskNothing, KeysAreInOrder, OneAnswer, OneChoice, OneOutcome, OneRecord, OneUnder, PatternMatchIsSlice, PatternMatchStands, PlacesBeginWithDotSlash, RecordNamesAreDistinct, SomeAnswer, SomeChoice, SomeOutcome, SomeOutcomeInTurn, SomeRecord};
 ghost use Rattle.node_spec.specs.WorkedExamples.{WorkedExamples};
 ghost use Rattle.node_spec.specs.PatternExamples.{PatternExamples};
+ghost use Rattle.node_spec.specs.RelativeResolution.{FindsRelative};
 ghost use Rattle.node_spec.specs.RecordExamples.{RecordExamples};
 ghost use Rattle.node_spec.specs.TargetExamples.{TargetExamples};
 
@@ -86,6 +87,12 @@ pub fn one_answer()
 #[tactic(auto, using(crate::proofs::SomeAnswer::some_answer))]
 pub fn some_answer()
     ensures { SomeAnswer }
+{}
+
+/// In each tree the asking of a relative specifier comes to Node's answer.
+#[tactic(auto, using(crate::proofs::RelativeLemmas::finds_relative))]
+pub fn finds_relative()
+    ensures { FindsRelative }
 {}
 
 /// The bytes of a package.json have one record, or one reason for having none.

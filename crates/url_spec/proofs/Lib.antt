@@ -9,3 +9,4 @@ pub mod FileUrls
 pub mod OwnTexts
 pub mod FileNames
 pub mod examples
+pub mod PathTestLemmas

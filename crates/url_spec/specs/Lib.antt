@@ -5,6 +5,7 @@ pub mod Specifiers
 pub mod WebNames
 pub mod Suffixes
 pub mod ServedPaths
+pub mod PathTests
 pub mod FileUrls
 pub mod Laws
 pub mod WorkedExamples

@@ -1,6 +1,19 @@
-use Rattle.std.proofs.Common.{rules}
-use Rattle.need_table.proofs.Found.{known}
+use Rattle.std.proofs.Common.{◌≡◌, ◌≢◌, ℕ, Result, Ok, Err, ap, sym, subst}
+use Rattle.std.specs.Prelude.{IfErr}
+use Rattle.layout_spec.specs.declared.Need.{Need}
+use Rattle.need_table.specs.Rows.{ClashesAt}
+use Rattle.need_table.specs.declared.needs.NeedFault.{NeedFault}
+use Rattle.need_table.specs.declared.needs.NeedFault.TheVariants.{Clash}
+use Rattle.need_table.specs.declared.needs.Added.{Added}
+use Rattle.need_table.proofs.Found.{fresh, is_known, clashes_at, clash_by}
 use Rattle.need_table.proofs.needs.Needs.add.Goals as goal
 
-pub returns-then-eq-clause-known : goal.returns-then-eq-clause-known
-returns-then-eq-clause-known c = λ e. known c.args.self.now c.args.need c.in-Some.other.now c.in-Some.first (search rules) (search rules) (search rules)
+pub returns-in-Some-clause-known : goal.returns-in-Some-clause-known
+returns-in-Some-clause-known c = λ e. rw (← c.self.view_is, ← c.new-row.ensures)
+    (is_known c.self.inside.rows.keys c.new-row.result c.in-Some.other.now c.in-Some.first c.len-apart.ensures.unique c.in-Some.ensures.0 c.in-Some.ensures.1 (rw c.need.ensures at (c.judge.ensures.known e)))
+
+pub returns-in-Some-clause-clash : goal.returns-in-Some-clause-clash
+returns-in-Some-clause-clash c = rw (← c.self.view_is, ← c.new-row.ensures) (clash_by c.self.inside.rows.keys c.new-row.result c.in-Some.other.now c.in-Some.first c.judge.result c.in-Some.ensures.0 c.in-Some.ensures.1 (rw c.need.ensures at c.judge.ensures.clash))
+
+pub returns-in_ok-put_row-in-None-clause-new : goal.returns-in_ok-put_row-in-None-clause-new
+returns-in_ok-put_row-in-None-clause-new c = λ e. rw (← c.self.view_is, ← c.new-row.ensures) (fresh c.self.inside.rows.keys c.put_row.new.rows.keys c.new-row.result c.in-None.ensures c.in_ok-put_row-in-None.ensures.put)

@@ -1,0 +1,4 @@
+pub mod Statements
+pub mod Names
+pub mod TableLemmas
+pub mod Meetings

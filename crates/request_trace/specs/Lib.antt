@@ -1,0 +1,4 @@
+pub mod Reading
+pub mod Meeting
+pub mod Shown
+pub mod Walking

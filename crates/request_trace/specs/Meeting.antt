@@ -1,0 +1,51 @@
+-- What is known of answers from outside, and what a call that asks for them comes to.
+--     Outside T Q A                    the answers, where they are told; the state that they see; how many looks failed
+--     fine asking                      an asking whose value is `Ok`
+--     Met before asking result after   the call comes to what the asking comes to, unless a look fails or memory is wanting
+--     Told, Known                      the answers to the questions of a walk, and what they see
+use Rattle.std.specs.Prelude.{◌≡◌, ◌≢◌, ◌≤◌, ℕ, List, Option, Result, Ok, Err, IfSome}
+use Rattle.asking_spec.specs.Askings.{Asking, answered, and_then}
+use Rattle.asking_spec.specs.Evaluation.{Answers, evaluated, Asked}
+use Rattle.tree_spec.specs.declared.LimitName.{LimitName}
+use Rattle.tree_spec.specs.declared.Entry.{Entry}
+use Rattle.tree_spec.specs.Counts.{Rose}
+use Rattle.trace_spec.specs.declared.TraceFault.{TraceFault}
+use Rattle.trace_spec.specs.declared.TraceFault.TheVariants.{ReadFault, Memory}
+use Rattle.trace_spec.specs.Questions.{Question, Answer, Trail}
+use Rattle.trace_spec.specs.Traces.{result_of, state_of}
+
+pub record Outside (T Q : Type 0) (A : Q → Type 0) : Type 0 where
+  pub told : Option (Answers T LimitName Q A)
+  pub state : T
+  pub faults : ℕ
+
+abbrev pub fine : {Q : Type 0} {A : Q → Type 0} {X : Type 0} → Asking Q A X → Asking Q A (Result X TraceFault)
+fine asking = and_then asking (λ value. answered (Ok value))
+
+-- the call wasn't ended by a look that failed, nor by want of memory
+abbrev pub IsTold : {X : Type 0} → Result X TraceFault → Type 0
+IsTold result = (result ≢ Err ReadFault) × (result ≢ Err Memory)
+
+pub record Comes {T Q X : Type 0} {A : Q → Type 0} (answers : Answers T LimitName Q A) (before : T) (asking : Asking Q A (Result X TraceFault)) (result : Result X TraceFault) (after : T) : Type 0 where
+  pub is : result_of (evaluated answers before asking) ≡ result
+  pub leaves : state_of (evaluated answers before asking) ≡ after
+
+pub record Met {T Q X : Type 0} {A : Q → Type 0} (before : Outside T Q A) (asking : Asking Q A (Result X TraceFault)) (result : Result X TraceFault) (after : Outside T Q A) : Type 0 where
+  pub comes : IfSome before.told (λ answers. IsTold result → Comes answers before.state asking result after.state)
+  pub told : after.told ≡ before.told
+  pub later : before.faults ≤ after.faults
+  pub cause : result ≡ Err ReadFault → Rose before.faults after.faults
+  pub quiet : result ≢ Err ReadFault → after.faults ≡ before.faults
+
+abbrev pub Known : Type 0
+Known = Asked Trail Question
+
+abbrev pub Told : Type 0
+Told = Answers Known LimitName Question Answer
+
+abbrev pub AnswererState : Type 0
+AnswererState = Outside Known Question Answer
+
+-- what looks tell: what stands at each path, as far as limits allow it
+abbrev pub LookState : Type 0
+LookState = Outside Trail (List ℕ) (λ path. Option Entry)

@@ -1,0 +1,59 @@
+-- What the parts of the walk keep and give.
+--     IsReferrer config referrer value      the code's referrer is this one
+--     AllNamed config entries               each module stands with its web name, which is no folder's, and the text of that
+--     IsGiven definition result             a part gives what the definition says, unless memory is wanting
+use Rattle.std.specs.Prelude.{◌≡◌, ◌≢◌, ◌≤◌, ◌+◌, ◌++◌, ⊤, ℕ, List, length, Option, Some, Result, Ok, Err, All, if◌then◌else◌}
+use Rattle.std.specs.List.{list_any}
+use Rattle.tree_spec.specs.declared.LimitName.TheVariants.{Modules}
+use Rattle.tree_spec.specs.Limits.{limit_number}
+use Rattle.layout_spec.specs.declared.Need.{Need}
+use Rattle.layout_spec.specs.Needs.{clashes, with_need}
+use Rattle.trace_spec.specs.declared.TraceFault.{TraceFault}
+use Rattle.trace_spec.specs.declared.TraceFault.TheVariants.{Unservable, Refused, RequestNotBuilt, ModuleNotBuilt, Limit, ReadFault, Memory}
+use Rattle.trace_spec.specs.Kinds.{IsTraceLimit}
+use Rattle.trace_spec.specs.Checks.{Before}
+use Rattle.trace_spec.specs.Walking as spec
+use Rattle.trace_spec.specs.Modules.{Config, Module, path_of, suffix_of, web_name, file_name}
+use Rattle.request_trace.specs.declared.referrer.Referrer.{Referrer}
+use Rattle.request_trace.specs.declared.tables.Name.{Name}
+
+pub record IsReferrer (config : Config) (referrer : spec.Referrer Module) (value : Referrer) : Type 0 where
+  pub named : web_name config referrer ≡ Some value.name
+  pub text : value.text ≡ value.name
+  pub path : path_of config referrer ≡ value.path
+  pub suffix : suffix_of referrer ≡ value.suffix
+
+pub record IsNamed (config : Config) (m : Module) (name : Name) : Type 0 where
+  pub is : file_name config m ≡ Some name.url
+  pub text : name.text ≡ name.url
+
+abbrev pub AllNamed : Config → List (Module × Name) → Type 0
+AllNamed config entries = All (λ entry. IsNamed config entry.0 entry.1) entries
+
+-- a part gives its definition's result, or memory is wanting
+pub record IsGiven {X : Type 0} (definition result : Result X TraceFault) : Type 0 where
+  pub given : result ≢ Err Memory → definition ≡ result
+  pub no_look : result ≢ Err ReadFault
+
+-- the table of modules grows, and keeps few
+pub record GrowsFew {A : Type 0} (old new : List A) : Type 0 where
+  pub few : length old ≤ limit_number Modules → length new ≤ limit_number Modules
+  pub longer : length old ≤ length new
+
+-- a request that wants what isn't built
+abbrev pub NotBuilt : Referrer → List ℕ → TraceFault
+NotBuilt referrer specifier = RequestNotBuilt (referrer.path ++ referrer.suffix) specifier
+
+-- what a request that leads to a module can be refused for
+abbrev pub IsOfPutting : TraceFault → Type 0
+IsOfPutting (Unservable path url) = ⊥
+IsOfPutting (Refused referrer specifier why) = ⊤
+IsOfPutting (RequestNotBuilt referrer specifier) = ⊤
+IsOfPutting (ModuleNotBuilt m) = ⊤
+IsOfPutting (Limit which) = IsTraceLimit which
+IsOfPutting ReadFault = ⊤
+IsOfPutting Memory = ⊤
+
+-- a need of a module that is known is put into the tables
+abbrev pub put_known : TraceFault → Before → Need → Result Before TraceFault
+put_known refusal before need = if list_any (clashes need) before.needs then Err refusal else Ok (record { modules = before.modules; sources = before.sources; needs = with_need before.needs need; requests = before.requests + 1 })

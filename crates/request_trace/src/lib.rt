@@ -1,0 +1,15 @@
+//! The trace of a folder and a config: what the page reaches by requests, in order, or its first refusal. The walk asks an answerer what a module
+//! asks for and where a request leads, and knows no folder.
+#![tactic(auto)]
+
+mod answerer;
+mod config;
+mod module;
+mod referrer;
+mod requests;
+mod tables;
+
+pub use answerer::{Answerer, NodeAnswer, Source};
+pub use config::Config;
+pub use module::Module;
+pub use trace_spec::TraceFault;

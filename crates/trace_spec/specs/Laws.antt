@@ -1,0 +1,161 @@
+-- The laws of traces. Each is the contract of a function of this crate.
+use Rattle.std.specs.Prelude.{◌≡◌, ◌≤◌, ◌↔◌, ◌++◌, ℕ, true, false, List, [], ◌∷◌, length, map, flat_map, slice_get, Option, Some, Ok, Err, Contains, unwrap_or}
+use Rattle.asking_spec.specs.Askings.{questions}
+use Rattle.tree_spec.specs.declared.LimitName.{LimitName}
+use Rattle.tree_spec.specs.declared.LimitName.TheVariants.{Modules}
+use Rattle.tree_spec.specs.Limits.{limit_number}
+use Rattle.tree_spec.specs.LookAskings.{Sights}
+use Rattle.url_spec.specs.Specifiers.{ends_in_slash}
+use Rattle.url_spec.specs.Specifiers.{is_relative, as_url}
+use Rattle.node_spec.specs.Resolution as node
+use Rattle.layout_spec.specs.declared.Need.{Need}
+use Rattle.layout_spec.specs.Needs.{NoClash}
+use Rattle.trace_spec.specs.declared.TraceFault.{TraceFault}
+use Rattle.trace_spec.specs.declared.TraceFault.TheVariants.{Limit}
+use Rattle.trace_spec.specs.Walking.{Referrer, the_page, a_module}
+use Rattle.trace_spec.specs.Levels.{Levels}
+use Rattle.trace_spec.specs.FirstRefusals.{Failure, refused, halted, AllPassed, FirstFailure}
+use Rattle.trace_spec.specs.Modules.{Config, Module, is_module, path_of, web_name, IsServable, file_name}
+use Rattle.trace_spec.specs.Questions.{Source, Question, of_module, of_request, Trail, answers, always}
+use Rattle.trace_spec.specs.Checks.{Before, with_source, with_request, begun, rules}
+use Rattle.trace_spec.specs.Traces.{trace, traced, source, requests, specifiers, resolution, leads, targets, Reachable}
+
+-- the modules of a trace are its levels, one behind another
+abbrev pub HasLevels : Type 0
+HasLevels = (sights : Sights) (config : Config) (all : Before) → traced sights config ≡ Ok all → Levels Module is_module (targets sights config) [] (the_page ∷ []) all.modules
+
+-- they are the modules that the page reaches by requests
+abbrev pub IsWhatIsReached : Type 0
+IsWhatIsReached = (sights : Sights) (config : Config) (all : Before) → traced sights config ≡ Ok all → (m : Module) → Contains all.modules m ↔ Reachable sights config (a_module m)
+
+-- none of them stands there twice
+abbrev pub ModulesOnce : Type 0
+ModulesOnce =
+    (sights : Sights) (config : Config) (all : Before) → traced sights config ≡ Ok all → (i j : ℕ) (m : Module) → slice_get all.modules i ≡ Some m → slice_get all.modules j ≡ Some m → i ≡ j
+
+-- they are at most 20,000
+abbrev pub FewModules : Type 0
+FewModules = (sights : Sights) (config : Config) (all : Before) → traced sights config ≡ Ok all → length all.modules ≤ limit_number Modules
+
+-- ---- the first refusal
+
+abbrev pub refusal_by : Failure TraceFault LimitName → TraceFault
+refusal_by (refused refusal) = refusal
+refusal_by (halted limit) = Limit limit
+
+pub record IsFirst (sights : Sights) (config : Config) (refusal : TraceFault) : Type 0 where
+  pub why : Failure TraceFault LimitName
+  pub shown : refusal ≡ refusal_by why
+  pub trail : Trail
+  pub first : FirstFailure (answers sights) (rules config) tt why trail
+
+-- there is a trace exactly where all visits pass, and else the refusal is the first: the visits before it pass, and so do the requests before
+-- it in its own visit
+pub record Decides (sights : Sights) (config : Config) : Type 0 where
+  pub passes : (all : Before) → traced sights config ≡ Ok all ↔ AllPassed (answers sights) (rules config) tt all tt
+  pub refuses : (refusal : TraceFault) → traced sights config ≡ Err refusal ↔ IsFirst sights config refusal
+
+abbrev pub FirstRefusalDecides : Type 0
+FirstRefusalDecides = (sights : Sights) (config : Config) → Decides sights config
+
+-- ---- the order
+
+pub record Request : Type 0 where
+  pub referrer : Referrer Module
+  pub specifier : List ℕ
+
+abbrev pub no_module : Module
+no_module = record { path = []; suffix = [] }
+
+abbrev pub no_source : Source
+no_source = record { bytes = []; specifiers = [] }
+
+abbrev pub target_of : Sights → Config → Request → Module
+target_of sights config request = unwrap_or (leads sights config request.referrer request.specifier) no_module
+
+-- what a request needs
+abbrev pub need_of : Sights → Config → Request → Need
+need_of sights config request =
+    let name = unwrap_or (web_name config request.referrer) [] in
+    record { referrer = name; asked = unwrap_or (as_url name request.specifier) []; target = unwrap_or (file_name config (target_of sights config request)) [] }
+
+-- requests of a referrer are put into the tables one after another
+abbrev pub requests_put : Sights → Config → Referrer Module → Before → List (List ℕ) → Before
+requests_put sights config referrer before [] = before
+requests_put sights config referrer before (specifier ∷ more) =
+    let request : Request = record { referrer = referrer; specifier = specifier } in
+    requests_put sights config referrer (with_request before (need_of sights config request) (target_of sights config request)) more
+
+-- what the opening of a visit puts there
+abbrev pub opening_put : Sights → Before → Referrer Module → Before
+opening_put sights before the_page = before
+opening_put sights before (a_module m) = with_source before (unwrap_or (source sights m) no_source)
+
+-- visits are put into the tables one after another
+abbrev pub visits_put : Sights → Config → Before → List (Referrer Module) → Before
+visits_put sights config before [] = before
+visits_put sights config before (referrer ∷ more) = visits_put sights config (requests_put sights config referrer (opening_put sights before referrer) (specifiers sights config referrer)) more
+
+-- what is asked as the visit of a referrer opens
+abbrev pub opening : Referrer Module → List Question
+opening the_page = []
+opening (a_module m) = of_module m.path ∷ []
+
+-- what is asked in these visits
+abbrev pub asked_in : Sights → Config → List (Referrer Module) → List Question
+asked_in sights config visits = flat_map (λ referrer. opening referrer ++ map (of_request (path_of config referrer)) (specifiers sights config referrer)) visits
+
+abbrev pub visits_of : Before → List (Referrer Module)
+visits_of all = the_page ∷ map a_module all.modules
+
+-- the tables hold the requests of the page and of the modules, in the order of the trace, and the source of each module at its place; and these
+-- are the questions, each at its place
+pub record InOrder (sights : Sights) (config : Config) (all : Before) : Type 0 where
+  pub tables : all ≡ visits_put sights config begun (visits_of all)
+  pub sources : map Some all.sources ≡ map (source sights) all.modules
+  pub asked : questions (always sights) (trace config) ≡ asked_in sights config (visits_of all)
+
+abbrev pub GoesInOrder : Type 0
+GoesInOrder = (sights : Sights) (config : Config) (all : Before) → traced sights config ≡ Ok all → InOrder sights config all
+
+-- ---- what a trace knows of its requests and needs
+
+-- a request went through its checks: it is relative, and asks for the URL of a file; Node answers it with a module that is served at its web
+-- name, which is no folder's; and the tables have its need
+pub record Passes (sights : Sights) (config : Config) (all : Before) (referrer : Referrer Module) (specifier : List ℕ) : Type 0 where
+  pub need : Need
+  pub target : Module
+  pub named : web_name config referrer ≡ Some need.referrer
+  pub relative : is_relative specifier ≡ true
+  pub asks : as_url need.referrer specifier ≡ Some need.asked
+  pub answers : resolution sights config referrer specifier ≡ node.Resolved target.path target.suffix
+  pub servable : IsServable config target.path target.suffix need.target
+  pub is_need : Contains all.needs need
+
+-- whatever the page reaches has requests, and they all pass
+pub record AllPass (sights : Sights) (config : Config) (all : Before) (referrer : Referrer Module) : Type 0 where
+  pub specifiers : List (List ℕ)
+  pub asks : requests sights config referrer ≡ Some specifiers
+  pub pass : (specifier : List ℕ) → Contains specifiers specifier → Passes sights config all referrer specifier
+
+abbrev pub RequestsPass : Type 0
+RequestsPass = (sights : Sights) (config : Config) (all : Before) → traced sights config ≡ Ok all → (referrer : Referrer Module) → Reachable sights config referrer → AllPass sights config all referrer
+
+-- a need names no folder, neither by what it asks for nor by its target; its referrer is reached, and has that web name
+pub record IsNeed (sights : Sights) (config : Config) (need : Need) : Type 0 where
+  pub referrer : Referrer Module
+  pub reached : Reachable sights config referrer
+  pub named : web_name config referrer ≡ Some need.referrer
+  pub specifier : List ℕ
+  pub asks : as_url need.referrer specifier ≡ Some need.asked
+  pub asked_is_file : ends_in_slash need.asked ≡ false
+  pub target : Module
+  pub is_name : file_name config target ≡ Some need.target
+
+-- the needs are those of requests of what is reached, and no two clash
+pub record NeedsAre (sights : Sights) (config : Config) (all : Before) : Type 0 where
+  pub each : (need : Need) → Contains all.needs need → IsNeed sights config need
+  pub no_clash : NoClash all.needs
+
+abbrev pub NeedsAreRequests : Type 0
+NeedsAreRequests = (sights : Sights) (config : Config) (all : Before) → traced sights config ≡ Ok all → NeedsAre sights config all
