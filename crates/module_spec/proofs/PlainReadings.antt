@@ -197,4 +197,3 @@ reading_below (suc bound) (b ∷ rest) small = by_first bound b rest small (read
 
 pub reading_or_not : (text : List ℕ) → HasReading text ⊎ NoReading text
 reading_or_not text = reading_below (suc (length text)) text (omega arith)
-

@@ -9,5 +9,4 @@ pub mod WorkedExamples
 pub mod TargetExamples
 pub mod RecordExamples
 pub mod PatternExamples
-
 pub mod RelativeResolution

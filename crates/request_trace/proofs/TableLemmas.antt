@@ -50,9 +50,9 @@ named_as config target [] found e all = absurd (cc)
 named_as config target (entry ∷ entries) found e all =
     elim (cases_Bool (is_module target entry.0)) [
       | inl here ↦
-        let same : target ≡ entry.0 = same_module target entry.0 here in
-        let is : entry.1 ≡ found = (let f = sym (cond-true (is_module target entry.0) (Some entry.1) (lookup (is_module target) entries) here) ∙ e in cc) in
-        subst (λ m. IsNamed config m found) (sym same) (subst (IsNamed config entry.0) is (All-head (λ (x : Module × Name). IsNamed config x.0 x.1) entry entries all))
+          let same : target ≡ entry.0 = same_module target entry.0 here in
+          let is : entry.1 ≡ found = (let f = sym (cond-true (is_module target entry.0) (Some entry.1) (lookup (is_module target) entries) here) ∙ e in cc) in
+          subst (λ m. IsNamed config m found) (sym same) (subst (IsNamed config entry.0) is (All-head (λ (x : Module × Name). IsNamed config x.0 x.1) entry entries all))
       | inr other ↦ named_as config target entries found (sym (cond-false (is_module target entry.0) (Some entry.1) (lookup (is_module target) entries) other) ∙ e) (All-tail (λ (x : Module × Name). IsNamed config x.0 x.1) entry entries all)
     ]
 
@@ -148,9 +148,9 @@ pub named_full : (refusal : TraceFault) (old after : Tables) (want : Wanted) (ta
     → (fault ≢ Memory → (fault ≡ Limit Modules) × (limit_number Modules ≤ length old.modules.entries)) → IsErrAnd result (λ f. f ≡ fault) → IsGiven (named refusal (before_of old) want target found) (done result after)
 named_full refusal old after want target found url need fault result found_is need_is clear fresh full is =
     given_handed (named refusal (before_of old) want target found) fault result after is
-      (λ ne. named_is refusal (before_of old) want target found url need found_is need_is
-          ∙ (needed_full refusal (before_of old) need target clear fresh (let most = (full ne).1 in let keys = keys_of-length old.modules.entries in omega (arith, most, keys)) ∙ ap Err (sym (full ne).0)))
-      (λ e. (let is_limit = (full (λ f. cc)).0 in cc))
+    (λ ne. named_is refusal (before_of old) want target found url need found_is need_is
+    ∙ (needed_full refusal (before_of old) need target clear fresh (let most = (full ne).1 in let keys = keys_of-length old.modules.entries in omega (arith, most, keys)) ∙ ap Err (sym (full ne).0)))
+    (λ e. (let is_limit = (full (λ f. cc)).0 in cc))
 
 -- it has its place
 pub named_put : (refusal : TraceFault) (old new : Tables) (want : Wanted) (target : Module) (found : Option (List ℕ)) (need : Need) (name : Name)
@@ -159,8 +159,8 @@ pub named_put : (refusal : TraceFault) (old new : Tables) (want : Wanted) (targe
 named_put refusal old new want target found need name found_is need_is clear fresh room modules sources needs requests =
     let keys = keys_of-length old.modules.entries in
     let is : named refusal (before_of old) want target found ≡ Ok (before_of new) =
-        named_is refusal (before_of old) want target found name.url need found_is need_is
-        ∙ (needed_room refusal (before_of old) need target clear (λ f. omega (arith, room, keys)) ∙ ap Ok (sym (put_is old new need target name fresh modules sources needs requests))) in
+    named_is refusal (before_of old) want target found name.url need found_is need_is
+    ∙ (needed_room refusal (before_of old) need target clear (λ f. omega (arith, room, keys)) ∙ ap Ok (sym (put_is old new need target name fresh modules sources needs requests))) in
     record { given = λ ne. is; no_look = λ e. cc }
 
 pub kept_named : (config : Config) (result : Result (Unit {0}) TraceFault) (old new : Tables) → new.modules ≡ old.modules → OnOk result (AllNamed config old.modules.entries → AllNamed config new.modules.entries)

@@ -179,12 +179,7 @@ fn known_text(
 }
 
 // The need of a request; where what is asked for is its target, they share their text.
-fn need_of(
-    alloc: Global,
-    referrer: &Referrer,
-    asked: WebUrl,
-    target: Text,
-) -> Result<Need, Memory>
+fn need_of(alloc: Global, referrer: &Referrer, asked: WebUrl, target: Text) -> Result<Need, Memory>
     ensures { IfOk result (λ need. need ≡ record { referrer = referrer.now.text; asked = asked; target = target }) }
 {
     let asked = shared_text(alloc, asked, &target)?;

@@ -375,7 +375,7 @@ module _ (sights : Sights) (config : Config) where
         let order = walk_in_order (always sights) (rules config) (specifiers sights config) (leads sights config) opening (λ referrer. of_request (path_of config referrer)) (opening_put sights) put_request request_of lead put_in all whole in
         let page : Before = visit_in begun the_page in
         let sources : all.sources ≡ map opened_source all.modules =
-            ap (λ b. b.sources) order.tables ∙ (sources_put all.modules page ∙ ap (λ ss. ss ++ map opened_source all.modules) (sources_left (map (request_of the_page) (specifiers sights config the_page)) begun)) in
+        ap (λ b. b.sources) order.tables ∙ (sources_put all.modules page ∙ ap (λ ss. ss ++ map opened_source all.modules) (sources_left (map (request_of the_page) (specifiers sights config the_page)) begun)) in
         record {
           tables = order.tables ∙ sym (visits_put_is begun (visits_of all));
           sources = ap (map Some) sources ∙ sources_are all.modules (λ m c. let pass = all_pass (a_module m) (end.each m c) in source_by m pass.specifiers (source sights m) pass.asks);

@@ -12,7 +12,7 @@ all_in put before [] = before
 all_in put before (item ∷ more) = all_in put (put before item) more
 
 module _ {M B R Q L : Type 0} {A : Q → Type 0} (answers : (question : Q) → A question) (rules : Rules M B R Q A) (specifiers : Referrer M → List (List ℕ)) (leads : Referrer M → List ℕ → Option M)
-  (opening : Referrer M → List Q) (asking : Referrer M → List ℕ → Q) (begin : B → Referrer M → B) (put : B → L → B) (link : Referrer M → List ℕ → L) where
+    (opening : Referrer M → List Q) (asking : Referrer M → List ℕ → Q) (begin : B → Referrer M → B) (put : B → L → B) (link : Referrer M → List ℕ → L) where
   -- what an opening and a request ask, and what they put into the tables
   pub record PutsBy : Type 0 where
     pub opens : (before : B) (referrer : Referrer M) (opened : Opened B) → outcome answers (rules.opens before referrer) ≡ Ok opened
@@ -75,7 +75,7 @@ module _ {M B R Q L : Type 0} {A : Q → Type 0} (answers : (question : Q) → A
         let visit = visit_in_order (a_module m) before parts.value parts.first_is in
         let new = new_modules rules.same (rules.modules before) (targets_by answers rules specifiers leads leads_by (a_module m)) in
         let grown : rules.modules parts.value ≡ (done ++ m ∷ []) ++ (rest ++ new) =
-            visited_modules answers rules specifiers leads leads_by (a_module m) before parts.value parts.first_is ∙ (ap (λ ms. ms ++ new) is ∙ (append_assoc done (m ∷ rest) new ∙ sym (append_assoc done (m ∷ []) (rest ++ new)))) in
+        visited_modules answers rules specifiers leads leads_by (a_module m) before parts.value parts.first_is ∙ (ap (λ ms. ms ++ new) is ∙ (append_assoc done (m ∷ rest) new ∙ sym (append_assoc done (m ∷ []) (rest ++ new)))) in
         let behind = walk_behind room parts.value (suc place) all (done ++ m ∷ []) (rest ++ new) parts.next_is grown (omega (arith, length-append done (m ∷ []))) in
         record {
           later = m ∷ behind.later;
