@@ -32,7 +32,7 @@ unfoldable pub map_value : ParsedMap → Json
 map_value m =
     an_object (a_member (codes "imports") (addresses_value m.imports)
     (with_part (codes "scopes") (members_of addresses_value (entries m.scopes))
-        (with_part (codes "integrity") (members_of a_text (entries m.integrity)) no_members)))
+    (with_part (codes "integrity") (members_of a_text (entries m.integrity)) no_members)))
 
 -- own: the text of the map
 unfoldable pub map_text : ParsedMap → List ℕ

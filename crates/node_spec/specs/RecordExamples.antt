@@ -23,7 +23,7 @@ pub record RecordExamples : Type 0 where
         exports =
             an_object
             (a_member (codes "import") (a_text (codes "./3.mjs"))
-                (a_member (codes "default") (a_text (codes "./2.mjs")) no_members));
+            (a_member (codes "default") (a_text (codes "./2.mjs")) no_members));
         imports = a_null;
       }))
   pub byte_order_mark :

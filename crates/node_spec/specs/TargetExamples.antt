@@ -49,7 +49,7 @@ pub record StringExamples : Type 0 where
   pub bare_import : ResolvesTarget importing (a_text (codes "a")) ((codes "a", bare_answer.Found) ∷ []) Bare
   pub bare_star :
       ResolvesTarget (importing_with (codes "../q")) (a_text (codes "a/*"))
-        ((codes "a/../q", bare_answer.Found) ∷ []) Bare
+      ((codes "a/../q", bare_answer.Found) ∷ []) Bare
   pub url_import : silently importing (a_text (codes "node:fs")) InvalidTarget
   pub above_import : silently importing (a_text (codes "../a")) InvalidTarget
 
@@ -75,10 +75,10 @@ pub record NestedExamples : Type 0 where
       ((codes "x", bare_answer.InvalidTarget) ∷ []) (Place (codes "./f"))
   pub stops :
       ResolvesTarget importing (two (a_text (codes "s")) (a_text (codes "./f")))
-        ((codes "s", bare_answer.Stop) ∷ []) Stopped
+      ((codes "s", bare_answer.Stop) ∷ []) Stopped
   pub last_invalid :
       ResolvesTarget importing (two a_null (a_text (codes "x")))
-        ((codes "x", bare_answer.InvalidTarget) ∷ []) InvalidTarget
+      ((codes "x", bare_answer.InvalidTarget) ∷ []) InvalidTarget
   pub last_null : silently exporting (two (a_text (codes "x")) a_null) Null
   pub null_kept : silently exporting (two a_null (of_one (codes "node") (a_text (codes "./n")))) Null
   pub asked_twice :
