@@ -17,14 +17,14 @@ use Rattle.url_spec.specs.WebNames.{web}
 use Rattle.url_spec.specs.Suffixes.{before_suffix, suffix_of}
 use Rattle.url_spec.specs.ServedPaths.{holds_escape, segments, read_segment}
 use Rattle.url_spec.specs.FileUrls.{names_host, url_path, escapes_separator, spelled_path}
-use Rattle.import_map_spec.proofs.WrittenMaps.{looked}
+use Rattle.import_map_spec.proofs.examples.WrittenMaps.{looked}
 use Rattle.layout_spec.specs.PrintedMap.{map_text}
-use Rattle.layout_spec.proofs.PrintedLists.{listed_text, lists_text}
+use Rattle.layout_spec.proofs.examples.PrintedLists.{listed_text, lists_text}
 use Rattle.module_spec.specs.PlainForm.{IsSpace, IsPlain}
 use Rattle.node_spec.specs.Resolution.{is_folder_path, joined_url}
 use Rattle.layout_spec.specs.declared.Need.{Need}
-use Rattle.layout_spec.proofs.Agreement.{all_agree, no_clash_from_test}
-use Rattle.layout_spec.proofs.LaidLists.{listed_layout, layout_listed}
+use Rattle.layout_spec.proofs.examples.Agreement.{all_agree, no_clash_from_test}
+use Rattle.layout_spec.proofs.examples.LaidLists.{listed_layout, layout_listed}
 use Rattle.generator_spec.specs.Modules.{Config, Module, Referrer, the_page, a_module, path_of, web_name, Asks}
 use Rattle.generator_spec.specs.Modules.Asks.{entries, requests}
 use Rattle.generator_spec.specs.Trace.{ends_in_slash, IsServable, Passes, AllPass, Turn, IsTurn, TurnsOf, new_modules, targets_of, Levels, IsTrace, needs_of}

@@ -30,7 +30,7 @@ use Rattle.import_map_spec.specs.WrittenMaps.{Lists, map_of_lists}
 use Rattle.layout_spec.proofs.Contained.{contains_here, contains_there}
 use Rattle.layout_spec.specs.Layout.{layout}
 use Rattle.layout_spec.specs.Counting.{mapping_count}
-use Rattle.layout_spec.proofs.LaidLists.{listed_layout, layout_listed}
+use Rattle.layout_spec.proofs.examples.LaidLists.{listed_layout, layout_listed}
 use Rattle.generator_spec.specs.declared.Refusal.{Refusal}
 use Rattle.generator_spec.specs.declared.Refusal.TheVariants as refusal
 use Rattle.generator_spec.specs.declared.RequestRefusal.TheVariants.{NotFound, NotBuilt, Limit}

@@ -13,7 +13,7 @@ use Rattle.node_spec.specs.declared.Cause.TheVariants as cause
 use Rattle.node_spec.specs.Resolution.{joined_url}
 use Rattle.node_spec.specs.Looking.{LooksAt}
 use Rattle.layout_spec.specs.declared.Need.{Need}
-use Rattle.layout_spec.proofs.Agreement.{all_agree, no_clash_from_test}
+use Rattle.layout_spec.proofs.examples.Agreement.{all_agree, no_clash_from_test}
 use Rattle.generator_spec.specs.declared.RequestRefusal.{RequestRefusal}
 use Rattle.generator_spec.specs.declared.RequestRefusal.TheVariants.{NotFound, NotBuilt, Limit}
 use Rattle.generator_spec.specs.Modules.{Config, Module, Referrer, the_page, a_module, path_of}

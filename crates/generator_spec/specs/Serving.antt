@@ -7,10 +7,10 @@ use Rattle.std.proofs.lemmas.Slice.Eq.{bytes_eq-Decides}
 use Rattle.tree_spec.specs.Trees.{Tree}
 use Rattle.import_map_spec.specs.Parsing.{ParsesMap}
 use Rattle.import_map_spec.specs.WrittenMaps.{Lists, map_of_lists}
-use Rattle.import_map_spec.proofs.WrittenMaps.{listed_answer, lists_answer}
+use Rattle.import_map_spec.proofs.examples.WrittenMaps.{listed_answer, lists_answer}
 use Rattle.import_map_spec.specs.Resolving.{Resolution, Resolved, Blocked, Bare, Backtrack, BadRest}
 use Rattle.layout_spec.specs.declared.Need.{Need}
-use Rattle.layout_spec.proofs.Agreement.{passes_at}
+use Rattle.layout_spec.proofs.examples.Agreement.{passes_at}
 use Rattle.layout_spec.proofs.Contained.{contains_cases, contains_none}
 use Rattle.generator_spec.specs.Modules.{Config, Module, Referrer, the_page, web_name}
 use Rattle.generator_spec.specs.Trace.{AllPass, Turn, IsTurn, IsTrace}

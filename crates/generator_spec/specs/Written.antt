@@ -18,7 +18,7 @@ use Rattle.url_spec.specs.Suffixes.{before_suffix, suffix_of}
 use Rattle.url_spec.specs.ServedPaths.{holds_escape, segments, read_segment}
 use Rattle.url_spec.specs.FileUrls.{names_host, url_path, escapes_separator, spelled_path, NamesPath}
 use Rattle.import_map_spec.specs.WrittenMaps.{map_of}
-use Rattle.import_map_spec.proofs.WrittenMaps.{looked, get_map_of}
+use Rattle.import_map_spec.proofs.examples.WrittenMaps.{looked, get_map_of}
 use Rattle.module_spec.specs.PlainForm.{IsSpace, IsPlainByte, IsPlain}
 use Rattle.module_spec.specs.PlainForm.IsPlain.{nothing, space, statement}
 use Rattle.node_spec.specs.declared.Cause.TheVariants.{NotFound, DirectoryImport}

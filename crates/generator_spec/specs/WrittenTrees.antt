@@ -11,10 +11,10 @@ use Rattle.tree_spec.proofs.PathParts.{not_empty, one_parent}
 use Rattle.tree_spec.proofs.PathsAbove.{parent_shorter}
 use Rattle.tree_spec.specs.Trees.{IsTree}
 use Rattle.import_map_spec.proofs.Entries.{same_key, same_key_is}
-use Rattle.import_map_spec.proofs.WrittenMaps.{looked_onto, looked, nowhere, get_map_of}
+use Rattle.import_map_spec.proofs.examples.WrittenMaps.{looked_onto, looked, nowhere, get_map_of}
 use Rattle.import_map_spec.specs.LookUps.{Lookup}
 use Rattle.layout_spec.proofs.Contained.{contains_here, contains_there}
-use Rattle.layout_spec.proofs.Agreement.{passes_at}
+use Rattle.layout_spec.proofs.examples.Agreement.{passes_at}
 use Rattle.generator_spec.specs.Written.{is_name, path_of_names, names_a_path, segment, written_path, tree_of, stands}
 use Rattle.generator_spec.specs.Computed.{same_bytes, names_in}
 

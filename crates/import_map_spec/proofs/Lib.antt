@@ -1,5 +1,4 @@
 pub mod Entries
-pub mod WrittenMaps
 pub mod OneMap
 pub mod SameQuestion
 pub mod LongestKey

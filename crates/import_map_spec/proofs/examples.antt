@@ -1,1 +1,2 @@
+pub mod WrittenMaps
 pub mod WorkedExamples

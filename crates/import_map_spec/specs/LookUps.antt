@@ -89,6 +89,7 @@ resolve_normalized imports scopes referrer url text =
 abbrev pub scope_addresses : Texts Addresses → Lookup (Lookup (Option (List ℕ)))
 scope_addresses scopes key = option_map get (get scopes key)
 
+-- HTML, import maps, resolve a module specifier
 unfoldable pub resolve_in : ParsedMap → List ℕ → List ℕ → Resolution
 resolve_in m referrer specifier =
     resolve_normalized (get m.imports) (scope_addresses m.scopes) referrer (as_url referrer specifier)

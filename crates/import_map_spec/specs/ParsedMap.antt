@@ -18,6 +18,7 @@ Texts X = FinMap (slice_cmp nat_cmp) X
 abbrev pub Addresses : Type 0
 Addresses = Texts (Option (List ℕ))
 
+-- HTML, import maps: an import map has imports, scopes and integrity
 pub record ParsedMap : Type 0 where
   pub imports : Addresses
   pub scopes : Texts Addresses

@@ -104,6 +104,7 @@ map_of_members base top = do
     integrity = normalized_integrity base integrity;
   })
 
+-- HTML, import maps, parse an import map string: the map of a JSON value
 unfoldable pub parsed_map : List ℕ → Json → Result ParsedMap MapPart
 parsed_map base (an_object ms) = map_of_members base ms
 parsed_map base _ = Err Top

@@ -91,7 +91,7 @@ pub data MatchesScopes (scopes : Texts Addresses) (referrer : List ℕ) (url : O
   in_scope :
       (key : List ℕ) (answer : Resolution) → AnswersInScope scopes referrer url text key answer
       → ((other : List ℕ) (found : Resolution) → AnswersInScope scopes referrer url text other found
-        → length other ≤ length key)
+      → length other ≤ length key)
       → MatchesScopes scopes referrer url text (Some answer)
 
 -- HTML, import maps, resolve a module specifier: the scopes, then the imports, then the URL that the specifier is

@@ -61,7 +61,7 @@ pub record ImportExamples : Type 0 where
   pub folder :
       IsExample (importing (strings (("u/", "/v/") ∷ []))) (only_imports (to_url "u/" "https://app.test/v/" ∷ []))
       (from_page "u/w" (to "https://app.test/v/w") ∷ from_page "u/" (to "https://app.test/v/")
-          ∷ from_page "u/../w" Backtrack ∷ from_page "u///[" BadRest ∷ from_page "u" Bare ∷ [])
+      ∷ from_page "u/../w" Backtrack ∷ from_page "u///[" BadRest ∷ from_page "u" Bare ∷ [])
   pub empty_key :
       IsExample (importing (strings (("", "/x") ∷ ("a", "/y") ∷ [])))
       (only_imports (to_url "a" "https://app.test/y" ∷ [])) (from_page "a" (to "https://app.test/y") ∷ [])
@@ -72,14 +72,14 @@ pub record ImportExamples : Type 0 where
   pub no_urls :
       IsExample
       (importing (with "a" (a_text (codes "b"))
-            (with "c" a_null (with "d" (a_list no_items) (with "e" (an_object no_members) no_members)))))
+      (with "c" a_null (with "d" (a_list no_items) (with "e" (an_object no_members) no_members)))))
       (only_imports (to_null "a" ∷ to_null "c" ∷ to_null "d" ∷ to_null "e" ∷ []))
       (from_page "a" Blocked ∷ from_page "c" Blocked ∷ from_page "d" Blocked ∷ from_page "e" Blocked ∷ [])
   -- a later key that normalizes alike replaces an earlier one
   pub replaced :
       IsExample (importing (strings (("./m", "/x") ∷ ("/m", "/y") ∷ [])))
       (only_imports
-          (to_url "https://app.test/m" "https://app.test/x" ∷ to_url "https://app.test/m" "https://app.test/y" ∷ []))
+      (to_url "https://app.test/m" "https://app.test/x" ∷ to_url "https://app.test/m" "https://app.test/y" ∷ []))
       (from_page "./m" (to "https://app.test/y") ∷ from_page "https://app.test/m" (to "https://app.test/y") ∷ [])
   pub longest :
       IsExample (importing (strings (("u/w/", "/z/") ∷ ("u/", "/v/") ∷ [])))
@@ -95,23 +95,23 @@ pub record ImportExamples : Type 0 where
       IsExample (importing (strings (("x:a/", "/v/") ∷ ("https://h/a/", "/w/") ∷ [])))
       (only_imports (to_url "x:a/" "https://app.test/v/" ∷ to_url "https://h/a/" "https://app.test/w/" ∷ []))
       (from_page "x:a/b" (to "x:a/b") ∷ from_page "x:a/" (to "https://app.test/v/")
-          ∷ from_page "https://h/a/b" (to "https://app.test/w/b") ∷ [])
+      ∷ from_page "https://h/a/b" (to "https://app.test/w/b") ∷ [])
   pub no_map :
       IsExample (an_object no_members) (only_imports [])
       (from_page "./x" (to "https://app.test/x") ∷ from_page "https://h/y" (to "https://h/y") ∷ from_page "ui" Bare
-          ∷ from_page "//[" Bare ∷ from_page "" Bare ∷ [])
+      ∷ from_page "//[" Bare ∷ from_page "" Bare ∷ [])
   -- a package's folder, a null address, an address beside the page, and two keys of one URL
   pub checked :
       IsExample
       (importing (with "ui/" (a_text (codes "/node_modules/ui/")) (with "ui/b.mjs" a_null
-              (strings (("z", "./wrong.mjs") ∷ ("./app.mjs", "/x.mjs") ∷ ("/app.mjs", "/app.mjs") ∷ [])))))
+      (strings (("z", "./wrong.mjs") ∷ ("./app.mjs", "/x.mjs") ∷ ("/app.mjs", "/app.mjs") ∷ [])))))
       (only_imports (to_url "ui/" "https://app.test/node_modules/ui/" ∷ to_null "ui/b.mjs"
-            ∷ to_url "z" "https://app.test/wrong.mjs" ∷ to_url "https://app.test/app.mjs" "https://app.test/x.mjs"
-            ∷ to_url "https://app.test/app.mjs" "https://app.test/app.mjs" ∷ []))
+      ∷ to_url "z" "https://app.test/wrong.mjs" ∷ to_url "https://app.test/app.mjs" "https://app.test/x.mjs"
+      ∷ to_url "https://app.test/app.mjs" "https://app.test/app.mjs" ∷ []))
       (from_page "./app.mjs" (to "https://app.test/app.mjs")
-          ∷ ("https://app.test/app.mjs", "ui/a.mjs", to "https://app.test/node_modules/ui/a.mjs")
-          ∷ ("https://app.test/app.mjs", "ui/b.mjs", Blocked)
-          ∷ ("https://app.test/app.mjs", "z", to "https://app.test/wrong.mjs") ∷ [])
+      ∷ ("https://app.test/app.mjs", "ui/a.mjs", to "https://app.test/node_modules/ui/a.mjs")
+      ∷ ("https://app.test/app.mjs", "ui/b.mjs", Blocked)
+      ∷ ("https://app.test/app.mjs", "z", to "https://app.test/wrong.mjs") ∷ [])
 
 abbrev pub from : String → String → Resolution → String × String × Resolution
 from referrer specifier answer = (referrer, specifier, answer)
@@ -127,18 +127,18 @@ pub record ScopeExamples : Type 0 where
   pub replaced :
       IsExample (scoping (at "./1" (("a", "/b") ∷ []) (at "1" (("a", "/c") ∷ []) no_members)))
       (only_scopes (scope "https://app.test/1" (to_url "a" "https://app.test/c" ∷ [])
-            ∷ scope "https://app.test/1" (to_url "a" "https://app.test/b" ∷ []) ∷ []))
+      ∷ scope "https://app.test/1" (to_url "a" "https://app.test/b" ∷ []) ∷ []))
       (from "https://app.test/1" "a" (to "https://app.test/b") ∷ [])
   -- a text with a leading zero is no array index
   pub no_index :
       IsExample
       (scoping (at "https://app.test/1" (("a", "/b") ∷ [])
-            (at "01" (("a", "/c") ∷ []) (at "1" (("a", "/d") ∷ []) no_members))))
+      (at "01" (("a", "/c") ∷ []) (at "1" (("a", "/d") ∷ []) no_members))))
       (only_scopes (scope "https://app.test/1" (to_url "a" "https://app.test/d" ∷ [])
-            ∷ scope "https://app.test/1" (to_url "a" "https://app.test/b" ∷ [])
-            ∷ scope "https://app.test/01" (to_url "a" "https://app.test/c" ∷ []) ∷ []))
+      ∷ scope "https://app.test/1" (to_url "a" "https://app.test/b" ∷ [])
+      ∷ scope "https://app.test/01" (to_url "a" "https://app.test/c" ∷ []) ∷ []))
       (from "https://app.test/1" "a" (to "https://app.test/b")
-          ∷ from "https://app.test/01" "a" (to "https://app.test/c") ∷ [])
+      ∷ from "https://app.test/01" "a" (to "https://app.test/c") ∷ [])
   pub no_url :
       IsExample (scoping (at "https://[" (("a", "/b") ∷ []) (at "/x/" (("a", "/c") ∷ []) no_members)))
       (only_scopes (scope "https://app.test/x/" (to_url "a" "https://app.test/c" ∷ []) ∷ []))
@@ -147,22 +147,22 @@ pub record ScopeExamples : Type 0 where
   pub inner_last :
       IsExample (scoping (at "/" (("a", "/1") ∷ ("b", "/3") ∷ []) (at "/x/" (("a", "/2") ∷ []) no_members)))
       (only_scopes (scope "https://app.test/" (to_url "a" "https://app.test/1" ∷ to_url "b" "https://app.test/3" ∷ [])
-            ∷ scope "https://app.test/x/" (to_url "a" "https://app.test/2" ∷ []) ∷ []))
+      ∷ scope "https://app.test/x/" (to_url "a" "https://app.test/2" ∷ []) ∷ []))
       (from "https://app.test/x/m" "a" (to "https://app.test/2")
-          ∷ from "https://app.test/x/m" "b" (to "https://app.test/3") ∷ from_page "a" (to "https://app.test/1") ∷ [])
+      ∷ from "https://app.test/x/m" "b" (to "https://app.test/3") ∷ from_page "a" (to "https://app.test/1") ∷ [])
   pub inner_first :
       IsExample (scoping (at "/x/" (("a", "/2") ∷ []) (at "/" (("a", "/1") ∷ ("b", "/3") ∷ []) no_members)))
       (only_scopes (scope "https://app.test/x/" (to_url "a" "https://app.test/2" ∷ [])
-            ∷ scope "https://app.test/" (to_url "a" "https://app.test/1" ∷ to_url "b" "https://app.test/3" ∷ []) ∷ []))
+      ∷ scope "https://app.test/" (to_url "a" "https://app.test/1" ∷ to_url "b" "https://app.test/3" ∷ []) ∷ []))
       (from "https://app.test/x/m" "a" (to "https://app.test/2")
-          ∷ from "https://app.test/x/m" "b" (to "https://app.test/3") ∷ from_page "a" (to "https://app.test/1") ∷ [])
+      ∷ from "https://app.test/x/m" "b" (to "https://app.test/3") ∷ from_page "a" (to "https://app.test/1") ∷ [])
   -- a scope of one referrer, and a key that ends in no `/` and so is no folder
   pub exact :
       IsExample (scoping (at "./index.html" (("a", "/s") ∷ []) (at "/x" (("a", "/t") ∷ []) no_members)))
       (only_scopes (scope "https://app.test/index.html" (to_url "a" "https://app.test/s" ∷ [])
-            ∷ scope "https://app.test/x" (to_url "a" "https://app.test/t" ∷ []) ∷ []))
+      ∷ scope "https://app.test/x" (to_url "a" "https://app.test/t" ∷ []) ∷ []))
       (from_page "a" (to "https://app.test/s") ∷ from "https://app.test/x" "a" (to "https://app.test/t")
-          ∷ from "https://app.test/x/m" "a" Bare ∷ [])
+      ∷ from "https://app.test/x/m" "a" Bare ∷ [])
   -- a null address in a scope blocks what the imports have, and a prefix in a scope goes before a key in the imports
   pub over_imports :
       IsExample
@@ -173,7 +173,7 @@ pub record ScopeExamples : Type 0 where
         integrity = [];
       })
       (from "https://app.test/x/m" "a" Blocked ∷ from "https://app.test/x/m" "u/w" (to "https://app.test/v/w")
-          ∷ from_page "a" (to "https://app.test/i") ∷ from_page "u/w" (to "https://app.test/j") ∷ [])
+      ∷ from_page "a" (to "https://app.test/i") ∷ from_page "u/w" (to "https://app.test/j") ∷ [])
 
 -- what is replaced is gone
 pub record ReplacedExamples : Type 0 where
@@ -196,7 +196,7 @@ pub record FaultExamples : Type 0 where
       ≡ Err Imports
   pub scope_first :
       parsed_map page (an_object
-          (with "integrity" a_null (with "scopes" (an_object (with "/" a_null no_members)) no_members))) ≡ Err Scope
+      (with "integrity" a_null (with "scopes" (an_object (with "/" a_null no_members)) no_members))) ≡ Err Scope
   pub others : parsed_map page (an_object (with "more" a_null no_members)) ≡ Ok (map_of_lists (only_imports []))
 
 abbrev pub pair : String → String → List ℕ × List ℕ

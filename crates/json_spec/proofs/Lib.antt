@@ -4,6 +4,7 @@ pub mod DistinctNames
 pub mod OneJson
 pub mod Shorter
 pub mod LongestNumber
+pub mod NumberBack
 pub mod MembersInOrder
 pub mod PlainReader
 pub mod SomeJson

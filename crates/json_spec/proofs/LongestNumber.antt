@@ -181,11 +181,11 @@ number_fits bytes =
 
 -- ---- where the bytes begin with a number, at least that much is read
 
-record AtLeast (size : ℕ) (out : Read (List ℕ)) : Type 0 where
-  piece : List ℕ
-  rest : List ℕ
-  took : out ≡ taken piece rest
-  long : size ≤ length piece
+pub record AtLeast (size : ℕ) (out : Read (List ℕ)) : Type 0 where
+  pub piece : List ℕ
+  pub rest : List ℕ
+  pub took : out ≡ taken piece rest
+  pub long : size ≤ length piece
 
 fewer : (size more : ℕ) (out : Read (List ℕ)) → size ≤ more → AtLeast more out → AtLeast size out
 fewer size more out l a = record { piece = a.piece; rest = a.rest; took = a.took; long = (let m = a.long in omega arith) }
@@ -407,7 +407,7 @@ number_parts minus int tail back (inr minus_is) i t =
     subst (λ front. AtLeast (length front + (length int + length tail)) (number_at (front ++ bytes))) (sym minus_is)
     (joined_least (maybe reader) body_at (45 ∷ bytes) (45 ∷ []) bytes refl (length int + length tail) (body_least int tail back i t))
 
-number_least : (number back : List ℕ) → IsNumber number → AtLeast (length number) (number_at (number ++ back))
+pub number_least : (number back : List ℕ) → IsNumber number → AtLeast (length number) (number_at (number ++ back))
 number_least number back is =
     let same : number ++ back ≡ is.minus ++ (is.int ++ (is.tail ++ back)) =
     ap (λ (xs : List ℕ). xs ++ back) is.parts ∙ (append_assoc is.minus (is.int ++ is.tail) back ∙ ap (λ (xs : List ℕ). is.minus ++ xs) (append_assoc is.int is.tail back)) in

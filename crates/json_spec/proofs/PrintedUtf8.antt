@@ -7,6 +7,10 @@ use Rattle.std.proofs.lemmas.Str.{encode_ascii, IsUtf8-encode, IsUtf8-nil, IsUtf
 use Rattle.std.specs.Char.{encode_utf8}
 use Rattle.std.specs.Prelude.{ℕ, ◌<◌, List, ◌∷◌, IsUtf8, ◌+◌, nat_lt, ◌/◌, ◌%◌, ◌||◌, ◌==◌, ◌++◌, ◌≡◌, ◌≤◌, [], true, encode_utf8_all, zero, suc, codes, false}
 use mathlib.Core.Logic.{inl, inr}
+use Rattle.std.proofs.lemmas.List.Elements.{All-head, All-tail}
+use Rattle.std.specs.Prelude.{All}
+use Rattle.json_spec.specs.Numbers.{IsNumber}
+use Rattle.json_spec.proofs.NumberBack.{IsNumberByte, number_bytes, byte_low}
 use Rattle.json_spec.specs.PrintedString.{hex_digit, unicode_escape, escaped_byte, escaped, quoted}
 use Rattle.json_spec.specs.PrintedValue.{margin, line, printed, printed_items, printed_members, IsPrintable, ArePrintable, MembersArePrintable, printed_text}
 use Rattle.json_spec.specs.Value.{Json, a_null, a_bool, a_number, a_text, a_list, an_object, Items, no_items, an_item, Members, no_members, a_member}
@@ -79,12 +83,19 @@ two_bytes b c rest l m u = ascii_first b _ l (ascii_first c _ m u)
 name_utf8 : (name rest : List ℕ) → IsUtf8 name → IsUtf8 rest → IsUtf8 (quoted name ++ (codes ": " ++ rest))
 name_utf8 name rest n u = IsUtf8-append _ _ (quoted_utf8 name n) (two_bytes 58 32 rest (omega arith) (omega arith) u)
 
+pub number_utf8 : (number rest : List ℕ) → IsNumber number → IsUtf8 rest → IsUtf8 (number ++ rest)
+number_utf8 number rest is u = go number (number_bytes number is)
+  where
+    go : (text : List ℕ) → All IsNumberByte text → IsUtf8 (text ++ rest)
+    go [] all = u
+    go (b ∷ text) all = ascii_first b (text ++ rest) (byte_low b (All-head IsNumberByte b text all)) (go text (All-tail IsNumberByte b text all))
+
 mutual
   pub printed_utf8 : (depth n : ℕ) (v : Json) (rest : List ℕ) → IsPrintable depth v → IsUtf8 rest → IsUtf8 (printed n v rest)
   printed_utf8 depth n a_null rest p u = two_bytes 110 117 _ (omega arith) (omega arith) (two_bytes 108 108 rest (omega arith) (omega arith) u)
   printed_utf8 depth n (a_bool true) rest p u = two_bytes 116 114 _ (omega arith) (omega arith) (two_bytes 117 101 rest (omega arith) (omega arith) u)
   printed_utf8 depth n (a_bool false) rest p u = ascii_first 102 _ (omega arith) (two_bytes 97 108 _ (omega arith) (omega arith) (two_bytes 115 101 rest (omega arith) (omega arith) u))
-  printed_utf8 depth n (a_number number) rest p u = absurd p
+  printed_utf8 depth n (a_number number) rest p u = number_utf8 number rest p u
   printed_utf8 depth n (a_text text) rest p u = IsUtf8-append _ _ (quoted_utf8 text p) u
   printed_utf8 zero n (a_list vs) rest p u = absurd p
   printed_utf8 zero n (an_object ms) rest p u = absurd p

@@ -1,4 +1,7 @@
 -- What is printed reads back.
+use Rattle.json_spec.specs.Numbers.{IsNumber}
+use Rattle.json_spec.proofs.NumberBack.{is_number_byte, Closes, number_back, begins_number, byte_not, byte_other}
+use Rattle.std.proofs.Common.{subst, sym}
 use Rattle.std.proofs.Common.{refl, arith, ◌∙◌, append_assoc}
 use Rattle.std.proofs.lemmas.Bool.{cond-false}
 use Rattle.std.specs.Prelude.{◌≡◌, ℕ, zero, suc, List, ◌≢◌, false, ◌∷◌, true, ◌++◌, IsUtf8, codes, []}
@@ -23,11 +26,19 @@ pub record StartsValue (bytes : List ℕ) : Type 0 where
   pub no_space : is_space head ≡ false
   pub no_close : head ≢ 93
 
+no_space_byte : (b : ℕ) → is_number_byte b ≡ true → is_space b ≡ false
+no_space_byte b is = rw (byte_not b 32 refl is, byte_not b 9 refl is, byte_not b 10 refl is, byte_not b 13 refl is) refl
+
+number_starts : (number rest : List ℕ) → IsNumber number → StartsValue (number ++ rest)
+number_starts number rest is =
+    let first = begins_number number rest is in
+    record { head = first.head; tail = first.tail; is = first.is; no_space = no_space_byte first.head first.byte; no_close = byte_other first.head 93 refl first.byte }
+
 pub printed_starts : (depth n : ℕ) (v : Json) (rest : List ℕ) → IsPrintable depth v → StartsValue (printed n v rest)
 printed_starts depth n a_null rest p = record { head = 110; tail = _; is = refl; no_space = refl; no_close = omega arith }
 printed_starts depth n (a_bool true) rest p = record { head = 116; tail = _; is = refl; no_space = refl; no_close = omega arith }
 printed_starts depth n (a_bool false) rest p = record { head = 102; tail = _; is = refl; no_space = refl; no_close = omega arith }
-printed_starts depth n (a_number number) rest p = absurd p
+printed_starts depth n (a_number number) rest p = number_starts number rest p
 printed_starts depth n (a_text text) rest p = record { head = 34; tail = _; is = refl; no_space = refl; no_close = omega arith }
 printed_starts depth n (a_list no_items) rest p = record { head = 91; tail = _; is = refl; no_space = refl; no_close = omega arith }
 printed_starts depth n (a_list (an_item v more)) rest p = record { head = 91; tail = _; is = refl; no_space = refl; no_close = omega arith }
@@ -75,23 +86,39 @@ object_back depth n name more middle rest v ms d r m =
     let object : Reads (suc depth) (123 ∷ line n (quoted name ++ more)) (taken (an_object (settled (a_member name v ms))) rest) = reads_object members in
     rw (settled_distinct (a_member name v ms) d) at object
 
+number_value_back : (number rest : List ℕ) → IsNumber number → Closes rest → {items : List ℕ → Reading Items → Type 0} {members : List ℕ → Reading Members → Type 0} → ReadsWith items members (number ++ rest) (taken (a_number number) rest)
+number_value_back number rest is closes {items} {members} =
+    let read = number_back number rest is closes in
+    let here : ReadsWith items members (read.head ∷ read.tail) (taken (a_number number) rest) =
+    rw (← read.reads) (reads_scalar (byte_other read.head 34 refl read.byte) (byte_other read.head 91 refl read.byte) (byte_other read.head 123 refl read.byte)) in
+    subst (λ bytes. ReadsWith items members bytes (taken (a_number number) rest)) (sym read.is) here
+
+-- no byte of a number stands behind an item or a member
+items_closed : (n : ℕ) (vs : Items) (rest : List ℕ) → Closes rest → Closes (printed_items n vs rest)
+items_closed n no_items rest closes = closes
+items_closed n (an_item v more) rest closes = refl
+
+members_closed : (n : ℕ) (ms : Members) (rest : List ℕ) → Closes rest → Closes (printed_members n ms rest)
+members_closed n no_members rest closes = closes
+members_closed n (a_member name v more) rest closes = refl
+
 mutual
-  pub value_back : (depth n : ℕ) (v : Json) (rest : List ℕ) → IsPrintable depth v → Reads depth (printed n v rest) (taken v rest)
-  value_back depth n a_null rest p = at_depth depth (λ items members. reads_scalar (omega arith) (omega arith) (omega arith))
-  value_back depth n (a_bool true) rest p = at_depth depth (λ items members. reads_scalar (omega arith) (omega arith) (omega arith))
-  value_back depth n (a_bool false) rest p = at_depth depth (λ items members. reads_scalar (omega arith) (omega arith) (omega arith))
-  value_back depth n (a_number number) rest p = absurd p
-  value_back depth n (a_text text) rest p = at_depth depth (λ items members. text_value_back text rest p)
-  value_back zero n (a_list vs) rest p = absurd p
-  value_back zero n (an_object ms) rest p = absurd p
-  value_back (suc depth) n (a_list no_items) rest p = reads_list no_item
-  value_back (suc depth) n (a_list (an_item v more)) rest p =
+  pub value_back : (depth n : ℕ) (v : Json) (rest : List ℕ) → IsPrintable depth v → Closes rest → Reads depth (printed n v rest) (taken v rest)
+  value_back depth n a_null rest p closes = at_depth depth (λ items members. reads_scalar (omega arith) (omega arith) (omega arith))
+  value_back depth n (a_bool true) rest p closes = at_depth depth (λ items members. reads_scalar (omega arith) (omega arith) (omega arith))
+  value_back depth n (a_bool false) rest p closes = at_depth depth (λ items members. reads_scalar (omega arith) (omega arith) (omega arith))
+  value_back depth n (a_number number) rest p closes = at_depth depth (λ items members. number_value_back number rest p closes)
+  value_back depth n (a_text text) rest p closes = at_depth depth (λ items members. text_value_back text rest p)
+  value_back zero n (a_list vs) rest p closes = absurd p
+  value_back zero n (an_object ms) rest p closes = absurd p
+  value_back (suc depth) n (a_list no_items) rest p closes = reads_list no_item
+  value_back (suc depth) n (a_list (an_item v more)) rest p closes =
       let after = printed_items (suc n) more (line n (93 ∷ rest)) in
-      list_back depth (suc n) (printed (suc n) v after) after rest v more (printed_starts depth (suc n) v after p.0) (value_back depth (suc n) v after p.0) (items_back depth (suc n) n more rest p.1)
-  value_back (suc depth) n (an_object no_members) rest p = reads_object no_member
-  value_back (suc depth) n (an_object (a_member name v more)) rest p =
+      list_back depth (suc n) (printed (suc n) v after) after rest v more (printed_starts depth (suc n) v after p.0) (value_back depth (suc n) v after p.0 (items_closed (suc n) more (line n (93 ∷ rest)) refl)) (items_back depth (suc n) n more rest p.1)
+  value_back (suc depth) n (an_object no_members) rest p closes = reads_object no_member
+  value_back (suc depth) n (an_object (a_member name v more)) rest p closes =
       let after = printed_members (suc n) more (line n (125 ∷ rest)) in
-      let here = member_back depth name (printed (suc n) v after) after v p.1.0 (printed_starts depth (suc n) v after p.1.1) (value_back depth (suc n) v after p.1.1) in
+      let here = member_back depth name (printed (suc n) v after) after v p.1.0 (printed_starts depth (suc n) v after p.1.1) (value_back depth (suc n) v after p.1.1 (members_closed (suc n) more (line n (125 ∷ rest)) refl)) in
       object_back depth (suc n) name (codes ": " ++ printed (suc n) v after) after rest v more p.0 here (members_back depth (suc n) n more rest p.1.2)
 
   pub items_back : (depth n m : ℕ) (vs : Items) (rest : List ℕ) → ArePrintable depth vs → MoreItems (Reads depth) (after_space (printed_items n vs (line m (93 ∷ rest)))) (taken vs rest)
@@ -99,7 +126,7 @@ mutual
   items_back depth n m (an_item v more) rest p =
       let after = printed_items n more (line m (93 ∷ rest)) in
       let starts = printed_starts depth n v after p.0 in
-      let here : Reads depth (after_space (line n (printed n v after))) (taken v after) = rw (after_line n (printed n v after) starts) (value_back depth n v after p.0) in
+      let here : Reads depth (after_space (line n (printed n v after))) (taken v after) = rw (after_line n (printed n v after) starts) (value_back depth n v after p.0 (items_closed n more (line m (93 ∷ rest)) refl)) in
       items_next here (items_back depth n m more rest p.1)
 
   pub members_back : (depth n m : ℕ) (ms : Members) (rest : List ℕ) → MembersArePrintable depth ms → MoreMembers (Reads depth) (after_space (printed_members n ms (line m (125 ∷ rest)))) (taken ms rest)
@@ -107,9 +134,9 @@ mutual
   members_back depth n m (a_member name v more) rest p =
       let after = printed_members n more (line m (125 ∷ rest)) in
       let bytes = printed n v after in
-      let here = member_back depth name bytes after v p.0 (printed_starts depth n v after p.1) (value_back depth n v after p.1) in
+      let here = member_back depth name bytes after v p.0 (printed_starts depth n v after p.1) (value_back depth n v after p.1 (members_closed n more (line m (125 ∷ rest)) refl)) in
       let there : ReadsMember (Reads depth) (after_space (line n (quoted name ++ (codes ": " ++ bytes)))) (taken (a_pair name v) after) = rw (after_line n (quoted name ++ (codes ": " ++ bytes)) (quoted_starts name (codes ": " ++ bytes))) here in
       members_next there (members_back depth n m more rest p.2)
 
 pub text_reads : (depth : ℕ) (v : Json) → IsPrintable depth v → Reads depth (after_space (printed_text v)) (taken v (10 ∷ []))
-text_reads depth v p = rw (after_no_space (printed_text v) (printed_starts depth 0 v (10 ∷ []) p)) (value_back depth 0 v (10 ∷ []) p)
+text_reads depth v p = rw (after_no_space (printed_text v) (printed_starts depth 0 v (10 ∷ []) p)) (value_back depth 0 v (10 ∷ []) p refl)

@@ -70,6 +70,7 @@ pub data ReadsName : List ℕ → Reading (List ℕ) → Type 0 where
   no_name : {b : ℕ} {bytes : List ℕ} → b ≢ 34 → ReadsName (b ∷ bytes) (fault_here (b ∷ bytes))
   name_ends : ReadsName [] (fault_here [])
 
+-- RFC 8259, 4: a name with its value
 pub data Member : Type 0 where
   a_pair : List ℕ → Json → Member
 

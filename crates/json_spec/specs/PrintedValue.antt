@@ -1,10 +1,11 @@
 -- The printed form of a value. RFC 8259, 2, leaves white space free, and this is the layout that is written.
 --     printed_text v      the whole text of v
 --     printed n v rest      v at depth n, and then rest
---     IsPrintable depth v      v is read back: no number, distinct names, texts in UTF-8, and no more than depth
---         brackets open at once
+--     IsPrintable depth v      v is read back: numbers of the grammar, distinct names, texts in UTF-8, and no more than
+--         depth brackets open at once
 use Rattle.std.specs.Prelude.{ℕ, zero, suc, List, ◌∷◌, true, false, ◌++◌, codes, [], ⊤, IsUtf8}
 use Rattle.json_spec.specs.PrintedString.{quoted}
+use Rattle.json_spec.specs.Numbers.{IsNumber}
 use Rattle.json_spec.specs.Value.{Json, a_null, a_bool, a_number, a_text, a_list, an_object, Items, no_items, an_item, Members, no_members, a_member, AreDistinct}
 
 -- own: two spaces a level
@@ -47,12 +48,13 @@ abbrev mutual
 abbrev pub printed_text : Json → List ℕ
 printed_text v = printed 0 v (10 ∷ [])
 
--- a value that is read back: no number, distinct names, texts in UTF-8, and no more than depth brackets open at once
+-- a value that is read back: numbers of the grammar, distinct names, texts in UTF-8, and no more than depth brackets
+-- open at once
 abbrev mutual
   pub IsPrintable : ℕ → Json → Type 0
   IsPrintable depth a_null = ⊤
   IsPrintable depth (a_bool b) = ⊤
-  IsPrintable depth (a_number number) = ⊥
+  IsPrintable depth (a_number number) = IsNumber number
   IsPrintable depth (a_text text) = IsUtf8 text
   IsPrintable zero (a_list vs) = ⊥
   IsPrintable (suc depth) (a_list vs) = ArePrintable depth vs

@@ -5,6 +5,7 @@
 --         was taken
 use Rattle.std.specs.Prelude.{ℕ, List, ⊤, ◌++◌}
 
+-- what was taken and the bytes after it, or why nothing is
 pub data Taken (A E : Type 0) : Type 0 where
   taken : A → List ℕ → Taken A E
   refused : E → Taken A E

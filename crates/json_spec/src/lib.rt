@@ -49,8 +49,8 @@ pub fn strings_read_back()
     ensures { StringsReadBack }
 {}
 
-/// A printed value reads back where it holds no number and no name twice in one object, its texts are UTF-8, and it opens no
-/// more brackets at once than a text may.
+/// A printed value reads back where its numbers are of the grammar, no object holds a name twice, its texts are UTF-8, and it
+/// opens no more brackets at once than a text may.
 #[tactic(auto, using(crate::proofs::ReadBack::values_read_back))]
 pub fn values_read_back()
     ensures { ValuesReadBack }

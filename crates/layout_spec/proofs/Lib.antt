@@ -2,10 +2,7 @@ pub mod Contained
 pub mod CountedNeeds
 pub mod Lays
 pub mod OneLayout
-pub mod Agreement
-pub mod LaidLists
 pub mod MapMembers
 pub mod MapBack
 pub mod TextBack
-pub mod PrintedLists
 pub mod examples

@@ -1,1 +1,4 @@
+pub mod LaidLists
+pub mod PrintedLists
+pub mod Agreement
 pub mod WorkedExamples

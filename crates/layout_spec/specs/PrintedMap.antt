@@ -34,6 +34,7 @@ map_value m =
     (with_part (codes "scopes") (members_of addresses_value (entries m.scopes))
     (with_part (codes "integrity") (members_of a_text (entries m.integrity)) no_members)))
 
+-- own: the text of the map
 unfoldable pub map_text : ParsedMap → List ℕ
 map_text m = printed_text (map_value m)
 
@@ -41,6 +42,7 @@ abbrev pub IsKeptAddress : List ℕ → List ℕ → Option (List ℕ) → Type 
 IsKeptAddress base key None = ⊤
 IsKeptAddress base key (Some url) = (address_of base key (a_text url) ≡ Some url) × IsUtf8 url
 
+-- own: the key is normalized and not empty, and parsing gives its address as it is
 pub record IsKeptKey (base key : List ℕ) (address : Option (List ℕ)) : Type 0 where
   pub not_empty : is_empty key ≡ false
   pub normal : normalized base key ≡ key
@@ -50,16 +52,19 @@ pub record IsKeptKey (base key : List ℕ) (address : Option (List ℕ)) : Type 
 abbrev pub AreKept : List ℕ → Addresses → Type 0
 AreKept base m = (key : List ℕ) (address : Option (List ℕ)) → get m key ≡ Some address → IsKeptKey base key address
 
+-- own: the key is a URL, and parsing gives it and its addresses as they are
 pub record IsKeptScope (base key : List ℕ) (addresses : Addresses) : Type 0 where
   pub url : parse_against base key ≡ Some key
   pub utf8 : IsUtf8 key
   pub kept : AreKept base addresses
 
+-- own: the key is a URL that parsing gives as it is
 pub record IsKeptIntegrity (base key text : List ℕ) : Type 0 where
   pub url : as_url base key ≡ Some key
   pub key_utf8 : IsUtf8 key
   pub text_utf8 : IsUtf8 text
 
+-- own: each part of the map stands as parsing leaves it
 pub record IsKept (base : List ℕ) (m : ParsedMap) : Type 0 where
   pub imports : AreKept base m.imports
   pub scopes :

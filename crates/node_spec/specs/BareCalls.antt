@@ -18,6 +18,7 @@ Alike [] b = ⊤
 Alike (x ∷ a) [] = ⊤
 Alike (x ∷ a) (y ∷ b) = x.0 ≡ y.0 → (x.1 ≡ y.1) × Alike a b
 
+-- own: the calls and the outcomes are the same
 pub record IsSame (a b : List Call) (x y : Outcome) : Type 0 where
   pub calls : a ≡ b
   pub outcome : x ≡ y

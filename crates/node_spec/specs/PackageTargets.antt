@@ -75,6 +75,7 @@ bare_outcome bare_answer.Found = Bare
 bare_outcome bare_answer.InvalidTarget = InvalidTarget
 bare_outcome bare_answer.Stop = Stopped
 
+-- PACKAGE_TARGET_RESOLVE, "If target is a String"
 pub data ResolvesText (rules : Rules) (target : List ℕ) : List Call → Outcome → Type 0 where
   own_place : begins target (codes "./") ≡ true → ResolvesText rules target [] (own_outcome rules.pattern_match target)
   bare :

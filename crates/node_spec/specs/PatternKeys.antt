@@ -58,6 +58,7 @@ pub data Precedes (key other : List ℕ) : Type 0 where
       → IsPattern other other_base other_trailer → length other_base ≡ length base → length other < length key
       → Precedes key other
 
+-- PACKAGE_IMPORTS_EXPORTS_RESOLVE: the key that is taken, of a set of keys
 pub record IsChoice (keys : List (List ℕ)) (asked key : List ℕ) (found : KeyMatch) : Type 0 where
   pub among : Contains keys key
   pub matches : Matches asked key found

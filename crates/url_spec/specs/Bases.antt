@@ -22,6 +22,7 @@ abbrev pub folder_url : Option (List ℕ) → Option (List ℕ)
 folder_url None = None
 folder_url (Some url) = if is_web_folder (parts_of url) then Some url else None
 
+-- own: the base that a text gives
 unfoldable pub base_of : List ℕ → Option (List ℕ)
 base_of text = folder_url (parse_alone text)
 

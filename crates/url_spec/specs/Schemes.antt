@@ -24,5 +24,6 @@ abbrev pub has_special : Option Parts → Bool
 has_special None = false
 has_special (Some url) = is_special (kind_of url)
 
+-- the scheme of the URL with this text is special (URL Standard, URL miscellaneous)
 unfoldable pub has_special_scheme : List ℕ → Bool
 has_special_scheme text = has_special (parts_of text)

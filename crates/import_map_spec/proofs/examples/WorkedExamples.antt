@@ -13,7 +13,7 @@ use Rattle.url_spec.specs.Parsing.{text_of, parse_alone, parse_against}
 use Rattle.url_spec.specs.Schemes.{has_special_scheme}
 use Rattle.url_spec.specs.Specifiers.{as_url, normalized}
 use Rattle.import_map_spec.proofs.Entries.{insert_again}
-use Rattle.import_map_spec.proofs.WrittenMaps.{ListsAnswer, answered}
+use Rattle.import_map_spec.proofs.examples.WrittenMaps.{ListsAnswer, answered}
 use Rattle.import_map_spec.specs.ParsedMap.{Texts, Addresses, ParsedMap}
 use Rattle.import_map_spec.specs.Parsing.{parsed_map}
 use Rattle.import_map_spec.specs.WorkedExamples.{page, IsExample, ImportExamples, ScopeExamples, ReplacedExamples, FaultExamples, IntegrityExamples, OrderExamples, ByteExamples, WorkedExamples}

@@ -6,10 +6,10 @@ use Rattle.std.specs.Prelude.{◌≡◌, ℕ, List, [], ◌∷◌, map, Some}
 use Rattle.import_map_spec.proofs.Entries.{insert_again}
 use Rattle.import_map_spec.specs.ParsedMap.{Texts, Addresses, ParsedMap}
 use Rattle.import_map_spec.specs.WrittenMaps.{insert_all, scope_of}
-use Rattle.layout_spec.proofs.Agreement.{no_clash_from_test}
+use Rattle.layout_spec.proofs.examples.Agreement.{no_clash_from_test}
 use Rattle.layout_spec.proofs.Contained.{contains_here, contains_there}
-use Rattle.layout_spec.proofs.LaidLists.{listed_layout, layout_listed}
-use Rattle.layout_spec.proofs.PrintedLists.{listed_text, lists_text}
+use Rattle.layout_spec.proofs.examples.LaidLists.{listed_layout, layout_listed}
+use Rattle.layout_spec.proofs.examples.PrintedLists.{listed_text, lists_text}
 use Rattle.layout_spec.specs.Layout.{layout}
 use Rattle.layout_spec.specs.PrintedMap.{map_text}
 use Rattle.layout_spec.specs.WorkedExamples.{app_ab, page_app, app_home, app_id, home_id, LayoutExamples, CountExamples, below_app, beside, ClashExamples, WorkedExamples, only_integrity, several, TextExamples}

@@ -1,11 +1,11 @@
--- The layout of needs that are written out, as lists, for the worked examples.
+-- The layout of needs that are written out, as lists.
 use Rattle.std.proofs.Common.{refl, ap, ◌∙◌, sym}
 use Rattle.std.specs.FinMap.{insert, empty, get}
 use Rattle.std.specs.Prelude.{ℕ, List, Option, [], ◌∷◌, ◌++◌, bytes_eq, if◌then◌else◌, Some, unwrap_or, ◌≡◌, map, Bool, true, false, option_map, None}
 use Rattle.import_map_spec.proofs.Entries.{same_key}
-use Rattle.import_map_spec.proofs.WrittenMaps.{looked, looked_onto, nowhere, get_map_of}
-use Rattle.import_map_spec.specs.ParsedMap.{Texts, Addresses}
+use Rattle.import_map_spec.proofs.examples.WrittenMaps.{looked, looked_onto, nowhere, get_map_of}
 use Rattle.import_map_spec.specs.LookUps.{Lookup}
+use Rattle.import_map_spec.specs.ParsedMap.{Texts, Addresses}
 use Rattle.import_map_spec.specs.WrittenMaps.{Lists, insert_all, scope_of, map_of, map_of_lists}
 use Rattle.layout_spec.specs.Layout.{with_need, scopes_onto, layout}
 use Rattle.layout_spec.specs.declared.Need.{Need}

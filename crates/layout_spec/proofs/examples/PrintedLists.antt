@@ -1,5 +1,4 @@
--- The text of a map that is written out as lists, for the worked examples.
-use Rattle.import_map_spec.proofs.Entries.{no_entries}
+-- The text of a map that is written out as lists.
 use Rattle.std.proofs.Common.{refl, ap, ◌∙◌}
 use Rattle.std.specs.Cmp.Lexicographic.{slice_cmp, nat_list_cmp_total}
 use Rattle.std.specs.FinMap.{put, insert, entries, entries-insert, empty}
@@ -10,6 +9,7 @@ use Rattle.std.specs.declared.cmp.Ordering.{Ordering}
 use Rattle.std.specs.declared.cmp.Ordering.TheVariants.{Less, Equal, Greater}
 use Rattle.json_spec.specs.PrintedValue.{printed_text}
 use Rattle.json_spec.specs.Value.{Json, an_object, a_member, Members, no_members, a_text}
+use Rattle.import_map_spec.proofs.Entries.{no_entries}
 use Rattle.import_map_spec.specs.ParsedMap.{Texts, Addresses}
 use Rattle.import_map_spec.specs.WrittenMaps.{insert_all, map_of, scope_of, Lists, map_of_lists}
 use Rattle.layout_spec.specs.PrintedMap.{members_of, address_value, addresses_value, with_part, map_value, map_text}

@@ -5,8 +5,8 @@ use Rattle.std.specs.Prelude.{None, ℕ, cond, List, [], ◌∷◌, Some, ◌≡
 use mathlib.Core.Path.{fun_ext}
 use Rattle.url_spec.specs.Specifiers.{as_url, normalized}
 use Rattle.import_map_spec.proofs.Entries.{same_key, get_inserted, get_nowhere}
-use Rattle.import_map_spec.specs.ParsedMap.{Texts, Addresses}
 use Rattle.import_map_spec.specs.LookUps.{Lookup, scope_addresses, resolve_normalized, resolve_in}
+use Rattle.import_map_spec.specs.ParsedMap.{Texts, Addresses}
 use Rattle.import_map_spec.specs.Resolving.{Resolution}
 use Rattle.import_map_spec.specs.WrittenMaps.{insert_all, map_of, scope_of, Lists, map_of_lists, Questions, Answer}
 
