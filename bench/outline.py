@@ -1,0 +1,209 @@
+"""Measures how fast the outline of a module text is read, by processor time, and says PASS or FAIL to each target.
+
+It runs crates/outline_count/out/outline_count and crates/token_count/out/token_count, which `rt run` in their folders
+leaves there. The times hold all that these programs do: they start, read the file, see that it is UTF-8, and then read
+the text. The line that each prints is checked, against what the text is made to have. Beside them stands Debian's
+node-es-module-lexer, where it is installed: the time of its parse alone, once, of the text that Node has read.
+"""
+
+import os
+import resource
+import shutil
+import subprocess
+import sys
+import tempfile
+
+import tokens
+
+HERE = os.path.dirname(os.path.abspath(__file__))
+CRATES = os.path.join(HERE, "..", "crates")
+OUTLINE = os.path.join(CRATES, "outline_count", "out", "outline_count")
+TOKENS = os.path.join(CRATES, "token_count", "out", "token_count")
+PEER = "/usr/share/nodejs/es-module-lexer"
+SIZE = 16 * 1024 * 1024
+IMPORTS = 4000
+TRIES = 5
+# Bytes in a second, of ordinary code.
+SPEED = 100_000_000
+# The part of the pace at which tokens alone are read.
+PACE = 0.9
+# How much longer than the peer it may take.
+PEER_TIMES = 2
+# How much longer twice the text may take.
+GROWTH = 3
+# Below this a time says more about the machine than about the program.
+NOISE = 0.02
+
+failures = 0
+
+
+def code(size):
+    """Ordinary code, with imports in its first part alone."""
+    parts, length, n = [], 0, 1
+    while length < size:
+        for line, _ in tokens.CODE if n <= IMPORTS else tokens.CODE[1:]:
+            parts.append(line.format(n=n))
+            length += len(parts[-1])
+        n += 1
+    return "".join(parts), f"{min(n - 1, IMPORTS)} requests, a module"
+
+
+def words(size):
+    """The word `import` again and again, without a form."""
+    return "import " * (1_000_000 * size // SIZE), "unreadable at 0"
+
+
+def names(size):
+    """One import with a million names in braces, where the text is the longest one."""
+    return "import{" + "a," * (1_000_000 * size // SIZE) + "}from'b'", "1 requests, a module"
+
+
+def long_names(size):
+    """One import with names of 15 bytes in braces."""
+    return "import{" + "abcdefghijklmn," * (size // 15) + "}from'b'", "1 requests, a module"
+
+
+def nested(size):
+    """Imports of braces that nest to the limit."""
+    piece = "import" + "{" * 4096 + "}" * 4096 + "from'a';"
+    return piece * (size // len(piece)), f"{size // len(piece)} requests, a module"
+
+
+def literal(size):
+    """One module specifier without an escape."""
+    return "import'" + "a" * size + "'", "1 requests, a module"
+
+
+def escapes(size):
+    """One module specifier of escapes."""
+    return "import'" + "\\u0061" * (size // 6) + "'", "1 requests, a module"
+
+
+def braced_escapes(size):
+    """The same of escapes in braces."""
+    return "import'" + "\\u{000061}" * (size // 10) + "'", "1 requests, a module"
+
+
+def pairs(size):
+    """The same of surrogate pairs."""
+    return "import'" + "\\ud83d\\ude00" * (size // 12) + "'", "1 requests, a module"
+
+
+def wide(size):
+    """The same of characters past ASCII, and one escape."""
+    return "import'\\x61" + "\u00e9" * (size // 2) + "'", "1 requests, a module"
+
+
+def digits(size):
+    """One escape with digits that don't end: it has no value."""
+    return "import'\\u{" + "0" * size + "'", "unreadable at 6"
+
+
+def exports(size):
+    """A million `export default`, where the text is the longest one."""
+    return "export default " * (1_000_000 * size // SIZE), "0 requests, a module"
+
+
+def metas(size):
+    """The property `import.meta` again and again."""
+    return "import.meta;" * (size // 12), "0 requests, a module"
+
+
+def many(size):
+    """More imports than may be."""
+    return "import'a';" * (size // 10), "too many requests"
+
+
+HOSTILE = [words, names, long_names, nested, literal, escapes, braced_escapes, pairs, wide, digits, exports, metas, many]
+
+
+def say(passed, text):
+    global failures
+    if not passed:
+        failures += 1
+    print(f"{'PASS' if passed else 'FAIL'}  {text}", flush=True)
+
+
+def run(program, path):
+    """The processor seconds of one run, and the line that it printed."""
+    before = resource.getrusage(resource.RUSAGE_CHILDREN)
+    done = subprocess.run([program, path], capture_output=True, text=True, check=False)
+    after = resource.getrusage(resource.RUSAGE_CHILDREN)
+    seconds = after.ru_utime + after.ru_stime - before.ru_utime - before.ru_stime
+    return seconds, done.stdout.rstrip("\n")
+
+
+def written(shape, size, folder):
+    text, wanted = shape(size)
+    path = os.path.join(folder, "module.mjs")
+    with open(path, "w", encoding="utf-8", newline="") as file:
+        file.write(text)
+    return path, wanted
+
+
+def best(shape, size, folder):
+    """The fewest seconds of a few runs over one text, where each is right, and the bytes of the text."""
+    path, wanted = written(shape, size, folder)
+    runs = [run(OUTLINE, path) for _ in range(TRIES)]
+    for _, line in runs:
+        if line != wanted:
+            say(False, f"{shape.__name__}: printed {line!r}, wanted {wanted!r}")
+    return min(seconds for seconds, _ in runs), os.path.getsize(path)
+
+
+def peer(path):
+    """The fewest seconds of a few parses by es-module-lexer, each in a process of its own; None without it."""
+    if not os.path.isdir(PEER) or not shutil.which("node"):
+        return None
+    runs = []
+    for _ in range(TRIES):
+        done = subprocess.run(["node", os.path.join(HERE, "node_lex.mjs"), path], capture_output=True, text=True, check=False)
+        if done.returncode != 0:
+            return None
+        runs.append(float(done.stdout.split()[0]))
+    return min(runs)
+
+
+def ordinary(folder):
+    """Ordinary code: the pace, beside that of tokens alone, and beside the peer."""
+    path, wanted = written(code, SIZE, folder)
+    size = os.path.getsize(path)
+    mine, lexing = [], []
+    for _ in range(TRIES):
+        seconds, line = run(OUTLINE, path)
+        if line != wanted:
+            say(False, f"code: printed {line!r}, wanted {wanted!r}")
+        mine.append(seconds)
+        lexing.append(run(TOKENS, path)[0])
+    seconds, alone = min(mine), min(lexing)
+    say(size / seconds >= SPEED, f"ordinary code: {seconds:.3f} s for {size} bytes, {size / seconds / 1e6:.0f} MB/s, "
+                                 f"at least {SPEED / 1e6:.0f}")
+    say(alone / seconds >= PACE, f"its tokens alone: {alone:.3f} s, so {alone / seconds:.2f} of their pace, at least {PACE}")
+    other = peer(path)
+    if other is None:
+        print("      no es-module-lexer: skipped")
+    else:
+        say(seconds <= PEER_TIMES * other, f"es-module-lexer: {other:.3f} s, so {seconds / other:.2f} times its time, "
+                                           f"at most {PEER_TIMES}")
+
+
+def main():
+    if sys.argv[1:]:
+        sys.exit("usage: python3 -B bench/outline.py")
+    for program in (OUTLINE, TOKENS):
+        if not os.access(program, os.X_OK):
+            sys.exit(f"bench: there is no {os.path.relpath(program)}: run `rt run` in its crate first")
+    with tempfile.TemporaryDirectory(prefix="salimgub-outline-") as folder:
+        ordinary(folder)
+        for shape in HOSTILE:
+            half, _ = best(shape, SIZE // 2, folder)
+            whole, size = best(shape, SIZE, folder)
+            ratio = whole / max(half, NOISE)
+            say(ratio <= GROWTH, f"{shape.__name__}: {whole:.3f} s for {size} bytes, {size / whole / 1e6:.0f} MB/s, "
+                                 f"{ratio:.2f} times as long as for half of it, at most {GROWTH}")
+    print(f"{failures} failed" if failures else "all passed")
+    sys.exit(1 if failures else 0)
+
+
+if __name__ == "__main__":
+    main()
