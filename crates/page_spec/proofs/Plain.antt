@@ -1,6 +1,6 @@
 -- A map of ASCII bytes without `<` is plain, which is seen by computation.
-use Rattle.std.specs.Prelude.{IsUtf8, All, not, nat_lt}
-use Rattle.std.proofs.Common.{rules, ◌≡◌, ℕ, ◌<◌, List, [], ◌∷◌, ◌++◌, Bool, true, false, ◌==◌, ◌&&◌, refl, sym, ◌∙◌, ap, subst, arith}
+use Rattle.std.specs.Prelude.{IsUtf8, not, nat_lt}
+use Rattle.std.proofs.Common.{rules, ◌≡◌, ℕ, ◌<◌, List, [], ◌∷◌, Bool, true, false, ◌==◌, ◌&&◌, subst, arith}
 use Rattle.std.proofs.lemmas.Bool.{and_parts}
 use Rattle.std.proofs.lemmas.Bool.Decides.{nat_tests}
 use Rattle.std.proofs.lemmas.List.Elements.{All-nil, All-cons}
@@ -24,7 +24,8 @@ plain (b ∷ text) e =
     let q = and_parts (nat_lt b 128) (not (b == 60)) p.0 in
     let rest = plain text p.1 in
     record { utf8 = IsUtf8-append (b ∷ []) text (one_byte b (below b q.0)) rest.utf8; no_markup = All-cons (λ b. (b == 60) ≡ false) b text (other b q.1) rest.no_markup } where
-  below : (b : ℕ) → nat_lt b 128 ≡ true → b < 128
-  below b e = grind (arith, nat_tests)
-  other : (b : ℕ) → not (b == 60) ≡ true → (b == 60) ≡ false
-  other b e = grind (arith, nat_tests)
+      below : (b : ℕ) → nat_lt b 128 ≡ true → b < 128
+      below b e = grind (arith, nat_tests)
+
+      other : (b : ℕ) → not (b == 60) ≡ true → (b == 60) ≡ false
+      other b e = grind (arith, nat_tests)
