@@ -2,11 +2,11 @@
 use Rattle.std.specs.Prelude.{IsUtf8}
 use Rattle.std.specs.Str.{is_utf8}
 use Rattle.std.specs.Str.Lossy.{utf8_valid_len}
-use Rattle.std.proofs.Common.{◌≡◌, ℕ, ◌+◌, ◌≤◌, List, [], ◌∷◌, ◌++◌, length, true, false, Bool, Option, Some, None, Result, Ok, Err, refl, sym, ◌∙◌, ap, subst, arith}
+use Rattle.std.proofs.Common.{◌≡◌, ℕ, ◌+◌, ◌≤◌, List, [], ◌++◌, length, true, false, Bool, Option, Some, None, Result, Ok, Err, refl, sym, ◌∙◌, ap, subst, arith}
 use Rattle.std.proofs.lemmas.List.{length-append}
 use Rattle.std.proofs.lemmas.Str.{IsUtf8-from_is_utf8, is_utf8-from_IsUtf8}
 use Rattle.page_spec.specs.declared.kinds.InjectFault.{InjectFault}
-use Rattle.page_spec.specs.declared.kinds.InjectFault.TheVariants.{PageUnclear, NoPlace}
+use Rattle.page_spec.specs.declared.kinds.InjectFault.TheVariants.{PageUnclear}
 use Rattle.page_spec.specs.Pieces.{Part, Pieces, page_of}
 use Rattle.page_spec.specs.Faults.{first_fault}
 use Rattle.page_spec.specs.Injection as injection

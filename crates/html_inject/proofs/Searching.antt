@@ -1,26 +1,25 @@
 -- The search for the place of a map, piece by piece.
 use Rattle.std.specs.Prelude.{◌&&◌, ◌||◌, is_some, codes, IfSome}
-use Rattle.std.proofs.Common.{◌≡◌, ℕ, ◌+◌, ◌-◌, ◌≤◌, ◌<◌, List, [], ◌∷◌, ◌++◌, length, take, drop, Bool, true, false, Option, Some, None, Result, Ok, Err, append_assoc, if◌then◌else◌, refl, sym, ◌∙◌, ap, subst, arith}
+use Rattle.std.proofs.Common.{◌≡◌, ℕ, ◌+◌, ◌-◌, ◌<◌, List, [], ◌∷◌, ◌++◌, length, take, drop, Bool, true, false, Option, Some, None, Err, append_assoc, if◌then◌else◌, refl, sym, ◌∙◌, ap, subst, arith}
 use Rattle.std.proofs.Math.Seq.{take-append_seam, drop-append_seam}
 use Rattle.std.proofs.lemmas.List.{length-append}
 use Rattle.page_spec.specs.declared.kinds.InjectFault.{InjectFault}
 use Rattle.page_spec.specs.declared.kinds.InjectFault.TheVariants.{PageUnclear, TwoMaps}
 use Rattle.page_spec.specs.declared.kinds.RawElement.{RawElement}
 use Rattle.page_spec.specs.declared.kinds.Piece.{Piece}
-use Rattle.page_spec.specs.Pieces.{front, first_piece, Part, part, Pieces, page_of}
+use Rattle.page_spec.specs.Pieces.{front, Part, part, Pieces, page_of}
 use Rattle.page_spec.specs.Pieces.Pieces.{none}
 use Rattle.page_spec.specs.Attributes.{attribute_text}
 use Rattle.page_spec.specs.ImportMaps.{is_broken, is_raw, is_start_of, is_script, is_map_start, raw_behind, map_of, begins_map}
-use Rattle.page_spec.specs.Faults.{holds_ampersand, is_unclear, raw_fault, fault_at, or_later, first_fault}
+use Rattle.page_spec.specs.Faults.{holds_ampersand, raw_fault, fault_at, or_later, first_fault}
 use Rattle.page_spec.specs.Injection.{span_or, map_span, is_place, place}
 use Rattle.page_spec.specs.Places.{Reaches, IsPieceOf, text_at, part_at}
 use Rattle.page_spec.proofs.Existence.{size, smaller, some_pieces_within}
-use Rattle.page_spec.proofs.Reading.{nothing_read, read_further, one_more_page, text_is}
-use Rattle.html_scan.specs.Steps.{NextIs, Stepped}
+use Rattle.page_spec.proofs.Reading.{nothing_read, read_further, one_more_page}
+use Rattle.html_scan.specs.Steps.{NextIs}
 use Rattle.html_scan.proofs.Spans.{text_length}
 use Rattle.html_inject.specs.declared.search.Found.{Found}
-use Rattle.html_inject.specs.declared.search.Site.{Site}
-use Rattle.html_inject.specs.Search.{IsBehind, AreNext, parts_behind, map_at, sooner, place_at, found_more, chosen, unless_faulted, site, IsSite}
+use Rattle.html_inject.specs.Search.{IsBehind, AreNext, parts_behind, map_at, sooner, place_at, found_more, chosen, unless_faulted, IsSite}
 
 -- the pieces before the next one were read, and the reader stands behind that one
 abbrev IsRead : List ℕ → List ℕ × (Option RawElement × List ℕ) → List Part → Option Piece → Type 0

@@ -2,15 +2,16 @@
 --     AreNext page piece next         the piece is the page's, and the next one, where there is one, is the one behind it
 --     parts_behind page next          what stands behind a piece, as far as an import map element turns on it
 --     map_at page piece next          where the raw text of the import map element stands that begins with the piece
+--     plain_fault from p              the fault of a piece that begins no script
 --     found_more page found piece next     what is found with the piece, behind what was found before it
 --     site parts                      where a map goes among the pieces, or the fault that decides
 --     IsSite page out                 the same of a page
-use Rattle.std.specs.Prelude.{◌≡◌, ℕ, ⊤, false, List, [], ◌∷◌, if◌then◌else◌, Option, Some, None, Result, Ok, Err}
+use Rattle.std.specs.Prelude.{◌≡◌, ◌||◌, codes, ℕ, ⊤, false, List, [], ◌∷◌, if◌then◌else◌, Option, Some, None, Result, Ok, Err}
 use Rattle.page_spec.specs.declared.kinds.InjectFault.{InjectFault}
-use Rattle.page_spec.specs.declared.kinds.InjectFault.TheVariants.{NoPlace}
+use Rattle.page_spec.specs.declared.kinds.InjectFault.TheVariants.{PageUnclear, NoPlace}
 use Rattle.page_spec.specs.declared.kinds.Piece.{Piece}
 use Rattle.page_spec.specs.Pieces.{Part, Pieces}
-use Rattle.page_spec.specs.ImportMaps.{is_raw, is_map_start}
+use Rattle.page_spec.specs.ImportMaps.{is_broken, is_raw, is_start_of, is_map_start}
 use Rattle.page_spec.specs.Places.{IsPieceOf, part_at}
 use Rattle.page_spec.specs.Faults.{first_fault}
 use Rattle.page_spec.specs.Injection.{map_span, is_place, place}
@@ -33,6 +34,10 @@ parts_behind page (Some next) = part_at page next ∷ []
 abbrev pub map_at : List ℕ → Piece → Option Piece → Option (ℕ × ℕ)
 map_at page piece None = None
 map_at page piece (Some next) = if is_map_start (part_at page piece) then (if is_raw next.kind then Some (next.from, next.to) else None) else None
+
+-- the fault of a piece that begins no script
+abbrev pub plain_fault : ℕ → Part → Option InjectFault
+plain_fault n p = if is_broken p.kind || is_start_of (codes "base") p then Some (PageUnclear n) else None
 
 abbrev pub sooner : {A : Type 0} → Option A → Option A → Option A
 sooner None later = later

@@ -118,7 +118,15 @@ pub fn begins_map(text: &str, piece: Piece, next: Option<Piece>) -> bool
     map_at(text, piece, next).is_some()
 }
 
-fn is_broken(piece: Piece) -> bool
+/// Whether the piece is the start tag of a `base`.
+pub fn is_base(text: &str, piece: Piece) -> bool
+    requires { IsPieceOf text.now piece }
+    ensures { result ≡ is_start_of (codes "base") (part_at text.now piece) }
+{
+    is_start_of(text, piece, b"base".as_slice())
+}
+
+pub fn is_broken(piece: Piece) -> bool
     ensures { result ≡ is_broken piece.kind }
 {
     match piece.kind {
@@ -133,7 +141,7 @@ pub fn is_unclear(text: &str, piece: Piece, next: Option<Piece>) -> bool
     ensures { result ≡ is_unclear (part_at text.now piece) (parts_behind text.now next) }
 {
     is_broken(piece)
-        || is_start_of(text, piece, b"base".as_slice())
+        || is_base(text, piece)
         || is_script(text, piece) && has_unclear_type(text, piece)
         || begins_map(text, piece, next) && has_source(text, piece)
 }

@@ -1,11 +1,11 @@
 ghost use Rattle.std.specs.Prelude.{◌≡◌, ℕ, None, Some, Ok, Err, false, is_some};
-ghost use Rattle.page_spec.specs.Places.{part_at};
+ghost use Rattle.page_spec.specs.Places.{IsPieceOf, part_at};
 ghost use Rattle.page_spec.specs.Faults.{raw_fault, fault_at};
 ghost use Rattle.page_spec.specs.ImportMaps.{raw_behind};
-ghost use Rattle.html_inject.specs.Search.{IsBehind, AreNext, parts_behind, map_at, found_more, sooner, chosen, IsSite};
+ghost use Rattle.html_inject.specs.Search.{IsBehind, AreNext, parts_behind, map_at, plain_fault, found_more, sooner, chosen, IsSite};
 
 use crate::comments::comment_at;
-use crate::import_maps::{begins_map, is_script, is_unclear, map_at, place_at};
+use crate::import_maps::{begins_map, is_base, is_broken, is_script, is_unclear, map_at, place_at};
 use html_scan::{Piece, PieceKind, Scanner, text_of};
 use page_spec::InjectFault;
 
@@ -42,19 +42,33 @@ fn raw_fault(text: &str, from: usize, next: Option<Piece>) -> Option<InjectFault
     }
 }
 
+// The fault of a piece that begins no script.
+fn plain_fault(text: &str, piece: Piece) -> Option<InjectFault>
+    requires { IsPieceOf text.now piece }
+    ensures { result ≡ plain_fault piece.from (part_at text.now piece) }
+{
+    if is_broken(piece) || is_base(text, piece) {
+        Some(InjectFault::PageUnclear { at: piece.from })
+    } else {
+        None
+    }
+}
+
 // The fault of a piece; `seen`: an import map element came before.
+
 fn fault_at(text: &str, piece: Piece, next: Option<Piece>, seen: bool) -> Option<InjectFault>
     requires { AreNext text.now piece next }
     ensures { result ≡ fault_at piece.from seen (part_at text.now piece) (parts_behind text.now next) }
 {
+    if !is_script(text, piece) {
+        return plain_fault(text, piece);
+    }
     if is_unclear(text, piece, next) {
         Some(InjectFault::PageUnclear { at: piece.from })
     } else if seen && begins_map(text, piece, next) {
         Some(InjectFault::TwoMaps { at: piece.from })
-    } else if is_script(text, piece) {
-        raw_fault(text, piece.to, next)
     } else {
-        None
+        raw_fault(text, piece.to, next)
     }
 }
 

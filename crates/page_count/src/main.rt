@@ -1,7 +1,10 @@
-//! Counts the pieces of the page that its word names: it shows how long reading them takes.
+//! Counts the pieces of the page that its first word names, or, where there is a second word, the bytes of the page with a map put
+//! into it: it shows how long reading and injection take.
 #![tactic(auto)]
 
+use html_inject::{InjectFault, inject};
 use html_scan::Scanner;
+use std::alloc::Global;
 use std::{env, fs, io};
 
 fn count(text: &str) -> usize {
@@ -14,6 +17,10 @@ fn count(text: &str) -> usize {
     text.len()
 }
 
+fn injected(alloc: Global, page: &[u8]) -> Result<Vec<u8>, InjectFault> {
+    inject(alloc, page, b"{}".as_slice())
+}
+
 fn main(rt: HostRuntime) -> io::Result<()> {
     let mut words = env::args(&rt)?;
     words.next();
@@ -21,7 +28,20 @@ fn main(rt: HostRuntime) -> io::Result<()> {
         return Ok(());
     };
     let text = fs::read_to_string(&rt, name.as_str())?;
-    let pieces = count(text.as_str());
-    println!(rt; "{pieces} pieces")?;
+    if words.next().is_none() {
+        let pieces = count(text.as_str());
+        println!(rt; "{pieces} pieces")?;
+        return Ok(());
+    }
+    match injected(rt.alloc(), text.as_bytes()) {
+        Ok(page) => {
+            let bytes = page.as_slice().len();
+            println!(rt; "{bytes} bytes")?;
+        }
+        Err(InjectFault::PageUnclear { at }) => println!(rt; "PageUnclear at {at}")?,
+        Err(InjectFault::TwoMaps { at }) => println!(rt; "TwoMaps at {at}")?,
+        Err(InjectFault::NoPlace) => println!(rt; "NoPlace")?,
+        Err(InjectFault::Memory) => println!(rt; "Memory")?,
+    }
     Ok(())
 }

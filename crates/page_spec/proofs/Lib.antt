@@ -7,6 +7,7 @@ pub mod Characters
 pub mod Steps
 pub mod Reading
 pub mod Values
+pub mod Plain
 pub mod ValueCharacters
 pub mod Clean
 pub mod Maps

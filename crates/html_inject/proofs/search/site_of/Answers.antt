@@ -2,7 +2,7 @@ use Rattle.std.specs.Prelude.{is_some}
 use Rattle.std.proofs.Common.{◌<◌, None, Some, sym, subst}
 use Rattle.page_spec.specs.Places.{part_at}
 use Rattle.html_inject.specs.Search.{parts_behind}
-use Rattle.html_inject.proofs.Searching.{Searching, left_to_search, paired, at_piece, begins_with, searched_further, search_ends, search_faults, less_to_search, unfaulted}
+use Rattle.html_inject.proofs.Searching.{Searching, left_to_search, paired, at_piece, begins_with, searched_further, search_faults, less_to_search, unfaulted}
 use Rattle.html_inject.proofs.search.site_of.Goals as goal
 
 pub loop-next-init : goal.loop-next-init
