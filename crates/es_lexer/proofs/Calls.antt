@@ -8,21 +8,22 @@ use Rattle.module_spec.specs.declared.token.Kind.{Kind}
 use Rattle.module_spec.specs.declared.token.Token.{Token}
 use Rattle.module_spec.specs.Sorts.{opens, closes, kind_of}
 use Rattle.module_spec.specs.Spellings.{hashbang_rest}
-use Rattle.module_spec.specs.Tokens.{Lexeme, Slash, Skips, Next, next_at, lexeme, refusal, opener, depth, IsNext, Reaches, most_brackets, token_of, fault_of}
+use Rattle.module_spec.specs.Tokens.{Lexeme, Slash, Skips, Next, next_at, lexeme, refusal, opener, depth, is_property, IsNext, Reaches, most_brackets, token_of, fault_of}
 use Rattle.module_spec.specs.Tokens.Balanced.{same}
 use Rattle.module_spec.specs.Tokens.Slash.{start}
 use Rattle.module_spec.specs.Tokens.Next.{Ends, Faults, Gives}
 use Rattle.module_spec.specs.Tokens.IsNext.{next}
 use Rattle.module_spec.specs.Tokens.Reaches.{begin, go}
-use Rattle.module_spec.specs.Suffixes.{at_most, skip_suffix, given_shorter, hashbang_suffix}
+use Rattle.module_spec.proofs.Suffixes.{at_most, skip_suffix, given_shorter, hashbang_suffix}
 use Rattle.std.specs.Str.{IsUtf8}
 use Rattle.module_spec.specs.Spans.{IsSpan}
-use Rattle.module_spec.specs.SpanLaws.{next_stands}
-use Rattle.module_spec.specs.OneOutcome.{one_reach}
+use Rattle.module_spec.proofs.SpanLemmas.{next_stands}
+use Rattle.module_spec.proofs.TokenLaws.{one_reach}
 use Rattle.es_lexer.specs.declared.state.Open.{Open}
 use Rattle.es_lexer.specs.declared.state.Last.{Last}
 use Rattle.es_lexer.specs.Open.{top_of, top_bracket, changed}
 use Rattle.es_lexer.specs.State.{IsLexer}
+use Rattle.es_lexer.specs.Steps.{GivesToken}
 use Rattle.es_lexer.specs.State.IsStack.{empty}
 use Rattle.es_lexer.proofs.Stack.{top, top_opener, Follows, state_after}
 
@@ -91,10 +92,15 @@ behind {bytes} {after} {last} {new} {stack} {d} sort l e r m f =
 abbrev span : Kind → ℕ → ℕ → Token
 span kind from to = record { kind = kind; from = from; to = to }
 
-pub depth_of : {text rest : List ℕ} (now : List ℕ × List ℕ) {last : Last} {stack : List Open} {room : ℕ} (items : List Open) → (text, rest) ≡ now → IsLexer text rest last stack room → items ≡ stack → (before : List Lexeme) → Reaches now.0 before now.1 → length items ≡ depth before
-depth_of {text} {rest} now items e l f before r =
-    let reached : Reaches text before rest = subst (λ (p : List ℕ × List ℕ). Reaches p.0 before p.1) (sym e) r in
-    ap (λ (xs : List Open). length xs) f ∙ (l.state.deep ∙ ap (λ (b : List Lexeme). depth b) (one_reach text l.before before rest l.reached reached))
+-- what a number or a flag tells of the tokens that were given
+abbrev Tells : {A : Type 0} → List ℕ × List ℕ → A → (List Lexeme → A) → Type 0
+Tells now told of = (before : List Lexeme) × Reaches now.0 before now.1 × (told ≡ of before)
+
+pub depth_of : {text rest : List ℕ} (now : List ℕ × List ℕ) {last : Last} {stack : List Open} {room : ℕ} (items : List Open) → (text, rest) ≡ now → IsLexer text rest last stack room → items ≡ stack → Tells now (length items) depth
+depth_of now items e l f = subst (λ (p : List ℕ × List ℕ). Tells p (length items) depth) e (l.before, l.reached, ap (λ (xs : List Open). length xs) f ∙ l.state.deep)
+
+pub property_of : {text rest : List ℕ} (now : List ℕ × List ℕ) {last : Last} {stack : List Open} {room : ℕ} → (text, rest) ≡ now → IsLexer text rest last stack room → Tells now last.property is_property
+property_of now {last} e l = subst (λ (p : List ℕ × List ℕ). Tells p last.property is_property) e (l.before, l.reached, l.state.property)
 
 pub faulted : {text rest bytes : List ℕ} (now : List ℕ × List ℕ) {last : Last} {stack : List Open} {room : ℕ} {inner : Option Bracket} {d : ℕ} (kind : LexKind) → (text, rest) ≡ now → Look text rest bytes last stack room inner d → next_at last.slash inner d bytes ≡ Faults (length bytes) kind
     → (before : List Lexeme) → Reaches now.0 before now.1 → (left : ℕ) × IsNext before now.1 (Faults left kind) × (fault_of (length text) (length bytes) kind ≡ fault_of (length now.0) left kind) × (now.1 ≡ now.1)
@@ -107,10 +113,10 @@ pub ended : {text rest bytes : List ℕ} (now : List ℕ × List ℕ) {last : La
 ended now e l f = subst (λ (p : List ℕ × List ℕ). (before : List Lexeme) → Reaches p.0 before p.1 → IsNext before p.1 Ends × (p.1 ≡ p.1)) e (λ before r. (step l f before r, refl))
 
 pub given : {text rest bytes after : List ℕ} (now : List ℕ × List ℕ) {last : Last} {stack : List Open} {room : ℕ} {inner : Option Bracket} {d : ℕ} (sort : Sort) (kind : Kind) → (text, rest) ≡ now → Look text rest bytes last stack room inner d → next_at last.slash inner d bytes ≡ Gives (lexeme sort bytes after) after → kind ≡ kind_of sort
-    → (before : List Lexeme) → Reaches now.0 before now.1 → (t : Lexeme) × IsNext before now.1 (Gives t after) × (span kind (length text - length bytes) (length text - length bytes + length (take (length bytes - length after) bytes)) ≡ token_of (length now.0) t)
-given {text} {bytes} {after} now sort kind e l f g =
-    subst (λ (p : List ℕ × List ℕ). (before : List Lexeme) → Reaches p.0 before p.1 → (t : Lexeme) × IsNext before p.1 (Gives t after) × (span kind (length text - length bytes) (length text - length bytes + length (take (length bytes - length after) bytes)) ≡ token_of (length p.0) t)) e
-    (λ before r. (lexeme sort bytes after, step l f before r, rw g refl))
+    → (before : List Lexeme) → Reaches now.0 before now.1 → GivesToken now.0 before now.1 (span kind (length text - length bytes) (length text - length bytes + length (take (length bytes - length after) bytes))) after
+given {text} {rest} {bytes} {after} now sort kind e l f g =
+    subst (λ (p : List ℕ × List ℕ). (before : List Lexeme) → Reaches p.0 before p.1 → GivesToken p.0 before p.1 (span kind (length text - length bytes) (length text - length bytes + length (take (length bytes - length after) bytes))) after) e
+    (λ before r. record { lexeme = lexeme sort bytes after; next = step l f before r; told = rw g refl; slice = (next_stands text l.lexer.utf8 before rest after (lexeme sort bytes after) r (step l f before r)).slice })
 
 pub spanned : {text rest bytes after : List ℕ} (now : List ℕ × List ℕ) {last : Last} {stack : List Open} {room : ℕ} {inner : Option Bracket} {d : ℕ} (sort : Sort) (kind : Kind) → (text, rest) ≡ now → Look text rest bytes last stack room inner d → next_at last.slash inner d bytes ≡ Gives (lexeme sort bytes after) after
     → IsSpan now.0 (span kind (length text - length bytes) (length text - length bytes + length (take (length bytes - length after) bytes)))

@@ -7,7 +7,7 @@ use Rattle.module_spec.specs.Spellings.{hashbang_rest}
 use Rattle.module_spec.specs.Tokens.{Lexeme, Reaches, ReadsTokens, token_of}
 use Rattle.module_spec.specs.Tokens.Reaches.{begin, go}
 use Rattle.module_spec.specs.Tokens.ReadsTokens.{all, fault}
-use Rattle.module_spec.specs.Suffixes.{next_shorter}
+use Rattle.module_spec.proofs.Suffixes.{next_shorter}
 use Rattle.es_lexer.specs.Steps.{NextIs}
 
 -- the tokens so far, by what the lexer is told as
@@ -34,10 +34,10 @@ pub one_more_listed : (text : List ℕ) (lexer new : List ℕ × List ℕ) (toke
 one_more_listed text lexer new tokens more t l e s f =
     record {
       whole = e ∙ l.whole;
-      before = s.0 ∷ l.before;
-      reached = go l.reached s.1;
-      listed = f ∙ (ap (λ (ts : List Token). ts ++ t ∷ []) l.listed ∙ (ap (λ (u : Token). reverse (map (token_of (length text)) l.before) ++ u ∷ []) s.2 ∙ sym (reverse_onto (map (token_of (length text)) l.before) (token_of (length text) s.0) [])));
+      before = s.lexeme ∷ l.before;
+      reached = go l.reached s.next;
+      listed = f ∙ (ap (λ (ts : List Token). ts ++ t ∷ []) l.listed ∙ (ap (λ (u : Token). reverse (map (token_of (length text)) l.before) ++ u ∷ []) s.told ∙ sym (reverse_onto (map (token_of (length text)) l.before) (token_of (length text) s.lexeme) [])));
     }
 
 pub listing_shorter : (text : List ℕ) (lexer : List ℕ × List ℕ) (tokens : List Token) (after : List ℕ) (t : Token) → (l : Listing text lexer tokens) → NextIs text l.before lexer.1 (Ok (Some t)) after → length after < length lexer.1
-listing_shorter text lexer tokens after t l s = next_shorter l.before lexer.1 after s.0 s.1
+listing_shorter text lexer tokens after t l s = next_shorter l.before lexer.1 after s.lexeme s.next

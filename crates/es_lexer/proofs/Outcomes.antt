@@ -18,7 +18,7 @@ use Rattle.module_spec.specs.Tokens.Skips.{stop, more}
 use Rattle.module_spec.specs.Tokens.IsNext.{next}
 use Rattle.module_spec.specs.Tokens.Reaches.{begin, go}
 use Rattle.module_spec.specs.Tokens.ReadsTokens.{all, fault}
-use Rattle.module_spec.specs.Suffixes.{blank_shorter, next_shorter}
+use Rattle.module_spec.proofs.Suffixes.{blank_shorter, next_shorter}
 use Rattle.es_lexer.specs.declared.state.Open.{Open}
 use Rattle.es_lexer.specs.declared.state.Last.{Last}
 use Rattle.es_lexer.specs.Open.{top_of, top_bracket, changed, slash_behind}

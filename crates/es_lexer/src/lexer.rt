@@ -1,7 +1,7 @@
 ghost use Rattle.std.specs.Prelude.{◌≡◌, ℕ, List, IfOk, IfSome, length};
 ghost use Rattle.module_spec.specs.Spans.{IsSpan};
 ghost use Rattle.module_spec.specs.Spellings.{hashbang_rest};
-ghost use Rattle.module_spec.specs.Tokens.{Lexeme, Reaches, depth};
+ghost use Rattle.module_spec.specs.Tokens.{Lexeme, Reaches, depth, is_property};
 ghost use Rattle.es_lexer.specs.Open.{top_bracket};
 ghost use Rattle.es_lexer.specs.Steps.{NextIs};
 
@@ -93,8 +93,16 @@ impl<'a> Lexer<'a> {
 
     /// The number of brackets that are open behind the tokens that were given.
     pub fn depth(&self) -> usize
-        ensures { (before : List Lexeme) → Reaches self.now.0 before self.now.1 → result ≡ depth before }
+        ensures { (before : List Lexeme) × Reaches self.now.0 before self.now.1 × (result ≡ depth before) }
     {
         self.stack.as_slice().len()
+    }
+
+    /// Whether the last token that was given is `.` or `?.`, so that a name behind it is the name of a property.
+    /// ECMA-262, 13.3.
+    pub fn before_property(&self) -> bool
+        ensures { (before : List Lexeme) × Reaches self.now.0 before self.now.1 × (result ≡ is_property before) }
+    {
+        self.last.property
     }
 }

@@ -5,7 +5,7 @@ use Rattle.std.proofs.lemmas.List.Elements.{All-nil, All-push, All-head, All-tai
 use denote.Ref.{Bor}
 use Rattle.module_spec.specs.PlainForm.{IsSpace, IsPlainByte, IsStatement, IsPlain, Requests}
 use Rattle.module_spec.specs.PlainForm.IsPlain.{nothing, space, statement}
-use Rattle.module_spec.specs.Readings.{one_cut, quote_no_space, end_no_space, word_no_space, starts, one_statement}
+use Rattle.module_spec.proofs.Readings.{one_cut, quote_no_space, end_no_space, word_no_space, starts, one_statement}
 use Rattle.std.specs.Str.{IsUtf8}
 use Rattle.generator_core.specs.Reading.{SkipsTo, BeginsUnspaced, Skips, Completes}
 

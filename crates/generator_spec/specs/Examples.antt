@@ -20,7 +20,7 @@ use Rattle.import_map_spec.specs.Parsing.{parsed_map, map_from}
 use Rattle.import_map_spec.specs.Literals.{Lists, map_of_lists}
 use Rattle.node_spec.specs.declared.Cause.TheVariants.{NotFound, DirectoryImport}
 use Rattle.module_spec.specs.PlainForm.{IsPlain}
-use Rattle.module_spec.specs.Examples.{worked_examples as module_examples}
+use Rattle.module_spec.proofs.examples.PlainExamples.{worked_examples as module_examples}
 use Rattle.layout_spec.specs.declared.Need.{Need}
 use Rattle.layout_spec.specs.Contained.{contains_here, contains_there}
 use Rattle.generator_spec.specs.Modules.{Config, Referrer, the_page, a_module, web_name}
@@ -240,7 +240,7 @@ no_name =
 pub two_spaces : (specifiers : List (List ℕ)) → IsPlain (codes "  import './b.mjs';") specifiers → ⊥
 two_spaces specifiers plain =
     let at_first = behind_space _ (codes " import './b.mjs';") 32 specifiers (inl refl) refl plain in
-    module_examples.1.single_quotes specifiers (behind_space _ (codes "import './b.mjs';") 32 specifiers (inl refl) refl at_first)
+    module_examples.unread.single_quotes specifiers (behind_space _ (codes "import './b.mjs';") 32 specifiers (inl refl) refl at_first)
 
 no_plain : HasNoText (tree_of other_form) (asking ("./app.mjs" ∷ []))
 unfolding as_url web file_text escaped holds_escape percent_encode_byte percent_decode names_host url_path spelled_path parse_alone parse_against text_of url_on_literals is_utf8 chars encode_utf8

@@ -2,7 +2,7 @@
 use Rattle.std.proofs.Common.{◌≡◌, ℕ, List, [], ◌∷◌, ◌++◌, refl, sym, ◌∙◌, subst}
 use Rattle.tree_spec.specs.Trees.{Tree}
 use Rattle.module_spec.specs.PlainForm.{IsPlain}
-use Rattle.module_spec.specs.Readings.{one_reading}
+use Rattle.module_spec.proofs.Readings.{one_reading}
 use Rattle.node_spec.specs.Resolution.{Resolved}
 use Rattle.node_spec.specs.Laws.{one_answer}
 use Rattle.layout_spec.specs.declared.Need.{Need}

@@ -10,7 +10,7 @@ use Rattle.tree_spec.specs.declared.Entry.TheVariants.{Stored}
 use Rattle.url_spec.specs.Specifiers.{as_url, is_relative}
 use Rattle.module_spec.specs.PlainForm.{IsSpace, IsPlain}
 use Rattle.module_spec.specs.PlainForm.IsPlain.{nothing, space, statement}
-use Rattle.module_spec.specs.Readings.{starts, word_no_space}
+use Rattle.module_spec.proofs.Readings.{starts, word_no_space}
 use Rattle.node_spec.specs.declared.Cause.{Cause}
 use Rattle.node_spec.specs.Resolution.{Resolved, Refused, Resolves}
 use Rattle.node_spec.specs.Laws.{one_answer}

@@ -14,7 +14,7 @@ use Rattle.tree_spec.specs.Trees.{Tree}
 use Rattle.tree_spec.specs.TreeLaws.{text_same_or_not}
 use Rattle.module_spec.specs.PlainForm.{IsSpace, IsPlainByte, IsStatement, IsPlain}
 use Rattle.module_spec.specs.PlainForm.IsPlain.{nothing, space, statement}
-use Rattle.module_spec.specs.Readings.{one_cut, no_space, quote_no_space, end_no_space, word_no_space, quote_not_plain, one_statement, starts}
+use Rattle.module_spec.proofs.Readings.{one_cut, no_space, quote_no_space, end_no_space, word_no_space, quote_not_plain, one_statement, starts}
 use Rattle.generator_spec.specs.Modules.{Config, Module, Referrer, the_page, a_module, Asks}
 use Rattle.generator_spec.specs.Modules.Asks.{entries, requests}
 use Rattle.generator_spec.specs.Choices.{number_or_other}

@@ -1,11 +1,20 @@
--- Worked examples of module texts.
-use Rattle.std.specs.Prelude.{◌≡◌, ◌&&◌, ◌==◌, not, nat_le, ℕ, Bool, true, List, [], ◌∷◌, ◌++◌, codes, All}
-use Rattle.std.proofs.Common.{refl, subst, arith, inl, inr}
-use Rattle.std.proofs.lemmas.Bool.{and_parts, eqb-false, not-true, leb-true}
-use Rattle.std.proofs.lemmas.List.Elements.{All-nil, All-cons}
-use Rattle.module_spec.specs.PlainForm.{IsSpace, IsPlainByte, IsStatement, IsPlain}
-use Rattle.module_spec.specs.PlainForm.IsPlain.{nothing, space, statement}
-use Rattle.module_spec.specs.Readings.{no_space, word_no_space}
+-- Worked examples, as statements: what texts have for tokens, and what they ask for.
+use Rattle.std.specs.Prelude.{◌≡◌, ℕ, ◌+◌, true, false, List, [], ◌∷◌, Some, None, Result, Ok, Err, codes, replicate, length}
+use Rattle.module_spec.specs.declared.token.Kind.{Kind}
+use Rattle.module_spec.specs.declared.token.Kind.TheVariants as kinds
+use Rattle.module_spec.specs.declared.token.LexKind.TheVariants.{Unreadable, TooDeep}
+use Rattle.module_spec.specs.declared.token.Token.{Token}
+use Rattle.module_spec.specs.declared.request.Request.{Request}
+use Rattle.module_spec.specs.declared.request.ModuleFault as module_faults
+use Rattle.module_spec.specs.declared.request.ModuleFault.TheVariants as module_fault
+use Rattle.module_spec.specs.PlainForm.{IsPlain}
+use Rattle.module_spec.specs.Tokens.{ReadsTokens}
+use Rattle.module_spec.specs.Places.{Placed}
+use Rattle.module_spec.specs.StringValues.{string_value}
+use Rattle.module_spec.specs.Outlines.{Outline, requests, outlined}
+use Rattle.module_spec.specs.Outlines.Finding.{specifier}
+
+-- ---- texts of the plain form
 
 pub record ReadExamples : Type 0 where
   pub empty : IsPlain [] []
@@ -18,94 +27,124 @@ pub record UnreadExamples : Type 0 where
   pub no_semicolon : (specifiers : List (List ℕ)) → IsPlain (codes "import \"./b.mjs\"") specifiers → ⊥
   pub other_word : (specifiers : List (List ℕ)) → IsPlain (codes "export {};") specifiers → ⊥
 
--- ---- what is read
+pub record WorkedExamples : Type 0 where
+  pub read : ReadExamples
+  pub unread : UnreadExamples
 
-spaces : All IsSpace (32 ∷ [])
-spaces = All-cons IsSpace 32 [] (inl refl) (All-nil IsSpace)
+-- ---- tokens
 
-abbrev stands_for_itself : ℕ → Bool
-stands_for_itself b = nat_le 32 b && (not (b == 34) && not (b == 92))
+-- `(`, so many times
+abbrev pub rounds : ℕ → List ℕ
+rounds count = replicate count 40
 
-abbrev all_stand : List ℕ → Bool
-all_stand [] = true
-all_stand (b ∷ bytes) = stands_for_itself b && all_stand bytes
+abbrev pub span : Kind → ℕ → ℕ → Token
+span kind from to = record { kind = kind; from = from; to = to }
 
-plain_byte : (b : ℕ) → stands_for_itself b ≡ true → IsPlainByte b
-plain_byte b e =
-    let parts = and_parts (nat_le 32 b) (not (b == 34) && not (b == 92)) e in
-    let marks = and_parts (not (b == 34)) (not (b == 92)) parts.1 in
-    record { no_control = leb-true 32 b parts.0; no_quote = eqb-false b 34 (not-true _ marks.0); no_escape = eqb-false b 92 (not-true _ marks.1) }
+pub record TokenExamples : Type 0 where
+  pub empty : ReadsTokens [] (Ok [])
+  pub regex : ReadsTokens (codes "x=/b/c") (Ok (span kinds.Name 0 1 ∷ span kinds.Punctuator 1 2 ∷ span kinds.Regex 2 6 ∷ []))
+  pub division : ReadsTokens (codes "a /b/ c") (Ok (span kinds.Name 0 1 ∷ span kinds.Punctuator 2 3 ∷ span kinds.Name 3 4 ∷ span kinds.Punctuator 4 5 ∷ span kinds.Name 6 7 ∷ []))
+  pub brackets : ReadsTokens (codes "if(a)/b/") (Ok (span kinds.Name 0 2 ∷ span kinds.Punctuator 2 3 ∷ span kinds.Name 3 4 ∷ span kinds.Punctuator 4 5 ∷ span kinds.Regex 5 8 ∷ []))
+  pub wrong_closer : ReadsTokens (codes "(]") (Err (record { at = 1; kind = Unreadable }))
+  pub open_at_end : ReadsTokens (codes "(") (Err (record { at = 1; kind = Unreadable }))
+  pub unclosed_text : ReadsTokens (codes "a'b") (Err (record { at = 1; kind = Unreadable }))
+  pub template : ReadsTokens (codes "(`${a}${b}`)") (Ok (span kinds.Punctuator 0 1 ∷ span kinds.TemplateHead 1 4 ∷ span kinds.Name 4 5 ∷ span kinds.TemplateMiddle 5 8 ∷ span kinds.Name 8 9 ∷ span kinds.TemplateTail 9 11 ∷ span kinds.Punctuator 11 12 ∷ []))
+  pub most_open : ReadsTokens (rounds 4096) (Err (record { at = 4096; kind = Unreadable }))
+  pub too_deep : ReadsTokens (rounds 4097) (Err (record { at = 4096; kind = TooDeep }))
 
-plain_bytes : (bytes : List ℕ) → all_stand bytes ≡ true → All IsPlainByte bytes
-plain_bytes [] e = All-nil IsPlainByte
-plain_bytes (b ∷ bytes) e = let parts = and_parts (stands_for_itself b) (all_stand bytes) e in All-cons IsPlainByte b bytes (plain_byte b parts.0) (plain_bytes bytes parts.1)
+-- ---- values of string literals
 
-imported : (before specifier after rest : List ℕ) → All IsSpace before → all_stand specifier ≡ true → All IsSpace after → IsStatement (codes "import" ++ (before ++ 34 ∷ (specifier ++ 34 ∷ (after ++ 59 ∷ rest)))) specifier rest
-imported before specifier after rest s p c = record { before = before; after = after; spaced = s; plain = plain_bytes specifier p; closed = c; split = refl }
+pub record ValueExamples : Type 0 where
+  pub plain : string_value (codes "'./a.mjs'") ≡ Some (codes "./a.mjs")
+  pub nothing_inside : string_value (codes "\"\"") ≡ Some []
+  pub past_ascii : string_value (39 ∷ 195 ∷ 169 ∷ 39 ∷ []) ≡ Some (195 ∷ 169 ∷ [])
+  pub single_escapes : string_value (codes "'\\b\\t\\n\\v\\f\\r'") ≡ Some (8 ∷ 9 ∷ 10 ∷ 11 ∷ 12 ∷ 13 ∷ [])
+  pub other_escapes : string_value (codes "'\\q\\'\\\"\\\\'") ≡ Some (113 ∷ 39 ∷ 34 ∷ 92 ∷ [])
+  pub hex : string_value (codes "'\\x41\\xe9'") ≡ Some (65 ∷ 195 ∷ 169 ∷ [])
+  pub short_hex : string_value (codes "'\\x4'") ≡ None
+  pub four_digits : string_value (codes "'\\u0041\\uD7FF'") ≡ Some (65 ∷ 237 ∷ 159 ∷ 191 ∷ [])
+  pub three_digits : string_value (codes "'\\u041'") ≡ None
+  pub braced : string_value (codes "'\\u{1F600}'") ≡ Some (240 ∷ 159 ∷ 152 ∷ 128 ∷ [])
+  pub highest : string_value (codes "'\\u{10FFFF}'") ≡ Some (244 ∷ 143 ∷ 191 ∷ 191 ∷ [])
+  pub too_high : string_value (codes "'\\u{110000}'") ≡ None
+  pub no_digits : string_value (codes "'\\u{}'") ≡ None
+  pub seven_digits : string_value (codes "'\\u{0000041}'") ≡ None
+  pub open_brace : string_value (codes "'\\u{41'") ≡ None
+  pub pair : string_value (codes "'\\ud83d\\u{DE00}'") ≡ Some (240 ∷ 159 ∷ 152 ∷ 128 ∷ [])
+  pub pair_over_a_line : string_value (codes "'\\ud83d\\\n\\udE00'") ≡ Some (240 ∷ 159 ∷ 152 ∷ 128 ∷ [])
+  pub alone_before_another : string_value (codes "'\\ud83d.'") ≡ None
+  pub alone_at_the_end : string_value (codes "'\\ud83d'") ≡ None
+  pub low_alone : string_value (codes "'\\udE00'") ≡ None
+  pub continued : string_value (codes "'a\\\r\nb\\\rc\\\nd'") ≡ Some (codes "abcd")
+  pub wide_continued : string_value (39 ∷ 92 ∷ 226 ∷ 128 ∷ 168 ∷ 39 ∷ []) ≡ Some []
+  pub zero_alone : string_value (codes "'\\0a'") ≡ Some (0 ∷ 97 ∷ [])
+  pub zero_before_a_digit : string_value (codes "'\\08'") ≡ None
+  pub octal : string_value (codes "'\\7'") ≡ None
+  pub nine : string_value (codes "'\\9'") ≡ None
 
-at_once : (specifier rest : List ℕ) → all_stand specifier ≡ true → IsStatement (codes "import" ++ (34 ∷ (specifier ++ 34 ∷ 59 ∷ rest))) specifier rest
-at_once specifier rest p = imported [] specifier [] rest (All-nil IsSpace) p (All-nil IsSpace)
+-- ---- outlines, over tokens in their places
 
-end : IsPlain [] []
-end = nothing [] refl
+-- a token that isn't the name of a property
+abbrev pub at : Kind → ℕ → List ℕ → ℕ → ℕ → Placed
+at kind from text depth behind = record { token = span kind from (from + length text); text = text; plain = true; depth = depth; behind = behind }
 
-read_examples : ReadExamples
-read_examples = record {
-  empty = end;
-  one = statement _ (codes "./b.mjs") [] [] (imported (32 ∷ []) (codes "./b.mjs") [] [] spaces refl (All-nil IsSpace)) end;
-  two =
-      space 32 _ _ _ (inl refl) refl (statement _ (codes "a") (codes "\n\timport \"b\" ;\n") _ (at_once (codes "a") (codes "\n\timport \"b\" ;\n") refl)
-      (space 10 _ _ _ (inr (inr (inr refl))) refl (space 9 _ _ _ (inr (inl refl)) refl
-      (statement _ (codes "b") (10 ∷ []) [] (imported (32 ∷ []) (codes "b") (32 ∷ []) (10 ∷ []) spaces refl spaces) (space 10 _ [] [] (inr (inr (inr refl))) refl end)))));
-  twice = statement _ (codes "a") (codes "import\"a\";") _ (at_once (codes "a") (codes "import\"a\";") refl) (statement _ (codes "a") [] [] (at_once (codes "a") [] refl) end);
-}
+abbrev pub named_at : ℕ → List ℕ → Placed
+named_at from name = at kinds.Name from name 0 0
 
--- ---- what isn't: a statement has its quotes and its semicolon
+abbrev pub text_at : ℕ → List ℕ → Placed
+text_at from literal = at kinds.Text from literal 0 0
 
-abbrev lacks : ℕ → List ℕ → Bool
-lacks byte [] = true
-lacks byte (b ∷ bytes) = not (b == byte) && lacks byte bytes
+abbrev pub mark_at : ℕ → List ℕ → Placed
+mark_at from mark = at kinds.Punctuator from mark 0 0
 
-lacks_none : (byte : ℕ) (front back : List ℕ) → lacks byte (front ++ byte ∷ back) ≡ true → ⊥
-lacks_none byte [] back e = let parts = and_parts (not (byte == byte)) (lacks byte back) e in eqb-false byte byte (not-true _ parts.0) refl
-lacks_none byte (b ∷ front) back e = lacks_none byte front back (and_parts (not (b == byte)) (lacks byte (front ++ byte ∷ back)) e).1
+abbrev pub asks_for : List Request → Result Outline module_faults.ModuleFault
+asks_for asked = Ok (record { requests = asked; declares = true })
 
-lacks_behind : (byte : ℕ) (front back : List ℕ) → lacks byte (front ++ back) ≡ true → lacks byte back ≡ true
-lacks_behind byte [] back e = e
-lacks_behind byte (b ∷ front) back e = lacks_behind byte front back (and_parts (not (b == byte)) (lacks byte (front ++ back)) e).1
+abbrev pub unreadable_at : ℕ → Result Outline module_faults.ModuleFault
+unreadable_at place = Err (module_fault.Unreadable place)
 
-no_quote : (text specifier rest : List ℕ) → lacks 34 text ≡ true → IsStatement text specifier rest → ⊥
-no_quote text specifier rest e is =
-    let text_back : List ℕ = specifier ++ 34 ∷ (is.after ++ 59 ∷ rest) in
-    lacks_none 34 is.before text_back (lacks_behind 34 (codes "import") (is.before ++ 34 ∷ text_back) (subst (λ t. lacks 34 t ≡ true) is.split e))
+abbrev pub request : ℕ → ℕ → List ℕ → Request
+request from to text = record { from = from; to = to; text = text }
 
-no_end : (text specifier rest : List ℕ) → lacks 59 text ≡ true → IsStatement text specifier rest → ⊥
-no_end text specifier rest e is =
-    let back : List ℕ = is.after ++ 59 ∷ rest in
-    let text_back : List ℕ = specifier ++ 34 ∷ back in
-    let behind_word = lacks_behind 59 (codes "import") (is.before ++ 34 ∷ text_back) (subst (λ t. lacks 59 t ≡ true) is.split e) in
-    let behind_space = lacks_behind 59 is.before (34 ∷ text_back) behind_word in
-    let behind_text = lacks_behind 59 specifier (34 ∷ back) (lacks_behind 59 (34 ∷ []) text_back behind_space) in
-    lacks_none 59 is.after rest (lacks_behind 59 (34 ∷ []) back behind_text)
+pub record OutlineExamples : Type 0 where
+  -- no token
+  pub nothing : outlined [] ≡ Ok (record { requests = []; declares = false })
+  -- import "a"
+  pub effects : outlined (named_at 0 (codes "import") ∷ text_at 7 (codes "'a'") ∷ []) ≡ asks_for (request 7 10 (codes "a") ∷ [])
+  -- import a from 'b'
+  pub default_binding : outlined (named_at 0 (codes "import") ∷ named_at 7 (codes "a") ∷ named_at 9 (codes "from") ∷ text_at 14 (codes "'b'") ∷ []) ≡ asks_for (request 14 17 (codes "b") ∷ [])
+  -- import a,* as b from 'c'
+  pub default_and_name_space : outlined (named_at 0 (codes "import") ∷ named_at 7 (codes "a") ∷ mark_at 8 (codes ",") ∷ mark_at 9 (codes "*") ∷ named_at 11 (codes "as") ∷ named_at 14 (codes "b") ∷ named_at 16 (codes "from") ∷ text_at 21 (codes "'c'") ∷ []) ≡ asks_for (request 21 24 (codes "c") ∷ [])
+  -- import a,{b} from 'c'
+  pub default_and_named : outlined (named_at 0 (codes "import") ∷ named_at 7 (codes "a") ∷ mark_at 8 (codes ",") ∷ at kinds.Punctuator 9 (codes "{") 0 1 ∷ at kinds.Name 10 (codes "b") 1 1 ∷ at kinds.Punctuator 11 (codes "}") 1 0 ∷ named_at 13 (codes "from") ∷ text_at 18 (codes "'c'") ∷ []) ≡ asks_for (request 18 21 (codes "c") ∷ [])
+  -- import*as a from 'b'
+  pub name_space : outlined (named_at 0 (codes "import") ∷ mark_at 6 (codes "*") ∷ named_at 7 (codes "as") ∷ named_at 10 (codes "a") ∷ named_at 12 (codes "from") ∷ text_at 17 (codes "'b'") ∷ []) ≡ asks_for (request 17 20 (codes "b") ∷ [])
+  -- export*from'a' export*as'b'from'c'
+  pub export_all : outlined (named_at 0 (codes "export") ∷ mark_at 6 (codes "*") ∷ named_at 7 (codes "from") ∷ text_at 11 (codes "'a'") ∷ named_at 15 (codes "export") ∷ mark_at 21 (codes "*") ∷ named_at 22 (codes "as") ∷ text_at 24 (codes "'b'") ∷ named_at 27 (codes "from") ∷ text_at 31 (codes "'c'") ∷ []) ≡ asks_for (request 11 14 (codes "a") ∷ request 31 34 (codes "c") ∷ [])
+  -- export{}from'a'
+  pub export_named : outlined (named_at 0 (codes "export") ∷ at kinds.Punctuator 6 (codes "{") 0 1 ∷ at kinds.Punctuator 7 (codes "}") 1 0 ∷ named_at 8 (codes "from") ∷ text_at 12 (codes "'a'") ∷ []) ≡ asks_for (request 12 15 (codes "a") ∷ [])
+  -- export {import} from
+  pub no_specifier : outlined (named_at 0 (codes "export") ∷ at kinds.Punctuator 7 (codes "{") 0 1 ∷ at kinds.Name 8 (codes "import") 1 1 ∷ at kinds.Punctuator 14 (codes "}") 1 0 ∷ named_at 16 (codes "from") ∷ []) ≡ asks_for []
+  -- export default
+  pub export_default : outlined (named_at 0 (codes "export") ∷ named_at 7 (codes "default") ∷ []) ≡ asks_for []
+  -- export a
+  pub no_export : outlined (named_at 0 (codes "export") ∷ named_at 7 (codes "a") ∷ []) ≡ unreadable_at 0
+  -- import a 'b'
+  pub no_from : outlined (named_at 0 (codes "import") ∷ named_at 7 (codes "a") ∷ text_at 9 (codes "'b'") ∷ []) ≡ unreadable_at 0
+  -- import import from 'a'
+  pub inner_word : outlined (named_at 0 (codes "import") ∷ named_at 7 (codes "import") ∷ named_at 14 (codes "from") ∷ text_at 18 (codes "'a'") ∷ []) ≡ unreadable_at 7
+  -- import import 'a'
+  pub outer_word : outlined (named_at 0 (codes "import") ∷ named_at 7 (codes "import") ∷ text_at 14 (codes "'a'") ∷ []) ≡ unreadable_at 0
+  -- import '\7'
+  pub no_value : outlined (named_at 0 (codes "import") ∷ text_at 7 (codes "'\\7'") ∷ []) ≡ unreadable_at 7
+  -- import.meta
+  pub meta : outlined (named_at 0 (codes "import") ∷ mark_at 6 (codes ".") ∷ named_at 7 (codes "meta") ∷ []) ≡ asks_for []
+  -- import(a)
+  pub call : outlined (named_at 0 (codes "import") ∷ at kinds.Punctuator 6 (codes "(") 0 1 ∷ at kinds.Name 7 (codes "a") 1 1 ∷ at kinds.Punctuator 8 (codes ")") 1 0 ∷ []) ≡ Ok (record { requests = []; declares = false })
+  -- {import 'a'}, where the `import` stands in brackets
+  pub in_brackets : outlined (at kinds.Punctuator 0 (codes "{") 0 1 ∷ at kinds.Name 1 (codes "import") 1 1 ∷ at kinds.Text 8 (codes "'a'") 1 1 ∷ at kinds.Punctuator 11 (codes "}") 1 0 ∷ []) ≡ Ok (record { requests = []; declares = false })
 
--- a text that begins with a letter is of the form only where it begins with a statement
-unread : (text more : List ℕ) (b : ℕ) → text ≡ b ∷ more → (IsSpace b → ⊥) → ((specifier rest : List ℕ) → IsStatement text specifier rest → ⊥) → (specifiers : List (List ℕ)) → IsPlain text specifiers → ⊥
-unread text more b e n none specifiers (nothing t f) = cc
-unread text more b e n none specifiers (space c t rest others s f p) = n (let same : c ≡ b = cc in subst IsSpace same s)
-unread text more b e n none specifiers (statement t specifier rest others is p) = none specifier rest is
-
-other_letter : IsSpace 101 → ⊥
-other_letter = no_space 101 (λ e. omega arith) (λ e. omega arith) (λ e. omega arith) (λ e. omega arith)
-
-unread_examples : UnreadExamples
-unread_examples = record {
-  single_quotes = unread _ _ 105 refl word_no_space (λ specifier rest. no_quote _ specifier rest refl);
-  no_semicolon = unread _ _ 105 refl word_no_space (λ specifier rest. no_end _ specifier rest refl);
-  other_word = unread _ _ 101 refl other_letter (λ specifier rest is. no_quote _ specifier rest refl is);
-}
-
-abbrev pub WorkedExamples : Type 0
-WorkedExamples = ReadExamples × UnreadExamples
-
-pub worked_examples : WorkedExamples
-worked_examples = (read_examples, unread_examples)
+-- own: as many requests as may be, and one more
+pub record ManyExamples : Type 0 where
+  pub most : requests [] (replicate 4096 (specifier (text_at 7 (codes "'a'")))) ≡ Ok (replicate 4096 (request 7 10 (codes "a")))
+  pub too_many : requests [] (replicate 4097 (specifier (text_at 7 (codes "'a'")))) ≡ Err module_fault.TooManyRequests

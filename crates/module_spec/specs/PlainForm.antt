@@ -33,7 +33,3 @@ pub data IsPlain : List ℕ → List (List ℕ) → Type 0 where
 pub record Requests (bytes : List ℕ) (specifiers : List (List ℕ)) : Type 0 where
   pub utf8 : IsUtf8 bytes
   pub plain : IsPlain bytes specifiers
-
--- own law: a text asks for one list of specifiers at most
-abbrev pub OneReading : Type 0
-OneReading = (text : List ℕ) (some other : List (List ℕ)) → IsPlain text some → IsPlain text other → some ≡ other

@@ -278,7 +278,3 @@ fault_of size left kind = record { at = size - left; kind = kind }
 pub data ReadsTokens (text : List ℕ) : Result (List Token) LexFault → Type 0 where
   all : {before : List Lexeme} {rest : List ℕ} {out : Result (List Token) LexFault} → Reaches text before rest → IsNext before rest Ends → out ≡ Ok (reverse (map (token_of (length text)) before)) → ReadsTokens text out
   fault : {before : List Lexeme} {rest : List ℕ} {left : ℕ} {kind : LexKind} {out : Result (List Token) LexFault} → Reaches text before rest → IsNext before rest (Faults left kind) → out ≡ Err (fault_of (length text) left kind) → ReadsTokens text out
-
--- own law: a text has one list of tokens or one first fault, and not both
-abbrev pub OneTokens : Type 0
-OneTokens = (text : List ℕ) (some other : Result (List Token) LexFault) → ReadsTokens text some → ReadsTokens text other → some ≡ other

@@ -1,43 +1,94 @@
-//! What a module text is made of and what it asks for: definitions and their laws. The tokens of ECMA-262, and texts of
-//! the plain form, which consist of white space and of statements that import a module for its effects.
+//! What a module text is made of and what it asks for: definitions and their laws. The tokens of ECMA-262; the forms of its
+//! import and export declarations, with the values of their module specifiers; and texts of the plain form, which consist
+//! of white space and of statements that import a module for its effects.
 #![tactic(auto)]
 
-ghost use Rattle.module_spec.specs.Examples.{WorkedExamples};
-ghost use Rattle.module_spec.specs.PlainForm.{OneReading};
-ghost use Rattle.module_spec.specs.Spans.{TokensStand};
-ghost use Rattle.module_spec.specs.TokenExamples.{TokenExamples};
-ghost use Rattle.module_spec.specs.Tokens.{OneTokens};
+ghost use Rattle.module_spec.specs.Examples.{ManyExamples, OutlineExamples, TokenExamples, ValueExamples, WorkedExamples};
+ghost use Rattle.module_spec.specs.Laws.{CurlyPartners, DepthCounts, FormsAreProductions, OneOutline, OnePartner, OneReach, OneReading, OneTokens, TokensStand};
 
+mod request;
 mod token;
 
+pub use request::{ModuleFault, Request};
 pub use token::{Bracket, Kind, LexFault, LexKind, Mark, Sort, Token, Word};
 
 /// A text is read in one way at most.
-#[tactic(auto, using(crate::specs::Readings::one_reading))]
+#[tactic(auto, using(crate::proofs::Readings::one_reading))]
 pub fn one_reading()
     ensures { OneReading }
 {}
 
 /// Worked examples.
-#[tactic(auto, using(crate::specs::Examples::worked_examples))]
+#[tactic(auto, using(crate::proofs::examples::PlainExamples::worked_examples))]
 pub fn worked_examples()
     ensures { WorkedExamples }
 {}
 
 /// A text has one list of tokens or one first fault, and not both.
-#[tactic(auto, using(crate::specs::OneOutcome::one_tokens))]
+#[tactic(auto, using(crate::proofs::TokenLaws::one_tokens))]
 pub fn one_tokens()
     ensures { OneTokens }
 {}
 
+/// The tokens that stand before a rest of a text are the only ones.
+#[tactic(auto, using(crate::proofs::TokenLaws::one_reach))]
+pub fn one_reach()
+    ensures { OneReach }
+{}
+
 /// Each token of a text is a slice of it, and begins and ends between characters.
-#[tactic(auto, using(crate::specs::SpanLaws::tokens_stand))]
+#[tactic(auto, using(crate::proofs::SpanLemmas::tokens_stand))]
 pub fn tokens_stand()
     ensures { TokensStand }
 {}
 
+/// The open brackets behind some tokens are those that were opened and not closed.
+#[tactic(auto, using(crate::proofs::BracketLaws::depth_counts))]
+pub fn depth_counts()
+    ensures { DepthCounts }
+{}
+
+/// A closing token has one partner.
+pub fn one_partner()
+    ensures { OnePartner }
+{}
+
+/// The partner of a `{` is the first token behind which no more brackets are open than before it.
+#[tactic(auto, using(crate::proofs::BracketLaws::curly_partners))]
+pub fn curly_partners()
+    ensures { CurlyPartners }
+{}
+
+/// The forms of import and export declarations are exactly the productions.
+pub fn forms_are_productions()
+    ensures { FormsAreProductions }
+{}
+
+/// A text has one outline or one first fault, and not both.
+#[tactic(auto, using(crate::proofs::OutlineLaws::one_outline))]
+pub fn one_outline()
+    ensures { OneOutline }
+{}
+
 /// Worked examples of tokens.
-#[tactic(auto, using(crate::specs::TokenExamples::token_examples))]
+#[tactic(auto, using(crate::proofs::examples::TokenExamples::token_examples))]
 pub fn token_examples()
     ensures { TokenExamples }
+{}
+
+/// Worked examples of values of string literals.
+#[tactic(auto, using(crate::proofs::examples::OutlineExamples::value_examples))]
+pub fn value_examples()
+    ensures { ValueExamples }
+{}
+
+/// Worked examples of outlines.
+#[tactic(auto, using(crate::proofs::examples::OutlineExamples::outline_examples))]
+pub fn outline_examples()
+    ensures { OutlineExamples }
+{}
+
+/// Worked examples at the limit of requests.
+pub fn many_examples()
+    ensures { ManyExamples }
 {}

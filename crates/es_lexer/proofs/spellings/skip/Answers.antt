@@ -1,4 +1,4 @@
-use Rattle.module_spec.specs.Suffixes.{blank_shorter}
+use Rattle.module_spec.proofs.Suffixes.{blank_shorter}
 use Rattle.module_spec.specs.Tokens.Skips.{stop, more}
 use Rattle.es_lexer.proofs.spellings.skip.Goals as goal
 

@@ -17,12 +17,13 @@ use Rattle.module_spec.specs.Tokens.{Piece, piece, Lexeme, Next, next_from, next
 use Rattle.module_spec.specs.Tokens.Next.{Ends, Faults, Gives}
 use Rattle.module_spec.specs.Tokens.IsNext.{next}
 use Rattle.module_spec.specs.Tokens.Reaches.{begin, go}
-use Rattle.module_spec.specs.Suffixes.{Suffix, joined, at_most, hashbang_suffix, skip_suffix, after_suffix, given_shorter}
-use Rattle.module_spec.specs.Suffixes.Suffix.{whole, behind}
-use Rattle.module_spec.specs.Tails.{Tail, PieceBounds, ge_or, skip_tail, hashbang_tail, piece_bounds}
-use Rattle.module_spec.specs.Tails.Tail.{done, low, lead, trail}
-use Rattle.module_spec.specs.Tails.PieceBounds.{no_piece, a_piece}
-use Rattle.module_spec.specs.Spans.{Stands, TokensStand}
+use Rattle.module_spec.proofs.Suffixes.{Suffix, joined, at_most, hashbang_suffix, skip_suffix, after_suffix, given_shorter}
+use Rattle.module_spec.proofs.Suffixes.Suffix.{whole, behind}
+use Rattle.module_spec.proofs.Tails.{Tail, PieceBounds, ge_or, skip_tail, hashbang_tail, piece_bounds}
+use Rattle.module_spec.proofs.Tails.Tail.{done, low, lead, trail}
+use Rattle.module_spec.proofs.Tails.PieceBounds.{no_piece, a_piece}
+use Rattle.module_spec.specs.Spans.{Stands}
+use Rattle.module_spec.specs.Laws.{TokensStand}
 
 -- ---- a text in UTF-8 is whole characters
 

@@ -2,7 +2,8 @@
 use Rattle.std.proofs.Common.{◌≡◌, ℕ, List, [], ◌∷◌, ◌++◌, codes, All, sym, refl, ◌∙◌, subst, inl, inr, arith}
 use Rattle.std.proofs.lemmas.List.Elements.{All-head, All-tail}
 use Rattle.std.proofs.lemmas.List.{append_cancel_left}
-use Rattle.module_spec.specs.PlainForm.{IsSpace, IsPlainByte, IsStatement, IsPlain, OneReading}
+use Rattle.module_spec.specs.PlainForm.{IsSpace, IsPlainByte, IsStatement, IsPlain}
+use Rattle.module_spec.specs.Laws.{OneReading}
 use Rattle.module_spec.specs.PlainForm.IsPlain.{nothing, space, statement}
 
 -- two cuts of a text at the first byte that lacks a property

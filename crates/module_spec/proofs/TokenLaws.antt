@@ -1,11 +1,12 @@
--- A text has one outcome.
+-- A text has one list of tokens or one first fault.
 use Rattle.std.proofs.Common.{◌≡◌, ℕ, ◌<◌, List, [], ◌∷◌, Bool, length, Option, Some, None, ◌⊎◌, inl, inr, refl, sym, ◌∙◌, ap, subst, arith}
 use Rattle.module_spec.specs.declared.token.Bracket.{Bracket}
 use Rattle.module_spec.specs.declared.token.LexKind.{LexKind}
 use Rattle.module_spec.specs.Sorts.{opens, closes}
 use Rattle.module_spec.specs.Spellings.{hashbang_rest}
-use Rattle.module_spec.specs.Tokens.{Lexeme, Balanced, Outside, Innermost, opener, depth, plain_word, slash_after, Slash, Next, next_at, Skips, IsNext, Reaches, OneTokens}
-use Rattle.module_spec.specs.Suffixes.{next_shorter}
+use Rattle.module_spec.specs.Tokens.{Lexeme, Balanced, Outside, Innermost, opener, depth, plain_word, slash_after, Slash, Next, next_at, Skips, IsNext, Reaches}
+use Rattle.module_spec.specs.Laws.{OneTokens, OneReach}
+use Rattle.module_spec.proofs.Suffixes.{next_shorter}
 use Rattle.module_spec.specs.Tokens.Balanced.{same, neither, closed}
 use Rattle.module_spec.specs.Tokens.Outside.{first, later}
 use Rattle.module_spec.specs.Tokens.Innermost.{none, bracket}
@@ -18,23 +19,23 @@ use Rattle.module_spec.specs.Tokens.ReadsTokens.{all, fault}
 
 -- ---- the tokens that opened the brackets which are open, the innermost one first, each with the tokens before it
 
-abbrev pushed : Option Bracket → List Lexeme → List (List Lexeme) → List (List Lexeme)
+abbrev pub pushed : Option Bracket → List Lexeme → List (List Lexeme) → List (List Lexeme)
 pushed None at stack = stack
 pushed (Some k) at stack = at ∷ stack
 
-abbrev behind_top : List (List Lexeme) → List (List Lexeme)
+abbrev pub behind_top : List (List Lexeme) → List (List Lexeme)
 behind_top [] = []
 behind_top (x ∷ stack) = stack
 
-abbrev popped : Option Bracket → List (List Lexeme) → List (List Lexeme)
+abbrev pub popped : Option Bracket → List (List Lexeme) → List (List Lexeme)
 popped None stack = stack
 popped (Some k) stack = behind_top stack
 
-abbrev open_brackets : List Lexeme → List (List Lexeme)
+abbrev pub open_brackets : List Lexeme → List (List Lexeme)
 open_brackets [] = []
 open_brackets (t ∷ before) = pushed (opens t.sort) (t ∷ before) (popped (closes t.sort) (open_brackets before))
 
-abbrev top_of : List (List Lexeme) → List Lexeme
+abbrev pub top_of : List (List Lexeme) → List Lexeme
 top_of [] = []
 top_of (x ∷ stack) = x
 
@@ -65,7 +66,7 @@ mutual
   outside_brackets o inner outer (later {p} {k} {before} e b is_opened out) =
       popped_some _ k _ e ∙ (ap behind_top (balanced_brackets inner (p ∷ before) b ∙ at_opener p _ before is_opened) ∙ outside_brackets p before outer out)
 
-innermost_top : (before at : List Lexeme) → Innermost before at → top_of (open_brackets before) ≡ at
+pub innermost_top : (before at : List Lexeme) → Innermost before at → top_of (open_brackets before) ≡ at
 innermost_top before at (none b) = ap top_of (balanced_brackets before [] b)
 innermost_top before at (bracket {o} {k} {at = outer} b e) = ap top_of (balanced_brackets before (o ∷ outer) b ∙ at_opener o k outer e)
 
@@ -158,19 +159,19 @@ met : {a b : List Lexeme} {r s : List ℕ} {out end : Next} → IsNext a r out �
 met {a} {b} {r} {s} n last m final (inl o) = no_further n last (from_front a b r s o)
 met {a} {b} {r} {s} n last m final (inr o) = turned (no_further m final (from_front b a s r o))
 
-record SameEnd (a b : List Lexeme) (out end : Next) : Type 0 where
+pub record SameEnd (a b : List Lexeme) (out end : Next) : Type 0 where
   pub lexemes : a ≡ b
   pub outs : out ≡ end
 
-same_end : (text : List ℕ) (a b : List Lexeme) (r s : List ℕ) (out end : Next) → Reaches text a r → IsNext a r out → IsLast out → Reaches text b s → IsNext b s end → IsLast end → SameEnd a b out end
+pub same_end : (text : List ℕ) (a b : List Lexeme) (r s : List ℕ) (out end : Next) → Reaches text a r → IsNext a r out → IsLast out → Reaches text b s → IsNext b s end → IsLast end → SameEnd a b out end
 same_end text a b r s out end x n last y m final =
     let e = met n last m final (linear text a b r s x y) in
     record { lexemes = e.lexemes; outs = one_next a r out end n (subst (λ z. IsNext z r end) (sym e.lexemes) (subst (λ z. IsNext b z end) (sym e.rests) m)) }
 
-ends_last : IsLast Ends
+pub ends_last : IsLast Ends
 ends_last t after e = cc
 
-faults_last : (left : ℕ) (kind : LexKind) → IsLast (Faults left kind)
+pub faults_last : (left : ℕ) (kind : LexKind) → IsLast (Faults left kind)
 faults_last left kind t after e = cc
 
 pub one_tokens : OneTokens
@@ -208,5 +209,5 @@ one_of : {a b : List Lexeme} {r : List ℕ} → Onward a r b r ⊎ Onward b r a 
 one_of (inl o) = same_rest (further_is_shorter o)
 one_of (inr o) = sym (same_rest (further_is_shorter o))
 
-pub one_reach : (text : List ℕ) (a b : List Lexeme) (r : List ℕ) → Reaches text a r → Reaches text b r → a ≡ b
+pub one_reach : OneReach
 one_reach text a b r x y = one_of (linear text a b r r x y)

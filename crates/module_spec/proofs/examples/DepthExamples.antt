@@ -10,6 +10,7 @@ use Rattle.module_spec.specs.declared.token.Bracket.{Bracket}
 use Rattle.module_spec.specs.declared.token.LexKind.TheVariants.{Unreadable, TooDeep}
 use Rattle.module_spec.specs.declared.token.Token.{Token}
 use Rattle.module_spec.specs.declared.token.LexFault.{LexFault}
+use Rattle.module_spec.specs.Examples.{rounds}
 use Rattle.module_spec.specs.Characters.{name_size}
 use Rattle.module_spec.specs.Spellings.{blank_rest, hashbang_rest}
 use Rattle.module_spec.specs.Tokens.{Lexeme, lexeme, piece, next_at, unless_refused, opener, depth, most_brackets, Innermost, Slash, IsNext, Reaches, ReadsTokens}
@@ -21,10 +22,6 @@ use Rattle.module_spec.specs.Tokens.Next.{Ends, Faults, Gives}
 use Rattle.module_spec.specs.Tokens.IsNext.{next}
 use Rattle.module_spec.specs.Tokens.Reaches.{begin, go}
 use Rattle.module_spec.specs.Tokens.ReadsTokens.{fault}
-
--- `(`, so many times
-abbrev pub rounds : ℕ → List ℕ
-rounds count = replicate count 40
 
 -- the bracket before so many others
 abbrev opening : ℕ → Lexeme

@@ -10,7 +10,8 @@ use Rattle.module_spec.specs.declared.token.Token.{Token}
 use Rattle.module_spec.specs.Characters.{name_size}
 use Rattle.module_spec.specs.Spellings.{blank_rest}
 use Rattle.module_spec.specs.Sorts.{word}
-use Rattle.module_spec.specs.DepthExamples.{rounds, as_many_as_may, one_too_many}
+use Rattle.module_spec.specs.Examples.{span, TokenExamples}
+use Rattle.module_spec.proofs.examples.DepthExamples.{as_many_as_may, one_too_many}
 use Rattle.module_spec.specs.Tokens.{Lexeme, lexeme, piece, next_at, Reaches, ReadsTokens}
 use Rattle.module_spec.specs.Tokens.Balanced.{same, neither, closed}
 use Rattle.module_spec.specs.Tokens.Outside.{first, later}
@@ -20,21 +21,6 @@ use Rattle.module_spec.specs.Tokens.Skips.{stop, more}
 use Rattle.module_spec.specs.Tokens.IsNext.{next}
 use Rattle.module_spec.specs.Tokens.Reaches.{begin, go}
 use Rattle.module_spec.specs.Tokens.ReadsTokens.{all, fault}
-
-abbrev pub span : Kind → ℕ → ℕ → Token
-span kind from to = record { kind = kind; from = from; to = to }
-
-pub record TokenExamples : Type 0 where
-  pub empty : ReadsTokens [] (Ok [])
-  pub regex : ReadsTokens (codes "x=/b/c") (Ok (span kinds.Name 0 1 ∷ span kinds.Punctuator 1 2 ∷ span kinds.Regex 2 6 ∷ []))
-  pub division : ReadsTokens (codes "a /b/ c") (Ok (span kinds.Name 0 1 ∷ span kinds.Punctuator 2 3 ∷ span kinds.Name 3 4 ∷ span kinds.Punctuator 4 5 ∷ span kinds.Name 6 7 ∷ []))
-  pub brackets : ReadsTokens (codes "if(a)/b/") (Ok (span kinds.Name 0 2 ∷ span kinds.Punctuator 2 3 ∷ span kinds.Name 3 4 ∷ span kinds.Punctuator 4 5 ∷ span kinds.Regex 5 8 ∷ []))
-  pub wrong_closer : ReadsTokens (codes "(]") (Err (record { at = 1; kind = Unreadable }))
-  pub open_at_end : ReadsTokens (codes "(") (Err (record { at = 1; kind = Unreadable }))
-  pub unclosed_text : ReadsTokens (codes "a'b") (Err (record { at = 1; kind = Unreadable }))
-  pub template : ReadsTokens (codes "(`${a}${b}`)") (Ok (span kinds.Punctuator 0 1 ∷ span kinds.TemplateHead 1 4 ∷ span kinds.Name 4 5 ∷ span kinds.TemplateMiddle 5 8 ∷ span kinds.Name 8 9 ∷ span kinds.TemplateTail 9 11 ∷ span kinds.Punctuator 11 12 ∷ []))
-  pub most_open : ReadsTokens (rounds 4096) (Err (record { at = 4096; kind = Unreadable }))
-  pub too_deep : ReadsTokens (rounds 4097) (Err (record { at = 4096; kind = TooDeep }))
 
 -- ---- one token behind others
 

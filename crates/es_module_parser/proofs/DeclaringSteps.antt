@@ -1,0 +1,90 @@
+-- One token of what shows that a text is a module's.
+use Rattle.std.proofs.Common.{◌≡◌, ℕ, Bool, true, false, not, ◌&&◌, ◌||◌, ◌==◌, codes, List, [], ◌∷◌, if◌then◌else◌, refl}
+use Rattle.module_spec.specs.Places.{Placed, is_word, is_mark, is_top}
+use Rattle.module_spec.specs.Forms.{begins_expression, begins_word, begins_meta}
+use Rattle.module_spec.specs.Outlines.{declares}
+use Rattle.module_spec.proofs.Terminals.{one_word, word_is_name, name_no_mark}
+use Rattle.es_module_parser.specs.declared.declaring.After.{After}
+use Rattle.es_module_parser.specs.declared.declaring.After.TheVariants.{Other, Import, Dot}
+use Rattle.es_module_parser.specs.Declaring.{declares_now, after_token, declares_at_end}
+use Rattle.es_module_parser.proofs.FormSteps.{seen_of}
+
+-- what the tokens that are to come show, behind those that were read
+abbrev pub declares_from : After → List Placed → Bool
+declares_from Other later = declares later
+declares_from (Import top) later = top && not (begins_expression later) || (begins_meta later || declares later)
+declares_from Dot later = begins_word (codes "meta") later || declares later
+
+-- the word `import`, or not: then it is no other word and no punctuator
+data Spelled : Bool → Bool → Bool → Bool → Bool → Type 0 where
+  is_import : Spelled true false false false false
+  another : {exports meta dot round : Bool} → Spelled false exports meta dot round
+
+spelled_by : (word exports meta dot round : Bool) → (word ≡ true → (exports ≡ false) × (meta ≡ false) × (dot ≡ false) × (round ≡ false)) → Spelled word exports meta dot round
+spelled_by false exports meta dot round h = another
+spelled_by true exports meta dot round h = let e = h refl in rw (e.0, e.1, e.2, e.3) is_import
+
+spelled : (t : Placed) → Spelled (is_word t (codes "import")) (is_word t (codes "export")) (is_word t (codes "meta")) (is_mark t (codes ".")) (is_mark t (codes "("))
+spelled t =
+    spelled_by (is_word t (codes "import")) (is_word t (codes "export")) (is_word t (codes "meta")) (is_mark t (codes ".")) (is_mark t (codes "("))
+    (λ e. let name = word_is_name t (codes "import") e in
+    (one_word t (codes "import") (codes "export") e refl, one_word t (codes "import") (codes "meta") e refl, name_no_mark t (codes ".") name, name_no_mark t (codes "(") name))
+
+import_top : (expression meta later : Bool) → ((not expression || false) || (meta || later)) ≡ (not expression || (meta || later))
+import_top true meta later = refl
+import_top false meta later = refl
+
+import_case : (s plain out : Bool) (later : List Placed) → (s || ((((plain && out) && true) && not (begins_expression later) || (plain && out) && false) || (((plain && true) && begins_meta later) || declares later))) ≡ ((s || (plain && out) && false) || declares_from (if plain && true then Import (plain && out) else Other) later)
+import_case true plain out later = refl
+import_case false false out later = refl
+import_case false true false later = refl
+import_case false true true later = import_top (begins_expression later) (begins_meta later) (declares later)
+
+other_case : (s plain out exports : Bool) (later : List Placed) → (s || ((((plain && out) && false) && not (begins_expression later) || (plain && out) && exports) || (((plain && false) && begins_meta later) || declares later))) ≡ ((s || (plain && out) && exports) || declares_from (if plain && false then Import (plain && out) else Other) later)
+other_case true plain out exports later = refl
+other_case false false out exports later = refl
+other_case false true false exports later = refl
+other_case false true true exports later = refl
+
+swapped : (meta exports later : Bool) → (meta || (exports || later)) ≡ (exports || (meta || later))
+swapped true true later = refl
+swapped true false later = refl
+swapped false exports later = refl
+
+dot_case : (s plain out exports dot : Bool) (later : List Placed) → (s || ((dot && begins_word (codes "meta") later) || ((((plain && out) && false) && not (begins_expression later) || (plain && out) && exports) || (((plain && false) && begins_meta later) || declares later)))) ≡ ((s || (plain && out) && exports) || declares_from (if plain && false then Import (plain && out) else (if dot then Dot else Other)) later)
+dot_case true plain out exports dot later = refl
+dot_case false false out exports true later = refl
+dot_case false false out exports false later = refl
+dot_case false true false exports true later = refl
+dot_case false true false exports false later = refl
+dot_case false true true exports true later = swapped (begins_word (codes "meta") later) exports (declares later)
+dot_case false true true exports false later = refl
+
+other_step : (plain out : Bool) (later : List Placed) {word exports meta dot round : Bool} → Spelled word exports meta dot round
+    → ((((plain && out) && word) && not (begins_expression later) || (plain && out) && exports) || (((plain && word) && begins_meta later) || declares later)) ≡ ((false || (plain && out) && exports) || declares_from (if plain && word then Import (plain && out) else Other) later)
+other_step plain out later is_import = import_case false plain out later
+other_step plain out later (another {exports}) = other_case false plain out exports later
+
+import_step : (top plain out : Bool) (later : List Placed) {word exports meta dot round : Bool} → Spelled word exports meta dot round
+    → (top && not (round || dot) || ((dot && begins_word (codes "meta") later) || ((((plain && out) && word) && not (begins_expression later) || (plain && out) && exports) || (((plain && word) && begins_meta later) || declares later)))) ≡ ((top && not (round || dot) || (plain && out) && exports) || declares_from (if plain && word then Import (plain && out) else (if dot then Dot else Other)) later)
+import_step top plain out later is_import = import_case (top && true) plain out later
+import_step top plain out later (another {exports} {meta} {dot} {round}) = dot_case (top && not (round || dot)) plain out exports dot later
+
+dot_step : (plain out : Bool) (later : List Placed) {word exports meta dot round : Bool} → Spelled word exports meta dot round
+    → (meta || ((((plain && out) && word) && not (begins_expression later) || (plain && out) && exports) || (((plain && word) && begins_meta later) || declares later))) ≡ ((meta || (plain && out) && exports) || declares_from (if plain && word then Import (plain && out) else Other) later)
+dot_step plain out later is_import = import_case false plain out later
+dot_step plain out later (another {exports} {meta}) = other_case meta plain out exports later
+
+pub declare_step : (after : After) (t : Placed) (later : List Placed) → declares_from after (t ∷ later) ≡ (declares_now after (seen_of t) t.text || declares_from (after_token after (seen_of t) t.text) later)
+declare_step Other t later = other_step t.plain (t.depth == 0) later (spelled t)
+declare_step (Import top) t later = import_step top t.plain (t.depth == 0) later (spelled t)
+declare_step Dot t later = dot_step t.plain (t.depth == 0) later (spelled t)
+
+and_true : (top : Bool) → ((top && true) || false) ≡ top
+and_true true = refl
+and_true false = refl
+
+pub declared_at_end : (after : After) → declares_from after [] ≡ declares_at_end after
+declared_at_end Other = refl
+declared_at_end (Import top) = and_true top
+declared_at_end Dot = refl

@@ -1,0 +1,5 @@
+mod LiteralLemmas
+mod FormSteps
+mod DeclaringSteps
+mod TokensRead
+mod SomeOutline

@@ -1,0 +1,186 @@
+-- The tokens so far, by what the parser keeps of them.
+use Rattle.std.proofs.Common.{◌≡◌, ◌<◌, ◌==◌, ◌&&◌, ◌||◌, not, ℕ, Bool, true, false, if◌then◌else◌, List, [], ◌∷◌, ◌++◌, length, reverse, Option, Some, None, Result, Ok, Err, refl, sym, ◌∙◌, ap, subst, slice_range, append_assoc, append-nil}
+use Rattle.std.proofs.lemmas.Grind.{reverse_onto}
+use Rattle.module_spec.specs.declared.token.Token.{Token}
+use Rattle.module_spec.specs.declared.token.LexFault.{LexFault}
+use Rattle.module_spec.specs.declared.token.LexKind as lex_kinds
+use Rattle.module_spec.specs.declared.token.LexKind.TheVariants as lex_kind
+use Rattle.module_spec.specs.declared.request.Request.{Request}
+use Rattle.module_spec.specs.declared.request.ModuleFault as module_faults
+use Rattle.module_spec.specs.declared.request.ModuleFault.TheVariants.{Unreadable, TooDeep, TooManyRequests}
+use Rattle.module_spec.specs.Spellings.{hashbang_rest}
+use Rattle.module_spec.specs.Tokens.{Lexeme, Reaches, depth, is_property}
+use Rattle.module_spec.specs.Tokens.Reaches.{begin, go}
+use Rattle.module_spec.specs.Places.{Placed, placed, places, is_top}
+use Rattle.module_spec.specs.StringValues.{string_value}
+use Rattle.module_spec.specs.Outlines.{Outline, ReadsOutline, requests, findings, declares, outline_of, outlined, most_requests, lexical_fault}
+use Rattle.module_spec.specs.Outlines.ReadsOutline.{all, fault}
+use Rattle.module_spec.proofs.TokenLaws.{one_reach}
+use Rattle.module_spec.proofs.Suffixes.{next_shorter}
+use Rattle.es_lexer.specs.Steps.{NextIs}
+use Rattle.es_module_parser.specs.declared.fault.OutlineFault.{OutlineFault}
+use Rattle.es_module_parser.specs.declared.expect.Seen.{Seen}
+use Rattle.es_module_parser.specs.declared.expect.Expect.TheVariants.{ImportDeclaration, BehindDefault, SecondBinding, NameSpaceImport, ImportedBinding, ImportBraces, FromClause, ModuleSpecifier, ExportDeclaration, ExportAll, ModuleExportName, ExportBraces, NamedExports, NamedSpecifier}
+use Rattle.es_module_parser.specs.declared.declaring.After.{After}
+use Rattle.es_module_parser.specs.declared.declaring.After.TheVariants.{Other}
+use Rattle.es_module_parser.specs.declared.progress.Progress.{Progress}
+use Rattle.es_module_parser.specs.declared.progress.Progress.TheVariants.{Outside, Inside, Broken}
+use Rattle.es_module_parser.specs.declared.progress.Next.{Next}
+use Rattle.es_module_parser.specs.declared.progress.Next.TheVariants.{Goes, Specifier}
+use Rattle.es_module_parser.specs.Faults as faults
+use Rattle.es_module_parser.specs.Progress.{stepped, progress_behind, requests_behind, ended}
+use Rattle.es_module_parser.specs.Declaring.{declares_now, after_token, declares_at_end}
+use Rattle.es_module_parser.proofs.FormSteps.{seen_of, settled, settled_next, step_settled, step_deep, Deep, DeepNext}
+use Rattle.es_module_parser.proofs.DeclaringSteps.{declares_from, declare_step, declared_at_end}
+
+pub record Reading (text : List ℕ) (lexer : List ℕ × List ℕ) (progress : Progress) (so_far : List Request) (after : After) (declared : Bool) : Type 0 where
+  pub whole : lexer.0 ≡ text
+  pub before : List Lexeme
+  pub reached : Reaches text before lexer.1
+  pub deep : Deep progress (depth before)
+  pub asking : (later : List Placed) → requests [] (findings None (reverse (places (length text) before) ++ later)) ≡ settled progress so_far later
+  pub declaring : (later : List Placed) → declares (reverse (places (length text) before) ++ later) ≡ (declared || declares_from after later)
+
+pub nothing_read : (text : List ℕ) (lexer : List ℕ × List ℕ) (so_far : List Request) → lexer ≡ (text, hashbang_rest text) → so_far ≡ [] → Reading text lexer Outside so_far Other false
+nothing_read text lexer so_far e f = record { whole = ap (λ (p : List ℕ × List ℕ). p.0) e; before = []; reached = begin (ap (λ (p : List ℕ × List ℕ). p.1) e); deep = tt; asking = λ later. rw f refl; declaring = λ later. refl }
+
+-- what a call of the lexer says, for the tokens so far
+pub said : {text : List ℕ} {lexer : List ℕ × List ℕ} {progress : Progress} {so_far : List Request} {after : After} {declared : Bool} (out : Result (Option Token) LexFault) (rest : List ℕ) → (r : Reading text lexer progress so_far after declared) → ((before : List Lexeme) → Reaches lexer.0 before lexer.1 → NextIs lexer.0 before lexer.1 out rest) → NextIs text r.before lexer.1 out rest
+said {text} {lexer} out rest r next = subst (λ t. NextIs t r.before lexer.1 out rest) r.whole (next r.before (subst (λ t. Reaches t r.before lexer.1) (sym r.whole) r.reached))
+
+-- what is told of the tokens that some reader gave, for the tokens that are known to stand before
+told : {A : Type 0} {value : A} (of : List Lexeme → A) (text : List ℕ) (now : List ℕ × List ℕ) (before : List Lexeme) → now.0 ≡ text → Reaches text before now.1 → ((some : List Lexeme) × Reaches now.0 some now.1 × (value ≡ of some)) → value ≡ of before
+told of text now before e r t = t.2 ∙ ap of (one_reach text t.0 before now.1 (subst (λ x. Reaches x t.0 now.1) e t.1) r)
+
+-- ---- the text's end
+
+abbrev end_of : Option module_faults.ModuleFault → List Request → Result (List Request) module_faults.ModuleFault
+end_of None so_far = Ok so_far
+end_of (Some f) so_far = Err f
+
+at_end : (p : Progress) (so_far : List Request) → settled p so_far [] ≡ end_of (ended p) so_far
+at_end Outside so_far = refl
+at_end (Broken f) so_far = refl
+at_end (Inside ImportDeclaration word inner) so_far = refl
+at_end (Inside BehindDefault word inner) so_far = refl
+at_end (Inside SecondBinding word inner) so_far = refl
+at_end (Inside NameSpaceImport word inner) so_far = refl
+at_end (Inside ImportedBinding word inner) so_far = refl
+at_end (Inside ImportBraces word inner) so_far = refl
+at_end (Inside FromClause word inner) so_far = refl
+at_end (Inside ModuleSpecifier word inner) so_far = refl
+at_end (Inside ExportDeclaration word inner) so_far = refl
+at_end (Inside ExportAll word inner) so_far = refl
+at_end (Inside ModuleExportName word inner) so_far = refl
+at_end (Inside ExportBraces word inner) so_far = refl
+at_end (Inside NamedExports word None) so_far = refl
+at_end (Inside NamedExports word (Some inner)) so_far = refl
+at_end (Inside NamedSpecifier word None) so_far = refl
+at_end (Inside NamedSpecifier word (Some inner)) so_far = refl
+
+ends : {text : List ℕ} {lexer : List ℕ × List ℕ} {progress : Progress} {so_far : List Request} {after : After} {declared : Bool} (end : Option module_faults.ModuleFault) → (r : Reading text lexer progress so_far after declared) → end ≡ ended progress → outlined (reverse (places (length text) r.before)) ≡ outline_of (end_of end so_far) (declared || declares_at_end after)
+ends {text} {progress} {so_far} {after} {declared} end r e =
+    let all_of : List Placed = reverse (places (length text) r.before) in
+    let none = append-nil all_of in
+    let asks = sym (ap (λ (ts : List Placed). requests [] (findings None ts)) none) ∙ (r.asking [] ∙ (at_end progress so_far ∙ ap (λ f. end_of f so_far) (sym e))) in
+    let shows = sym (ap (λ (ts : List Placed). declares ts) none) ∙ (r.declaring [] ∙ ap (λ d. declared || d) (declared_at_end after)) in
+    ap (λ x. outline_of x (declares all_of)) asks ∙ ap (λ d. outline_of (end_of end so_far) d) shows
+
+pub whole_read : {text : List ℕ} {lexer : List ℕ × List ℕ} {progress : Progress} {so_far : List Request} {after : After} {declared : Bool} (rest : List ℕ) → (r : Reading text lexer progress so_far after declared) → NextIs text r.before lexer.1 (Ok None) rest → None ≡ ended progress → (asked : List Request) (shows : Bool) → asked ≡ so_far → shows ≡ (declared || declares_at_end after) → ReadsOutline text (Ok (record { requests = asked; declares = shows }))
+whole_read rest r s e asked shows f g = all r.reached s.0 (rw (f, g) (sym (ends None r e)))
+
+fault_says : (text : List ℕ) (f : module_faults.ModuleFault) → ReadsOutline text (Err f) → faults.IsFaultOf text (faults.fault_of f)
+fault_says text (Unreadable at) r = r
+fault_says text TooDeep r = r
+fault_says text TooManyRequests r = r
+
+pub fault_read : {text : List ℕ} {lexer : List ℕ × List ℕ} {progress : Progress} {so_far : List Request} {after : After} {declared : Bool} (rest : List ℕ) (f : module_faults.ModuleFault) (out : OutlineFault) → (r : Reading text lexer progress so_far after declared) → NextIs text r.before lexer.1 (Ok None) rest → Some f ≡ ended progress → out ≡ faults.fault_of f → faults.IsFaultOf text out
+fault_read {text} rest f out r s e g = subst (λ o. faults.IsFaultOf text o) (sym g) (fault_says text f (all r.reached s.0 (sym (ends (Some f) r e))))
+
+pub lexical_read : {text : List ℕ} {lexer : List ℕ × List ℕ} {progress : Progress} {so_far : List Request} {after : After} {declared : Bool} (rest : List ℕ) (f : LexFault) (out : OutlineFault) → (r : Reading text lexer progress so_far after declared) → NextIs text r.before lexer.1 (Err f) rest → out ≡ faults.lexical_fault f.at f.kind → faults.IsFaultOf text out
+lexical_read {text} rest f out r s e =
+    subst (λ o. faults.IsFaultOf text o) (sym e) (fault_says text (lexical_fault f.at f.kind) (fault r.reached s.1 (ap (λ (g : LexFault). Err (lexical_fault g.at f.kind)) s.2)))
+
+-- ---- one token more
+
+pub shorter : {text : List ℕ} {lexer : List ℕ × List ℕ} {progress : Progress} {so_far : List Request} {after : After} {declared : Bool} (rest : List ℕ) (token : Token) → (r : Reading text lexer progress so_far after declared) → NextIs text r.before lexer.1 (Ok (Some token)) rest → length rest < length lexer.1
+shorter {lexer} rest token r s = next_shorter r.before lexer.1 rest s.lexeme s.next
+
+turned_over : (xs : List Placed) (x : Placed) (ys : List Placed) → reverse (x ∷ xs) ++ ys ≡ reverse xs ++ (x ∷ ys)
+turned_over xs x ys = ap (λ (zs : List Placed). zs ++ ys) (reverse_onto xs x []) ∙ append_assoc (reverse xs) (x ∷ []) ys
+
+or_assoc : (a b c : Bool) → (a || (b || c)) ≡ ((a || b) || c)
+or_assoc true b c = refl
+or_assoc false b c = refl
+
+limit_kept : (c : Bool) (token : Token) (text : List ℕ) (so_far : List Request) (later : List Placed) → (if c then Err TooManyRequests else requests (so_far ++ record { from = token.from; to = token.to; text = text } ∷ []) (findings None later)) ≡ settled (if c then Broken TooManyRequests else Outside) (if c then so_far else so_far ++ record { from = token.from; to = token.to; text = text } ∷ []) later
+limit_kept true token text so_far later = refl
+limit_kept false token text so_far later = refl
+
+asked_kept : (t : Placed) (value : Option (List ℕ)) (so_far : List Request) (later : List Placed) → string_value t.text ≡ value → settled_next Specifier t so_far later ≡ settled (progress_behind Specifier t.token value so_far) (requests_behind Specifier t.token value so_far) later
+asked_kept t None so_far later e = rw e refl
+asked_kept t (Some text) so_far later e = rw e (limit_kept (length so_far == most_requests) t.token text so_far later)
+
+next_kept : (n : Next) (t : Placed) (so_far : List Request) (later : List Placed) → settled_next n t so_far later ≡ settled (progress_behind n t.token (string_value t.text) so_far) (requests_behind n t.token (string_value t.text) so_far) later
+next_kept (Goes p) t so_far later = refl
+next_kept Specifier t so_far later = asked_kept t (string_value t.text) so_far later refl
+
+deep_limit : (c : Bool) (d : ℕ) → Deep (if c then Broken TooManyRequests else Outside) d
+deep_limit true d = tt
+deep_limit false d = tt
+
+deep_asked : (token : Token) (value : Option (List ℕ)) (so_far : List Request) (d : ℕ) → Deep (progress_behind Specifier token value so_far) d
+deep_asked token None so_far d = tt
+deep_asked token (Some text) so_far d = deep_limit (length so_far == most_requests) d
+
+deep_behind : (n : Next) (token : Token) (value : Option (List ℕ)) (so_far : List Request) (d : ℕ) → DeepNext n d → Deep (progress_behind n token value so_far) d
+deep_behind (Goes p) token value so_far d x = x
+deep_behind Specifier token value so_far d x = deep_asked token value so_far d
+
+pub read_on : {text : List ℕ} {lexer : List ℕ × List ℕ} {progress : Progress} {so_far : List Request} {after : After} {declared : Bool} (new : List ℕ × List ℕ) (n : Next) (p : Progress) (more : List Request) (a : After) (now : Bool) (token : Token) (spelled : List ℕ) (property : Bool) (d behind : ℕ) (top : Bool)
+    → (r : Reading text lexer progress so_far after declared) → new.0 ≡ lexer.0 → NextIs text r.before lexer.1 (Ok (Some token)) new.1
+    → ((some : List Lexeme) × Reaches lexer.0 some lexer.1 × (property ≡ is_property some))
+    → ((some : List Lexeme) × Reaches lexer.0 some lexer.1 × (d ≡ depth some))
+    → ((some : List Lexeme) × Reaches new.0 some new.1 × (behind ≡ depth some))
+    → top ≡ (not property && d == 0)
+    → spelled ≡ slice_range text token.from token.to
+    → n ≡ stepped progress (record { kind = token.kind; from = token.from; plain = not property; top = top; behind = behind }) spelled
+    → p ≡ progress_behind n token (string_value spelled) so_far → more ≡ requests_behind n token (string_value spelled) so_far
+    → now ≡ (declared || declares_now after (record { kind = token.kind; from = token.from; plain = not property; top = top; behind = behind }) spelled)
+    → a ≡ after_token after (record { kind = token.kind; from = token.from; plain = not property; top = top; behind = behind }) spelled
+    → Reading text new p more a now
+read_on {text} {lexer} {progress} {so_far} {after} {declared} new n p more a now token spelled property d behind top r e s properties depths behinds tops f g h i j k =
+    let t : Placed = placed (length text) r.before s.lexeme in
+    let reached : Reaches text (s.lexeme ∷ r.before) new.1 = go r.reached s.next in
+    let whole : new.0 ≡ text = e ∙ r.whole in
+    let property_is : property ≡ is_property r.before = told is_property text lexer r.before r.whole r.reached properties in
+    let depth_is : d ≡ t.depth = told depth text lexer r.before r.whole r.reached depths in
+    let behind_is : behind ≡ t.behind = told depth text new (s.lexeme ∷ r.before) whole reached behinds in
+    let top_is : top ≡ is_top t = tops ∙ rw (property_is, depth_is) refl in
+    let spelled_is : spelled ≡ t.text = f ∙ s.slice in
+    let seen : Seen = record { kind = token.kind; from = token.from; plain = not property; top = top; behind = behind } in
+    let seen_is : seen ≡ seen_of t = rw (property_is, top_is, behind_is) (ap (λ (x : Token). record { kind = x.kind; from = x.from; plain = t.plain; top = is_top t; behind = t.behind }) s.told) in
+    let stepped_is : n ≡ stepped progress (seen_of t) t.text = g ∙ (ap (λ x. stepped progress x spelled) seen_is ∙ ap (λ x. stepped progress (seen_of t) x) spelled_is) in
+    let now_is : now ≡ (declared || declares_now after (seen_of t) t.text) = j ∙ (ap (λ x. declared || declares_now after x spelled) seen_is ∙ ap (λ x. declared || declares_now after (seen_of t) x) spelled_is) in
+    let after_is : a ≡ after_token after (seen_of t) t.text = k ∙ (ap (λ x. after_token after x spelled) seen_is ∙ ap (λ x. after_token after (seen_of t) x) spelled_is) in
+    let progress_is : p ≡ progress_behind n t.token (string_value t.text) so_far = h ∙ rw (s.told, spelled_is) refl in
+    let more_is : more ≡ requests_behind n t.token (string_value t.text) so_far = i ∙ rw (s.told, spelled_is) refl in
+    record {
+      whole = whole;
+      before = s.lexeme ∷ r.before;
+      reached = reached;
+      deep = subst (λ q. Deep q t.behind) (sym progress_is) (deep_behind n t.token (string_value t.text) so_far t.behind (subst (λ q. DeepNext q t.behind) (sym stepped_is) (step_deep progress t)));
+      asking = λ later.
+          ap (λ (ts : List Placed). requests [] (findings None ts)) (turned_over (places (length text) r.before) t later)
+          ∙ (r.asking (t ∷ later)
+          ∙ (step_settled progress t later so_far r.deep
+          ∙ (ap (λ q. settled_next q t so_far later) (sym stepped_is)
+          ∙ (next_kept n t so_far later
+          ∙ rw (progress_is, more_is) refl))));
+      declaring = λ later.
+          ap (λ (ts : List Placed). declares ts) (turned_over (places (length text) r.before) t later)
+          ∙ (r.declaring (t ∷ later)
+          ∙ (ap (λ x. declared || x) (declare_step after t later)
+          ∙ (or_assoc declared (declares_now after (seen_of t) t.text) (declares_from (after_token after (seen_of t) t.text) later)
+          ∙ rw (now_is, after_is) refl)));
+    }

@@ -1,0 +1,24 @@
+//! What a module text asks for: [`outline`] goes over its tokens once and gives the module specifiers of its import and
+//! export declarations, in their order, or the text's first fault. It keeps no list of tokens and goes to no depth.
+#![tactic(auto)]
+
+ghost use Rattle.es_module_parser.specs.Laws.{SomeOutline};
+
+mod declaring;
+mod expect;
+mod fault;
+mod literals;
+mod progress;
+mod reading;
+mod requests;
+mod terminals;
+
+pub use fault::OutlineFault;
+pub use module_spec::Request;
+pub use reading::outline;
+pub use requests::{Outline, Requests};
+
+/// Each text has an outline or a first fault.
+pub fn some_outline()
+    ensures { SomeOutline }
+{}

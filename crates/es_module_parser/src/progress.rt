@@ -1,0 +1,169 @@
+ghost use Rattle.std.specs.Prelude.{◌≡◌, IfOk, slice_range};
+ghost use Rattle.module_spec.specs.Spans.{IsSpan};
+ghost use Rattle.module_spec.specs.StringValues.{string_value};
+ghost use Rattle.es_module_parser.specs.Progress.{begun, may_begin, moved, moved_wrong, stepped, progress_asked, requests_asked, progress_behind, requests_behind, cut, ended};
+
+use crate::expect::{Expect, Seen, Turn};
+use crate::literals::string_value;
+use crate::terminals::is_word;
+use module_spec::{ModuleFault, Request, Token};
+use primitives::{Listed, Memory};
+use std::alloc::Global;
+
+/// How many modules a text may ask for.
+pub const MOST_REQUESTS: usize = 4096;
+
+/// Where the reading of a text stands.
+#[derive(Clone, Copy, Debug, PartialEq, Eq)]
+pub enum Progress {
+    /// No declaration is being read.
+    Outside,
+    /// A declaration is being read: what comes, where its word stands, and where the last token stands if that is a word
+    /// which would begin a declaration of its own, and for which there is no form where this one has its own.
+    Inside(Expect, usize, Option<usize>),
+    /// This is the first fault, if no later token can't be read.
+    Broken(ModuleFault),
+}
+
+/// Where it stands behind one token more.
+#[derive(Clone, Copy, Debug, PartialEq, Eq)]
+pub enum Next {
+    Goes(Progress),
+    /// The token is a module specifier.
+    Specifier,
+}
+
+fn begin(seen: Seen, text: &[u8]) -> Progress
+    ensures { result ≡ begun seen text.now }
+{
+    if seen.top && is_word(seen.kind, text, b"import".as_slice()) {
+        Progress::Inside(Expect::ImportDeclaration, seen.from, None)
+    } else if seen.top && is_word(seen.kind, text, b"export".as_slice()) {
+        Progress::Inside(Expect::ExportDeclaration, seen.from, None)
+    } else {
+        Progress::Outside
+    }
+}
+
+fn may_begin(seen: Seen, text: &[u8]) -> bool
+    ensures { result ≡ may_begin seen text.now }
+{
+    seen.top
+        && (is_word(seen.kind, text, b"import".as_slice())
+            || is_word(seen.kind, text, b"export".as_slice()))
+}
+
+fn go(word: usize, turn: Turn, seen: Seen, text: &[u8]) -> Next
+    ensures { result ≡ moved word turn seen text.now }
+{
+    match turn {
+        Turn::Wrong => Next::Goes(Progress::Broken(ModuleFault::Unreadable { at: word })),
+        Turn::Asked => Next::Specifier,
+        Turn::Leave => Next::Goes(begin(seen, text)),
+        Turn::Go(next) => {
+            if may_begin(seen, text) {
+                Next::Goes(Progress::Inside(next, word, Some(seen.from)))
+            } else {
+                Next::Goes(Progress::Inside(next, word, None))
+            }
+        }
+    }
+}
+
+// The same where a word inside has no form: it is the first fault, unless the declaration itself has none.
+fn go_wrong(word: usize, inner: usize, turn: Turn) -> Progress
+    ensures { result ≡ moved_wrong word inner turn }
+{
+    match turn {
+        Turn::Wrong => Progress::Broken(ModuleFault::Unreadable { at: word }),
+        Turn::Asked => Progress::Broken(ModuleFault::Unreadable { at: inner }),
+        Turn::Leave => Progress::Broken(ModuleFault::Unreadable { at: inner }),
+        Turn::Go(next) => Progress::Inside(next, word, Some(inner)),
+    }
+}
+
+// The value of a module specifier becomes a request.
+fn ask(
+    alloc: Global,
+    literal: &str,
+    token: Token,
+    asked: &mut Listed<Request>,
+) -> Result<Progress, Memory>
+    ensures progress { IfOk result (λ p. p ≡ progress_asked token (string_value literal.now) asked.old) }
+    ensures requests { IfOk result (λ p. asked.new ≡ requests_asked token (string_value literal.now) asked.old) }
+{
+    let Some(text) = string_value(alloc, literal)? else {
+        return Ok(Progress::Broken(ModuleFault::Unreadable { at: token.from }));
+    };
+    if asked.len() == MOST_REQUESTS {
+        return Ok(Progress::Broken(ModuleFault::TooManyRequests));
+    }
+    asked.push(Request {
+        from: token.from,
+        to: token.to,
+        text,
+    })?;
+    Ok(Progress::Outside)
+}
+
+impl Progress {
+    /// Behind a token of this spelling.
+    pub fn step(self, seen: Seen, text: &[u8]) -> Next
+        ensures { result ≡ stepped self seen text.now }
+    {
+        match self {
+            Progress::Outside => Next::Goes(begin(seen, text)),
+            Progress::Broken(fault) => Next::Goes(Progress::Broken(fault)),
+            Progress::Inside(expect, word, None) => go(word, expect.turn(seen, text), seen, text),
+            Progress::Inside(expect, word, Some(inner)) => {
+                Next::Goes(go_wrong(word, inner, expect.turn(seen, text)))
+            }
+        }
+    }
+
+    /// What is wrong where the text ends here.
+    pub fn fault_at_end(self) -> Option<ModuleFault>
+        ensures { result ≡ ended self }
+    {
+        match self {
+            Progress::Outside => None,
+            Progress::Broken(fault) => Some(fault),
+            Progress::Inside(expect, word, inner) => match (cut(expect, word), inner) {
+                (Some(fault), _) => Some(fault),
+                (None, None) => None,
+                (None, Some(inner)) => Some(ModuleFault::Unreadable { at: inner }),
+            },
+        }
+    }
+}
+
+impl Next {
+    /// Where the reading stands behind the token, with what it asked for so far.
+    pub fn progress(
+        self,
+        alloc: Global,
+        text: &str,
+        token: Token,
+        asked: &mut Listed<Request>,
+    ) -> Result<Progress, Memory>
+        requires { IsSpan text.now token }
+        ensures progress { IfOk result (λ p. p ≡ progress_behind self token (string_value (slice_range text.now token.from token.to)) asked.old) }
+        ensures requests { IfOk result (λ p. asked.new ≡ requests_behind self token (string_value (slice_range text.now token.from token.to)) asked.old) }
+    {
+        match self {
+            Next::Goes(progress) => Ok(progress),
+            Next::Specifier => ask(alloc, &text[token.from..token.to], token, asked),
+        }
+    }
+}
+
+// A declaration that the text's end cuts off; braces alone are one.
+fn cut(expect: Expect, word: usize) -> Option<ModuleFault>
+    ensures { result ≡ cut expect word }
+{
+    match expect {
+        Expect::NamedExports => None,
+        Expect::NamedSpecifier => None,
+        _ => Some(ModuleFault::Unreadable { at: word }),
+    }
+}

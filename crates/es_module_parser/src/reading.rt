@@ -1,0 +1,79 @@
+ghost use Rattle.std.specs.Prelude.{◌≡◌, ◌+◌, ◌&&◌, ◌==◌, not, Ok, IfOk, IfErr};
+ghost use Rattle.module_spec.specs.Outlines.{ReadsOutline};
+ghost use Rattle.es_module_parser.specs.Faults.{IsFaultOf, lexical_fault};
+ghost use Rattle.es_module_parser.specs.Outlines.{as_outline};
+
+use crate::declaring::After;
+use crate::expect::Seen;
+use crate::fault::OutlineFault;
+use crate::progress::Progress;
+use crate::requests::{Outline, Requests};
+use es_lexer::{LexFault, LexKind, Lexer};
+use primitives::{Listed, Steps};
+use std::alloc::Global;
+use std::sync::ledger::Ledger;
+
+fn lexical(fault: LexFault) -> OutlineFault
+    ensures { result ≡ lexical_fault fault.at fault.kind }
+{
+    match fault.kind {
+        LexKind::Unreadable => OutlineFault::Unreadable { at: fault.at },
+        LexKind::TooDeep => OutlineFault::TooDeep,
+    }
+}
+
+fn is_top(plain: bool, depth: usize) -> bool
+    ensures { result ≡ (plain && depth == 0) }
+{
+    plain && depth == 0
+}
+
+/// What the text asks for, or its first fault: one among its tokens goes before any other, and then the first in the text. It
+/// takes one step.
+pub fn outline<L: Ledger>(
+    alloc: Global,
+    text: &str,
+    steps: &mut Steps<L>,
+) -> Result<Outline, OutlineFault>
+    ensures outline { IfOk result (λ outline. ReadsOutline text.now (Ok (as_outline outline))) }
+    ensures fault { IfErr result (λ fault. IsFaultOf text.now fault) }
+    ensures cost { steps.new ≡ steps.old + 1 }
+{
+    steps.tick();
+    let bytes = text.as_bytes();
+    let mut lexer = Lexer::new(alloc, text)?;
+    let mut asked = Listed::new(alloc);
+    let mut progress = Progress::Outside;
+    let mut after = After::Other;
+    let mut declares = false;
+    'read: loop {
+        let plain = !lexer.before_property();
+        let depth = lexer.depth();
+        match lexer.next() {
+            Err(fault) => return Err(lexical(fault)),
+            Ok(None) => match progress.fault_at_end() {
+                Some(fault) => return Err(OutlineFault::from(fault)),
+                None => {
+                    return Ok(Outline {
+                        requests: Requests::of(asked),
+                        declares: after.declares_at_end(declares),
+                    });
+                }
+            },
+            Ok(Some(token)) => {
+                let spelled = &bytes[token.from..token.to];
+                let seen = Seen {
+                    kind: token.kind,
+                    from: token.from,
+                    plain,
+                    top: is_top(plain, depth),
+                    behind: lexer.depth(),
+                };
+                declares = after.declares(declares, seen, spelled);
+                after = after.token(seen, spelled);
+                let next = progress.step(seen, spelled);
+                progress = next.progress(alloc, text, token, &mut asked)?;
+            }
+        }
+    }
+}

@@ -1,0 +1,10 @@
+pub mod Readings
+pub mod Suffixes
+pub mod Tails
+pub mod TokenLaws
+pub mod SpanLemmas
+pub mod BracketLaws
+pub mod Terminals
+pub mod FormLaws
+pub mod OutlineLaws
+pub mod examples

@@ -1,0 +1,81 @@
+-- What a module text asks for. ECMA-262, 16.2.2, 16.2.3 and 13.3.12.
+--     ReadsOutline text (Ok outline)      the requests of the text in their order, and whether it has declarations of a module
+--     ReadsOutline text (Err fault)      its first fault
+use Rattle.std.specs.Prelude.{◌≡◌, ℕ, zero, suc, ◌-◌, Bool, false, ◌||◌, ◌==◌, List, [], ◌∷◌, ◌++◌, if◌then◌else◌, Option, Some, None, Result, Ok, Err, length, reverse}
+use Rattle.module_spec.specs.declared.token.LexKind as lex_kinds
+use Rattle.module_spec.specs.declared.token.LexKind.TheVariants as lex_kind
+use Rattle.module_spec.specs.declared.request.Request.{Request}
+use Rattle.module_spec.specs.declared.request.ModuleFault.{ModuleFault}
+use Rattle.module_spec.specs.declared.request.ModuleFault.TheVariants.{Unreadable, TooDeep, TooManyRequests}
+use Rattle.module_spec.specs.Tokens.{Lexeme, Reaches, IsNext}
+use Rattle.module_spec.specs.Tokens.Next.{Ends, Faults}
+use Rattle.module_spec.specs.Places.{Placed, places}
+use Rattle.module_spec.specs.Forms.{Form, declaration, begins_declaration, is_import_meta}
+use Rattle.module_spec.specs.Forms.Form.{wrong, none, alone, asks}
+use Rattle.module_spec.specs.StringValues.{string_value}
+
+pub record Outline : Type 0 where
+  pub requests : List Request
+  pub declares : Bool
+
+-- ---- what is found, in text order
+
+-- a word without a form, by its place, or a module specifier
+pub data Finding : Type 0 where
+  wrong_form : ℕ → Finding
+  specifier : Placed → Finding
+
+-- what is found from a token on, by the form that begins at it and by the number of tokens before the module specifier that is to come
+abbrev pub found : Placed → Option ℕ → Form → (Option ℕ → List Finding) → List Finding
+found t asked wrong next = wrong_form t.token.from ∷ []
+found t asked alone next = next None
+found t asked (asks count) next = next (Some count)
+found t None none next = next None
+found t (Some zero) none next = specifier t ∷ next None
+found t (Some (suc count)) none next = next (Some count)
+
+abbrev pub findings : Option ℕ → List Placed → List Finding
+findings asked [] = []
+findings asked (t ∷ rest) = found t asked (declaration t rest) (λ next. findings next rest)
+
+-- ---- requests
+
+abbrev pub most_requests : ℕ
+most_requests = 4096
+
+abbrev pub asked_by : Placed → List ℕ → Request
+asked_by t text = record { from = t.token.from; to = t.token.to; text = text }
+
+-- own: a module specifier without a value is refused at its place, and before the one that is too many
+abbrev pub asked_for : Placed → Option (List ℕ) → List Request → (List Request → Result (List Request) ModuleFault) → Result (List Request) ModuleFault
+asked_for t None so_far next = Err (Unreadable t.token.from)
+asked_for t (Some text) so_far next = if length so_far == most_requests then Err TooManyRequests else next (so_far ++ asked_by t text ∷ [])
+
+-- the requests behind those so far, or what is refused first
+abbrev pub requests : List Request → List Finding → Result (List Request) ModuleFault
+requests so_far [] = Ok so_far
+requests so_far (wrong_form at ∷ rest) = Err (Unreadable at)
+requests so_far (specifier t ∷ rest) = asked_for t (string_value t.text) so_far (λ more. requests more rest)
+
+-- ---- the whole text
+
+-- own: an import or export declaration, or `import.meta`, stands among the tokens
+abbrev pub declares : List Placed → Bool
+declares [] = false
+declares (t ∷ rest) = begins_declaration t rest || (is_import_meta t rest || declares rest)
+
+abbrev pub outline_of : Result (List Request) ModuleFault → Bool → Result Outline ModuleFault
+outline_of (Ok asked) declared = Ok (record { requests = asked; declares = declared })
+outline_of (Err fault) declared = Err fault
+
+abbrev pub outlined : List Placed → Result Outline ModuleFault
+outlined tokens = outline_of (requests [] (findings None tokens)) (declares tokens)
+
+abbrev pub lexical_fault : ℕ → lex_kinds.LexKind → ModuleFault
+lexical_fault at lex_kind.Unreadable = Unreadable at
+lexical_fault at lex_kind.TooDeep = TooDeep
+
+-- own: a fault among the tokens, wherever it stands, goes before those of forms
+pub data ReadsOutline (text : List ℕ) : Result Outline ModuleFault → Type 0 where
+  all : {before : List Lexeme} {rest : List ℕ} {out : Result Outline ModuleFault} → Reaches text before rest → IsNext before rest Ends → out ≡ outlined (reverse (places (length text) before)) → ReadsOutline text out
+  fault : {before : List Lexeme} {rest : List ℕ} {left : ℕ} {kind : lex_kinds.LexKind} {out : Result Outline ModuleFault} → Reaches text before rest → IsNext before rest (Faults left kind) → out ≡ Err (lexical_fault (length text - left) kind) → ReadsOutline text out
