@@ -1,5 +1,5 @@
 -- The laws of an arena.
-use Rattle.std.proofs.Common.{◌≡◌, ◌≢◌, inl, inr, ℕ, zero, suc, ◌+◌, ◌-◌, ◌<◌, ◌≤◌, ◌==◌, if◌then◌else◌, List, length, get_or, replicate, Option, Some, None, refl, sym, ap, ◌∙◌, arith, length-set, length-append}
+use Rattle.std.proofs.Common.{◌≡◌, ◌≢◌, ◌⊎◌, inl, inr, ℕ, zero, suc, ◌+◌, ◌-◌, ◌<◌, ◌≤◌, ◌==◌, if◌then◌else◌, List, length, get_or, replicate, Option, Some, None, refl, sym, ap, ◌∙◌, arith, length-set, length-append}
 use Rattle.std.proofs.lemmas.List.{get_or-set_same, get_or-set_other, get_or_append_left, get_or-append_right, get_or_past, length-replicate}
 use Rattle.std.proofs.lemmas.Grind.{common_steps}
 use Rattle.slot_arena.specs.declared.slot.Slot.{Slot}
@@ -17,6 +17,12 @@ all_alike x (suc n) (suc i) = all_alike x n i
 
 same_slot : (s t : Slot) → s.index ≡ t.index → s.generation ≡ t.generation → s ≡ t
 same_slot s t i g = λ j. record { index = i j; generation = g j }
+
+pub same_slot_or_not : (s t : Slot) → (s ≡ t) ⊎ (s ≢ t)
+same_slot_or_not s t = elim (same_or_not s.index t.index) [
+  | inl i ↦ elim (same_or_not s.generation t.generation) [ inl g ↦ inl (same_slot s t i g) | inr ne ↦ inr (λ e. ne (ap (λ (r : Slot). r.generation) e)) ]
+  | inr ne ↦ inr (λ e. ne (ap (λ (r : Slot). r.index) e))
+]
 
 module _ {X : Type 0} where
   -- what a place gives under a generation
@@ -162,11 +168,25 @@ module _ {X : Type 0} where
       let i = ap (λ (r : Slot). (place_at b r.index).next) e in let n = ap (λ (p : Place X). p.next) fresh.empty in let g = ap (λ (r : Slot). r.generation) e in
       omega (arith, given, i, n, g)
 
+  empty_not_live : (c : List (Place X)) (s t : Slot) (x : X) → value_at c s ≡ None → value_at c t ≡ Some x → s ≢ t
+  empty_not_live c s t x none is e = let bad : None ≡ Some x = sym none ∙ ap (value_at c) e ∙ is in cc
+
+  gone : (a b : List (Place X)) (s : Slot) → IsGiven a s → value_at a s ≡ None → Calls a b → value_at b s ≡ None
+  gone a b s given none begin = none
+  gone a b s given none (reserved {a = c} n calls) = (grows c n).everywhere s ∙ gone a c s given none calls
+  gone a b s given none (inserted {a = c} t x fresh calls) =
+      let apart = fresh_not_given c s t (stays a c s given calls) fresh in (inserts c t x fresh).elsewhere s (λ e. apart (sym e)) ∙ gone a c s given none calls
+  gone a b s given none (written {a = c} t x y is calls) =
+      let still = gone a c s given none calls in (writes c t x y is).elsewhere s (empty_not_live c s t x still is) ∙ still
+  gone a b s given none (removed {a = c} t x is calls) =
+      let still = gone a c s given none calls in (removes c t x is).elsewhere s (empty_not_live c s t x still is) ∙ still
+
   once : GivenOnce X
   once = record {
     given = λ a s x fresh. let e = ap (λ (p : Place X). p.next) (get_or-set_same a s.index (place (Some x) (s.generation + 1)) (place None 0) fresh.within) in omega (arith, e);
     stays = stays;
     never_again = λ a b s t h calls fresh. fresh_not_given b s t (stays a b s h calls) fresh;
+    gone = gone;
   }
 
 pub given_once : (X : Type 0) → GivenOnce X

@@ -1,6 +1,7 @@
 -- The laws of an arena, over any type of values. Each is the contract of a function in src/laws.rt.
 --
--- GivenOnce X       a slot that was inserted under is given, stays so under every call, and is never the next slot again
+-- GivenOnce X       a slot that was inserted under is given, stays so under every call, and is never the next slot again;
+--                   once its value is gone, it has none
 -- LiveIsGiven X     each live slot was given
 -- Inserts X         what an insertion changes: its slot alone, one spare place less, one live slot more
 -- Writes X          what a write changes: its slot's value alone
@@ -16,6 +17,7 @@ pub record GivenOnce (X : Type 0) : Type 0 where
   pub given : (a : List (Place X)) (s : Slot) (x : X) → IsFresh a s → IsGiven (set_at a s (Some x)) s
   pub stays : (a b : List (Place X)) (s : Slot) → IsGiven a s → Calls a b → IsGiven b s
   pub never_again : (a b : List (Place X)) (s t : Slot) → IsGiven a s → Calls a b → IsFresh b t → t ≢ s
+  pub gone : (a b : List (Place X)) (s : Slot) → IsGiven a s → value_at a s ≡ None → Calls a b → value_at b s ≡ None
 
 abbrev pub LiveIsGiven : Type 0 → Type 0
 LiveIsGiven X = (a : List (Place X)) (s : Slot) (x : X) → value_at a s ≡ Some x → IsGiven a s
