@@ -4,6 +4,7 @@
 
 mod answerer;
 mod config;
+mod following;
 mod module;
 mod referrer;
 mod requests;
@@ -12,4 +13,5 @@ mod tables;
 pub use answerer::{Answerer, NodeAnswer, Source};
 pub use config::Config;
 pub use module::Module;
+pub use tables::{Name, Tables};
 pub use trace_spec::TraceFault;
