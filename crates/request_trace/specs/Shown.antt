@@ -16,7 +16,7 @@ shown_by show (Ok value) = Ok (show value)
 shown_by show (Err fault) = Err fault
 
 abbrev pub source_of : Source → spec.Source
-source_of source = record { bytes = source.bytes.value; specifiers = source.specifiers }
+source_of source = record { bytes = source.bytes.value; specifiers = source.specifiers.value }
 
 abbrev pub sources : Result (Option Source) TraceFault → Result (Option spec.Source) TraceFault
 sources result = shown_by (option_map source_of) result
@@ -36,3 +36,6 @@ before_of tables = record { modules = keys tables.modules; sources = map source_
 abbrev pub done : Result (Unit {0}) TraceFault → Tables → Result Before TraceFault
 done (Ok unit) tables = Ok (before_of tables)
 done (Err fault) tables = Err fault
+
+abbrev pub traced_of : Result Tables TraceFault → Result Before TraceFault
+traced_of result = shown_by before_of result

@@ -2,7 +2,7 @@
 --     IsReferrer config referrer value      the code's referrer is this one
 --     AllNamed config entries               each module stands with its web name, which is no folder's, and the text of that
 --     IsGiven definition result             a part gives what the definition says, unless memory is wanting
-use Rattle.std.specs.Prelude.{◌≡◌, ◌≢◌, ◌≤◌, ◌+◌, ◌++◌, ⊤, ℕ, List, length, Option, Some, Result, Ok, Err, All, if◌then◌else◌}
+use Rattle.std.specs.Prelude.{◌≡◌, ◌≢◌, ◌≤◌, ◌+◌, ◌++◌, ⊤, ℕ, List, length, [], Option, Some, None, Result, Ok, Err, All, if◌then◌else◌}
 use Rattle.std.specs.List.{list_any}
 use Rattle.tree_spec.specs.declared.LimitName.TheVariants.{Modules}
 use Rattle.tree_spec.specs.Limits.{limit_number}
@@ -10,10 +10,11 @@ use Rattle.layout_spec.specs.declared.Need.{Need}
 use Rattle.layout_spec.specs.Needs.{clashes, with_need}
 use Rattle.trace_spec.specs.declared.TraceFault.{TraceFault}
 use Rattle.trace_spec.specs.declared.TraceFault.TheVariants.{Unservable, Refused, RequestNotBuilt, ModuleNotBuilt, Limit, ReadFault, Memory}
-use Rattle.trace_spec.specs.Kinds.{IsTraceLimit}
-use Rattle.trace_spec.specs.Checks.{Before}
+use Rattle.trace_spec.specs.Kinds.{IsTraceLimit, IsOfTrace}
+use Rattle.url_spec.specs.WebNames.{web}
+use Rattle.trace_spec.specs.Checks.{Before, Wanted}
 use Rattle.trace_spec.specs.Walking as spec
-use Rattle.trace_spec.specs.Modules.{Config, Module, path_of, suffix_of, web_name, file_name}
+use Rattle.trace_spec.specs.Modules.{Config, Module, path_of, suffix_of, web_name, served_name, file_name}
 use Rattle.request_trace.specs.declared.referrer.Referrer.{Referrer}
 use Rattle.request_trace.specs.declared.tables.Name.{Name}
 
@@ -44,6 +45,20 @@ pub record GrowsFew {A : Type 0} (old new : List A) : Type 0 where
 abbrev pub NotBuilt : Referrer → List ℕ → TraceFault
 NotBuilt referrer specifier = RequestNotBuilt (referrer.path ++ referrer.suffix) specifier
 
+-- what a referrer wants that asks for this
+abbrev pub wants : List ℕ → List ℕ → Wanted
+wants referrer asked = record { referrer = referrer; asked = asked }
+
+-- what an answerer's answers can be refused for
+abbrev pub IsOfAnswers : TraceFault → Type 0
+IsOfAnswers (Unservable path url) = ⊥
+IsOfAnswers (Refused referrer specifier why) = ⊥
+IsOfAnswers (RequestNotBuilt referrer specifier) = ⊥
+IsOfAnswers (ModuleNotBuilt m) = ⊥
+IsOfAnswers (Limit which) = IsTraceLimit which
+IsOfAnswers ReadFault = ⊤
+IsOfAnswers Memory = ⊤
+
 -- what a request that leads to a module can be refused for
 abbrev pub IsOfPutting : TraceFault → Type 0
 IsOfPutting (Unservable path url) = ⊥
@@ -57,3 +72,13 @@ IsOfPutting Memory = ⊤
 -- a need of a module that is known is put into the tables
 abbrev pub put_known : TraceFault → Before → Need → Result Before TraceFault
 put_known refusal before need = if list_any (clashes need) before.needs then Err refusal else Ok (record { modules = before.modules; sources = before.sources; needs = with_need before.needs need; requests = before.requests + 1 })
+
+-- what a walk can be refused for, but for looks that fail and want of memory
+abbrev pub IsOfWalk : Config → TraceFault → Type 0
+IsOfWalk config fault = fault ≢ ReadFault → fault ≢ Memory → IsOfTrace config fault
+
+-- the page isn't served at its web name
+pub record IsPageFault (config : Config) (fault : TraceFault) : Type 0 where
+  pub unserved : fault ≢ Memory → served_name config.base config.page (web config.base config.page []) ≡ None
+  pub is : fault ≢ Memory → fault ≡ Unservable config.page (web config.base config.page [])
+  pub no_look : fault ≢ ReadFault

@@ -1,8 +1,9 @@
-ghost use Rattle.std.specs.Prelude.{◌≡◌};
+ghost use Rattle.std.specs.Prelude.{◌≡◌, IfErr};
 ghost use Rattle.asking_spec.specs.Askings.{ask, answered};
 ghost use Rattle.trace_spec.specs.Questions.{of_module, of_request};
 ghost use Rattle.request_trace.specs.Meeting.{AnswererState, Met, fine};
 ghost use Rattle.request_trace.specs.Shown.{sources, resolutions};
+ghost use Rattle.request_trace.specs.Walking.{IsOfAnswers};
 
 use node_spec::Cause;
 use primitives::{Bytes, Listed, Text};
@@ -16,7 +17,7 @@ use web_url::Suffix;
 #[derive(Drop)]
 pub struct Source {
     pub bytes: Rc<Bytes>,
-    pub specifiers: Listed<Text>,
+    pub specifiers: Rc<Listed<Text>>,
 }
 
 /// What Node's resolver answers for a request.
@@ -35,7 +36,8 @@ pub trait Answerer {
 
     /// What the module at a path asks for; None where its file isn't of a form that asks for anything.
     fn module(&mut self, alloc: Global, path: &Path) -> Result<Option<Source>, TraceFault>
-        ensures met { Met (state self.old) (fine (ask (of_module path.now) answered)) (sources result) (state self.new) };
+        ensures met { Met (state self.old) (fine (ask (of_module path.now) answered)) (sources result) (state self.new) }
+        ensures kind { IfErr result IsOfAnswers };
 
     /// Where a specifier in the file at a path leads.
     fn request(
@@ -44,5 +46,6 @@ pub trait Answerer {
         parent: &Path,
         specifier: &str,
     ) -> Result<NodeAnswer, TraceFault>
-        ensures met { Met (state self.old) (fine (ask (of_request parent.now specifier.now) answered)) (resolutions result) (state self.new) };
+        ensures met { Met (state self.old) (fine (ask (of_request parent.now specifier.now) answered)) (resolutions result) (state self.new) }
+        ensures kind { IfErr result IsOfAnswers };
 }

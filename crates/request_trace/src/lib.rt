@@ -4,12 +4,16 @@
 
 mod answerer;
 mod config;
+mod following;
 mod module;
 mod referrer;
 mod requests;
 mod tables;
+mod visits;
 
 pub use answerer::{Answerer, NodeAnswer, Source};
 pub use config::Config;
 pub use module::Module;
+pub use tables::{Name, Tables};
 pub use trace_spec::TraceFault;
+pub use visits::walk;

@@ -23,7 +23,7 @@ use need_table::{Added, Need, NeedFault, Needs};
 use primitives::{Memory, Text};
 use std::alloc::{AllocError, Global};
 use trace_spec::TraceFault;
-use tree_model::{LimitName, limit_number};
+use tree_spec::{LimitName, MOST_MODULES};
 use web_url::{WebFault, WebUrl, web_of};
 
 /// A module's web name, and its text, which needs share.
@@ -222,7 +222,7 @@ fn put_module(
     ensures put { OnOk result ((length modules.old.entries < limit_number Modules) × (modules.new.entries ≡ modules.old.entries ++ (target, name) ∷ [])) }
     ensures full { IfErr result (λ fault. fault ≢ TraceFault.Memory → (fault ≡ TraceFault.Limit Modules) × (limit_number Modules ≤ length modules.old.entries)) }
 {
-    if modules.len() >= limit_number(LimitName::Modules) as usize {
+    if modules.len() >= MOST_MODULES {
         return Err(TraceFault::Limit {
             which: LimitName::Modules,
         });
