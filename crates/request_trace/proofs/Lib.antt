@@ -2,3 +2,4 @@ pub mod Statements
 pub mod Names
 pub mod TableLemmas
 pub mod Meetings
+pub mod Visiting

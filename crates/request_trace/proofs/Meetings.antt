@@ -82,6 +82,30 @@ met_now before value result given = record {
   quiet = λ ne. refl;
 }
 
+unfinished : {T Q : Type 0} {A : Q → Type 0} {X : Type 0} (told : Option (Answers T LimitName Q A)) (before after : T) (whole : Asking Q A (Result X TraceFault)) → IfSome told (λ answers. IsTold {X = X} (Err Memory) → Comes answers before whole (Err Memory) after)
+unfinished None before after whole = tt
+unfinished (Some answers) before after whole = λ told. absurd (told.1 refl)
+
+-- want of memory behind a part leaves the whole unfinished
+pub met_unfinished : {T Q : Type 0} {A : Q → Type 0} {X Y : Type 0} (before after : Outside T Q A) (part : Asking Q A (Result X TraceFault)) (value : X) (whole : Asking Q A (Result Y TraceFault)) → Met before part (Ok value) after → Met {X = Y} before whole (Err Memory) after
+met_unfinished before after part value whole first = record {
+  comes = unfinished before.told before.state after.state whole;
+  told = first.told;
+  later = first.later;
+  cause = λ e. absurd (cc);
+  quiet = λ ne. first.quiet (λ e. cc);
+}
+
+-- and so does want of memory before anything was asked
+pub met_memory : {T Q : Type 0} {A : Q → Type 0} {X : Type 0} (before : Outside T Q A) (whole : Asking Q A (Result X TraceFault)) → Met {X = X} before whole (Err Memory) before
+met_memory before whole = record {
+  comes = unfinished before.told before.state before.state whole;
+  told = refl;
+  later = omega arith;
+  cause = λ e. absurd (cc);
+  quiet = λ ne. refl;
+}
+
 pub given_same : {X : Type 0} (value : X) → IsGiven (Ok value) (Ok value)
 given_same value = record { given = λ ne. refl; no_look = λ e. cc }
 

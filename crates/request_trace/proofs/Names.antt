@@ -1,5 +1,5 @@
 -- Web names that are served.
-use Rattle.std.proofs.Common.{◌≡◌, ◌≢◌, ℕ, true, false, List, Option, Some, None, refl, sym, ap, ◌∙◌, subst}
+use Rattle.std.proofs.Common.{◌≡◌, ◌≢◌, ℕ, true, false, List, [], Option, Some, None, refl, sym, ap, ◌∙◌, subst}
 use Rattle.std.specs.Prelude.{option_map, ◌⊎◌, ⊤, Result, Ok, Err, IfOk, MatchOption}
 use Rattle.std.specs.declared.alloc.AllocError.{AllocError}
 use mathlib.Core.Logic.{inl, inr}
@@ -12,6 +12,10 @@ use Rattle.web_url.specs.declared.names.WebFault.{WebFault}
 use Rattle.web_url.specs.declared.names.WebFault.TheVariants.{Unservable}
 use Rattle.web_url.specs.Serving.{IsUnservable}
 use Rattle.trace_spec.specs.Modules.{Config, Module, served_name, not_folder, file_name}
+use Rattle.trace_spec.specs.declared.TraceFault.{TraceFault}
+use Rattle.trace_spec.specs.declared.TraceFault.TheVariants as refused
+use Rattle.trace_spec.specs.declared.TraceFault.TheVariants.{Memory, ReadFault}
+use Rattle.request_trace.specs.Walking.{IsPageFault}
 
 -- a name that leads back is the served name
 pub served_is : (base path suffix url : List ℕ) → web base path suffix ≡ Some url → IsServed base url path → served_name base path (web base path suffix) ≡ Some url
@@ -46,3 +50,21 @@ no_file_name config m url is lost = ap not_folder (unserved config m url is lost
 
 pub unservable_name : (config : Config) (m : Module) (fault : WebFault) (url : Option (List ℕ)) → fault ≡ Unservable url → IsUnservable config.base m.path m.suffix fault → file_name config m ≡ None
 unservable_name config m fault url same is = let lost = subst (IsUnservable config.base m.path m.suffix) same is in no_file_name config m url lost.0 lost.1
+
+-- ---- the page's name
+
+pub page_served : (config : Config) (base page suffix url : List ℕ) → base ≡ config.base → page ≡ config.page → suffix ≡ [] → (web base page suffix ≡ Some url) × IsServed base url page → served_name config.base config.page (web config.base config.page []) ≡ Some url
+page_served config base page suffix url on at none name =
+    sym (λ i. served_name (on i) (at i) (web (on i) (at i) (none i))) ∙ served_is base page suffix url name.0 name.1
+
+pub page_fault : (config : Config) (base page suffix : List ℕ) (named : WebFault) (url : Option (List ℕ)) (fault : TraceFault) → base ≡ config.base → page ≡ config.page → suffix ≡ [] → named ≡ Unservable url → IsUnservable base page suffix named
+    → (fault ≢ Memory → fault ≡ refused.Unservable config.page url) → fault ≢ ReadFault → IsPageFault config fault
+page_fault config base page suffix named url fault on at none same is says no_look =
+    let lost = subst (IsUnservable base page suffix) same is in
+    let name : url ≡ web config.base config.page [] = lost.0 ∙ (λ i. web (on i) (at i) (none i)) in
+    let apart : MatchOption url ⊤ (λ u. IsServed config.base u config.page → ⊥) = subst (λ b. MatchOption url ⊤ (λ u. IsServed b u config.page → ⊥)) on (subst (λ p. MatchOption url ⊤ (λ u. IsServed base u p → ⊥)) at lost.1) in
+    record {
+      unserved = λ ne. unserved config (record { path = config.page; suffix = [] }) url name apart;
+      is = λ ne. says ne ∙ ap (refused.Unservable config.page) name;
+      no_look = no_look;
+    }

@@ -65,7 +65,7 @@ keys_of-push : {X : Type 0} (entries : List (Module × X)) (target : Module) (x 
 keys_of-push [] target x = refl
 keys_of-push (entry ∷ entries) target x = ap (λ ms. entry.0 ∷ ms) (keys_of-push entries target x)
 
-keys_of-length : {X : Type 0} (entries : List (Module × X)) → length (keys_of entries) ≡ length entries
+pub keys_of-length : {X : Type 0} (entries : List (Module × X)) → length (keys_of entries) ≡ length entries
 keys_of-length [] = refl
 keys_of-length (entry ∷ entries) = ap suc (keys_of-length entries)
 

@@ -9,9 +9,11 @@ mod module;
 mod referrer;
 mod requests;
 mod tables;
+mod visits;
 
 pub use answerer::{Answerer, NodeAnswer, Source};
 pub use config::Config;
 pub use module::Module;
 pub use tables::{Name, Tables};
 pub use trace_spec::TraceFault;
+pub use visits::walk;
