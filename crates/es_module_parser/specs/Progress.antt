@@ -1,11 +1,12 @@
 -- How the parser goes on from token to token. Each word says what a function of the code gives; the lemmas on them tie it to the forms.
-use Rattle.std.specs.Prelude.{ℕ, Bool, ◌&&◌, ◌||◌, ◌==◌, ◌++◌, [], ◌∷◌, length, bytes_eq, codes, List, if◌then◌else◌, Option, Some, None}
+use Rattle.std.specs.Prelude.{ℕ, Bool, ◌&&◌, ◌||◌, ◌==◌, ◌++◌, [], ◌∷◌, length, bytes_eq, codes, List, if◌then◌else◌, Option, Some, None, slice_range}
 use Rattle.module_spec.specs.declared.token.Kind.{Kind}
 use Rattle.module_spec.specs.declared.token.Token.{Token}
 use Rattle.module_spec.specs.declared.request.Request.{Request}
 use Rattle.module_spec.specs.declared.request.ModuleFault.{ModuleFault}
 use Rattle.module_spec.specs.declared.request.ModuleFault.TheVariants.{Unreadable, TooManyRequests}
 use Rattle.module_spec.specs.Places.{is_name_kind, is_text_kind, is_punctuator_kind}
+use Rattle.module_spec.specs.StringValues.{string_value}
 use Rattle.module_spec.specs.Outlines.{most_requests}
 use Rattle.es_module_parser.specs.declared.expect.Expect.{Expect}
 use Rattle.es_module_parser.specs.declared.expect.Expect.TheVariants.{ImportDeclaration, BehindDefault, SecondBinding, NameSpaceImport, ImportedBinding, ImportBraces, FromClause, ModuleSpecifier, ExportDeclaration, ExportAll, ModuleExportName, ExportBraces, NamedExports, NamedSpecifier}
@@ -112,6 +113,10 @@ stepped Outside seen text = Goes (begun seen text)
 stepped (Broken fault) seen text = Goes (Broken fault)
 stepped (Inside expect word None) seen text = moved word (turned expect seen text) seen text
 stepped (Inside expect word (Some inner)) seen text = Goes (moved_wrong word inner (turned expect seen text))
+
+-- the value of a token that is a module specifier
+abbrev pub value_at : List ℕ → Token → Option (List ℕ)
+value_at text token = string_value (slice_range text token.from token.to)
 
 -- behind a module specifier, by its value and the requests before it
 abbrev pub progress_asked : Token → Option (List ℕ) → List Request → Progress

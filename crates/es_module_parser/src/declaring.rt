@@ -1,5 +1,6 @@
 ghost use Rattle.std.specs.Prelude.{◌≡◌, ◌||◌};
-ghost use Rattle.es_module_parser.specs.Declaring.{expression_begins, shows, declares_now, after_dot, after_token, declares_at_end};
+ghost use Rattle.es_module_parser.specs.Declaring.{expression_begins, shows, declares_now, declares_at_end};
+ghost use Rattle.es_module_parser.specs.Declaring.{after_dot, after_token};
 
 use crate::expect::Seen;
 use crate::terminals::{is_mark, is_word};

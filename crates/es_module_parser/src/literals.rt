@@ -1,11 +1,15 @@
-ghost use Rattle.std.specs.Prelude.{◌≡◌, ◌≢◌, ◌<◌, ◌≤◌, ℕ, List, [], ◌∷◌, ◌++◌, true, false, None, Some, MatchOption, IfOk, drop, length, zero, ◌==◌, ◌||◌, if◌then◌else◌};
-ghost use Rattle.std.specs.String.{string_bytes};
+ghost use Rattle.std.specs.Prelude.{◌≡◌, ◌<◌, ◌≤◌, [], ◌∷◌, true, false, MatchOption, IfOk, drop, ◌==◌, ◌||◌, if◌then◌else◌};
+ghost use Rattle.std.specs.String.{string_bytes as bytes};
 ghost use Rattle.std.specs.Str.{chars};
 ghost use Rattle.module_spec.specs.Characters.{is_hex_digit, hex_digits, is_wide_line_end, is_digit, begins_digit};
-ghost use Rattle.module_spec.specs.StringValues.{Element, begins_line_feed, hex_value, hex_number, string_value, between_quotes, escaped_character, escape, unicode_escape, hex_escape, braced_escape, elements, is_high_surrogate, is_low_surrogate};
-ghost use Rattle.module_spec.specs.StringValues.Element.{unit, wrong};
+ghost use Rattle.module_spec.specs.StringValues.{begins_line_feed, escaped_character, string_value, between_quotes};
+ghost use Rattle.module_spec.specs.StringValues.{is_high_surrogate, is_low_surrogate};
+ghost use Rattle.module_spec.specs.StringValues.Element.{unit};
 ghost use Rattle.es_module_parser.specs.declared.literals.Waiting.TheVariants as Waiting;
-ghost use Rattle.es_module_parser.specs.Literals.{sixteens, element_of, inside_value, IsPart, settled, IsWaiting};
+ghost use Rattle.es_module_parser.specs.Literals.{element_of, inside_value, IsWaiting, IsAdded, IsFront, IsDigit};
+ghost use Rattle.es_module_parser.specs.Literals.{NoNumber, IsNumber, IsCount, NoBraced, IsBraced};
+ghost use Rattle.es_module_parser.specs.Literals.{NoUnicode, IsUnicode, NoHex, IsHex, NoEscape, IsEscape};
+ghost use Rattle.es_module_parser.specs.Literals.{NoElement, IsElement};
 
 use primitives::{Memory, Text};
 use std::alloc::Global;
@@ -39,7 +43,7 @@ fn cut_first(text: &str) -> Option<(char, &str)>
 
 // What stands before the last character.
 fn cut_last(text: &str) -> Option<&str>
-    ensures { MatchOption result (chars text.now ≡ []) (λ front. (last : ℕ) × (chars text.now ≡ chars front.now ++ last ∷ [])) }
+    ensures { MatchOption result (chars text.now ≡ []) (λ front. IsFront (chars front.now) (chars text.now)) }
 {
     let mut characters = text.chars();
     match characters.next_back() {
@@ -63,7 +67,7 @@ fn between_quotes(literal: &str) -> &str
 
 // ECMA-262, 12.9.3, HexDigit.
 fn hex_value(c: char) -> Option<u32>
-    ensures { MatchOption result (is_hex_digit c ≡ false) (λ value. (is_hex_digit c ≡ true) × (value ≡ hex_value c) × (value < 16)) }
+    ensures { MatchOption result (is_hex_digit c ≡ false) (λ value. IsDigit c value) }
 {
     let code = u32::from(c);
     if code >= 48 && code <= 57 {
@@ -80,7 +84,8 @@ fn hex_value(c: char) -> Option<u32>
 // The number that the first digits write, and what stands behind them.
 fn hex_number(count: usize, text: &str) -> Option<(u32, &str)>
     requires { count ≤ 6 }
-    ensures { MatchOption result (hex_number 0 count (chars text.now) ≡ None) (λ x. (hex_number 0 count (chars text.now) ≡ Some x.0) × (chars x.1.now ≡ drop count (chars text.now))) }
+    ensures { MatchOption result (NoNumber count (chars text.now))
+        (λ x. IsNumber count (chars text.now) x.0 (chars x.1.now)) }
 {
     let mut value = 0u32;
     let mut rest = text;
@@ -96,7 +101,7 @@ fn hex_number(count: usize, text: &str) -> Option<(u32, &str)>
 
 // How many digits stand at the front, and None where there are more than may be.
 fn few_digits(text: &str) -> Option<usize>
-    ensures { MatchOption result (6 < hex_digits (chars text.now)) (λ count. (count ≡ hex_digits (chars text.now)) × (count ≤ 6)) }
+    ensures { MatchOption result (6 < hex_digits (chars text.now)) (λ count. IsCount (chars text.now) count) }
 {
     let mut count = 0;
     let mut rest = text;
@@ -115,7 +120,7 @@ fn few_digits(text: &str) -> Option<usize>
 
 // CodePoint in braces, behind the opening one.
 fn braced_escape(text: &str) -> Option<Part<'_>>
-    ensures { MatchOption result ((braced_escape (chars text.now)).1 ≡ wrong) (λ x. IsPart (braced_escape (chars text.now)) (117 ∷ 123 ∷ chars text.now) x.0 (chars x.1.now)) }
+    ensures { MatchOption result (NoBraced (chars text.now)) (λ x. IsBraced (chars text.now) x.0 (chars x.1.now)) }
 {
     let count = few_digits(text)?;
     if count == 0 {
@@ -132,7 +137,7 @@ fn braced_escape(text: &str) -> Option<Part<'_>>
 
 // UnicodeEscapeSequence, behind its `u`.
 fn unicode_escape(text: &str) -> Option<Part<'_>>
-    ensures { MatchOption result ((unicode_escape (chars text.now)).1 ≡ wrong) (λ x. IsPart (unicode_escape (chars text.now)) (117 ∷ chars text.now) x.0 (chars x.1.now)) }
+    ensures { MatchOption result (NoUnicode (chars text.now)) (λ x. IsUnicode (chars text.now) x.0 (chars x.1.now)) }
 {
     let (first, rest) = cut_first(text)?;
     if first == '{' {
@@ -144,7 +149,7 @@ fn unicode_escape(text: &str) -> Option<Part<'_>>
 
 // HexEscapeSequence, behind its `x`.
 fn hex_escape(text: &str) -> Option<Part<'_>>
-    ensures { MatchOption result ((hex_escape (chars text.now)).1 ≡ wrong) (λ x. IsPart (hex_escape (chars text.now)) (120 ∷ chars text.now) x.0 (chars x.1.now)) }
+    ensures { MatchOption result (NoHex (chars text.now)) (λ x. IsHex (chars text.now) x.0 (chars x.1.now)) }
 {
     let (value, behind) = hex_number(2, text)?;
     Some((Some(value), behind))
@@ -204,7 +209,7 @@ fn escaped_character(code: u32) -> u32
 
 // What stands behind a `\`.
 fn escape(text: &str) -> Option<Part<'_>>
-    ensures { MatchOption result ((escape (chars text.now)).1 ≡ wrong) (λ x. IsPart (escape (chars text.now)) (chars text.now) x.0 (chars x.1.now)) }
+    ensures { MatchOption result (NoEscape (chars text.now)) (λ x. IsEscape (chars text.now) x.0 (chars x.1.now)) }
 {
     let (first, rest) = cut_first(text)?;
     let code = u32::from(first);
@@ -227,7 +232,8 @@ fn escape(text: &str) -> Option<Part<'_>>
 
 // The part that begins with this character.
 fn part(first: char, rest: &str) -> Option<Part<'_>>
-    ensures { MatchOption result ((more : List Element) × (elements zero (first ∷ chars rest.now) ≡ wrong ∷ more)) (λ x. (elements zero (first ∷ chars rest.now) ≡ element_of x.0 ∷ elements zero (chars x.1.now)) × (length (chars x.1.now) ≤ length (chars rest.now))) }
+    ensures { MatchOption result (NoElement first (chars rest.now))
+        (λ x. IsElement first (chars rest.now) x.0 (chars x.1.now)) }
 {
     if first != '\\' {
         return Some((Some(u32::from(first)), rest));
@@ -252,8 +258,8 @@ fn is_low_surrogate(code: u32) -> bool
 
 // A unit where no half of a pair waits.
 fn add_first(text: &mut String, code: u32) -> Result<Waiting, Memory>
-    ensures value { IfOk result (λ waiting. (more : List Element) → settled (string_bytes text.old) Waiting.Nothing (unit code ∷ more) ≡ settled (string_bytes text.new) waiting more) }
-    ensures waits { IfOk result (λ waiting. IsWaiting waiting) }
+    ensures value { IfOk result (λ next. IsAdded (bytes text.old) Waiting.Nothing (unit code) (bytes text.new) next) }
+    ensures waits { IfOk result (λ next. IsWaiting next) }
 {
     if is_high_surrogate(code) {
         return Ok(Waiting::High(code));
@@ -270,8 +276,9 @@ fn add_first(text: &mut String, code: u32) -> Result<Waiting, Memory>
 // A unit where the first half of a pair waits.
 fn add_second(text: &mut String, high: u32, code: u32) -> Result<Waiting, Memory>
     requires { is_high_surrogate high ≡ true }
-    ensures value { IfOk result (λ waiting. (more : List Element) → settled (string_bytes text.old) (Waiting.High high) (unit code ∷ more) ≡ settled (string_bytes text.new) waiting more) }
-    ensures waits { IfOk result (λ waiting. IsWaiting waiting) }
+    ensures value { IfOk result
+        (λ next. IsAdded (bytes text.old) (Waiting.High high) (unit code) (bytes text.new) next) }
+    ensures waits { IfOk result (λ next. IsWaiting next) }
 {
     if !is_low_surrogate(code) {
         return Ok(Waiting::Alone);
@@ -288,8 +295,8 @@ fn add_second(text: &mut String, high: u32, code: u32) -> Result<Waiting, Memory
 // What a part adds to the text.
 fn add(text: &mut String, waiting: Waiting, added: Option<u32>) -> Result<Waiting, Memory>
     requires { IsWaiting waiting }
-    ensures value { IfOk result (λ waits. (more : List Element) → settled (string_bytes text.old) waiting (element_of added ∷ more) ≡ settled (string_bytes text.new) waits more) }
-    ensures waits { IfOk result (λ waits. IsWaiting waits) }
+    ensures value { IfOk result (λ next. IsAdded (bytes text.old) waiting (element_of added) (bytes text.new) next) }
+    ensures waits { IfOk result (λ next. IsWaiting next) }
 {
     match added {
         None => Ok(waiting),
@@ -322,8 +329,8 @@ fn value_of(alloc: Global, inside: &str) -> Result<Option<Text>, Memory>
     }
 }
 
-/// The text that a string literal with its quotes stands for. None where it holds a wrong escape, or a surrogate that is no
-/// half of a pair. ECMA-262, 12.9.4.2.
+/// The text that a string literal with its quotes stands for. None where it holds a wrong escape, or a surrogate that
+/// is no half of a pair. ECMA-262, 12.9.4.2.
 #[tactic(auto, unfolding(module_spec::specs::StringValues::string_value))]
 pub fn string_value(alloc: Global, literal: &str) -> Result<Option<Text>, Memory>
     ensures { IfOk result (λ found. found ≡ string_value literal.now) }

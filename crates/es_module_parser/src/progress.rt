@@ -1,7 +1,8 @@
-ghost use Rattle.std.specs.Prelude.{◌≡◌, IfOk, slice_range};
+ghost use Rattle.std.specs.Prelude.{◌≡◌, IfOk};
 ghost use Rattle.module_spec.specs.Spans.{IsSpan};
 ghost use Rattle.module_spec.specs.StringValues.{string_value};
-ghost use Rattle.es_module_parser.specs.Progress.{begun, may_begin, moved, moved_wrong, stepped, progress_asked, requests_asked, progress_behind, requests_behind, cut, ended};
+ghost use Rattle.es_module_parser.specs.Progress.{begun, may_begin, moved, moved_wrong, stepped, value_at, cut, ended};
+ghost use Rattle.es_module_parser.specs.Progress.{progress_asked, requests_asked, progress_behind, requests_behind};
 
 use crate::expect::{Expect, Seen, Turn};
 use crate::literals::string_value;
@@ -18,8 +19,8 @@ pub const MOST_REQUESTS: usize = 4096;
 pub enum Progress {
     /// No declaration is being read.
     Outside,
-    /// A declaration is being read: what comes, where its word stands, and where the last token stands if that is a word
-    /// which would begin a declaration of its own, and for which there is no form where this one has its own.
+    /// A declaration is being read: what comes, where its word stands, and where a word stands inside of it that would
+    /// begin a declaration of its own. Where this one has its form, that word has none.
     Inside(Expect, usize, Option<usize>),
     /// This is the first fault, if no later token can't be read.
     Broken(ModuleFault),
@@ -147,8 +148,8 @@ impl Next {
         asked: &mut Listed<Request>,
     ) -> Result<Progress, Memory>
         requires { IsSpan text.now token }
-        ensures progress { IfOk result (λ p. p ≡ progress_behind self token (string_value (slice_range text.now token.from token.to)) asked.old) }
-        ensures requests { IfOk result (λ p. asked.new ≡ requests_behind self token (string_value (slice_range text.now token.from token.to)) asked.old) }
+        ensures progress { IfOk result (λ p. p ≡ progress_behind self token (value_at text.now token) asked.old) }
+        ensures asked { IfOk result (λ p. asked.new ≡ requests_behind self token (value_at text.now token) asked.old) }
     {
         match self {
             Next::Goes(progress) => Ok(progress),

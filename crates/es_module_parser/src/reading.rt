@@ -28,8 +28,8 @@ fn is_top(plain: bool, depth: usize) -> bool
     plain && depth == 0
 }
 
-/// What the text asks for, or its first fault: one among its tokens goes before any other, and then the first in the text. It
-/// takes one step.
+/// What the text asks for, or its first fault: one among its tokens goes before any other, and then the first in the
+/// text. It takes one step.
 pub fn outline<L: Ledger>(
     alloc: Global,
     text: &str,

@@ -30,5 +30,5 @@ read-preserved g c =
     (ap (λ (b : List ℕ). slice_range b c.in-Ok-Some.token.from c.in-Ok-Some.token.to) c.as_bytes-bytes.ensures.value)
     c.step-next.ensures
     (c.in_ok-progress-in-Ok-Some.ensures.progress ∙ ap (λ (b : List ℕ). progress_behind c.step-next.result c.in-Ok-Some.token (string_value (slice_range b c.in-Ok-Some.token.from c.in-Ok-Some.token.to)) c.read.asked) (sym c.as_bytes-bytes.ensures.value))
-    (c.in_ok-progress-in-Ok-Some.ensures.requests ∙ ap (λ (b : List ℕ). requests_behind c.step-next.result c.in-Ok-Some.token (string_value (slice_range b c.in-Ok-Some.token.from c.in-Ok-Some.token.to)) c.read.asked) (sym c.as_bytes-bytes.ensures.value))
+    (c.in_ok-progress-in-Ok-Some.ensures.asked ∙ ap (λ (b : List ℕ). requests_behind c.step-next.result c.in-Ok-Some.token (string_value (slice_range b c.in-Ok-Some.token.from c.in-Ok-Some.token.to)) c.read.asked) (sym c.as_bytes-bytes.ensures.value))
     c.declares-declares.ensures c.token-after.ensures
