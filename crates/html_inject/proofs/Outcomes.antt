@@ -3,20 +3,20 @@ use Rattle.std.specs.Prelude.{IsUtf8}
 use Rattle.std.specs.Str.{is_utf8}
 use Rattle.std.specs.Str.Lossy.{utf8_valid_len}
 use Rattle.std.proofs.Common.{◌≡◌, ℕ, ◌+◌, ◌≤◌, List, [], ◌++◌, length, true, false, Bool, Option, Some, None, Result, Ok, Err, refl, sym, ◌∙◌, ap, subst, arith}
+use Rattle.std.proofs.lemmas.Option.{same_Some}
 use Rattle.std.proofs.lemmas.List.{length-append}
 use Rattle.std.proofs.lemmas.Str.{IsUtf8-from_is_utf8, is_utf8-from_IsUtf8}
 use Rattle.page_spec.specs.declared.kinds.InjectFault.{InjectFault}
 use Rattle.page_spec.specs.declared.kinds.InjectFault.TheVariants.{PageUnclear}
 use Rattle.page_spec.specs.Pieces.{Part, Pieces, page_of}
 use Rattle.page_spec.specs.Faults.{first_fault}
-use Rattle.page_spec.specs.Injection as injection
-use Rattle.page_spec.specs.Injection.{map_span, place, element, replaced, put_into, injected, Injection}
+use Rattle.page_spec.specs.Injection.{map_span, place, element, replaced, put_into, unless_faulted, injected, Injection}
 use Rattle.page_spec.specs.Injection.Injection.{not_utf8, utf8}
 use Rattle.page_spec.proofs.Cover.{pieces_cover}
 use Rattle.page_spec.proofs.Putting.{some_replaced, some_inserted, replaced_site, inserted_place}
 use Rattle.html_inject.specs.declared.search.Site.{Site}
 use Rattle.html_inject.specs.declared.search.Site.TheVariants.{Map, Place}
-use Rattle.html_inject.specs.Search.{chosen, unless_faulted, site, IsSite}
+use Rattle.html_inject.specs.Search.{chosen, site, IsSite}
 
 -- what comes of a map that goes there
 abbrev pub finished : List ℕ → List ℕ → Result Site InjectFault → Result (List ℕ) InjectFault
@@ -24,7 +24,7 @@ finished text page (Ok (Map from to)) = Ok (replaced from to text page)
 finished text page (Ok (Place n)) = Ok (replaced n n (element text) page)
 finished text page (Err fault) = Err fault
 
-finished_by : (text page : List ℕ) (fault : Option InjectFault) (span : Option (ℕ × ℕ)) (n : Option ℕ) → injection.unless_faulted fault (put_into text page span n) ≡ finished text page (unless_faulted fault (chosen span n))
+finished_by : (text page : List ℕ) (fault : Option InjectFault) (span : Option (ℕ × ℕ)) (n : Option ℕ) → unless_faulted fault (put_into text page span n) ≡ finished text page (unless_faulted fault (chosen span n))
 finished_by text page (Some fault) span n = refl
 finished_by text page None (Some span) n = refl
 finished_by text page None None (Some n) = refl
@@ -69,26 +69,22 @@ span_fits : (parts : List Part) (span : ℕ × ℕ) → map_span 0 parts ≡ Som
 span_fits parts span e =
     let r = some_replaced [] 0 parts e in
     let s = replaced_site [] 0 parts r.others r.is in
-    let p : span ≡ (0 + length s.front, (0 + length s.front) + length s.old) = same_span (sym e ∙ s.span) in
+    let p : span ≡ (0 + length s.front, (0 + length s.front) + length s.old) = same_Some _ _ (sym e ∙ s.span) in
     let f = ap (λ (q : ℕ × ℕ). q.0) p in
     let t = ap (λ (q : ℕ × ℕ). q.1) p in
     let l = ap length s.was in
     let m = length-append s.front (s.old ++ s.back) in
     let k = length-append s.old s.back in
-    record { from = omega (arith, f, l, m, k); to = omega (arith, t, l, m, k) } where
-      same_span : {x y : ℕ × ℕ} → Some x ≡ Some y → x ≡ y
-      same_span e = cc
+    record { from = omega (arith, f, l, m, k); to = omega (arith, t, l, m, k) }
 
 place_fits : (parts : List Part) (n : ℕ) → place 0 parts ≡ Some n → Fits (page_of parts) (Place n)
 place_fits parts n e =
     let r = some_inserted [] 0 parts e in
     let s = inserted_place [] 0 parts r.others r.is in
-    let p : n ≡ 0 + length s.front = same_number (sym e ∙ s.at_place) in
+    let p : n ≡ 0 + length s.front = same_Some _ _ (sym e ∙ s.at_place) in
     let l = ap length s.was in
     let m = length-append s.front s.back in
-    record { from = omega (arith, p, l, m); to = omega (arith, p, l, m) } where
-      same_number : {x y : ℕ} → Some x ≡ Some y → x ≡ y
-      same_number e = cc
+    record { from = omega (arith, p, l, m); to = omega (arith, p, l, m) }
 
 chosen_fits : (parts : List Part) (fault : Option InjectFault) (span : Option (ℕ × ℕ)) (n : Option ℕ) (s : Site) → map_span 0 parts ≡ span → place 0 parts ≡ n → here s ≡ unless_faulted fault (chosen span n) → Fits (page_of parts) s
 chosen_fits parts (Some fault) span n s m p e = absurd (cc)

@@ -2,7 +2,7 @@
 use Rattle.std.specs.Prelude.{◌&&◌, ◌||◌, is_some, codes, IfSome}
 use Rattle.std.proofs.Common.{◌≡◌, ℕ, ◌+◌, ◌-◌, ◌<◌, List, [], ◌∷◌, ◌++◌, length, take, drop, Bool, true, false, Option, Some, None, Err, append_assoc, if◌then◌else◌, refl, sym, ◌∙◌, ap, subst, arith}
 use Rattle.std.proofs.Math.Seq.{take-append_seam, drop-append_seam}
-use Rattle.std.proofs.lemmas.List.{length-append}
+use Rattle.std.proofs.lemmas.List.{length-append, append-nil}
 use Rattle.page_spec.specs.declared.kinds.InjectFault.{InjectFault}
 use Rattle.page_spec.specs.declared.kinds.InjectFault.TheVariants.{PageUnclear, TwoMaps}
 use Rattle.page_spec.specs.declared.kinds.RawElement.{RawElement}
@@ -12,14 +12,14 @@ use Rattle.page_spec.specs.Pieces.Pieces.{none}
 use Rattle.page_spec.specs.Attributes.{attribute_text}
 use Rattle.page_spec.specs.ImportMaps.{is_broken, is_raw, is_start_of, is_script, is_map_start, raw_behind, map_of, begins_map}
 use Rattle.page_spec.specs.Faults.{holds_ampersand, raw_fault, fault_at, or_later, first_fault}
-use Rattle.page_spec.specs.Injection.{span_or, map_span, is_place, place}
+use Rattle.page_spec.specs.Injection.{span_or, map_span, is_place, place, unless_faulted}
 use Rattle.page_spec.specs.Places.{Reaches, IsPieceOf, text_at, part_at}
 use Rattle.page_spec.proofs.Existence.{size, smaller, some_pieces_within}
 use Rattle.page_spec.proofs.Reading.{nothing_read, read_further, one_more_page}
 use Rattle.html_scan.specs.Steps.{NextIs}
 use Rattle.html_scan.proofs.Spans.{text_length}
 use Rattle.html_inject.specs.declared.search.Found.{Found}
-use Rattle.html_inject.specs.Search.{IsBehind, AreNext, parts_behind, map_at, sooner, place_at, found_more, chosen, unless_faulted, IsSite}
+use Rattle.html_inject.specs.Search.{IsBehind, AreNext, parts_behind, map_at, sooner, place_at, found_more, chosen, IsSite}
 
 -- the pieces before the next one were read, and the reader stands behind that one
 abbrev IsRead : List ℕ → List ℕ × (Option RawElement × List ℕ) → List Part → Option Piece → Type 0
@@ -39,10 +39,6 @@ pub record Searching (page : List ℕ) (view : List ℕ × (Option RawElement ×
   pub maps : (parts : List Part) → Follow page next parts → map_span 0 (before ++ parts) ≡ sooner found.map (map_span (length (page_of before)) parts)
   pub places : (parts : List Part) → place 0 (before ++ parts) ≡ sooner found.place (place (length (page_of before)) parts)
 
-nothing_behind : (xs : List Part) → xs ++ [] ≡ xs
-nothing_behind [] = refl
-nothing_behind (x ∷ xs) = ap (λ r. x ∷ r) (nothing_behind xs)
-
 -- ---- a call of the reader, with the pieces so far
 
 -- the pieces that were read, where the reader stood behind them and one more was asked for
@@ -57,7 +53,7 @@ found_text page before text left found e f t =
     ap (λ n. take n (drop found.from page)) size ∙ (ap (λ b. take (length text) b) rest ∙ take-append_seam text left)
 
 ahead : (page : List ℕ) (before : List Part) (within : Option RawElement) (rest : List ℕ) (next : Option Piece) (after : Option RawElement) (left : List ℕ) → Reaches page before within rest → NextIs page within rest next after left → IfSome next (λ q. IsPieceOf page q) → Ahead page before next after left
-ahead page before within rest None after left r s o = record { read = subst (λ ps. Pieces None page ps) (nothing_behind before) (r.onward [] (none s.0)); behind = tt }
+ahead page before within rest None after left r s o = record { read = subst (λ ps. Pieces None page ps) (append-nil before) (r.onward [] (none s.0)); behind = tt }
 ahead page before within rest (Some q) after left r s o =
     let a = ap length r.cut ∙ length-append (page_of before) rest in
     let from : q.from ≡ length (page_of before) = (let f = s.from in omega (arith, a, f)) in
@@ -210,7 +206,7 @@ search_begins page view next found same n o e =
 
 pub search_ends : (page : List ℕ) (view : List ℕ × (Option RawElement × List ℕ)) (found : Found) → Searching page view None found → IsSite page (chosen found.map found.place)
 search_ends page view found s =
-    let same = nothing_behind s.before in
+    let same = append-nil s.before in
     let f : first_fault 0 false s.before ≡ None = ap (λ ps. first_fault 0 false ps) (sym same) ∙ s.faults [] refl in
     let m : map_span 0 s.before ≡ found.map = ap (λ ps. map_span 0 ps) (sym same) ∙ (s.maps [] refl ∙ sooner_none found.map) in
     let p : place 0 s.before ≡ found.place = ap (λ ps. place 0 ps) (sym same) ∙ (s.places [] ∙ sooner_none found.place) in
@@ -223,7 +219,7 @@ record Whole (page : List ℕ) (before : List Part) (next : Option Piece) : Type
   follow : raw_behind parts ≡ raw_behind (parts_behind page next)
 
 whole : (page : List ℕ) (before : List Part) (next : Option Piece) (after : Option RawElement) (left : List ℕ) → IsRead page (page, (after, left)) before next → Whole page before next
-whole page before None after left r = record { parts = []; pieces = subst (λ ps. Pieces None page ps) (sym (nothing_behind before)) r; follow = refl }
+whole page before None after left r = record { parts = []; pieces = subst (λ ps. Pieces None page ps) (sym (append-nil before)) r; follow = refl }
 whole page before (Some q) after left r =
     let tail = some_pieces_within after left in
     record { parts = part_at page q ∷ tail.parts; pieces = subst (λ ps. Pieces None page ps) (one_more before (part_at page q) tail.parts) (r.onward tail.parts tail.pieces); follow = refl }

@@ -14,7 +14,7 @@ use Rattle.page_spec.specs.Pieces.{Part, Pieces}
 use Rattle.page_spec.specs.ImportMaps.{is_broken, is_raw, is_start_of, is_map_start}
 use Rattle.page_spec.specs.Places.{IsPieceOf, part_at}
 use Rattle.page_spec.specs.Faults.{first_fault}
-use Rattle.page_spec.specs.Injection.{map_span, is_place, place}
+use Rattle.page_spec.specs.Injection.{map_span, is_place, place, unless_faulted}
 use Rattle.html_inject.specs.declared.search.Found.{Found}
 use Rattle.html_inject.specs.declared.search.Site.{Site}
 use Rattle.html_inject.specs.declared.search.Site.TheVariants.{Map, Place}
@@ -53,10 +53,6 @@ abbrev pub chosen : Option (ℕ × ℕ) → Option ℕ → Result Site InjectFau
 chosen (Some span) n = Ok (Map span.0 span.1)
 chosen None (Some n) = Ok (Place n)
 chosen None None = Err NoPlace
-
-abbrev pub unless_faulted : Option InjectFault → Result Site InjectFault → Result Site InjectFault
-unless_faulted (Some fault) out = Err fault
-unless_faulted None out = out
 
 abbrev pub site : List Part → Result Site InjectFault
 site parts = unless_faulted (first_fault 0 false parts) (chosen (map_span 0 parts) (place 0 parts))

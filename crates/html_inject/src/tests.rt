@@ -2,8 +2,8 @@ use crate::{InjectFault, inject};
 use std::alloc::Global;
 use std::test::Fail;
 
-/// Pages, and what comes of them and the map `{}`: the new page, in which `@` stands for the map's element and its line end, or the
-/// fault that decides. Typed by hand.
+/// Pages, and what comes of them and the map `{}`: the new page, in which `@` stands for the map's element and its line
+/// end, or the fault that decides. Typed by hand.
 static PAGES: [(&str, &str); 66] = [
     ("<head></head>\n", "<head>@</head>\n"),
     ("", "NoPlace"),

@@ -1,6 +1,6 @@
 -- The pieces that were read so far, as a list.
 use Rattle.std.proofs.Common.{◌≡◌, ℕ, ◌+◌, ◌<◌, List, [], ◌∷◌, ◌++◌, length, true, false, Option, Some, None, append_assoc, refl, sym, ◌∙◌, ap, subst, arith}
-use Rattle.std.proofs.lemmas.List.{length-append}
+use Rattle.std.proofs.lemmas.List.{length-append, append-nil}
 use Rattle.page_spec.specs.declared.kinds.RawElement.{RawElement}
 use Rattle.page_spec.specs.declared.kinds.Piece.{Piece}
 use Rattle.page_spec.specs.declared.kinds.PieceKind.{PieceKind}
@@ -25,13 +25,9 @@ pub record Listing (page : List ℕ) (view : List ℕ × (Option RawElement × L
 pub nothing_listed : (page : List ℕ) (view : List ℕ × (Option RawElement × List ℕ)) (pieces : List Piece) → view ≡ (page, (None, page)) → pieces ≡ [] → Listing page view pieces
 nothing_listed page view pieces v e = rw v (record { same = refl; before = []; reached = nothing_read page; whole = λ parts. refl; are = e })
 
-nothing_behind : (xs : List Part) → xs ++ [] ≡ xs
-nothing_behind [] = refl
-nothing_behind (x ∷ xs) = ap (λ r. x ∷ r) (nothing_behind xs)
-
 pub all_listed : (page : List ℕ) (view : List ℕ × (Option RawElement × List ℕ)) (pieces : List Piece) → Listing page view pieces → first_piece view.1.0 view.1.1 ≡ None → Lists page pieces
 all_listed page view pieces l e =
-    let same = nothing_behind l.before in
+    let same = append-nil l.before in
     record {
       parts = l.before;
       cut = subst (λ ps. Pieces None page ps) same (l.reached.onward [] (none e));

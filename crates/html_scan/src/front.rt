@@ -8,7 +8,7 @@ use crate::markup::behind_markup;
 use crate::names::{closes, is_letter, is_named, raw_element};
 use page_spec::{PieceKind, RawElement};
 
-/// The piece at the front of some bytes: its kind, the element whose raw text comes behind it, and what is left behind it.
+/// The piece at the front of some bytes: its kind, the element whose raw text comes behind it, and what is left.
 #[derive(Clone, Copy)]
 pub struct Front<'a> {
     pub kind: PieceKind,
@@ -66,7 +66,7 @@ fn behind_text(bytes: &[u8]) -> &[u8]
 
 // What is left behind the element's raw text; None where no end tag of it comes.
 fn behind_raw(element: RawElement, bytes: &[u8]) -> Option<&[u8]>
-    ensures { MatchOption result (behind_raw element bytes.now ≡ None) (λ rest. behind_raw element bytes.now ≡ Some rest.now) }
+    ensures { let rest = behind_raw element bytes.now in MatchOption result (rest ≡ None) (λ r. rest ≡ Some r.now) }
 {
     let mut rest = bytes;
     while let Some((b, more)) = rest.split_first() {

@@ -145,7 +145,7 @@ pub fn next_state(state: State, b: u8) -> State
 
 /// What is left behind the markup behind whose `<` the bytes stand; None where they end before it does.
 pub fn behind_markup(bytes: &[u8]) -> Option<&[u8]>
-    ensures { MatchOption result (behind_markup TagOpen bytes.now ≡ None) (λ rest. behind_markup TagOpen bytes.now ≡ Some rest.now) }
+    ensures { let rest = behind_markup TagOpen bytes.now in MatchOption result (rest ≡ None) (λ r. rest ≡ Some r.now) }
 {
     let mut state = State::TagOpen;
     let mut rest = bytes;

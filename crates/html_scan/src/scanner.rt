@@ -6,7 +6,8 @@ use crate::front::first_piece;
 use page_spec::{Piece, RawElement};
 use std::marker::Model;
 
-/// The reader of a page's pieces. A contract sees it as the page, and the element whose raw text comes next with what is left.
+/// The reader of a page's pieces. A contract sees it as the page, and the element whose raw text comes next with what
+/// is left.
 #[derive(Drop)]
 pub struct Scanner<'a> {
     page: &'a [u8],
@@ -43,8 +44,8 @@ impl<'a> Scanner<'a> {
         }
     }
 
-    /// The next piece; None at the page's end, and at each later call. A page that ends with the start tag of an element with raw
-    /// text has an empty broken piece behind it.
+    /// The next piece; None at the page's end, and at each later call. A page that ends with the start tag of an element
+    /// with raw text has an empty broken piece behind it.
     pub fn next(&mut self) -> Option<Piece>
         ensures page { self.new.0 ≡ self.old.0 }
         ensures piece { IfSome result (λ piece. IsPieceOf self.old.0 piece) }

@@ -3,7 +3,7 @@ use Rattle.std.specs.Prelude.{All, IsUtf8, IsCharBoundary, is_some}
 use Rattle.std.proofs.Common.{◌≡◌, ℕ, ◌+◌, List, [], ◌∷◌, ◌++◌, length, true, ◌==◌, ◌&&◌, Option, None, append_assoc, refl, sym, ◌∙◌, ap, subst, arith}
 use Rattle.std.proofs.Math.Seq.{take-append_seam, drop-append_seam, get_or-append_seam}
 use Rattle.std.proofs.lemmas.Bool.{and_parts, eqb-true}
-use Rattle.std.proofs.lemmas.List.{length-append, append_cancel_right}
+use Rattle.std.proofs.lemmas.List.{length-append, append_cancel_right, append-nil}
 use Rattle.std.proofs.lemmas.List.Elements.{All-nil, All-cons, All-head, All-tail}
 use Rattle.std.proofs.lemmas.Str.{IsUtf8-take, IsUtf8-drop, IsUtf8-append, IsUtf8-nil, IsCharBoundary-at_seam, IsUtf8-nil, IsCharBoundary-before_ascii, IsCharBoundary-after_ascii}
 use Rattle.page_spec.specs.declared.kinds.RawElement.{RawElement}
@@ -23,12 +23,8 @@ pub record Both (xs ys : List ℕ) : Type 0 where
 pub at_seam : (xs ys : List ℕ) → IsUtf8 (xs ++ ys) → IsCharBoundary (xs ++ ys) (length xs) → Both xs ys
 at_seam xs ys u b = record { first = subst IsUtf8 (take-append_seam xs ys) (IsUtf8-take (xs ++ ys) (length xs) u b); second = subst IsUtf8 (drop-append_seam xs ys) (IsUtf8-drop (xs ++ ys) (length xs) u b) }
 
-nothing_behind : (xs : List ℕ) → xs ++ [] ≡ xs
-nothing_behind [] = refl
-nothing_behind (x ∷ xs) = ap (λ r. x ∷ r) (nothing_behind xs)
-
 pub at_end : (xs : List ℕ) → IsUtf8 (xs ++ []) → Both xs []
-at_end xs u = record { first = subst IsUtf8 (nothing_behind xs) u; second = IsUtf8-nil }
+at_end xs u = record { first = subst IsUtf8 (append-nil xs) u; second = IsUtf8-nil }
 
 before_markup : (xs ys : List ℕ) → IsUtf8 (xs ++ 60 ∷ ys) → Both xs (60 ∷ ys)
 before_markup xs ys u = at_seam xs (60 ∷ ys) u (IsCharBoundary-before_ascii (xs ++ 60 ∷ ys) (length xs) (let l = length-append xs (60 ∷ ys) in omega (arith, l)) (let e = get_or-append_seam xs 60 ys 0 in omega (arith, e)))

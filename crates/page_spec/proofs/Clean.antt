@@ -1,6 +1,7 @@
 -- Pieces without a fault, in a form that no offset enters.
 use Rattle.std.specs.Prelude.{◌&&◌, ◌||◌, codes, is_some, option_map}
 use Rattle.std.proofs.Common.{◌≡◌, ℕ, ◌+◌, List, [], ◌∷◌, length, Bool, true, false, Option, Some, None, if◌then◌else◌, refl, ◌∙◌, ap, subst}
+use Rattle.std.proofs.lemmas.Option.{same_Some}
 use Rattle.page_spec.specs.declared.kinds.InjectFault.{InjectFault}
 use Rattle.page_spec.specs.declared.kinds.InjectFault.TheVariants.{PageUnclear, TwoMaps}
 use Rattle.page_spec.specs.Pieces.{Part}
@@ -40,10 +41,7 @@ comment_moved m n (b ∷ rest) e = by_test (begins_with (codes "<!--") (b ∷ re
 
 raw_plain : (n : ℕ) (o : Option (List ℕ)) → raw_fault n o ≡ None → (raw : List ℕ) → o ≡ Some raw → comment_at 0 raw ≡ None
 raw_plain n None e raw f = absurd (cc)
-raw_plain n (Some r) e raw f = subst (λ r. comment_at 0 r ≡ None) (some_same f) (comment_moved n 0 r (unmapped (comment_at n r) e)) where
-  some_same : {x y : List ℕ} → Some x ≡ Some y → x ≡ y
-  some_same e = cc
-
+raw_plain n (Some r) e raw f = subst (λ r. comment_at 0 r ≡ None) (same_Some _ _ f) (comment_moved n 0 r (unmapped (comment_at n r) e)) where
   unmapped : (o : Option ℕ) → option_map PageUnclear o ≡ None → o ≡ None
   unmapped None e = refl
   unmapped (Some k) e = absurd (cc)

@@ -1,6 +1,7 @@
 -- Pieces among which a map was put have no fault, and one import map element.
 use Rattle.std.specs.Prelude.{◌&&◌, ◌||◌, codes, is_some}
 use Rattle.std.proofs.Common.{◌≡◌, ℕ, ◌+◌, List, [], ◌∷◌, All, Bool, true, false, ◌==◌, Some, None, if◌then◌else◌, refl, sym, ◌∙◌, ap, subst}
+use Rattle.std.proofs.lemmas.Option.{same_Some}
 use Rattle.std.proofs.lemmas.List.Elements.{All-head, All-tail}
 use Rattle.page_spec.specs.declared.kinds.PieceKind.TheVariants.{Text, Start, End, Raw}
 use Rattle.page_spec.specs.Pieces.{Part, part}
@@ -34,9 +35,6 @@ raw_fine seen text parts =
       never true = refl
       never false = refl
 
-some_same : {x y : List ℕ} → Some x ≡ Some y → x ≡ y
-some_same e = cc
-
 raw_part_behind : (q : Part) (parts : List Part) → is_raw q.kind ≡ true → raw_behind (q ∷ parts) ≡ Some q.text
 raw_part_behind q parts k = rw k refl
 
@@ -46,7 +44,7 @@ replaced_clean text seen parts others a (fine {p} f (fine {p = q} {parts = left}
     let alike : begins_map p (q ∷ left) ≡ begins_map p (part Raw text ∷ left) = begins_alike p (q ∷ left) (part Raw text ∷ left) (ap is_some (raw_part_behind q left k)) in
     let old : begins_map q left ≡ false = ap is_some (no_start q left (raw_is_no_start q k)) in
     let same : ((seen || begins_map p (q ∷ left)) || begins_map q left) ≡ ((seen || begins_map p (part Raw text ∷ left)) || begins_map (part Raw text) left) = ap (λ c. (seen || c) || begins_map q left) alike ∙ ap (λ c. (seen || begins_map p (part Raw text ∷ left)) || c) (old ∙ sym (raw_begins_none text left)) in
-    fine (fine_moved seen p (q ∷ left) (part Raw text ∷ left) alike (λ raw s e. subst (λ r. comment_at 0 r ≡ None) (some_same e) (no_comment 0 text a)) f) (fine (raw_fine (seen || begins_map p (part Raw text ∷ left)) text left) (subst (λ s. Clean s left) same l))
+    fine (fine_moved seen p (q ∷ left) (part Raw text ∷ left) alike (λ raw s e. subst (λ r. comment_at 0 r ≡ None) (same_Some _ _ e) (no_comment 0 text a)) f) (fine (raw_fine (seen || begins_map p (part Raw text ∷ left)) text left) (subst (λ s. Clean s left) same l))
 replaced_clean text seen parts others a (fine {p} {parts = left} f l) (later {others = right} n r) =
     let e = replaced_raw text left right r in
     let alike = ap is_some (map_of_alike p left right e) in
@@ -72,7 +70,7 @@ text_begins_none text parts = refl
 
 start_fine : (text : List ℕ) (parts : List Part) → All (λ b. (b == 60) ≡ false) text → Fine false (part Start start_tag) (part Raw text ∷ parts)
 unfolding is_map_start attribute
-start_fine text parts a = record { clear = refl; single = refl; plain = λ s raw e. subst (λ r. comment_at 0 r ≡ None) (some_same e) (no_comment 0 text a) }
+start_fine text parts a = record { clear = refl; single = refl; plain = λ s raw e. subst (λ r. comment_at 0 r ≡ None) (same_Some _ _ e) (no_comment 0 text a) }
 
 end_fine : (seen : Bool) (parts : List Part) → Fine seen (part End end_tag) parts
 unfolding is_map_start

@@ -4,6 +4,7 @@ use Rattle.std.specs.Str.{is_utf8, chars}
 use Rattle.std.specs.Str.Lossy.{utf8_valid_len}
 use Rattle.std.proofs.Common.{◌≡◌, ℕ, zero, suc, ◌-◌, List, [], ◌∷◌, ◌++◌, length, take, true, false, Option, Some, None, Result, Err, refl, sym, ◌∙◌, ap, subst, arith}
 use Rattle.std.proofs.Math.Seq.{take-append_seam}
+use Rattle.std.proofs.lemmas.Option.{same_Some}
 use Rattle.std.proofs.lemmas.List.{length-append}
 use Rattle.page_spec.specs.declared.kinds.InjectFault.{InjectFault}
 use Rattle.page_spec.specs.declared.kinds.InjectFault.TheVariants.{PageUnclear}
@@ -64,9 +65,6 @@ parts_of : ℕ → Option RawElement → List ℕ → Option (List Part)
 parts_of zero within bytes = None
 parts_of (suc n) within bytes = with_first bytes (first_piece within bytes) (parts_of n (within_of (first_piece within bytes)) (rest_of (first_piece within bytes)))
 
-some_parts : {x y : List Part} → Some x ≡ Some y → x ≡ y
-some_parts e = cc
-
 first_text : (bytes text rest : List ℕ) → bytes ≡ text ++ rest → bytes ≡ take (length bytes - length rest) bytes ++ rest
 first_text bytes text rest e =
     let l : length bytes - length rest ≡ length text = (let a = ap length e in let b = length-append text rest in omega (arith, a, b)) in
@@ -75,11 +73,11 @@ first_text bytes text rest e =
 
 step_by : (n : ℕ) (within : Option RawElement) (bytes : List ℕ) (o : Option Front) (later : Option (List Part)) (parts : List Part) → first_piece within bytes ≡ o → parts_of n (within_of o) (rest_of o) ≡ later → with_first bytes o later ≡ Some parts → ((tail : List Part) → parts_of n (within_of o) (rest_of o) ≡ Some tail → Pieces (within_of o) (rest_of o) tail) → Pieces within bytes parts
 unfolding with_first within_of rest_of
-step_by n within bytes None later parts f l e go = subst (λ ps. Pieces within bytes ps) (some_parts e) (none f)
+step_by n within bytes None later parts f l e go = subst (λ ps. Pieces within bytes ps) (same_Some _ _ e) (none f)
 step_by n within bytes (Some f) None parts g l e go = absurd (cc)
 step_by n within bytes (Some f) (Some tail) parts g l e go =
     let c = first_cut within bytes f g in
-    subst (λ ps. Pieces within bytes ps) (some_parts e) (piece {rest = f.rest} (first_text bytes c.text f.rest c.cut) g (go tail l))
+    subst (λ ps. Pieces within bytes ps) (same_Some _ _ e) (piece {rest = f.rest} (first_text bytes c.text f.rest c.cut) g (go tail l))
 
 parts_hold : (n : ℕ) (within : Option RawElement) (bytes : List ℕ) (parts : List Part) → parts_of n within bytes ≡ Some parts → Pieces within bytes parts
 unfolding parts_of
@@ -88,9 +86,7 @@ parts_hold (suc n) within bytes parts e = step_by n within bytes (first_piece wi
 
 outcome_by : (text page : List ℕ) (o : Option (List Part)) (out : Result (List ℕ) InjectFault) → is_utf8 page ≡ true → parts_of 12 None page ≡ o → option_map (λ parts. injected text page parts) o ≡ Some out → Injection text page out
 outcome_by text page None out u p e = absurd (cc)
-outcome_by text page (Some parts) out u p e = subst (λ out. Injection text page out) (some_out e) (utf8 u (parts_hold 12 None page parts p)) where
-  some_out : {x y : Result (List ℕ) InjectFault} → Some x ≡ Some y → x ≡ y
-  some_out e = cc
+outcome_by text page (Some parts) out u p e = subst (λ out. Injection text page out) (same_Some _ _ e) (utf8 u (parts_hold 12 None page parts p))
 
 comes_of : (text page : List ℕ) (out : Result (List ℕ) InjectFault) → is_utf8 page ≡ true → option_map (λ parts. injected text page parts) (parts_of 12 None page) ≡ Some out → Injection text page out
 comes_of text page out u e = outcome_by text page (parts_of 12 None page) out u refl e

@@ -4,6 +4,7 @@ use Rattle.std.specs.Str.{is_utf8}
 use Rattle.std.specs.Str.Lossy.{utf8_valid_len}
 use Rattle.std.proofs.Common.{◌≡◌, ℕ, ◌+◌, List, [], ◌∷◌, ◌++◌, length, take, drop, Bool, true, false, ◌==◌, Option, Some, None, Result, Ok, Err, append_assoc, refl, sym, ◌∙◌, ap, subst, arith}
 use Rattle.std.proofs.Math.Seq.{take-append_seam, drop-append_seam}
+use Rattle.std.proofs.lemmas.Option.{same_Some}
 use Rattle.std.proofs.lemmas.List.{length-append}
 use Rattle.std.proofs.lemmas.List.Elements.{All-cons, All-head, All-tail}
 use Rattle.std.proofs.lemmas.Str.{IsUtf8-from_is_utf8, is_utf8-from_IsUtf8}
@@ -65,21 +66,15 @@ seam_replaced front old text back =
     let last : drop ((0 + length front) + length old) (front ++ (old ++ back)) ≡ back = ap (λ n. drop n (front ++ (old ++ back))) ends ∙ (ap (λ b. drop (length (front ++ old)) b) (sym (append_assoc front old back)) ∙ drop-append_seam (front ++ old) back) in
     ap (λ x. x ++ (text ++ drop ((0 + length front) + length old) (front ++ (old ++ back)))) first ∙ ap (λ x. front ++ (text ++ x)) last
 
-some_pair : {x y : ℕ × ℕ} → Some x ≡ Some y → x ≡ y
-some_pair e = cc
-
-some_number : {x y : ℕ} → Some x ≡ Some y → x ≡ y
-some_number e = cc
-
 -- what stands behind the site is what the map's span says
 pub site_replaced : (text page : List ℕ) (parts others : List Part) (sp : ℕ × ℕ) → page ≡ page_of parts → map_span 0 parts ≡ Some sp → Site text 0 parts others → replaced sp.0 sp.1 text page ≡ page_of others
 site_replaced text page parts others sp c e s =
-    let p = some_pair (sym e ∙ s.span) in
+    let p = same_Some _ _ (sym e ∙ s.span) in
     ap (λ sp. replaced sp.0 sp.1 text page) p ∙ (ap (λ b. replaced (0 + length s.front) ((0 + length s.front) + length s.old) text b) (c ∙ s.was) ∙ (seam_replaced s.front s.old text s.back ∙ sym s.now))
 
 place_inserted : (text page : List ℕ) (parts others : List Part) (n : ℕ) → page ≡ page_of parts → place 0 parts ≡ Some n → Place text 0 parts others → replaced n n (element text) page ≡ page_of others
 place_inserted text page parts others n c e s =
-    let p : n ≡ 0 + length s.front = some_number (sym e ∙ s.at_place) in
+    let p : n ≡ 0 + length s.front = same_Some _ _ (sym e ∙ s.at_place) in
     let q : n ≡ (0 + length s.front) + length {A = ℕ} [] = omega (arith, p) in
     ap (λ m. replaced m n (element text) page) p ∙ (ap (λ m. replaced (0 + length s.front) m (element text) page) q ∙ (ap (λ b. replaced (0 + length s.front) ((0 + length s.front) + length {A = ℕ} []) (element text) b) (c ∙ s.was) ∙ (seam_replaced s.front [] (element text) s.back ∙ sym s.now)))
 

@@ -2,6 +2,7 @@
 use Rattle.std.specs.Char.{to_ascii_lowercase}
 use Rattle.std.specs.Prelude.{◌&&◌, is_some, option_map}
 use Rattle.std.proofs.Common.{◌≡◌, ℕ, List, [], ◌∷◌, ◌++◌, Bool, true, false, ◌==◌, Some, if◌then◌else◌, refl, ap}
+use Rattle.std.proofs.lemmas.Option.{same_Some}
 use Rattle.std.proofs.lemmas.List.{append_cancel_right}
 use Rattle.page_spec.specs.declared.kinds.RawElement.{RawElement}
 use Rattle.page_spec.specs.Pieces.{opening, ends_name, tag_name, is_name, name_of, closes, behind_raw, ends_text, behind_text}
@@ -47,11 +48,8 @@ closes_joined : (element : RawElement) (b : ℕ) (u x y : List ℕ) → closes e
 closes_joined element b [] x y = refl
 closes_joined element b (c ∷ v) x y = ap (λ n. b == 60 && c == 47 && is_name (name_of element) n) (name_joined v x y)
 
-some_same : {x y : List ℕ} → Some x ≡ Some y → x ≡ y
-some_same e = cc
-
 raw_by : (element : RawElement) (c : Bool) (b : ℕ) (u r s : List ℕ) → (if c then Some (b ∷ (u ++ r)) else behind_raw element (u ++ r)) ≡ Some r → (behind_raw element (u ++ r) ≡ Some r → behind_raw element (u ++ s) ≡ Some s) → (if c then Some (b ∷ (u ++ s)) else behind_raw element (u ++ s)) ≡ Some s
-raw_by element true b u r s e go = absurd (longer b u r (some_same e))
+raw_by element true b u r s e go = absurd (longer b u r (same_Some _ _ e))
 raw_by element false b u r s e go = go e
 
 pub raw_moved : (element : RawElement) (u r s : List ℕ) → RawJoins element r s → behind_raw element (u ++ r) ≡ Some r → behind_raw element (u ++ s) ≡ Some s

@@ -1,6 +1,7 @@
 -- Where an import map element begins, and pieces without one.
 use Rattle.std.specs.Prelude.{◌&&◌, ◌||◌, is_some}
 use Rattle.std.proofs.Common.{◌≡◌, ℕ, ◌+◌, List, [], ◌∷◌, length, Bool, true, false, Option, Some, None, if◌then◌else◌, refl, ◌∙◌, ap, subst}
+use Rattle.std.proofs.lemmas.Option.{same_Some}
 use Rattle.page_spec.specs.declared.kinds.PieceKind.{PieceKind}
 use Rattle.page_spec.specs.declared.kinds.PieceKind.TheVariants.{Text, Comment, Start, End, Raw, Broken}
 use Rattle.page_spec.specs.Pieces.{Part}
@@ -14,9 +15,7 @@ pub data Begins (p : Part) : List Part → List ℕ → Type 0 where
   begins : {q : Part} {left : List Part} → is_map_start p ≡ true → is_raw q.kind ≡ true → Begins p (q ∷ left) q.text
 
 begins_by : (c d : Bool) (p q : Part) (left : List Part) (raw : List ℕ) → is_map_start p ≡ c → is_raw q.kind ≡ d → (if c then (if d then Some q.text else None) else None) ≡ Some raw → Begins p (q ∷ left) raw
-begins_by true true p q left raw m k e = subst (λ r. Begins p (q ∷ left) r) (some_same e) (begins m k) where
-  some_same : {x y : List ℕ} → Some x ≡ Some y → x ≡ y
-  some_same e = cc
+begins_by true true p q left raw m k e = subst (λ r. Begins p (q ∷ left) r) (same_Some _ _ e) (begins m k)
 begins_by true false p q left raw m k e = absurd (cc)
 begins_by false d p q left raw m k e = absurd (cc)
 

@@ -2,6 +2,7 @@
 use Rattle.std.specs.Char.{to_ascii_lowercase}
 use Rattle.std.specs.Prelude.{◌&&◌, is_some, option_map}
 use Rattle.std.proofs.Common.{◌≡◌, ℕ, List, [], ◌∷◌, ◌++◌, Bool, true, false, ◌==◌, Some, if◌then◌else◌, refl, ap}
+use Rattle.std.proofs.lemmas.Option.{same_Some}
 use Rattle.std.proofs.lemmas.Bool.{and_parts, eqb-true}
 use Rattle.page_spec.specs.declared.kinds.RawElement.{RawElement}
 use Rattle.page_spec.specs.declared.kinds.State.{State}
@@ -19,11 +20,8 @@ pub record Cut (state : State) (bytes rest : List ℕ) : Type 0 where
   pub whole : Whole state text
   pub cut : bytes ≡ text ++ rest
 
-some_same : {x y : List ℕ} → Some x ≡ Some y → x ≡ y
-some_same e = cc
-
 cut_by : (state : State) (b : ℕ) (bytes rest : List ℕ) (c : Bool) → is_last state b ≡ c → (if c then Some bytes else behind_markup (next_state state b) bytes) ≡ Some rest → (behind_markup (next_state state b) bytes ≡ Some rest → Cut (next_state state b) bytes rest) → Cut state (b ∷ bytes) rest
-cut_by state b bytes rest true l e go = record { text = b ∷ []; whole = last l; cut = ap (λ r. b ∷ r) (some_same e) }
+cut_by state b bytes rest true l e go = record { text = b ∷ []; whole = last l; cut = ap (λ r. b ∷ r) (same_Some _ _ e) }
 cut_by state b bytes rest false l e go = let w = go e in record { text = b ∷ w.text; whole = more l w.whole; cut = ap (λ r. b ∷ r) w.cut }
 
 pub markup_cut : (state : State) (bytes rest : List ℕ) → behind_markup state bytes ≡ Some rest → Cut state bytes rest

@@ -3,7 +3,7 @@ use Rattle.std.specs.Char.{is_ascii_alphabetic}
 use Rattle.std.specs.Prelude.{codes, is_some}
 use Rattle.std.proofs.Common.{◌≡◌, ℕ, List, [], ◌∷◌, ◌++◌, All, Bool, true, false, ◌==◌, Option, Some, None, if◌then◌else◌, refl, sym, ◌∙◌, ap, subst}
 use Rattle.std.proofs.lemmas.Bool.{and_parts, eqb-true}
-use Rattle.std.proofs.lemmas.List.{append_cancel_right}
+use Rattle.std.proofs.lemmas.List.{append_cancel_right, append-nil}
 use Rattle.std.proofs.lemmas.List.Elements.{All-head, All-tail}
 use Rattle.std.proofs.lemmas.Slice.Eq.{bytes_eq-Decides}
 use Rattle.page_spec.specs.declared.kinds.RawElement.{RawElement}
@@ -123,13 +123,9 @@ opening_slash (c ∷ v) e = choice (is_ascii_alphabetic c) e where
   choice true e = absurd (cc)
   choice false e = absurd (cc)
 
-nothing_behind : (xs : List ℕ) → xs ++ [] ≡ xs
-nothing_behind [] = refl
-nothing_behind (x ∷ xs) = ap (λ r. x ∷ r) (nothing_behind xs)
-
 name_of_text : (b : ℕ) (t rest : List ℕ) → Whole TagOpen (b ∷ t) → tag_name (t ++ rest) ≡ tag_name t
 name_of_text b t rest (last l) = absurd (no_last b l)
-name_of_text b t rest (more l w) = name_moved _ t rest [] w ∙ ap tag_name (nothing_behind t)
+name_of_text b t rest (more l w) = name_moved _ t rest [] w ∙ ap tag_name (append-nil t)
 
 start_closes_none : (element : RawElement) (t rest : List ℕ) → Whole TagOpen t → opening (t ++ rest) ≡ Some Start → closes element (60 ∷ (t ++ rest)) ≡ true → ⊥
 start_closes_none element [] rest w o c = elim w [ ]

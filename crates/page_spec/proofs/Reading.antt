@@ -1,7 +1,7 @@
 -- A page read in order, piece by piece.
 use Rattle.std.proofs.Common.{◌≡◌, ℕ, ◌+◌, ◌-◌, ◌≤◌, List, [], ◌∷◌, ◌++◌, length, take, drop, Option, Some, None, append_assoc, refl, sym, ◌∙◌, ap, subst, arith}
 use Rattle.std.proofs.Math.Seq.{take-append_seam, drop-append_seam}
-use Rattle.std.proofs.lemmas.List.{length-append}
+use Rattle.std.proofs.lemmas.List.{length-append, append-nil}
 use Rattle.page_spec.specs.declared.kinds.RawElement.{RawElement}
 use Rattle.page_spec.specs.declared.kinds.Piece.{Piece}
 use Rattle.page_spec.specs.declared.kinds.PieceKind.{PieceKind}
@@ -17,12 +17,8 @@ nothing_read page = record { cut = refl; onward = λ parts x. x }
 one_more : (before : List Part) (p : Part) (parts : List Part) → (before ++ p ∷ []) ++ parts ≡ before ++ p ∷ parts
 one_more before p parts = append_assoc before (p ∷ []) parts
 
-nothing_behind : (xs : List ℕ) → xs ++ [] ≡ xs
-nothing_behind [] = refl
-nothing_behind (x ∷ xs) = ap (λ r. x ∷ r) (nothing_behind xs)
-
 pub one_more_page : (before : List Part) (p : Part) → page_of (before ++ p ∷ []) ≡ page_of before ++ p.text
-one_more_page before p = page_of-append before (p ∷ []) ∙ ap (λ r. page_of before ++ r) (nothing_behind p.text)
+one_more_page before p = page_of-append before (p ∷ []) ∙ ap (λ r. page_of before ++ r) (append-nil p.text)
 
 pub read_further : (page : List ℕ) (before : List Part) (within next : Option RawElement) (bytes text rest : List ℕ) (kind : PieceKind) → Reaches page before within bytes → bytes ≡ text ++ rest → first_piece within bytes ≡ Some (front kind next rest) → Reaches page (before ++ part kind text ∷ []) next rest
 read_further page before within next bytes text rest kind r c e =

@@ -2,7 +2,9 @@
 use Rattle.std.specs.Char.{is_ascii_alphabetic}
 use Rattle.std.specs.Prelude.{◌&&◌, ◌||◌, codes, is_some, ⊤}
 use Rattle.std.proofs.Common.{◌≡◌, ℕ, List, [], ◌∷◌, ◌++◌, Bool, true, false, ◌==◌, Option, Some, None, if◌then◌else◌, refl, sym, ap, subst}
+use Rattle.std.proofs.lemmas.Option.{same_Some}
 use Rattle.std.proofs.lemmas.Bool.{eqb-true}
+use Rattle.std.proofs.lemmas.List.{append-nil}
 use Rattle.page_spec.specs.declared.kinds.RawElement.{RawElement}
 use Rattle.page_spec.specs.declared.kinds.PieceKind.{PieceKind}
 use Rattle.page_spec.specs.declared.kinds.PieceKind.TheVariants.{Text, Comment, Start, End, Raw, Broken}
@@ -31,11 +33,8 @@ record RawEnd (element : RawElement) (bytes rest : List ℕ) : Type 0 where
   cut : bytes ≡ text ++ rest
   closed : closes element rest ≡ true
 
-some_same : {x y : List ℕ} → Some x ≡ Some y → x ≡ y
-some_same e = cc
-
 raw_end_by : (element : RawElement) (b : ℕ) (bytes rest : List ℕ) (c : Bool) → closes element (b ∷ bytes) ≡ c → (if c then Some (b ∷ bytes) else behind_raw element bytes) ≡ Some rest → (behind_raw element bytes ≡ Some rest → RawEnd element bytes rest) → RawEnd element (b ∷ bytes) rest
-raw_end_by element b bytes rest true l e go = let p = some_same e in record { text = []; cut = p; closed = subst (λ r. closes element r ≡ true) p l }
+raw_end_by element b bytes rest true l e go = let p = same_Some _ _ e in record { text = []; cut = p; closed = subst (λ r. closes element r ≡ true) p l }
 raw_end_by element b bytes rest false l e go = let w = go e in record { text = b ∷ w.text; cut = ap (λ r. b ∷ r) w.cut; closed = w.closed }
 
 raw_end : (element : RawElement) (bytes rest : List ℕ) → behind_raw element bytes ≡ Some rest → RawEnd element bytes rest
@@ -84,24 +83,17 @@ Opens Comment = ⊤
 Opens other = ⊥
 
 opens_by : (a b c : Bool) (later : Option PieceKind) (k : PieceKind) → ((j : PieceKind) → later ≡ Some j → Opens j) → (if a then Some Start else if b then Some Comment else if c then later else None) ≡ Some k → Opens k
-opens_by true b c later k go e = subst Opens (some_kind e) tt where
-  some_kind : {x y : PieceKind} → Some x ≡ Some y → x ≡ y
-  some_kind e = cc
-opens_by false true c later k go e = subst Opens (some_kind e) tt where
-  some_kind : {x y : PieceKind} → Some x ≡ Some y → x ≡ y
-  some_kind e = cc
+opens_by true b c later k go e = subst Opens (same_Some _ _ e) tt
+opens_by false true c later k go e = subst Opens (same_Some _ _ e) tt
 opens_by false false true later k go e = go k e
 opens_by false false false later k go e = absurd (cc)
 
 opens_end : (rest : List ℕ) (k : PieceKind) → opening_end rest ≡ Some k → Opens k
 opens_end [] k e = absurd (cc)
 opens_end (b ∷ rest) k e = by_letter (is_ascii_alphabetic b) e where
-  some_kind : {x y : PieceKind} → Some x ≡ Some y → x ≡ y
-  some_kind e = cc
-
   by_letter : (c : Bool) → Some (if c then End else Comment) ≡ Some k → Opens k
-  by_letter true e = subst Opens (some_kind e) tt
-  by_letter false e = subst Opens (some_kind e) tt
+  by_letter true e = subst Opens (same_Some _ _ e) tt
+  by_letter false e = subst Opens (same_Some _ _ e) tt
 
 opens : (x : List ℕ) (k : PieceKind) → opening x ≡ Some k → Opens k
 opens [] k e = absurd (cc)
@@ -120,14 +112,11 @@ if_markup : (c : Bool) (b : ℕ) (x : List ℕ) → (b == 60) ≡ c → Shape No
 if_markup true b x e = let p = eqb-true b 60 e in rw p (markup_shape (opening x) x refl)
 if_markup false b x e = words_shape b x (ap (λ c. c && is_some (opening x)) e)
 
-some_front : {x y : Front} → Some x ≡ Some y → x ≡ y
-some_front e = cc
-
 pub shape_of : (within : Option RawElement) (bytes : List ℕ) (f : Front) → first_piece within bytes ≡ Some f → Shape within bytes f
 unfolding first_piece
 shape_of None [] f e = absurd (cc)
-shape_of None (b ∷ x) f e = subst (λ f. Shape None (b ∷ x) f) (some_front e) (if_markup (b == 60) b x refl)
-shape_of (Some element) bytes f e = subst (λ f. Shape (Some element) bytes f) (some_front e) (raw_shape element bytes (behind_raw element bytes) refl)
+shape_of None (b ∷ x) f e = subst (λ f. Shape None (b ∷ x) f) (same_Some _ _ e) (if_markup (b == 60) b x refl)
+shape_of (Some element) bytes f e = subst (λ f. Shape (Some element) bytes f) (same_Some _ _ e) (raw_shape element bytes (behind_raw element bytes) refl)
 
 -- ---- its text
 
@@ -135,16 +124,12 @@ pub record Cut (bytes rest : List ℕ) : Type 0 where
   pub text : List ℕ
   pub cut : bytes ≡ text ++ rest
 
-nothing_behind : (xs : List ℕ) → xs ≡ xs ++ []
-nothing_behind [] = refl
-nothing_behind (x ∷ xs) = ap (λ r. x ∷ r) (nothing_behind xs)
-
 pub cut_of : (within : Option RawElement) (bytes : List ℕ) (f : Front) → Shape within bytes f → Cut bytes f.rest
 cut_of within bytes f (raw_text u e r c) = record { text = u; cut = e }
 cut_of within bytes f (words b u e s t z) = record { text = b ∷ u; cut = e }
 cut_of within bytes f (start t rest e w o p) = record { text = 60 ∷ t; cut = e }
 cut_of within bytes f (bare k t b e w o) = record { text = 60 ∷ t; cut = e }
-cut_of within bytes f cut_off = record { text = bytes; cut = nothing_behind bytes }
+cut_of within bytes f cut_off = record { text = bytes; cut = sym (append-nil bytes) }
 
 pub first_cut : (within : Option RawElement) (bytes : List ℕ) (f : Front) → first_piece within bytes ≡ Some f → Cut bytes f.rest
 first_cut within bytes f e = cut_of within bytes f (shape_of within bytes f e)

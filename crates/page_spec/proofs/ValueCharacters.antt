@@ -2,6 +2,7 @@
 use Rattle.std.specs.Char.{is_ascii_whitespace}
 use Rattle.std.specs.Prelude.{IsUtf8, All, not, bytes_eq, option_map}
 use Rattle.std.proofs.Common.{◌≡◌, ℕ, ◌+◌, ◌-◌, ◌<◌, List, [], ◌∷◌, ◌++◌, length, Bool, true, false, ◌==◌, ◌||◌, Option, Some, None, if◌then◌else◌, append_assoc, refl, sym, ◌∙◌, ap, subst, arith}
+use Rattle.std.proofs.lemmas.Option.{same_Some}
 use Rattle.std.proofs.lemmas.Bool.Decides.{nat_tests}
 use Rattle.std.proofs.Math.Seq.{get_or-append_seam}
 use Rattle.std.proofs.lemmas.Bool.{eqb-true}
@@ -94,9 +95,6 @@ behind_cut tail (b ∷ rest) t u = by_equals (b == 61) refl where
   by_equals true e = let l = eqb-true b 61 e in value_cut (skip_whitespace rest) (skipped_utf8 rest (behind_ascii b rest (omega (arith, l)) u))
   by_equals false e = empty_cut tail t
 
-some_value : {x y : Value} → Some x ≡ Some y → x ≡ y
-some_value e = cc
-
 attribute_cut : (front : List ℕ) (b : ℕ) (rest : List ℕ) → IsUtf8 (front ++ b ∷ rest) → Cut (attribute_at b rest).value
 attribute_cut front b rest u =
     let tail = behind ends_attribute_name rest in
@@ -106,7 +104,7 @@ attribute_cut front b rest u =
     behind_cut tail (skip_whitespace tail) t (skipped_utf8 tail t)
 
 first_cut : (name : List ℕ) (front : List ℕ) (b : ℕ) (rest : List ℕ) (c : Bool) (v : Value) (more : List Attribute) → IsUtf8 (front ++ b ∷ rest) → (if c then Some (attribute_at b rest).value else first_named name more) ≡ Some v → (first_named name more ≡ Some v → Cut v) → Cut v
-first_cut name front b rest true v more u e go = subst Cut (some_value e) (attribute_cut front b rest u)
+first_cut name front b rest true v more u e go = subst Cut (same_Some _ _ e) (attribute_cut front b rest u)
 first_cut name front b rest false v more u e go = go e
 
 named_cut : (name : List ℕ) (state : State) (front bytes : List ℕ) (v : Value) → IsUtf8 (front ++ bytes) → first_named name (attributes state bytes) ≡ Some v → Cut v
@@ -153,10 +151,7 @@ tag_at page name found o v u e =
 
 pub values_end_at_boundaries : ValuesEndAtBoundaries
 values_end_at_boundaries page name found sp o u e = by_kind (is_start found.kind) (attribute name (text_at page found)) refl e where
-  some_span : {x y : ℕ × ℕ} → Some x ≡ Some y → x ≡ y
-  some_span e = cc
-
   by_kind : (c : Bool) (v : Option Value) → attribute name (text_at page found) ≡ v → (if c then option_map (span_of found.to) v else None) ≡ Some sp → AtBoundaries page sp.0 sp.1
-  by_kind true (Some v) i e = subst (λ s. AtBoundaries page s.0 s.1) (some_span e) (tag_at page name found o v u i)
+  by_kind true (Some v) i e = subst (λ s. AtBoundaries page s.0 s.1) (same_Some _ _ e) (tag_at page name found o v u i)
   by_kind true None i e = absurd (cc)
   by_kind false v i e = absurd (cc)

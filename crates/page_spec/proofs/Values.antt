@@ -3,6 +3,7 @@ use Rattle.std.specs.Char.{is_ascii_whitespace}
 use Rattle.std.specs.Prelude.{not, drop}
 use Rattle.std.proofs.Common.{◌≡◌, ℕ, List, [], ◌∷◌, ◌++◌, Bool, true, false, ◌==◌, ◌||◌, Some, if◌then◌else◌, append_assoc, refl, sym, ◌∙◌, ap, subst}
 use Rattle.std.specs.Prelude.{bytes_eq}
+use Rattle.std.proofs.lemmas.Option.{same_Some}
 use Rattle.page_spec.specs.declared.kinds.State.{State}
 use Rattle.page_spec.specs.declared.kinds.State.TheVariants.{TagOpen}
 use Rattle.page_spec.specs.Tokenizer.{lowered, is_last, next_state}
@@ -47,11 +48,8 @@ attribute_stands b rest =
     let tail = behind ends_attribute_name rest in
     further (b ∷ before ends_attribute_name rest) (b ∷ rest) tail _ (ap (λ r. b ∷ r) (parted ends_attribute_name rest)) (behind_stands tail (skip_whitespace tail) (before (λ b. not (is_ascii_whitespace b)) tail) (parted (λ b. not (is_ascii_whitespace b)) tail))
 
-some_value : {x y : Value} → Some x ≡ Some y → x ≡ y
-some_value e = cc
-
 first_stands : (name : List ℕ) (b : ℕ) (rest : List ℕ) (c : Bool) (v : Value) (more : List Attribute) → (if c then Some (attribute_at b rest).value else first_named name more) ≡ Some v → (first_named name more ≡ Some v → StandsIn (b ∷ rest) v) → StandsIn (b ∷ rest) v
-first_stands name b rest true v more e go = subst (λ v. StandsIn (b ∷ rest) v) (some_value e) (attribute_stands b rest)
+first_stands name b rest true v more e go = subst (λ v. StandsIn (b ∷ rest) v) (same_Some _ _ e) (attribute_stands b rest)
 first_stands name b rest false v more e go = go e
 
 named_stands : (name : List ℕ) (state : State) (bytes : List ℕ) (v : Value) → first_named name (attributes state bytes) ≡ Some v → StandsIn bytes v

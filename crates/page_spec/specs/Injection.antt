@@ -47,7 +47,7 @@ put_into text page (Some span) n = Ok (replaced span.0 span.1 text page)
 put_into text page None (Some n) = Ok (replaced n n (element text) page)
 put_into text page None None = Err NoPlace
 
-abbrev pub unless_faulted : Option InjectFault → Result (List ℕ) InjectFault → Result (List ℕ) InjectFault
+abbrev pub unless_faulted : {A : Type 0} → Option InjectFault → Result A InjectFault → Result A InjectFault
 unless_faulted (Some fault) out = Err fault
 unless_faulted None out = out
 
