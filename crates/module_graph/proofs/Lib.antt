@@ -1,0 +1,2 @@
+pub mod WellMade
+pub mod Naming

@@ -1,0 +1,4 @@
+pub mod Modules
+pub mod Graphs
+pub mod Calls
+pub mod Laws
