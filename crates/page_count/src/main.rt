@@ -27,13 +27,14 @@ fn main(rt: HostRuntime) -> io::Result<()> {
     let Some(name) = words.next() else {
         return Ok(());
     };
-    let text = fs::read_to_string(&rt, name.as_str())?;
     if words.next().is_none() {
+        let text = fs::read_to_string(&rt, name.as_str())?;
         let pieces = count(text.as_str());
         println!(rt; "{pieces} pieces")?;
         return Ok(());
     }
-    match injected(rt.alloc(), text.as_bytes()) {
+    let page = fs::read(&rt, name.as_str())?;
+    match injected(rt.alloc(), page.as_slice()) {
         Ok(page) => {
             let bytes = page.as_slice().len();
             println!(rt; "{bytes} bytes")?;
