@@ -2,7 +2,7 @@
 import { readFileSync } from "node:fs";
 import { createRequire } from "node:module";
 
-const { init, parse } = createRequire("/usr/share/nodejs/")("/usr/share/nodejs/es-module-lexer");
+const { init, parse } = createRequire(import.meta.url)("/usr/share/nodejs/es-module-lexer");
 await init;
 const text = readFileSync(process.argv[2], "utf8");
 const start = process.hrtime.bigint();

@@ -258,7 +258,7 @@ begun_by t later so_far true d = ap (requests so_far) (found_none t (behind_impo
 begun_by t later so_far false true = ap (requests so_far) (found_none t (export_declaration later) (λ n. findings n later))
 begun_by t later so_far false false = refl
 
-begun_step : (t : Placed) (later : List Placed) (so_far : List Request) → requests so_far (findings None (t ∷ later)) ≡ settled (begun (seen_of t) t.text) so_far later
+pub begun_step : (t : Placed) (later : List Placed) (so_far : List Request) → requests so_far (findings None (t ∷ later)) ≡ settled (begun (seen_of t) t.text) so_far later
 begun_step t later so_far = begun_by t later so_far (is_top t && is_word t (codes "import")) (is_top t && is_word t (codes "export"))
 
 plain_case : (t : Placed) (later : List Placed) (so_far : List Request) (word : ℕ) (g : Form) → requests so_far (opened word None (further g) (λ a. found t a none (λ n. findings n later))) ≡ requests so_far (opened word None g (λ a. findings a later))
