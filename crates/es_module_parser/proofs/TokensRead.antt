@@ -3,8 +3,6 @@ use Rattle.std.proofs.Common.{◌≡◌, ◌<◌, ◌==◌, ◌&&◌, ◌||◌, 
 use Rattle.std.proofs.lemmas.Grind.{reverse_onto}
 use Rattle.module_spec.specs.declared.token.Token.{Token}
 use Rattle.module_spec.specs.declared.token.LexFault.{LexFault}
-use Rattle.module_spec.specs.declared.token.LexKind as lex_kinds
-use Rattle.module_spec.specs.declared.token.LexKind.TheVariants as lex_kind
 use Rattle.module_spec.specs.declared.request.Request.{Request}
 use Rattle.module_spec.specs.declared.request.ModuleFault as module_faults
 use Rattle.module_spec.specs.declared.request.ModuleFault.TheVariants.{Unreadable, TooDeep, TooManyRequests}
@@ -13,7 +11,7 @@ use Rattle.module_spec.specs.Tokens.{Lexeme, Reaches, depth, is_property}
 use Rattle.module_spec.specs.Tokens.Reaches.{begin, go}
 use Rattle.module_spec.specs.Places.{Placed, placed, places, is_top, is_word}
 use Rattle.module_spec.specs.StringValues.{string_value}
-use Rattle.module_spec.specs.Outlines.{Outline, ReadsOutline, requests, findings, declares, outline_of, outlined, most_requests, lexical_fault}
+use Rattle.module_spec.specs.Outlines.{ReadsOutline, requests, findings, declares, outline_of, outlined, most_requests, lexical_fault}
 use Rattle.module_spec.specs.Outlines.ReadsOutline.{all, fault}
 use Rattle.module_spec.proofs.TokenLaws.{one_reach}
 use Rattle.module_spec.proofs.Suffixes.{next_shorter}
