@@ -1,20 +1,23 @@
 -- Generation: the one map of a tree and a config.
-use Rattle.std.specs.Prelude.{◌≡◌, ◌≤◌, ◌+◌, ℕ, false, List, [], length}
+--     Generates tree config bytes      the bytes are the map's text for them
+use Rattle.std.specs.Prelude.{◌≡◌, ℕ, List, Some, Ok, false}
+use Rattle.std.specs.FinMap.{get}
 use Rattle.tree_spec.specs.Trees.{Tree}
-use Rattle.layout_spec.specs.Needs.{NoClash}
+use Rattle.url_spec.specs.Specifiers.{ends_in_slash}
 use Rattle.layout_spec.specs.Layout.{layout}
 use Rattle.layout_spec.specs.PrintedMap.{map_text}
-use Rattle.generator_spec.specs.Modules.{Config}
-use Rattle.generator_spec.specs.Trace.{Turn, ends_in_slash, IsServable, IsTrace, needs_of}
+use Rattle.trace_spec.specs.Walking.{the_page}
+use Rattle.trace_spec.specs.Modules.{Config, web_name}
+use Rattle.trace_spec.specs.Checks.{Before}
+use Rattle.trace_spec.specs.Traces.{traced}
 
--- own: the bytes are the text of the layout of the trace's needs, and nothing is refused: the page can be served and is no
--- folder, no two needs clash, and the modules, without the page, are at most 20,000
+-- own: the page's web name is no folder's
+abbrev pub PageIsFile : Config → Type 0
+PageIsFile config = (name : List ℕ) → web_name config the_page ≡ Some name → ends_in_slash name ≡ false
+
+-- own: nothing is refused, and the bytes are the text of the layout of the trace's needs
 pub record Generates (tree : Tree) (config : Config) (bytes : List ℕ) : Type 0 where
-  pub page_name : List ℕ
-  pub page : IsServable config config.page [] page_name
-  pub page_is_file : ends_in_slash page_name ≡ false
-  pub trace : List Turn
-  pub is_trace : IsTrace tree config trace
-  pub few : length trace ≤ 20000 + 1
-  pub no_clash : NoClash (needs_of trace)
-  pub text : bytes ≡ map_text (layout (needs_of trace))
+  pub page_is_file : PageIsFile config
+  pub all : Before
+  pub is_traced : traced (get tree) config ≡ Ok all
+  pub text : bytes ≡ map_text (layout all.needs)

@@ -1,5 +1,9 @@
 -- What a written map promises.
+--     Reachable tree config referrer    the page reaches it by requests
+--     Leads tree config map referrer name specifier      HTML's resolution leads to the file that Node's gives
+--     Serves tree config bytes          every request of whatever is reachable is led so through the map with this text
 use Rattle.std.specs.Prelude.{◌≡◌, ℕ, List, Some, Contains, Ok}
+use Rattle.std.specs.FinMap.{get}
 use Rattle.tree_spec.specs.Trees.{Tree}
 use Rattle.url_spec.specs.WebNames.{web}
 use Rattle.url_spec.specs.ServedPaths.{IsServed}
@@ -7,38 +11,39 @@ use Rattle.node_spec.specs.Resolution.{Resolves}
 use Rattle.node_spec.specs.Resolution as node
 use Rattle.import_map_spec.specs.ParsedMap.{ParsedMap}
 use Rattle.import_map_spec.specs.Parsing.{ParsesMap}
-use Rattle.import_map_spec.specs.LookUps.{resolve_in}
 use Rattle.import_map_spec.specs.Resolving as html
-use Rattle.generator_spec.specs.Modules.{Config, Module, Referrer, the_page, a_module, path_of, web_name, Asks}
+use Rattle.trace_spec.specs.Walking.{Referrer, the_page, a_module}
+use Rattle.trace_spec.specs.Modules.{Config, Module, path_of, web_name}
+use Rattle.trace_spec.specs.Traces.{requests}
 
 -- own: the page is reachable, and so is every module that Node answers for a request of something reachable
-pub data Reachable (tree : Tree) (config : Config) : Referrer → Type 0 where
+pub data Reachable (tree : Tree) (config : Config) : Referrer Module → Type 0 where
   page : Reachable tree config the_page
-  requested : (referrer : Referrer) (specifiers : List (List ℕ)) (specifier : List ℕ) (target : Module) → Reachable tree config referrer → Asks tree config referrer specifiers → Contains specifiers specifier → Resolves tree (path_of config referrer) specifier (node.Resolved target.path target.suffix) → Reachable tree config (a_module target)
+  requested : (referrer : Referrer Module) (specifiers : List (List ℕ)) (specifier : List ℕ) (target : Module) → Reachable tree config referrer → requests (get tree) config referrer ≡ Some specifiers → Contains specifiers specifier
+      → Resolves tree (path_of config referrer) specifier (node.Resolved target.path target.suffix) → Reachable tree config (a_module target)
 
 -- own: Node answers a specifier with a file, HTML's resolution through the map ends at a URL, and this file is served there
-pub record Leads (tree : Tree) (config : Config) (map : ParsedMap) (referrer : Referrer) (name specifier : List ℕ) : Type 0 where
+pub record Leads (tree : Tree) (config : Config) (map : ParsedMap) (referrer : Referrer Module) (name specifier : List ℕ) : Type 0 where
   pub path : List ℕ
   pub suffix : List ℕ
   pub url : List ℕ
   pub node : Resolves tree (path_of config referrer) specifier (node.Resolved path suffix)
   pub web : web config.base path suffix ≡ Some url
-  pub html : resolve_in map name specifier ≡ html.Resolved url
+  pub html : html.Resolves map name specifier (html.Resolved url)
   pub served : IsServed config.base url path
 
 -- own: a referrer has its requests, and each of them is led to its file
-pub record AllLead (tree : Tree) (config : Config) (map : ParsedMap) (referrer : Referrer) : Type 0 where
+pub record AllLead (tree : Tree) (config : Config) (map : ParsedMap) (referrer : Referrer Module) : Type 0 where
   pub name : List ℕ
   pub named : web_name config referrer ≡ Some name
   pub specifiers : List (List ℕ)
-  pub asks : Asks tree config referrer specifiers
+  pub asks : requests (get tree) config referrer ≡ Some specifiers
   pub leads : (specifier : List ℕ) → Contains specifiers specifier → Leads tree config map referrer name specifier
 
--- own: what is promised of a map's text: parsed at the page's URL, it is a map through which each request of whatever is
--- reachable finds its file
+-- own: parsed at the page's URL, the text is a map through which each request of whatever is reachable finds its file
 pub record Serves (tree : Tree) (config : Config) (bytes : List ℕ) : Type 0 where
   pub map_base : List ℕ
   pub named : web_name config the_page ≡ Some map_base
   pub map : ParsedMap
   pub parses : ParsesMap map_base bytes (Ok map)
-  pub all_lead : (referrer : Referrer) → Reachable tree config referrer → AllLead tree config map referrer
+  pub all_lead : (referrer : Referrer Module) → Reachable tree config referrer → AllLead tree config map referrer

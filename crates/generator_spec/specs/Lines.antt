@@ -1,45 +1,83 @@
 -- What a command says, and its exit status.
-use Rattle.std.specs.Prelude.{ℕ, ◌-◌, List, [], ◌∷◌, ◌++◌, length, flat_map, codes}
+--     status_of why, line_of why      those of a refusal
+--     counts_line modules requests mappings      the line of a map that is written
+--     done_line all                   the same for the trace whose map it is
+use Rattle.std.specs.Prelude.{ℕ, List, [], ◌∷◌, ◌++◌, length, codes, unwrap_or}
 use Rattle.std.specs.Fmt.{decimal}
-pub use Rattle.tree_spec.specs.Limits.{limit_name, limit_number}
+use Rattle.tree_spec.specs.declared.LimitName.{LimitName}
+use Rattle.tree_spec.specs.Limits.{limit_number, limit_name}
 use Rattle.json_spec.specs.PrintedString.{quoted}
+use Rattle.node_spec.specs.declared.Cause.{Cause}
+use Rattle.node_spec.specs.declared.Cause.TheVariants as cause
 use Rattle.layout_spec.specs.Layout.{layout}
 use Rattle.layout_spec.specs.Counting.{mapping_count}
+use Rattle.trace_spec.specs.declared.TraceFault.{TraceFault}
+use Rattle.trace_spec.specs.declared.TraceFault.TheVariants.{Unservable, Refused, RequestNotBuilt, ModuleNotBuilt, Limit, ReadFault, Memory}
+use Rattle.trace_spec.specs.Checks.{Before}
 use Rattle.generator_spec.specs.declared.Refusal.{Refusal}
-use Rattle.generator_spec.specs.declared.Refusal.TheVariants.{Words, BadBase, Unservable, NotFound, RequestNotBuilt, ModuleNotBuilt, Limit}
-use Rattle.generator_spec.specs.Trace.{Turn, needs_of}
+use Rattle.generator_spec.specs.declared.Refusal.TheVariants.{Words, BadBase, Trace}
 
--- own: the exit status of a refusal
+-- own: the exit statuses
+abbrev pub trace_status : TraceFault → ℕ
+trace_status (Unservable path url) = 1
+trace_status (Refused referrer specifier why) = 1
+trace_status (RequestNotBuilt referrer specifier) = 9
+trace_status (ModuleNotBuilt m) = 9
+trace_status (Limit which) = 3
+trace_status ReadFault = 4
+trace_status Memory = 8
+
 abbrev pub status_of : Refusal → ℕ
 status_of Words = 9
 status_of (BadBase text) = 2
-status_of (Unservable path url) = 1
-status_of (NotFound referrer specifier) = 1
-status_of (RequestNotBuilt referrer specifier) = 9
-status_of (ModuleNotBuilt asker) = 9
-status_of (Limit which) = 3
+status_of (Trace fault) = trace_status fault
 
 abbrev pub end_of_line : List ℕ
 end_of_line = 10 ∷ []
+
+-- own: the name of a cause
+abbrev pub cause_name : Cause → List ℕ
+cause_name cause.Builtin = codes "Builtin"
+cause_name cause.ExternalUrl = codes "ExternalUrl"
+cause_name cause.InvalidSpecifier = codes "InvalidSpecifier"
+cause_name cause.InvalidConfig = codes "InvalidConfig"
+cause_name cause.InvalidTarget = codes "InvalidTarget"
+cause_name cause.NotExported = codes "NotExported"
+cause_name cause.ImportNotDefined = codes "ImportNotDefined"
+cause_name cause.NotFound = codes "NotFound"
+cause_name cause.DirectoryImport = codes "DirectoryImport"
 
 -- own: two texts, each as a JSON string, behind and between these words
 abbrev pub pair_line : List ℕ → List ℕ → List ℕ → List ℕ → List ℕ
 pair_line front first between second = front ++ (quoted first ++ (between ++ (quoted second ++ end_of_line)))
 
--- own: the line of a refusal
+abbrev pub memory_line : List ℕ
+memory_line = codes "memory" ++ end_of_line
+
+abbrev pub read_fault_line : List ℕ
+read_fault_line = codes "fault: read" ++ end_of_line
+
+abbrev pub write_fault_line : List ℕ
+write_fault_line = codes "fault: write" ++ end_of_line
+
+abbrev pub trace_line : TraceFault → List ℕ
+trace_line (Unservable path url) = pair_line (codes "refused: Unservable ") path (codes " as ") (unwrap_or url [])
+trace_line (Refused referrer specifier why) = codes "refused: " ++ (cause_name why ++ pair_line (codes " from ") referrer (codes " for ") specifier)
+trace_line (RequestNotBuilt referrer specifier) = pair_line (codes "not built: from ") referrer (codes " for ") specifier
+trace_line (ModuleNotBuilt m) = codes "not built: " ++ (quoted m ++ end_of_line)
+trace_line (Limit which) = codes "limit: " ++ (limit_name which ++ (codes " above " ++ (decimal (limit_number which) ++ end_of_line)))
+trace_line ReadFault = read_fault_line
+trace_line Memory = memory_line
+
 abbrev pub line_of : Refusal → List ℕ
 line_of Words = codes "not built: words" ++ end_of_line
 line_of (BadBase text) = codes "words: BadBase " ++ (quoted text ++ end_of_line)
-line_of (Unservable path url) = pair_line (codes "refused: Unservable ") path (codes " as ") url
-line_of (NotFound referrer specifier) = pair_line (codes "refused: NotFound from ") referrer (codes " for ") specifier
-line_of (RequestNotBuilt referrer specifier) = pair_line (codes "not built: from ") referrer (codes " for ") specifier
-line_of (ModuleNotBuilt asker) = codes "not built: " ++ (quoted asker ++ end_of_line)
-line_of (Limit which) = codes "limit: " ++ (limit_name which ++ (codes " above " ++ (decimal (limit_number which) ++ end_of_line)))
+line_of (Trace fault) = trace_line fault
 
--- own: what is said when a map was written, of so many modules, requests and mappings
+-- own: so many modules, requests and mappings
 abbrev pub counts_line : ℕ → ℕ → ℕ → List ℕ
 counts_line modules requests mappings = codes "ok: " ++ (decimal modules ++ (codes " modules, " ++ (decimal requests ++ (codes " requests, " ++ (decimal mappings ++ (codes " mappings" ++ end_of_line))))))
 
 -- own: the modules of the trace without the page, its requests with the entries, and the mappings of its layout
-abbrev pub done_line : List Turn → List ℕ
-done_line trace = counts_line (length trace - 1) (length (flat_map (λ turn. turn.specifiers) trace)) (mapping_count (layout (needs_of trace)))
+abbrev pub done_line : Before → List ℕ
+done_line all = counts_line (length all.modules) all.requests (mapping_count (layout all.needs))

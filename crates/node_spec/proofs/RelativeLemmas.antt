@@ -25,7 +25,7 @@ use Rattle.std.proofs.lemmas.Str.{IsUtf8-from_is_utf8, is_utf8-from_IsUtf8}
 use Rattle.std.proofs.lemmas.Bool.{and_parts}
 
 -- a path that is named passes the test
-names_pass : (text path : List ℕ) → NamesPath text path → (is_utf8 (spelled_path text) && is_path (spelled_path text)) ≡ true
+pub names_pass : (text path : List ℕ) → NamesPath text path → (is_utf8 (spelled_path text) && is_path (spelled_path text)) ≡ true
 names_pass text path names =
     let utf8 : is_utf8 (spelled_path text) ≡ true = is_utf8-from_IsUtf8 (spelled_path text) (subst IsUtf8 names.spelled names.utf8) in
     let path : is_path (spelled_path text) ≡ true = decided_by (path_or_not (spelled_path text)) (subst IsPath names.spelled names.is_path) in

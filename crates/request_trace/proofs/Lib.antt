@@ -3,3 +3,4 @@ pub mod Names
 pub mod TableLemmas
 pub mod Meetings
 pub mod Visiting
+pub mod LeadLemmas

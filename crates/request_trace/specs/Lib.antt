@@ -2,3 +2,4 @@ pub mod Reading
 pub mod Meeting
 pub mod Shown
 pub mod Walking
+pub mod Leads

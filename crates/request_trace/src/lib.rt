@@ -5,6 +5,7 @@
 mod answerer;
 mod config;
 mod following;
+mod lead;
 mod module;
 mod referrer;
 mod requests;

@@ -85,13 +85,7 @@ impl MemFolder {
 impl Folder for MemFolder {
     ghost use Rattle.tree_spec.proofs.DecidedTrees.{known_tree};
 
-    ghost holds = { λ folder. Some (tree_of folder.entries) };
-
-    ghost look_faults = { λ folder. folder.look_faults };
-
-    ghost write_faults = { λ folder. folder.write_faults };
-
-    ghost asked = { λ folder. Some folder.asked };
+    ghost state = { λ folder. record { holds = Some (tree_of folder.entries); asked = Some folder.asked; look_faults = folder.look_faults; write_faults = folder.write_faults } };
 
     ghost told = { λ folder. known_tree (tree_of folder.entries) folder.tree };
 

@@ -40,9 +40,7 @@ impl MemSink {
 }
 
 impl Sink for MemSink {
-    ghost got = { λ sink. Some sink.bytes.items };
-
-    ghost faults = { λ sink. sink.faults };
+    ghost state = { λ sink. record { got = Some sink.bytes.items; faults = sink.faults } };
 
     fn give(&mut self, bytes: &[u8]) -> Result<(), Failed>
         ensures given { OnOk result (self.new.bytes.items ≡ self.old.bytes.items ++ bytes.now) }

@@ -36,9 +36,7 @@ impl MemSource {
 }
 
 impl Source for MemSource {
-    ghost left = { λ source. Some (drop source.at source.bytes) };
-
-    ghost faults = { λ source. source.faults };
+    ghost state = { λ source. record { left = Some (drop source.at source.bytes); faults = source.faults } };
 
     fn take(&mut self, into: &mut [u8]) -> Result<usize, Failed>
         ensures within { IfOk result (λ count. count ≤ length into.old) }

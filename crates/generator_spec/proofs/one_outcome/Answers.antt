@@ -1,5 +1,0 @@
-use Rattle.generator_spec.specs.Outcomes.{one_outcome}
-use Rattle.generator_spec.proofs.one_outcome.Goals as goal
-
-pub returns : goal.returns
-returns c = one_outcome
