@@ -1,11 +1,1 @@
-pub mod Statements
-pub mod Kept
-pub mod Answering
-pub mod Needs
-pub mod Modules
-pub mod Turns
-pub mod Walks
-pub mod LinkWords
 pub mod Endings
-pub mod Refusals
-pub mod Outcomes

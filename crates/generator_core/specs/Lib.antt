@@ -1,6 +1,1 @@
-pub mod Reading
-pub mod Files
-pub mod Answering
-pub mod Faults
-pub mod Walking
-pub mod Running
+pub mod Writing

@@ -1,16 +1,7 @@
-//! The top call: from the words of a command line to a status, with the folder and the streams that are handed in.
+//! The whole program as one call: the words of the command line, a folder and an output are handed to `run`, which does what the words say, tells
+//! of it, and answers the exit status.
 #![tactic(auto)]
 
-mod answer;
-mod command;
-mod config;
-mod files;
-mod lines;
-mod module;
-mod module_text;
-mod stop;
-mod trace;
-mod walk;
-mod words;
+mod running;
 
-pub use command::run;
+pub use running::run;

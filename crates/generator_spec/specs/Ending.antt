@@ -3,6 +3,7 @@
 --     Linked words tree told         the map of the told tree was written, and it serves
 --     Says words before after status line      why a command ends with this status and this line
 --     Ends status line out out_after result    the line went out and the status is answered, or the output failed
+--     TellsRefusal why out out_after result    the same of a refusal, or of want of memory in its place
 use Rattle.std.specs.Prelude.{◌≡◌, ◌≤◌, ◌⊎◌, ◌++◌, ℕ, List, [], Option, Some, None, IfSome, option_map, take, codes}
 use Rattle.tree_spec.specs.declared.Entry.TheVariants.{Stored}
 use Rattle.tree_spec.specs.declared.LimitName.{LimitName}
@@ -81,6 +82,11 @@ pub record Gives (out out_after : Option (List ℕ)) (line : List ℕ) : Type 0 
 pub data Ends (status : ℕ) (line : List ℕ) (out out_after : SinkState) (result : ℕ) : Type 0 where
   said : result ≡ status → out_after.got ≡ option_map (λ front. front ++ line) out.got → out_after.faults ≡ out.faults → Ends status line out out_after result
   output_fault : result ≡ 5 → Gives out.got out_after.got line → Rose out.faults out_after.faults → Ends status line out out_after result
+
+-- own: a refusal is told, or that memory is wanting
+abbrev pub TellsRefusal : Refusal → SinkState → SinkState → ℕ → Type 0
+TellsRefusal why out out_after result =
+    Ends (status_of why) (line_of why) out out_after result ⊎ Ends 8 memory_line out out_after result
 
 -- ---- the end
 

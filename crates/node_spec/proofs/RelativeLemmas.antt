@@ -17,9 +17,8 @@ use Rattle.node_spec.specs.Resolution.Joins.{no_url, other_host, joined}
 use Rattle.node_spec.specs.Resolution.Resolves.{relative}
 use Rattle.node_spec.specs.RelativeResolution.{as_path, named_path, judged, judged_at, url_judged, joined_judged, relative_resolution}
 use Rattle.url_spec.specs.PathTests.{is_path}
-use Rattle.url_spec.proofs.PathTestLemmas.{holds_by, decided_by}
+use Rattle.url_spec.proofs.PathDecisions.{path_by_test, test_by_path}
 use Rattle.tree_spec.specs.Paths.{IsPath}
-use Rattle.tree_spec.proofs.DecidedTrees.{path_or_not}
 use Rattle.std.specs.Str.{is_utf8}
 use Rattle.std.proofs.lemmas.Str.{IsUtf8-from_is_utf8, is_utf8-from_IsUtf8}
 use Rattle.std.proofs.lemmas.Bool.{and_parts}
@@ -28,7 +27,7 @@ use Rattle.std.proofs.lemmas.Bool.{and_parts}
 pub names_pass : (text path : List ℕ) → NamesPath text path → (is_utf8 (spelled_path text) && is_path (spelled_path text)) ≡ true
 names_pass text path names =
     let utf8 : is_utf8 (spelled_path text) ≡ true = is_utf8-from_IsUtf8 (spelled_path text) (subst IsUtf8 names.spelled names.utf8) in
-    let path : is_path (spelled_path text) ≡ true = decided_by (path_or_not (spelled_path text)) (subst IsPath names.spelled names.is_path) in
+    let path : is_path (spelled_path text) ≡ true = test_by_path (spelled_path text) (subst IsPath names.spelled names.is_path) in
     ap (λ b. b && is_path (spelled_path text)) utf8 ∙ path
 
 module _ (tree : Tree) where
@@ -42,7 +41,7 @@ module _ (tree : Tree) where
   by_name url e true t =
       let path : List ℕ = spelled_path (url_path url) in
       let parts = and_parts _ _ t in
-      let names : NamesPath (url_path url) path = record { no_separator = e; spelled = refl; utf8 = IsUtf8-from_is_utf8 path parts.0; is_path = holds_by (path_or_not path) parts.1 } in
+      let names : NamesPath (url_path url) path = record { no_separator = e; spelled = refl; utf8 = IsUtf8-from_is_utf8 path parts.0; is_path = path_by_test path parts.1 } in
       subst (λ o. Judges tree url (outcome (get tree) (judged_at url o))) (sym (cond-true _ (Some path) None t)) (by_entry url path names (get tree path) refl (is_folder_path (url_path url)) refl)
   by_name url e false t =
       let path : List ℕ = spelled_path (url_path url) in

@@ -8,11 +8,10 @@ use mathlib.Core.Logic.{inl, inr}
 use Rattle.asking_spec.specs.Askings.{answered, ask}
 use Rattle.tree_spec.specs.declared.Entry.{Entry}
 use Rattle.tree_spec.specs.declared.Entry.TheVariants.{Stored, Directory}
-use Rattle.tree_spec.proofs.DecidedTrees.{path_or_not}
 use Rattle.url_spec.specs.FileUrls.{names_host, url_path, escapes_separator, spelled_path, NamesPath, IsPlace}
 use Rattle.url_spec.specs.Suffixes.{suffix_of}
 use Rattle.url_spec.specs.PathTests.{is_path}
-use Rattle.url_spec.proofs.PathTestLemmas.{holds_by}
+use Rattle.url_spec.proofs.PathDecisions.{path_by_test}
 use Rattle.node_spec.specs.declared.Cause.TheVariants.{InvalidSpecifier, NotFound}
 use Rattle.node_spec.specs.Resolution as node
 use Rattle.node_spec.specs.Resolution.{is_folder_path}
@@ -31,7 +30,7 @@ named_none url no_separator none =
     elim (cases_Bool (is_utf8 path && is_path path)) [
       | inl both ↦
         let parts = and_parts _ _ both in
-        absurd (none path (record { no_separator = no_separator; spelled = refl; utf8 = IsUtf8-from_is_utf8 path parts.0; is_path = holds_by (path_or_not path) parts.1 }))
+        absurd (none path (record { no_separator = no_separator; spelled = refl; utf8 = IsUtf8-from_is_utf8 path parts.0; is_path = path_by_test path parts.1 }))
       | inr lost ↦ cond-false _ (Some path) None lost
     ]
 

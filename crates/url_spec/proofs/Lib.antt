@@ -9,4 +9,5 @@ pub mod FileUrls
 pub mod OwnTexts
 pub mod FileNames
 pub mod examples
+pub mod PathDecisions
 pub mod PathTestLemmas

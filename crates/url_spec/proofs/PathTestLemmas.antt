@@ -7,19 +7,10 @@ use Rattle.std.proofs.lemmas.Bool.{and_parts}
 use Rattle.std.proofs.lemmas.Str.{IsUtf8-from_is_utf8, is_utf8-from_IsUtf8}
 use Rattle.std.proofs.lemmas.Slice.Eq.{bytes_eq-Decides}
 use Rattle.std.proofs.Math.Seq.{drop-append_seam}
-use Rattle.tree_spec.proofs.DecidedTrees.{path_or_not}
-use Rattle.tree_spec.specs.Paths.{IsPath}
 use Rattle.url_spec.specs.Suffixes.{before_suffix}
 use Rattle.url_spec.specs.ServedPaths.{holds_escape, segments, read_segment, IsServed}
-use Rattle.url_spec.specs.PathTests.{decided, is_path, spells, is_served}
-
-pub holds_by : {P : Type 0} (d : P ⊎ (P → ⊥)) → decided d ≡ true → P
-holds_by (inl p) e = p
-holds_by (inr n) e = absurd (cc)
-
-pub decided_by : {P : Type 0} (d : P ⊎ (P → ⊥)) → P → decided d ≡ true
-decided_by (inl p) q = refl
-decided_by (inr n) q = absurd (n q)
+use Rattle.url_spec.specs.PathTests.{is_path, spells, is_served}
+use Rattle.url_spec.proofs.PathDecisions.{path_by_test, test_by_path}
 
 not_false : (b : Bool) → not b ≡ true → b ≡ false
 not_false true e = absurd (cc)
@@ -41,7 +32,7 @@ served_by_test base url path e =
       no_slash = not_false _ first.0;
       spelled = (bytes_eq-Decides _ _).0 first.1;
       utf8 = IsUtf8-from_is_utf8 path second.1;
-      is_path = holds_by (path_or_not path) third.1;
+      is_path = path_by_test path third.1;
     }
 
 pub test_by_served : (base url path : List ℕ) → IsServed base url path → is_served base url path ≡ true
@@ -52,4 +43,4 @@ test_by_served base url path served =
     let no_slash : holds_escape (codes "%2f") rest ≡ false = subst (λ r. holds_escape (codes "%2f") r ≡ false) (sym is_rest) served.no_slash in
     let spelled : path ≡ flat_map read_segment (segments rest) = served.spelled ∙ ap (λ r. flat_map read_segment (segments r)) (sym is_rest) in
     both _ _ ((bytes_eq-Decides _ _).1 below)
-    (both _ _ (both _ _ (both _ _ (ap not no_slash) ((bytes_eq-Decides _ _).1 spelled)) (is_utf8-from_IsUtf8 path served.utf8)) (decided_by (path_or_not path) served.is_path))
+    (both _ _ (both _ _ (both _ _ (ap not no_slash) ((bytes_eq-Decides _ _).1 spelled)) (is_utf8-from_IsUtf8 path served.utf8)) (test_by_path path served.is_path))

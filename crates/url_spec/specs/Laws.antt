@@ -1,6 +1,6 @@
 -- The laws of URLs as texts. Each is the contract of a function of this crate.
 --     IsNoStart b      the byte is neither a letter nor one that the URL parser trims or drops
-use Rattle.std.specs.Prelude.{◌≡◌, ℕ, List, Some, None, false, [], ◌∷◌, ◌≢◌, ◌<◌, ◌++◌, drop, All, codes, Bool, Option, Ok}
+use Rattle.std.specs.Prelude.{◌≡◌, ◌↔◌, ℕ, List, Some, None, true, false, [], ◌∷◌, ◌≢◌, ◌<◌, ◌++◌, drop, All, codes, Bool, Option, Ok}
 use Rattle.std.specs.Char.{is_ascii_alphabetic}
 use Rattle.std.specs.Str.{IsAscii}
 use Rattle.url.specs.Canonical.{IsCanonical}
@@ -10,6 +10,7 @@ use Rattle.url.specs.Parts.{Parts, IsValid}
 use Rattle.tree_spec.specs.Paths.{IsPath}
 use Rattle.url_spec.specs.Bases.{base_of, IsBase}
 use Rattle.url_spec.specs.FileUrls.{IsPlace, file_text, names_host, url_path}
+use Rattle.url_spec.specs.PathTests.{is_path, is_served}
 use Rattle.url_spec.specs.Parsing.{parse_alone, parse_against, IsUrl, text_of}
 use Rattle.url_spec.specs.ServedPaths.{IsServed}
 use Rattle.url_spec.specs.Specifiers.{as_url, ends_in_slash}
@@ -92,3 +93,9 @@ FileUrls =
     (path : List ℕ) (folder : Bool) → IsPath path → All (λ b. b < 256) path → IsUrl (file_text path folder)
     × (names_host (file_text path folder) ≡ false)
     × (file_text path folder ≡ codes "file://" ++ url_path (file_text path folder))
+
+-- own law: the tests of paths, and of what is served, say exactly what they are named for
+abbrev pub PathsAreTested : Type 0
+PathsAreTested =
+    ((text : List ℕ) → (is_path text ≡ true) ↔ IsPath text)
+    × ((base url path : List ℕ) → (is_served base url path ≡ true) ↔ IsServed base url path)

@@ -2,7 +2,7 @@
 //! and their laws as the contracts of functions that do nothing.
 #![tactic(auto)]
 
-ghost use Rattle.url_spec.specs.Laws.{SameAgainst, FilesEndInNoSlash, FileUrls, AsciiUrls, KeptWhole, KeptUrls, NoUrls, OwnUrls, BasesStay, OneServed, OnePlace};
+ghost use Rattle.url_spec.specs.Laws.{SameAgainst, FilesEndInNoSlash, FileUrls, AsciiUrls, KeptWhole, KeptUrls, NoUrls, OwnUrls, BasesStay, OneServed, OnePlace, PathsAreTested};
 ghost use Rattle.url_spec.specs.WorkedExamples.{WorkedExamples};
 
 /// What parsing gives, with or without a base, is the text of a URL, and so is a web name.
@@ -68,6 +68,11 @@ pub fn one_place()
 /// The file URL of a path is a URL without a host, and its path is what follows `file://`.
 pub fn file_urls()
     ensures { FileUrls }
+{}
+
+/// The tests of paths, and of what is served, say exactly what they are named for.
+pub fn paths_are_tested()
+    ensures { PathsAreTested }
 {}
 
 /// Worked examples.

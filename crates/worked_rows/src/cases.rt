@@ -27,7 +27,7 @@ const BELOW_BASE: &str = "{
 ";
 
 /// The rows: maps, refusals, and what isn't built.
-pub static CASES: [Case; 36] = [
+pub static CASES: [Case; 37] = [
     Case {
         words: LINK,
         files: ALONE,
@@ -106,6 +106,17 @@ pub static CASES: [Case; 36] = [
         status: 0,
         line: "ok: 4 modules, 4 requests, 1 mappings\n",
         map: Some(BELOW_BASE),
+    },
+    Case {
+        words: "link --base https://app.test/ ./a.mjs ./b.mjs",
+        files: &[
+            ("/a.mjs", "import \"./c.mjs\";"),
+            ("/b.mjs", "import \"./q.mjs\";"),
+            ("/c.mjs", "x"),
+        ],
+        status: 1,
+        line: "refused: NotFound from \"/b.mjs\" for \"./q.mjs\"\n",
+        map: None,
     },
     Case {
         words: LINK,

@@ -1,0 +1,6 @@
+//! Generation: the map of a folder and a config, or why there is none. It is one call, whose contract is the definition of generation.
+#![tactic(auto)]
+
+mod generated;
+
+pub use generated::{Generated, generate};

@@ -1,0 +1,102 @@
+ghost use Rattle.std.specs.Prelude.{◌≡◌, ◌≤◌, List, ℕ};
+ghost use Rattle.generator_spec.specs.declared.Refusal.{Refusal};
+ghost use Rattle.generator_spec.specs.Words.{IsConfigOf, RefusesWords};
+ghost use Rattle.generator_spec.specs.Ending.{Ends, EndsAs, TellsRefusal};
+ghost use Rattle.generator_core.specs.Writing.{Writes, texts};
+
+use command_words::{WordsFault, config_of};
+use generation::{Generated, generate};
+use generator_spec::Refusal;
+use primitives::Steps;
+use request_trace::Config;
+use run_texts::{done_line, line_of, status_of};
+use std::alloc::Global;
+use std::sync::ledger::Ledger;
+use trace_spec::TraceFault;
+use tree_model::{Folder, Path, PathFault, Sink, Source};
+
+/// Where the map is written.
+const MAP_PATH: &str = "/importmap.json";
+
+/// Does all that the program does: reads the words, generates from the folder, writes the map and says how it ended. Answers the exit status.
+pub fn run<F: Folder, I: Source, O: Sink, L: Ledger>(
+    alloc: Global,
+    words: &[String],
+    folder: &mut F,
+    _input: &mut I,
+    out: &mut O,
+    _steps: &mut Steps<L>,
+) -> u8
+    ensures end { EndsAs (texts words.now) (F.state folder.old) (F.state folder.new) (O.state out.old) (O.state out.new) result }
+    ensures words { (why : Refusal) → RefusesWords (texts words.now) why → (folder.new ≡ folder.old) × TellsRefusal why (O.state out.old) (O.state out.new) result }
+    ensures input { _input.new ≡ _input.old }
+    ensures steps { _steps.new ≡ _steps.old }
+{
+    match config_of(alloc, words) {
+        Ok(config) => link(alloc, folder, &config, out),
+        Err(WordsFault::Refused { refusal }) => refuse(alloc, &refusal, out),
+        Err(WordsFault::Memory) => tell(out, b"memory\n".as_slice(), 8),
+    }
+}
+
+// `link`: generates, writes the map and says so.
+fn link<F: Folder, O: Sink>(alloc: Global, folder: &mut F, config: &Config, out: &mut O) -> u8
+    ensures { (words : List (List ℕ)) → IsConfigOf words config.now → EndsAs words (F.state folder.old) (F.state folder.new) (O.state out.old) (O.state out.new) result }
+{
+    match generate(alloc, folder, config) {
+        Ok(generated) => finish(alloc, folder, &generated, out),
+        Err(TraceFault::ReadFault) => tell(out, b"fault: read\n".as_slice(), 4),
+        Err(TraceFault::Memory) => tell(out, b"memory\n".as_slice(), 8),
+        Err(fault) => refuse(alloc, &Refusal::Trace { fault }, out),
+    }
+}
+
+// Writes the map, and says so.
+fn finish<F: Folder, O: Sink>(
+    alloc: Global,
+    folder: &mut F,
+    generated: &Generated,
+    out: &mut O,
+) -> u8
+    ensures { Writes generated.now (F.state folder.old) (F.state folder.new) (O.state out.old) (O.state out.new) result }
+{
+    let Ok(line) = done_line(
+        alloc,
+        generated.modules,
+        generated.requests,
+        generated.mappings,
+    ) else {
+        return tell(out, b"memory\n".as_slice(), 8);
+    };
+    let path = match Path::parse(alloc, MAP_PATH) {
+        Ok(path) => path,
+        Err(PathFault::Memory) => return tell(out, b"memory\n".as_slice(), 8),
+        Err(PathFault::BadPath) => unreachable!(),
+    };
+    match folder.write(&path, generated.map.as_slice()) {
+        Ok(()) => tell(out, line.as_slice(), 0),
+        Err(_) => tell(out, b"fault: write\n".as_slice(), 5),
+    }
+}
+
+// Says why nothing is written.
+fn refuse<O: Sink>(alloc: Global, refusal: &Refusal, out: &mut O) -> u8
+    ensures tells { TellsRefusal refusal.now (O.state out.old) (O.state out.new) result }
+    ensures later { (O.state out.old).faults ≤ (O.state out.new).faults }
+{
+    match line_of(alloc, refusal) {
+        Ok(line) => tell(out, line.as_slice(), status_of(refusal)),
+        Err(_) => tell(out, b"memory\n".as_slice(), 8),
+    }
+}
+
+// Says a line; where that fails, that is how it ends.
+fn tell<O: Sink>(out: &mut O, line: &[u8], status: u8) -> u8
+    ensures ends { Ends status line.now (O.state out.old) (O.state out.new) result }
+    ensures later { (O.state out.old).faults ≤ (O.state out.new).faults }
+{
+    match out.give(line) {
+        Ok(()) => status,
+        Err(_) => 5,
+    }
+}
