@@ -25,6 +25,3 @@ served_is : served_name (codes "https://app.test/") (codes "/index.html") (Some 
 unfolding as_url web file_text escaped holds_escape percent_encode_byte percent_decode names_host url_path spelled_path parse_alone parse_against text_of url_on_literals is_utf8 chars encode_utf8
 served_is = refl
 
-source_is : source_in (codes "/app.mjs") (Some (Stored (codes "import \"./a%62.mjs\";"))) ≡ Some (record { bytes = codes "import \"./a%62.mjs\";"; specifiers = codes "./a%62.mjs" ∷ [] })
-unfolding as_url web file_text escaped holds_escape percent_encode_byte percent_decode names_host url_path spelled_path parse_alone parse_against text_of url_on_literals is_utf8 chars encode_utf8
-source_is = refl

@@ -3,3 +3,4 @@ pub mod Meeting
 pub mod Shown
 pub mod Walking
 pub mod Leads
+pub mod Tracing

@@ -21,7 +21,9 @@ pub enum Lead {
         suffix: Suffix,
     },
     /// Nowhere, for this cause.
-    Nowhere { cause: Cause },
+    Nowhere {
+        cause: Cause,
+    },
 }
 
 /// Where a relative specifier leads in the file with this URL.

@@ -4,17 +4,21 @@
 
 mod answerer;
 mod config;
+mod folder_trace;
 mod following;
 mod lead;
 mod module;
 mod referrer;
 mod requests;
 mod tables;
+mod traces;
 mod visits;
 
 pub use answerer::{Answerer, NodeAnswer, Source};
 pub use config::Config;
+pub use folder_trace::trace;
 pub use module::Module;
 pub use tables::{Name, Tables};
 pub use trace_spec::TraceFault;
+pub use traces::Trace;
 pub use visits::walk;

@@ -1,0 +1,104 @@
+ghost use Rattle.std.specs.Prelude.{◌≡◌, ◌≤◌, length, slice_get, option_map, option_and_then, option_copied};
+ghost use Rattle.tree_spec.specs.declared.LimitName.TheVariants.{Modules};
+ghost use Rattle.tree_spec.specs.Limits.{limit_number};
+
+use crate::tables::Tables;
+use need_table::Needs;
+use std::marker::Model;
+use tree_model::Path;
+
+/// What a trace holds: the modules in trace order, the source of each, the needs, and how many requests were followed.
+#[derive(Drop)]
+pub struct Trace {
+    tables: Tables,
+}
+
+impl Model for Trace {
+    ghost use Rattle.trace_spec.specs.Checks.{Before};
+    ghost use Rattle.request_trace.specs.Shown.{before_of};
+    ghost use Rattle.request_trace.specs.Tracing.{IsWhole};
+
+    ghost Value = { Before };
+
+    ghost view = { λ t. before_of t.tables };
+
+    ghost invariant = { λ t. IsWhole (before_of t.tables) };
+}
+
+impl Trace {
+    /// The needs, each at its first place.
+    pub fn needs(&self) -> &Needs
+        ensures { result.now ≡ self.now.needs }
+    {
+        &self.tables.needs
+    }
+
+    /// The number of modules.
+    pub fn len(&self) -> usize
+        ensures modules { result ≡ length self.now.modules }
+        ensures sources { result ≡ length self.now.sources }
+        ensures few { result ≤ limit_number Modules }
+    {
+        self.tables.modules.len()
+    }
+
+    /// How many requests were followed, those of the page too.
+    pub fn request_count(&self) -> usize
+        ensures { result ≡ self.now.requests }
+    {
+        self.tables.requests
+    }
+
+    /// The path of the module at a place.
+    pub fn path(&self, place: usize) -> Option<&Path>
+        ensures { option_copied result ≡ option_map (λ m. m.path) (slice_get self.now.modules place) }
+    {
+        match self.tables.modules.get_index(place) {
+            None => None,
+            Some((module, _)) => Some(module.path()),
+        }
+    }
+
+    /// The suffix of the module at a place.
+    pub fn suffix(&self, place: usize) -> Option<&str>
+        ensures { option_copied result ≡ option_map (λ m. m.suffix) (slice_get self.now.modules place) }
+    {
+        match self.tables.modules.get_index(place) {
+            None => None,
+            Some((module, _)) => Some(module.suffix().as_str()),
+        }
+    }
+
+    /// The bytes of the module at a place. Each module has its source, as `len` says.
+    pub fn bytes(&self, place: usize) -> Option<&[u8]>
+        ensures { option_copied result ≡ option_map (λ source. source.bytes) (slice_get self.now.sources place) }
+    {
+        match self.tables.sources.get(place) {
+            None => None,
+            Some(source) => Some(source.bytes.as_bytes()),
+        }
+    }
+
+    /// How many requests the module at a place has.
+    pub fn requests(&self, place: usize) -> Option<usize>
+        ensures { result ≡ option_map (λ source. length source.specifiers) (slice_get self.now.sources place) }
+    {
+        match self.tables.sources.get(place) {
+            None => None,
+            Some(source) => Some(source.specifiers.len()),
+        }
+    }
+
+    /// What the module at a place asks for in its request with this number, counted from 0.
+    pub fn request(&self, place: usize, number: usize) -> Option<&str>
+        ensures { option_copied result ≡ option_and_then (λ source. slice_get source.specifiers number) (slice_get self.now.sources place) }
+    {
+        match self.tables.sources.get(place) {
+            None => None,
+            Some(source) => match source.specifiers.at(number) {
+                None => None,
+                Some(specifier) => Some(specifier.as_str()),
+            },
+        }
+    }
+}
