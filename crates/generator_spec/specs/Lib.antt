@@ -4,3 +4,4 @@ pub mod Headline
 pub mod Lines
 pub mod Outcome
 pub mod Ending
+pub mod Laws

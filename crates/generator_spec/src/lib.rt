@@ -2,6 +2,8 @@
 //! functions that do nothing.
 #![tactic(auto)]
 
+ghost use Rattle.generator_spec.specs.Laws.{OneConfig, OneWordsRefusal, RefusedOrConfig, SomeConfig, OneGeneration, SomeGeneration, NothingRefused};
+
 use primitives::Text;
 use trace_spec::TraceFault;
 
@@ -15,3 +17,38 @@ pub enum Refusal {
     /// There is no trace.
     Trace { fault: TraceFault },
 }
+
+/// Words give one config at most.
+pub fn one_config()
+    ensures { OneConfig }
+{}
+
+/// Words are refused in one way at most.
+pub fn one_words_refusal()
+    ensures { OneWordsRefusal }
+{}
+
+/// Refused words give no config.
+pub fn refused_or_config()
+    ensures { RefusedOrConfig }
+{}
+
+/// Words give a config or are refused.
+pub fn some_config()
+    ensures { SomeConfig }
+{}
+
+/// A tree and a config have one text at most.
+pub fn one_generation()
+    ensures { OneGeneration }
+{}
+
+/// Where the page has no folder's web name, the text of each trace is generated.
+pub fn some_generation()
+    ensures { SomeGeneration }
+{}
+
+/// Where something is generated, nothing is refused.
+pub fn nothing_refused()
+    ensures { NothingRefused }
+{}
