@@ -2,7 +2,7 @@
 //! functions that do nothing.
 #![tactic(auto)]
 
-ghost use Rattle.generator_spec.specs.Laws.{OneConfig, OneWordsRefusal, RefusedOrConfig, SomeConfig, OneGeneration, SomeGeneration, NothingRefused};
+ghost use Rattle.generator_spec.specs.Laws.{OneConfig, OneWordsRefusal, RefusedOrConfig, SomeConfig, PageOfWordsIsFile, OneGeneration, SomeGeneration, NothingRefused, OneOutcome, SomeOutcome};
 
 use primitives::Text;
 use trace_spec::TraceFault;
@@ -51,4 +51,19 @@ pub fn some_generation()
 /// Where something is generated, nothing is refused.
 pub fn nothing_refused()
     ensures { NothingRefused }
+{}
+
+/// The page that words give has no folder's web name.
+pub fn page_of_words_is_file()
+    ensures { PageOfWordsIsFile }
+{}
+
+/// A command over a tree has one outcome at most.
+pub fn one_outcome()
+    ensures { OneOutcome }
+{}
+
+/// A command over a tree has an outcome.
+pub fn some_outcome()
+    ensures { SomeOutcome }
 {}
