@@ -4,3 +4,7 @@ pub mod LastBytes
 pub mod PageNames
 pub mod MapPaths
 pub mod Outcomes
+pub mod Endings
+pub mod ToldLines
+pub mod Meetings
+pub mod KeptPromises

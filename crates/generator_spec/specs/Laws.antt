@@ -1,6 +1,7 @@
 -- The laws of words, generation, outcomes and ends. Each is the contract of a function of this crate.
 use Rattle.std.specs.Prelude.{◌≡◌, ◌⊎◌, ℕ, List, Ok, Err}
 use Rattle.std.specs.FinMap.{get}
+use Rattle.tree_spec.specs.States.{FolderState, SinkState}
 use Rattle.tree_spec.specs.Trees.{Tree, IsTree}
 use Rattle.layout_spec.specs.Layout.{layout}
 use Rattle.layout_spec.specs.PrintedMap.{map_text}
@@ -11,7 +12,10 @@ use Rattle.trace_spec.specs.Traces.{traced}
 use Rattle.generator_spec.specs.declared.Refusal.{Refusal}
 use Rattle.generator_spec.specs.Words.{IsConfigOf, RefusesWords}
 use Rattle.generator_spec.specs.Generation.{PageIsFile, Generates}
+use Rattle.generator_spec.specs.Headline.{Serves}
 use Rattle.generator_spec.specs.Outcome.{Outcome}
+use Rattle.generator_spec.specs.Ending.{EndsAs}
+use Rattle.generator_spec.specs.Promises.{Promises}
 
 -- ---- words
 
@@ -82,3 +86,15 @@ pub record HasOutcome (words : List (List ℕ)) (tree : Tree) : Type 0 where
 -- a command over a tree has an outcome
 abbrev pub SomeOutcome : Type 0
 SomeOutcome = (words : List (List ℕ)) (tree : Tree) → IsTree tree → HasOutcome words tree
+
+-- ---- ends
+
+-- what is generated serves; this is proved where Node's resolution and HTML's are joined
+abbrev pub IsSound : Type 0
+IsSound = (tree : Tree) (config : Config) (bytes : List ℕ) → Generates tree config bytes → Serves tree config bytes
+
+-- where that is so, a run that ends as it must keeps all promises
+abbrev pub EndsKeepPromises : Type 0
+EndsKeepPromises =
+    IsSound → (words : List (List ℕ)) (before after : FolderState) (out out_after : SinkState) (result : ℕ)
+    → EndsAs words before after out out_after result → Promises words before after out out_after result

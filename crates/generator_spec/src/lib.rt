@@ -2,7 +2,7 @@
 //! functions that do nothing.
 #![tactic(auto)]
 
-ghost use Rattle.generator_spec.specs.Laws.{OneConfig, OneWordsRefusal, RefusedOrConfig, SomeConfig, PageOfWordsIsFile, OneGeneration, SomeGeneration, NothingRefused, OneOutcome, SomeOutcome};
+ghost use Rattle.generator_spec.specs.Laws.{OneConfig, OneWordsRefusal, RefusedOrConfig, SomeConfig, PageOfWordsIsFile, OneGeneration, SomeGeneration, NothingRefused, OneOutcome, SomeOutcome, EndsKeepPromises};
 
 use primitives::Text;
 use trace_spec::TraceFault;
@@ -66,4 +66,9 @@ pub fn one_outcome()
 /// A command over a tree has an outcome.
 pub fn some_outcome()
     ensures { SomeOutcome }
+{}
+
+/// A run that ends as it must keeps all promises, if what is generated serves.
+pub fn ends_keep_promises()
+    ensures { EndsKeepPromises }
 {}
