@@ -20,7 +20,7 @@ use Rattle.generator_spec.specs.Promises.{IsRefusalStatus, Shows}
 -- ---- statuses
 
 -- own: the statuses of a refusal
-pub data IsRefusing (status : ℕ) : Type 0 where
+data IsRefusing (status : ℕ) : Type 0 where
   one : status ≡ 1 → IsRefusing status
   two : status ≡ 2 → IsRefusing status
   three : status ≡ 3 → IsRefusing status
@@ -39,9 +39,12 @@ trace_refusing config (fault.Limit which) kind = three refl
 trace_refusing config fault.ReadFault kind = absurd kind
 trace_refusing config fault.Memory kind = absurd kind
 
-pub shaped_status : (words : List (List ℕ)) (status : ℕ) (line : List ℕ) → Shaped words status line → (status ≡ 0) ⊎ IsRefusing status
-shaped_status words status line (shaped.words_refused why refuses s l) = inr (subst IsRefusing (sym s) (words_refusing words why refuses))
-shaped_status words status line (shaped.trace_refused config why is kind s l) = inr (subst IsRefusing (sym s) (trace_refusing config why kind))
+shaped_status :
+    (words : List (List ℕ)) (status : ℕ) (line : List ℕ) → Shaped words status line → (status ≡ 0) ⊎ IsRefusing status
+shaped_status words status line (shaped.words_refused why refuses s l) =
+    inr (subst IsRefusing (sym s) (words_refusing words why refuses))
+shaped_status words status line (shaped.trace_refused config why is kind s l) =
+    inr (subst IsRefusing (sym s) (trace_refusing config why kind))
 shaped_status words status line (shaped.done s counted) = inl s
 
 refusal_status : (status : ℕ) → IsRefusing status → IsRefusalStatus status
@@ -50,25 +53,32 @@ refusal_status status (two e) = inr (inl e)
 refusal_status status (three e) = inr (inr (inl e))
 refusal_status status (nine e) = inr (inr (inr (inr (inr e))))
 
-pub no_refusing : (status : ℕ) → IsRefusing status → (status ≢ 0) × (status ≢ 4) × (status ≢ 5)
+no_refusing : (status : ℕ) → IsRefusing status → (status ≢ 0) × (status ≢ 4) × (status ≢ 5)
 no_refusing status (one e) = (λ f. omega arith, λ f. omega arith, λ f. omega arith)
 no_refusing status (two e) = (λ f. omega arith, λ f. omega arith, λ f. omega arith)
 no_refusing status (three e) = (λ f. omega arith, λ f. omega arith, λ f. omega arith)
 no_refusing status (nine e) = (λ f. omega arith, λ f. omega arith, λ f. omega arith)
 
-trace_not_zero : (why : TraceFault) → trace_status why ≢ 0
-trace_not_zero (fault.Unservable path url) e = omega (arith, e)
-trace_not_zero (fault.Refused referrer specifier cause) e = omega (arith, e)
-trace_not_zero (fault.RequestNotBuilt referrer specifier) e = omega (arith, e)
-trace_not_zero (fault.ModuleNotBuilt m) e = omega (arith, e)
-trace_not_zero (fault.Limit which) e = omega (arith, e)
-trace_not_zero fault.ReadFault e = omega (arith, e)
-trace_not_zero fault.Memory e = omega (arith, e)
+trace_not : (why : TraceFault) → (trace_status why ≢ 0) × (trace_status why ≢ 2)
+trace_not (fault.Unservable path url) = (λ e. omega (arith, e), λ e. omega (arith, e))
+trace_not (fault.Refused referrer specifier cause) = (λ e. omega (arith, e), λ e. omega (arith, e))
+trace_not (fault.RequestNotBuilt referrer specifier) = (λ e. omega (arith, e), λ e. omega (arith, e))
+trace_not (fault.ModuleNotBuilt m) = (λ e. omega (arith, e), λ e. omega (arith, e))
+trace_not (fault.Limit which) = (λ e. omega (arith, e), λ e. omega (arith, e))
+trace_not fault.ReadFault = (λ e. omega (arith, e), λ e. omega (arith, e))
+trace_not fault.Memory = (λ e. omega (arith, e), λ e. omega (arith, e))
 
-pub refusal_not_zero : (why : Refusal) → status_of why ≢ 0
+refusal_not_zero : (why : Refusal) → status_of why ≢ 0
 refusal_not_zero refusal.Words e = omega (arith, e)
 refusal_not_zero (refusal.BadBase text) e = omega (arith, e)
-refusal_not_zero (refusal.Trace why) e = trace_not_zero why e
+refusal_not_zero (refusal.Trace why) e = (trace_not why).0 e
+
+-- status 2 is that of a bad base
+bad_base_of :
+    (words : List (List ℕ)) (why : Refusal) → RefusesWords words why → status_of why ≡ 2
+    → (base : List ℕ) × RefusesWords words (refusal.BadBase base)
+bad_base_of words why (no_link none) is_two = absurd (omega arith)
+bad_base_of words why (bad_base base entries link none) is_two = (base, bad_base base entries link none)
 
 abbrev IsStatus : ℕ → Type 0
 IsStatus status = (status ≡ 0) ⊎ (status ≡ 5) ⊎ IsRefusalStatus status
@@ -86,36 +96,47 @@ abbrev pub HasOutcomeIn : List (List ℕ) → ℕ → List ℕ → Option Tree �
 HasOutcomeIn words status line told tree = (later : Tree) × Outcome words tree status line later × (told ≡ Some later)
 
 -- a refusal leaves the tree as it was
-unmoved : (words : List (List ℕ)) (tree : Tree) (status : ℕ) (line : List ℕ) (later : Tree) → Outcome words tree status line later → status ≢ 0 → later ≡ tree
+unmoved :
+    (words : List (List ℕ)) (tree : Tree) (status : ℕ) (line : List ℕ) (later : Tree)
+    → Outcome words tree status line later → status ≢ 0 → later ≡ tree
 unmoved words tree status line later (outcome.words_refused why refuses s l same) other = same
 unmoved words tree status line later (outcome.trace_refused config why is refused s l same) other = same
 unmoved words tree status line later (outcome.done config bytes is generates s l placed) other = absurd (other s)
 
-pub kept_where_refused :
-    (words : List (List ℕ)) (status : ℕ) (line : List ℕ) (held told : Option Tree) → (held ≡ None → told ≡ None) → status ≢ 0
+kept_where_refused :
+    (words : List (List ℕ)) (status : ℕ) (line : List ℕ) (held told : Option Tree) → (held ≡ None → told ≡ None)
+    → status ≢ 0
     → IfSome held (HasOutcomeIn words status line told) → told ≡ held
 kept_where_refused words status line None told untold other here = untold refl
-kept_where_refused words status line (Some tree) told untold other here = here.2 ∙ ap Some (unmoved words tree status line here.0 here.1 other)
+kept_where_refused words status line (Some tree) told untold other here =
+    here.2 ∙ ap Some (unmoved words tree status line here.0 here.1 other)
 
 outcome_links :
-    (sound : IsSound) (words : List (List ℕ)) (tree : Tree) (status : ℕ) (line : List ℕ) (told : Option Tree) (later : Tree)
+    (sound : IsSound) (words : List (List ℕ)) (tree : Tree) (status : ℕ) (line : List ℕ) (told : Option Tree)
+    (later : Tree)
     → Outcome words tree status line later → told ≡ Some later → status ≡ 0 → Linked words tree told
-outcome_links sound words tree status line told later (outcome.words_refused why refuses s l same) is zero = absurd (refusal_not_zero why (sym s ∙ zero))
-outcome_links sound words tree status line told later (outcome.trace_refused config why is_config refused s l same) is zero = absurd (trace_not_zero why (sym s ∙ zero))
-outcome_links sound words tree status line told later (outcome.done config bytes is_config generates s l placed) is zero = record {
-  bytes = bytes;
-  line = line;
-  generated = record { config = config; is_config = is_config; generates = generates; says = l };
-  serves = sound tree config bytes generates;
-  written = record { after = later; is_told = is; placed = placed };
-}
+outcome_links sound words tree status line told later (outcome.words_refused why refuses s l same) is zero =
+    absurd (refusal_not_zero why (sym s ∙ zero))
+outcome_links sound words tree status line told later
+    (outcome.trace_refused config why is_config refused s l same) is zero =
+    absurd ((trace_not why).0 (sym s ∙ zero))
+outcome_links sound words tree status line told later
+    (outcome.done config bytes is_config generates s l placed) is zero =
+    record {
+      bytes = bytes;
+      line = line;
+      generated = record { config = config; is_config = is_config; generates = generates; says = l };
+      serves = sound tree config bytes generates;
+      written = record { after = later; is_told = is; placed = placed };
+    }
 
 -- where a map was to be written, it was
 pub linked_where_done :
     (sound : IsSound) (words : List (List ℕ)) (status : ℕ) (line : List ℕ) (held told : Option Tree) → status ≡ 0
     → IfSome held (HasOutcomeIn words status line told) → IfSome held (λ tree. Linked words tree told)
 linked_where_done sound words status line None told zero here = tt
-linked_where_done sound words status line (Some tree) told zero here = outcome_links sound words tree status line told here.0 here.1 here.2 zero
+linked_where_done sound words status line (Some tree) told zero here =
+    outcome_links sound words tree status line told here.0 here.1 here.2 zero
 
 -- ---- what the status says
 
@@ -126,9 +147,12 @@ module _ (words : List (List ℕ)) (before after : FolderState) (status : ℕ) (
   said_status (says.read_fault s t k rose w) = inr (inr (inr (inr (inr (inl s)))))
   said_status (says.write_fault bytes done counted generated s t k l rose) = inr (inl s)
 
-  said_kept : (before.holds ≡ None → after.holds ≡ None) → Says words before after status line → IsRefusalStatus status → after.holds ≡ before.holds
+  said_kept :
+      (before.holds ≡ None → after.holds ≡ None) → Says words before after status line → IsRefusalStatus status
+      → after.holds ≡ before.holds
   said_kept untold (says.outcome shape o l w) refused =
-      kept_where_refused words status line before.holds after.holds untold (λ zero. no_refusal_status status (inl zero) refused) o
+      kept_where_refused words status line before.holds after.holds untold
+      (λ zero. no_refusal_status status (inl zero) refused) o
   said_kept untold (says.memory s t k l w) refused = k
   said_kept untold (says.read_fault s t k rose w) refused = k
   said_kept untold (says.write_fault bytes done counted generated s t k l rose) refused = k
@@ -139,38 +163,28 @@ module _ (words : List (List ℕ)) (before after : FolderState) (status : ℕ) (
   outcome_not n (inr five) (inr refusing) e = (no_refusing status refusing).2 (e ∙ five)
 
   said_read : Says words before after status line → status ≡ 4 → Rose before.look_faults after.look_faults
-  said_read (says.outcome shape o l w) four = absurd (outcome_not 4 (inl refl) (shaped_status words status line shape) four)
+  said_read (says.outcome shape o l w) four =
+      absurd (outcome_not 4 (inl refl) (shaped_status words status line shape) four)
   said_read (says.memory s t k l w) four = absurd (omega arith)
   said_read (says.read_fault s t k rose w) four = rose
   said_read (says.write_fault bytes done counted generated s t k l rose) four = absurd (omega arith)
 
   said_write : Says words before after status line → status ≡ 5 → Rose before.write_faults after.write_faults
-  said_write (says.outcome shape o l w) five = absurd (outcome_not 5 (inr refl) (shaped_status words status line shape) five)
+  said_write (says.outcome shape o l w) five =
+      absurd (outcome_not 5 (inr refl) (shaped_status words status line shape) five)
   said_write (says.memory s t k l w) five = absurd (omega arith)
   said_write (says.read_fault s t k rose w) five = absurd (omega arith)
   said_write (says.write_fault bytes done counted generated s t k l rose) five = rose
 
   -- ---- the base
 
-  bad_base_of : (why : Refusal) → RefusesWords words why → status_of why ≡ 2 → (base : List ℕ) × RefusesWords words (refusal.BadBase base)
-  bad_base_of why (no_link none) is_two = absurd (omega arith)
-  bad_base_of why (bad_base base entries link none) is_two = (base, bad_base base entries link none)
-
-  trace_not_two : (why : TraceFault) → trace_status why ≢ 2
-  trace_not_two (fault.Unservable path url) e = omega (arith, e)
-  trace_not_two (fault.Refused referrer specifier cause) e = omega (arith, e)
-  trace_not_two (fault.RequestNotBuilt referrer specifier) e = omega (arith, e)
-  trace_not_two (fault.ModuleNotBuilt m) e = omega (arith, e)
-  trace_not_two (fault.Limit which) e = omega (arith, e)
-  trace_not_two fault.ReadFault e = omega (arith, e)
-  trace_not_two fault.Memory e = omega (arith, e)
-
   shaped_two : Shaped words status line → status ≡ 2 → (base : List ℕ) × RefusesWords words (refusal.BadBase base)
-  shaped_two (shaped.words_refused why refuses s l) is_two = bad_base_of why refuses (sym s ∙ is_two)
-  shaped_two (shaped.trace_refused config why is kind s l) is_two = absurd (trace_not_two why (sym s ∙ is_two))
+  shaped_two (shaped.words_refused why refuses s l) is_two = bad_base_of words why refuses (sym s ∙ is_two)
+  shaped_two (shaped.trace_refused config why is kind s l) is_two = absurd ((trace_not why).1 (sym s ∙ is_two))
   shaped_two (shaped.done s counted) is_two = absurd (omega arith)
 
-  said_two : Says words before after status line → status ≡ 2 → (base : List ℕ) × RefusesWords words (refusal.BadBase base)
+  said_two :
+      Says words before after status line → status ≡ 2 → (base : List ℕ) × RefusesWords words (refusal.BadBase base)
   said_two (says.outcome shape o l w) is_two = shaped_two shape is_two
   said_two (says.memory s t k l w) is_two = absurd (omega arith)
   said_two (says.read_fault s t k rose w) is_two = absurd (omega arith)
@@ -198,32 +212,42 @@ module _ (words : List (List ℕ)) (before after : FolderState) (status : ℕ) (
 
 -- ---- what the answer says
 
-module _ (words : List (List ℕ)) (before after : FolderState) (out out_after : SinkState) (result status : ℕ) (line : List ℕ) (s : Says words before after status line) where
+module _ (words : List (List ℕ)) (before after : FolderState) (out out_after : SinkState) (result status : ℕ)
+    (line : List ℕ) (s : Says words before after status line) where
   pub end_statuses : Ends status line out out_after result → IsStatus result
   end_statuses (ends.said is given quiet) = subst IsStatus (sym is) (said_status words before after status line s)
   end_statuses (ends.output_fault is gives rose) = inr (inl is)
 
-  pub end_kept : (before.holds ≡ None → after.holds ≡ None) → Ends status line out out_after result → IsRefusalStatus result → after.holds ≡ before.holds
-  end_kept untold (ends.said is given quiet) refused = said_kept words before after status line untold s (subst IsRefusalStatus is refused)
+  pub end_kept :
+      (before.holds ≡ None → after.holds ≡ None) → Ends status line out out_after result → IsRefusalStatus result
+      → after.holds ≡ before.holds
+  end_kept untold (ends.said is given quiet) refused =
+      said_kept words before after status line untold s (subst IsRefusalStatus is refused)
   end_kept untold (ends.output_fault is gives rose) refused = absurd (no_refusal_status result (inr is) refused)
 
   pub end_read : Ends status line out out_after result → result ≡ 4 → Rose before.look_faults after.look_faults
   end_read (ends.said is given quiet) four = said_read words before after status line s (sym is ∙ four)
   end_read (ends.output_fault is gives rose) four = absurd (omega arith)
 
-  pub end_write : Ends status line out out_after result → result ≡ 5 → Rose before.write_faults after.write_faults ⊎ Rose out.faults out_after.faults
+  pub end_write :
+      Ends status line out out_after result → result ≡ 5
+      → Rose before.write_faults after.write_faults ⊎ Rose out.faults out_after.faults
   end_write (ends.said is given quiet) five = inl (said_write words before after status line s (sym is ∙ five))
   end_write (ends.output_fault is gives rose) five = inr rose
 
-  pub end_two : Ends status line out out_after result → result ≡ 2 → (base : List ℕ) × RefusesWords words (refusal.BadBase base)
+  pub end_two :
+      Ends status line out out_after result → result ≡ 2 → (base : List ℕ) × RefusesWords words (refusal.BadBase base)
   end_two (ends.said is given quiet) is_two = said_two words before after status line s (sym is ∙ is_two)
   end_two (ends.output_fault is gives rose) is_two = absurd (omega arith)
 
-  looks_show : Ends status line out out_after result → after.look_faults ≢ before.look_faults → (result ≡ 4) ⊎ (result ≡ 5)
+  looks_show :
+      Ends status line out out_after result → after.look_faults ≢ before.look_faults → (result ≡ 4) ⊎ (result ≡ 5)
   looks_show (ends.said is given quiet) changed = inl (is ∙ said_looks words before after status line s changed)
   looks_show (ends.output_fault is gives rose) changed = inr is
 
-  looks_alone : Ends status line out out_after result → after.look_faults ≢ before.look_faults → (Rose out.faults out_after.faults → ⊥) → result ≡ 4
+  looks_alone :
+      Ends status line out out_after result → after.look_faults ≢ before.look_faults
+      → (Rose out.faults out_after.faults → ⊥) → result ≡ 4
   looks_alone (ends.said is given quiet) changed none = is ∙ said_looks words before after status line s changed
   looks_alone (ends.output_fault is gives rose) changed none = absurd (none rose)
 
@@ -235,8 +259,11 @@ module _ (words : List (List ℕ)) (before after : FolderState) (out out_after :
   output_shows (ends.said is given quiet) changed = absurd (changed quiet)
   output_shows (ends.output_fault is gives rose) changed = is
 
-  read_alone : Ends status line out out_after result → result ≡ 4 → (after.write_faults ≡ before.write_faults) × (out_after.faults ≡ out.faults)
-  read_alone (ends.said is given quiet) four = (writes_unless words before after status line s (λ five. omega arith), quiet)
+  read_alone :
+      Ends status line out out_after result → result ≡ 4
+      → (after.write_faults ≡ before.write_faults) × (out_after.faults ≡ out.faults)
+  read_alone (ends.said is given quiet) four =
+      (writes_unless words before after status line s (λ five. omega arith), quiet)
   read_alone (ends.output_fault is gives rose) four = absurd (omega arith)
 
   pub end_shows : Ends status line out out_after result → Shows before after out out_after result

@@ -1,5 +1,4 @@
 -- A run that ends as it must keeps all promises.
-use Rattle.std.proofs.Common.{◌≡◌, ℕ}
 use Rattle.generator_spec.specs.Laws.{EndsKeepPromises}
 use Rattle.generator_spec.proofs.Endings.{end_statuses, end_kept, end_read, end_write, end_two, end_shows}
 use Rattle.generator_spec.proofs.ToldLines.{end_tells}

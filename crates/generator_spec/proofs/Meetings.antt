@@ -1,5 +1,5 @@
 -- What an end has to do with the outcome that is defined.
-use Rattle.std.proofs.Common.{◌≡◌, ◌≢◌, ◌⊎◌, ◌++◌, ℕ, List, Option, Some, None, IfSome, inl, inr, refl, sym, ap, ◌∙◌, subst, arith}
+use Rattle.std.proofs.Common.{◌≡◌, ◌≢◌, ◌⊎◌, ◌++◌, ℕ, List, Option, Some, None, IfSome, inl, inr, refl, sym, ap, ◌∙◌, subst}
 use Rattle.std.specs.Prelude.{option_map}
 use Rattle.tree_spec.specs.States.{FolderState, SinkState}
 use Rattle.tree_spec.specs.Trees.{Tree}
@@ -24,19 +24,31 @@ if_told (Some tree) f = f tree refl
 no_map :
     (words : List (List ℕ)) (tree : Tree) (bytes done : List ℕ) (expected : ℕ) (text : List ℕ) (later : Tree)
     → IsGenerated words tree bytes done → Outcome words tree expected text later → expected ≢ 0 → ⊥
-no_map words tree bytes done expected text later generated (outcome.words_refused why refused s l same) other = refused_or_config words why generated.config refused generated.is_config
-no_map words tree bytes done expected text later generated (outcome.trace_refused config why is refused s l same) other =
-    refused_or_generated tree generated.config config bytes why (one_config words generated.config config generated.is_config is) generated.generates refused
-no_map words tree bytes done expected text later generated (outcome.done config some is generates s l placed) other = other s
+no_map words tree bytes done expected text later generated (outcome.words_refused why refused s l same) other =
+    refused_or_config words why generated.config refused generated.is_config
+no_map words tree bytes done expected text later generated
+    (outcome.trace_refused config why is refused s l same) other =
+    refused_or_generated tree generated.config config bytes why
+    (one_config words generated.config config generated.is_config is) generated.generates refused
+no_map words tree bytes done expected text later generated (outcome.done config some is generates s l placed) other =
+    other s
 
-module _ (words : List (List ℕ)) (tree : Tree) (before after : FolderState) (out out_after : SinkState) (result status : ℕ) (line : List ℕ) (told : before.holds ≡ Some tree) where
-  told_outcome : IfSome before.holds (HasOutcomeIn words status line after.holds) → HasOutcomeIn words status line after.holds tree
+module _ (words : List (List ℕ)) (tree : Tree) (before after : FolderState) (out out_after : SinkState)
+    (result status : ℕ) (line : List ℕ) (told : before.holds ≡ Some tree) where
+  told_outcome :
+      IfSome before.holds (HasOutcomeIn words status line after.holds)
+      → HasOutcomeIn words status line after.holds tree
   told_outcome o = told_there (HasOutcomeIn words status line after.holds) before.holds tree told o
 
-  with_memory : result ≡ status → out_after.got ≡ option_map (λ front. front ++ line) out.got → status ≡ 8 → line ≡ memory_line → after.holds ≡ before.holds → Stands 8 memory_line before.holds after out out_after result
-  with_memory is given s t k = record { answered = is ∙ s; given = given ∙ ap (λ l. option_map (λ front. front ++ l) out.got) t; told = k }
+  with_memory :
+      result ≡ status → out_after.got ≡ option_map (λ front. front ++ line) out.got → status ≡ 8 → line ≡ memory_line
+      → after.holds ≡ before.holds → Stands 8 memory_line before.holds after out out_after result
+  with_memory is given s t k =
+      record { answered = is ∙ s; given = given ∙ ap (λ l. option_map (λ front. front ++ l) out.got) t; told = k }
 
-  finishes : Quiet before after out out_after → Says words before after status line → Ends status line out out_after result → Finishes words tree before after out out_after result
+  finishes :
+      Quiet before after out out_after → Says words before after status line → Ends status line out out_after result
+      → Finishes words tree before after out out_after result
   finishes none (says.outcome shape o l w) (ends.said is given quiet) =
       let here = told_outcome o in
       finish.finished status line here.0 here.1 (record { answered = is; given = given; told = here.2 })
@@ -47,7 +59,8 @@ module _ (words : List (List ℕ)) (tree : Tree) (before after : FolderState) (o
   finishes none (says.memory s t k l w) (ends.output_fault is gives rose) = absurd (none.output rose)
 
   module _ (expected : ℕ) (text : List ℕ) (later : Tree) (result_is : Outcome words tree expected text later) where
-    same_outcome : (here : HasOutcomeIn words status line after.holds tree) → SameOutcome status expected line text here.0 later
+    same_outcome :
+        (here : HasOutcomeIn words status line after.holds tree) → SameOutcome status expected line text here.0 later
     same_outcome here = one_outcome words tree status expected line text here.0 later here.1 result_is
 
     status_is : Says words before after status line → (status ≡ expected) ⊎ (status ≡ 8) ⊎ (status ≡ 4) ⊎ (status ≡ 5)
@@ -56,11 +69,16 @@ module _ (words : List (List ℕ)) (tree : Tree) (before after : FolderState) (o
     status_is (says.read_fault s t k rose w) = inr (inr (inl s))
     status_is (says.write_fault bytes done counted generated s t k l rose) = inr (inr (inr s))
 
-    exactly : Says words before after status line → Ends status line out out_after result → (result ≡ expected) ⊎ (result ≡ 8) ⊎ (result ≡ 4) ⊎ (result ≡ 5)
-    exactly s (ends.said is given quiet) = subst (λ n. (n ≡ expected) ⊎ (n ≡ 8) ⊎ (n ≡ 4) ⊎ (n ≡ 5)) (sym is) (status_is s)
+    exactly :
+        Says words before after status line → Ends status line out out_after result
+        → (result ≡ expected) ⊎ (result ≡ 8) ⊎ (result ≡ 4) ⊎ (result ≡ 5)
+    exactly s (ends.said is given quiet) =
+        subst (λ n. (n ≡ expected) ⊎ (n ≡ 8) ⊎ (n ≡ 4) ⊎ (n ≡ 5)) (sym is) (status_is s)
     exactly s (ends.output_fault is gives rose) = inr (inr (inr is))
 
-    completes : Quiet before after out out_after → Says words before after status line → Ends status line out out_after result → Completes expected text later before after out out_after result
+    completes :
+        Quiet before after out out_after → Says words before after status line → Ends status line out out_after result
+        → Completes expected text later before after out out_after result
     completes none (says.outcome shape o l w) (ends.said is given quiet) =
         let here = told_outcome o in
         let same = same_outcome here in
@@ -80,9 +98,12 @@ module _ (words : List (List ℕ)) (tree : Tree) (before after : FolderState) (o
     unwritten other (says.memory s t k l w) = w
     unwritten other (says.read_fault s t k rose w) = w
     unwritten other (says.write_fault bytes done counted generated s t k l rose) =
-        absurd (no_map words tree bytes done expected text later (told_there (λ t. IsGenerated words t bytes done) before.holds tree told generated) result_is other)
+        let here = told_there (λ t. IsGenerated words t bytes done) before.holds tree told generated in
+        absurd (no_map words tree bytes done expected text later here result_is other)
 
-  meets : Says words before after status line → Ends status line out out_after result → Meets words tree before after out out_after result
+  meets :
+      Says words before after status line → Ends status line out out_after result
+      → Meets words tree before after out out_after result
   meets s e = record {
     ended = λ none. finishes none s e;
     exactly = λ expected text later result_is. exactly expected text later result_is s e;

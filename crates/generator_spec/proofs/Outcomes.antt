@@ -13,13 +13,13 @@ use Rattle.trace_spec.specs.Traces.{traced}
 use Rattle.generator_spec.specs.declared.Refusal.{Refusal}
 use Rattle.generator_spec.specs.declared.Refusal.TheVariants.{Trace}
 use Rattle.generator_spec.specs.Generation.{Generates}
-use Rattle.generator_spec.specs.Words.{IsConfigOf, RefusesWords}
+use Rattle.generator_spec.specs.Words.{IsConfigOf}
 use Rattle.generator_spec.specs.Lines.{status_of, line_of, done_line}
 use Rattle.generator_spec.specs.Outcome.{Outcome}
 use Rattle.generator_spec.specs.Outcome.Outcome.{words_refused, trace_refused, done}
 use Rattle.generator_spec.specs.Laws.{SameOutcome, OneOutcome, HasOutcome, AreRefused, SomeOutcome}
 use Rattle.generator_spec.proofs.Configs.{one_config, one_words_refusal, refused_or_config, some_config}
-use Rattle.generator_spec.proofs.Generations.{one_trace, one_generation, some_generation, nothing_refused}
+use Rattle.generator_spec.proofs.Generations.{one_trace, some_generation, nothing_refused}
 use Rattle.generator_spec.proofs.MapPaths.{map_path, map_in_root}
 use Rattle.generator_spec.proofs.PageNames.{page_of_words_is_file}
 
@@ -27,18 +27,22 @@ use Rattle.generator_spec.proofs.PageNames.{page_of_words_is_file}
 
 -- what is refused isn't generated
 pub refused_or_generated :
-    (tree : Tree) (config second : Config) (bytes : List ℕ) (fault : TraceFault) → config ≡ second → Generates tree config bytes
+    (tree : Tree) (config second : Config) (bytes : List ℕ) (fault : TraceFault) → config ≡ second
+    → Generates tree config bytes
     → traced (get tree) second ≡ Err fault → ⊥
 refused_or_generated tree config second bytes fault same generates refused =
     nothing_refused tree config bytes fault generates (ap (traced (get tree)) same ∙ refused)
 
-same_fault : (found : Result Before TraceFault) (some other : TraceFault) → found ≡ Err some → found ≡ Err other → some ≡ other
+same_fault :
+    (found : Result Before TraceFault) (some other : TraceFault) → found ≡ Err some → found ≡ Err other → some ≡ other
 same_fault found some other e f = cc
 
 one_fault :
-    (tree : Tree) (config second : Config) (some other : TraceFault) → config ≡ second → traced (get tree) config ≡ Err some
+    (tree : Tree) (config second : Config) (some other : TraceFault) → config ≡ second
+    → traced (get tree) config ≡ Err some
     → traced (get tree) second ≡ Err other → some ≡ other
-one_fault tree config second some other same e f = same_fault (traced (get tree) config) some other e (ap (traced (get tree)) same ∙ f)
+one_fault tree config second some other same e f =
+    same_fault (traced (get tree) config) some other e (ap (traced (get tree)) same ∙ f)
 
 module _ (tree : Tree) (status other : ℕ) (line another : List ℕ) (after last : Tree) where
   same_refusal :
@@ -58,7 +62,8 @@ module _ (tree : Tree) (status other : ℕ) (line another : List ℕ) (after las
       → Places tree (codes "/importmap.json") (Stored others) last → SameOutcome status other line another after last
   same_generation config second bytes others same generates too s l placed t m placed_too =
       let traces = one_trace tree config second bytes others same generates too in
-      let texts : bytes ≡ others = generates.text ∙ (ap (λ (all : Before). map_text (layout all.needs)) traces ∙ sym too.text) in
+      let texts : bytes ≡ others =
+      generates.text ∙ (ap (λ (all : Before). map_text (layout all.needs)) traces ∙ sym too.text) in
       record {
         one_status = s ∙ sym t;
         one_line = l ∙ (ap done_line traces ∙ sym m);
@@ -66,22 +71,38 @@ module _ (tree : Tree) (status other : ℕ) (line another : List ℕ) (after las
             (subst (λ b. Places tree (codes "/importmap.json") (Stored b) last) (sym texts) placed_too);
       }
 
+module _ (words : List (List ℕ)) (tree : Tree) (status other : ℕ) (line another : List ℕ) (after last : Tree) where
+  both :
+      Outcome words tree status line after → Outcome words tree other another last
+      → SameOutcome status other line another after last
+  both (words_refused why refused s l a) (words_refused because too t m b) =
+      let reasons = one_words_refusal words why because refused too in
+      same_refusal tree status other line another after last why because reasons s l a t m b
+  both (words_refused why refused s l a) (trace_refused config fault is too t m b) =
+      absurd (refused_or_config words why config refused is)
+  both (words_refused why refused s l a) (done config bytes is generates t m placed) =
+      absurd (refused_or_config words why config refused is)
+  both (trace_refused config fault is refused s l a) (words_refused because too t m b) =
+      absurd (refused_or_config words because config too is)
+  both (trace_refused config fault is refused s l a) (trace_refused second because is_too too t m b) =
+      let faults = one_fault tree config second fault because (one_config words config second is is_too) refused too in
+      same_refusal tree status other line another after last (Trace fault) (Trace because) (ap Trace faults) s l a t m b
+  both (trace_refused config fault is refused s l a) (done second bytes is_too generates t m placed) =
+      let configs = one_config words second config is_too is in
+      absurd (refused_or_generated tree second config bytes fault configs generates refused)
+  both (done config bytes is generates s l placed) (words_refused because too t m b) =
+      absurd (refused_or_config words because config too is)
+  both (done config bytes is generates s l placed) (trace_refused second because is_too refused t m b) =
+      let configs = one_config words config second is is_too in
+      absurd (refused_or_generated tree config second bytes because configs generates refused)
+  both (done config bytes is generates s l placed) (done second others is_too too t m placed_too) =
+      let configs = one_config words config second is is_too in
+      same_generation tree status other line another after last config second bytes others configs generates too s l
+      placed t m placed_too
+
 pub one_outcome : OneOutcome
-one_outcome words tree status other line another after last (words_refused why refused s l a) (words_refused because too t m b) =
-    same_refusal tree status other line another after last why because (one_words_refusal words why because refused too) s l a t m b
-one_outcome words tree status other line another after last (words_refused why refused s l a) (trace_refused config fault is too t m b) = absurd (refused_or_config words why config refused is)
-one_outcome words tree status other line another after last (words_refused why refused s l a) (done config bytes is generates t m placed) = absurd (refused_or_config words why config refused is)
-one_outcome words tree status other line another after last (trace_refused config fault is refused s l a) (words_refused because too t m b) = absurd (refused_or_config words because config too is)
-one_outcome words tree status other line another after last (trace_refused config fault is refused s l a) (trace_refused second because is_too too t m b) =
-    let faults : fault ≡ because = one_fault tree config second fault because (one_config words config second is is_too) refused too in
-    same_refusal tree status other line another after last (Trace fault) (Trace because) (ap Trace faults) s l a t m b
-one_outcome words tree status other line another after last (trace_refused config fault is refused s l a) (done second bytes is_too generates t m placed) =
-    absurd (refused_or_generated tree second config bytes fault (one_config words second config is_too is) generates refused)
-one_outcome words tree status other line another after last (done config bytes is generates s l placed) (words_refused because too t m b) = absurd (refused_or_config words because config too is)
-one_outcome words tree status other line another after last (done config bytes is generates s l placed) (trace_refused second because is_too refused t m b) =
-    absurd (refused_or_generated tree config second bytes because (one_config words config second is is_too) generates refused)
-one_outcome words tree status other line another after last (done config bytes is generates s l placed) (done second others is_too too t m placed_too) =
-    same_generation tree status other line another after last config second bytes others (one_config words config second is is_too) generates too s l placed t m placed_too
+one_outcome words tree status other line another after last one two =
+    both words tree status other line another after last one two
 
 -- ---- some outcome
 
@@ -94,7 +115,9 @@ module _ (words : List (List ℕ)) (tree : Tree) (is_tree : IsTree tree) where
     outcome = words_refused refused.why refused.refuses refl refl refl;
   }
 
-  by_trace : (config : Config) → IsConfigOf words config → (found : Result Before TraceFault) → traced (get tree) config ≡ found → HasOutcome words tree
+  by_trace :
+      (config : Config) → IsConfigOf words config → (found : Result Before TraceFault)
+      → traced (get tree) config ≡ found → HasOutcome words tree
   by_trace config is (Err fault) e = record {
     status = status_of (Trace fault);
     line = line_of (Trace fault);
@@ -108,7 +131,9 @@ module _ (words : List (List ℕ)) (tree : Tree) (is_tree : IsTree tree) where
         status = 0;
         line = done_line generates.all;
         after = insert tree (codes "/importmap.json") (Stored bytes);
-        outcome = done config bytes is generates refl refl ((in_root tree (codes "/importmap.json") (Stored bytes) _ is_tree map_in_root).1 refl);
+        outcome =
+            done config bytes is generates refl refl
+            ((in_root tree (codes "/importmap.json") (Stored bytes) _ is_tree map_in_root).1 refl);
       }
 
 pub some_outcome : SomeOutcome

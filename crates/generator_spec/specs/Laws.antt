@@ -21,15 +21,18 @@ use Rattle.generator_spec.specs.Promises.{Promises}
 
 -- words give one config at most
 abbrev pub OneConfig : Type 0
-OneConfig = (words : List (List ℕ)) (some other : Config) → IsConfigOf words some → IsConfigOf words other → some ≡ other
+OneConfig =
+    (words : List (List ℕ)) (some other : Config) → IsConfigOf words some → IsConfigOf words other → some ≡ other
 
 -- words are refused in one way at most
 abbrev pub OneWordsRefusal : Type 0
-OneWordsRefusal = (words : List (List ℕ)) (some other : Refusal) → RefusesWords words some → RefusesWords words other → some ≡ other
+OneWordsRefusal =
+    (words : List (List ℕ)) (some other : Refusal) → RefusesWords words some → RefusesWords words other → some ≡ other
 
 -- refused words give no config
 abbrev pub RefusedOrConfig : Type 0
-RefusedOrConfig = (words : List (List ℕ)) (why : Refusal) (config : Config) → RefusesWords words why → IsConfigOf words config → ⊥
+RefusedOrConfig =
+    (words : List (List ℕ)) (why : Refusal) (config : Config) → RefusesWords words why → IsConfigOf words config → ⊥
 
 pub record HasConfig (words : List (List ℕ)) : Type 0 where
   pub config : Config
@@ -51,7 +54,9 @@ PageOfWordsIsFile = (words : List (List ℕ)) (config : Config) → IsConfigOf w
 
 -- a tree and a config have one text at most
 abbrev pub OneGeneration : Type 0
-OneGeneration = (tree : Tree) (config : Config) (some other : List ℕ) → Generates tree config some → Generates tree config other → some ≡ other
+OneGeneration =
+    (tree : Tree) (config : Config) (some other : List ℕ) → Generates tree config some → Generates tree config other
+    → some ≡ other
 
 -- where the page has no folder's web name, the text of each trace is generated
 abbrev pub SomeGeneration : Type 0
@@ -61,7 +66,9 @@ SomeGeneration =
 
 -- where something is generated, nothing is refused
 abbrev pub NothingRefused : Type 0
-NothingRefused = (tree : Tree) (config : Config) (bytes : List ℕ) (fault : TraceFault) → Generates tree config bytes → traced (get tree) config ≡ Err fault → ⊥
+NothingRefused =
+    (tree : Tree) (config : Config) (bytes : List ℕ) (fault : TraceFault) → Generates tree config bytes
+    → traced (get tree) config ≡ Err fault → ⊥
 
 -- ---- outcomes
 

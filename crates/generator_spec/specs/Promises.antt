@@ -2,7 +2,8 @@
 --     IsRefusalStatus status         an end before the first write has this status
 --     Tells out out_after written    a line went out, that of a command that was done only where this holds
 --     Quiet before after out out_after             no count of faults rose
---     Finishes words tree before after out out_after result       it ended as an outcome that is defined, or with `memory`
+--     Stands status line held after out out_after result          this was answered, said and left
+--     Finishes words tree before after out out_after result       it ended as an outcome says, or with `memory`
 --     Completes status line later before after out out_after result       the same, with this outcome
 --     Meets words tree before after out out_after result          what it has to do with the outcome that is defined
 --     Shows before after out out_after result      which counts of faults show in the status, and how
@@ -36,40 +37,52 @@ pub record Quiet (before after : FolderState) (out out_after : SinkState) : Type
   pub output : Rose out.faults out_after.faults → ⊥
 
 -- own: this status was answered, this line went out, and the folder tells this
-pub record Stands (status : ℕ) (line : List ℕ) (held : Option Tree) (after : FolderState) (out out_after : SinkState) (result : ℕ) : Type 0 where
+pub record Stands (status : ℕ) (line : List ℕ) (held : Option Tree) (after : FolderState) (out out_after : SinkState)
+    (result : ℕ) : Type 0 where
   pub answered : result ≡ status
   pub given : out_after.got ≡ option_map (λ front. front ++ line) out.got
   pub told : after.holds ≡ held
 
 -- own: the command ended with this status, line and tree; or with `memory`, and the tree is as it was
-pub data Completes (status : ℕ) (line : List ℕ) (later : Tree) (before after : FolderState) (out out_after : SinkState) (result : ℕ) : Type 0 where
-  complete : Stands status line (Some later) after out out_after result → Completes status line later before after out out_after result
-  memory : Stands 8 memory_line before.holds after out out_after result → Completes status line later before after out out_after result
+pub data Completes (status : ℕ) (line : List ℕ) (later : Tree) (before after : FolderState)
+    (out out_after : SinkState) (result : ℕ) : Type 0 where
+  complete :
+      Stands status line (Some later) after out out_after result
+      → Completes status line later before after out out_after result
+  memory :
+      Stands 8 memory_line before.holds after out out_after result
+      → Completes status line later before after out out_after result
 
 -- own: the command ended as an outcome says that is defined; or with `memory`, and the tree is as it was
-pub data Finishes (words : List (List ℕ)) (tree : Tree) (before after : FolderState) (out out_after : SinkState) (result : ℕ) : Type 0 where
+pub data Finishes (words : List (List ℕ)) (tree : Tree) (before after : FolderState) (out out_after : SinkState)
+    (result : ℕ) : Type 0 where
   finished :
       (status : ℕ) (line : List ℕ) (later : Tree) → Outcome words tree status line later
-      → Stands status line (Some later) after out out_after result → Finishes words tree before after out out_after result
-  memory : Stands 8 memory_line before.holds after out out_after result → Finishes words tree before after out out_after result
+      → Stands status line (Some later) after out out_after result
+      → Finishes words tree before after out out_after result
+  memory :
+      Stands 8 memory_line before.holds after out out_after result
+      → Finishes words tree before after out out_after result
 
--- own: where no fault was counted, the command ended as an outcome says that is defined, or with `memory`. Where the words and the tree have an
--- outcome, the answer is its status, or 8, or 4 or 5 for a fault; where no fault was counted, the command ended so; and where that outcome has
--- no map, no write failed
-pub record Meets (words : List (List ℕ)) (tree : Tree) (before after : FolderState) (out out_after : SinkState) (result : ℕ) : Type 0 where
+-- own: where no fault was counted, the command ended as an outcome says that is defined, or with `memory`. Where the
+-- words and the tree have an outcome, the answer is its status, or 8, or 4 or 5 for a fault; where no fault was
+-- counted, the command ended so; and where that outcome has no map, no write failed
+pub record Meets (words : List (List ℕ)) (tree : Tree) (before after : FolderState) (out out_after : SinkState)
+    (result : ℕ) : Type 0 where
   pub ended : Quiet before after out out_after → Finishes words tree before after out out_after result
   pub exactly :
       (status : ℕ) (line : List ℕ) (later : Tree) → Outcome words tree status line later
       → (result ≡ status) ⊎ (result ≡ 8) ⊎ (result ≡ 4) ⊎ (result ≡ 5)
   pub complete :
-      (status : ℕ) (line : List ℕ) (later : Tree) → Outcome words tree status line later → Quiet before after out out_after
+      (status : ℕ) (line : List ℕ) (later : Tree) → Outcome words tree status line later
+      → Quiet before after out out_after
       → Completes status line later before after out out_after result
   pub unwritten :
       (status : ℕ) (line : List ℕ) (later : Tree) → Outcome words tree status line later → status ≢ 0
       → after.write_faults ≡ before.write_faults
 
--- own: a count that changed shows in the status: that of looks in 4, or in 5 where the output failed too; 4 comes only where the looks alone
--- failed
+-- own: a count that changed shows in the status: that of looks in 4, or in 5 where the output failed too; 4 comes
+-- only where the looks alone failed
 pub record Shows (before after : FolderState) (out out_after : SinkState) (result : ℕ) : Type 0 where
   pub looks : after.look_faults ≢ before.look_faults → (result ≡ 4) ⊎ (result ≡ 5)
   pub writes : after.write_faults ≢ before.write_faults → result ≡ 5
@@ -78,11 +91,13 @@ pub record Shows (before after : FolderState) (out out_after : SinkState) (resul
   pub read_alone : result ≡ 4 → (after.write_faults ≡ before.write_faults) × (out_after.faults ≡ out.faults)
 
 -- own: what each status says of the folder, of the output and of the faults
-pub record Promises (words : List (List ℕ)) (before after : FolderState) (out out_after : SinkState) (result : ℕ) : Type 0 where
+pub record Promises (words : List (List ℕ)) (before after : FolderState) (out out_after : SinkState)
+    (result : ℕ) : Type 0 where
   pub statuses : (result ≡ 0) ⊎ (result ≡ 5) ⊎ IsRefusalStatus result
   pub kept : IsRefusalStatus result → after.holds ≡ before.holds
   pub done : result ≡ 0 → IfSome before.holds (λ tree. Linked words tree after.holds)
-  pub write_fault : result ≡ 5 → (after.holds ≡ before.holds) ⊎ IfSome before.holds (λ tree. Linked words tree after.holds)
+  pub write_fault :
+      result ≡ 5 → (after.holds ≡ before.holds) ⊎ IfSome before.holds (λ tree. Linked words tree after.holds)
   pub read : result ≡ 4 → Rose before.look_faults after.look_faults
   pub write : result ≡ 5 → Rose before.write_faults after.write_faults ⊎ Rose out.faults out_after.faults
   pub told : Tells out.got out_after.got (IfSome before.holds (λ tree. Linked words tree after.holds))

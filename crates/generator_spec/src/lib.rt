@@ -1,8 +1,10 @@
-//! What is generated for a tree and a config, what the map promises, and how a run ends: definitions, and their laws as the contracts of
-//! functions that do nothing.
+//! What is generated for a tree and a config, what the map promises, and how a run ends: definitions, and their laws as
+//! the contracts of functions that do nothing.
 #![tactic(auto)]
 
-ghost use Rattle.generator_spec.specs.Laws.{OneConfig, OneWordsRefusal, RefusedOrConfig, SomeConfig, PageOfWordsIsFile, OneGeneration, SomeGeneration, NothingRefused, OneOutcome, SomeOutcome, EndsKeepPromises};
+ghost use Rattle.generator_spec.specs.Laws.{OneConfig, OneWordsRefusal, RefusedOrConfig, SomeConfig};
+ghost use Rattle.generator_spec.specs.Laws.{PageOfWordsIsFile, OneGeneration, SomeGeneration, NothingRefused};
+ghost use Rattle.generator_spec.specs.Laws.{OneOutcome, SomeOutcome, EndsKeepPromises};
 
 use primitives::Text;
 use trace_spec::TraceFault;
