@@ -1,0 +1,10 @@
+pub mod Configs
+pub mod Generations
+pub mod LastBytes
+pub mod PageNames
+pub mod MapPaths
+pub mod Outcomes
+pub mod Endings
+pub mod ToldLines
+pub mod Meetings
+pub mod KeptPromises

@@ -1,13 +1,11 @@
 -- How a run ends, whatever the outside does.
---     EndsAs words before after out out_after result      all that is promised of the folder, of the output and of the answer
---     Linked words tree told         the map of the told tree was written, and it serves
+--     EndsAs words before after out out_after result      all that is promised of folder, output and answer
+--     Linked words tree told         the tree's map was written, this is told afterwards, and the map serves
 --     Says words before after status line      why a command ends with this status and this line
 --     Ends status line out out_after result    the line went out and the status is answered, or the output failed
 --     TellsRefusal why out out_after result    the same of a refusal, or of want of memory in its place
-use Rattle.std.specs.Prelude.{◌≡◌, ◌≤◌, ◌⊎◌, ◌++◌, ℕ, List, [], Option, Some, None, IfSome, option_map, take, codes}
+use Rattle.std.specs.Prelude.{◌≡◌, ◌≤◌, ◌⊎◌, ◌++◌, ℕ, List, Option, Some, None, IfSome, option_map, take, codes}
 use Rattle.tree_spec.specs.declared.Entry.TheVariants.{Stored}
-use Rattle.tree_spec.specs.declared.LimitName.{LimitName}
-use Rattle.tree_spec.specs.declared.LimitName.TheVariants.{File, Modules}
 use Rattle.tree_spec.specs.Counts.{Rose}
 use Rattle.tree_spec.specs.States.{FolderState, SinkState}
 use Rattle.tree_spec.specs.Trees.{Tree, Places}
@@ -35,8 +33,8 @@ pub record IsGenerated (words : List (List ℕ)) (tree : Tree) (bytes line : Lis
   pub generates : Generates tree config bytes
   pub says : line ≡ done_line generates.all
 
--- own: what stands at `/importmap.json` is generation's on the tree before, and through it each request of the page and of each module that the
--- page reaches leads to the file that Node's resolver gives
+-- own: what stands at `/importmap.json` is generation's on the tree before, and through it each request of the page
+-- and of each module that the page reaches leads to the file that Node's resolver gives
 pub record Linked (words : List (List ℕ)) (tree : Tree) (told : Option Tree) : Type 0 where
   pub bytes : List ℕ
   pub line : List ℕ
@@ -55,20 +53,37 @@ pub record IsCounted (words : List (List ℕ)) (line : List ℕ) : Type 0 where
   pub mappings : ℕ
   pub says : line ≡ counts_line modules requests mappings
 
--- own: status and line belong together, whatever the folder tells: they are those of refused words; or the words give a config, and these are of
--- a refusal of its trace, or of a map that is written
+-- own: status and line belong together, whatever the folder tells: they are those of refused words; or the words give
+-- a config, and these are of a refusal of its trace, or of a map that is written
 pub data Shaped (words : List (List ℕ)) (status : ℕ) (line : List ℕ) : Type 0 where
-  words_refused : (why : Refusal) → RefusesWords words why → status ≡ status_of why → line ≡ line_of why → Shaped words status line
-  trace_refused : (config : Config) (fault : TraceFault) → IsConfigOf words config → IsOfTrace config fault → status ≡ status_of (Trace fault) → line ≡ line_of (Trace fault) → Shaped words status line
+  words_refused :
+      (why : Refusal) → RefusesWords words why → status ≡ status_of why → line ≡ line_of why
+      → Shaped words status line
+  trace_refused :
+      (config : Config) (fault : TraceFault) → IsConfigOf words config → IsOfTrace config fault
+      → status ≡ status_of (Trace fault) → line ≡ line_of (Trace fault) → Shaped words status line
   done : status ≡ 0 → IsCounted words line → Shaped words status line
 
--- own: the command has the outcome that is defined, and no fault was counted; or there is want of memory, or a fault that was counted, and then
--- the tree is as it was. A write fails only where there is a map to write
+-- own: the command has the outcome that is defined, and no fault was counted; or there is want of memory, or a fault
+-- that was counted, and then the tree is as it was. A look fails only where the words give a config, and a write
+-- only where there is a map to write
 pub data Says (words : List (List ℕ)) (before after : FolderState) (status : ℕ) (line : List ℕ) : Type 0 where
-  outcome : Shaped words status line → IfSome before.holds (λ tree. (later : Tree) × Outcome words tree status line later × (after.holds ≡ Some later)) → after.look_faults ≡ before.look_faults → after.write_faults ≡ before.write_faults → Says words before after status line
-  memory : status ≡ 8 → line ≡ memory_line → after.holds ≡ before.holds → after.look_faults ≡ before.look_faults → after.write_faults ≡ before.write_faults → Says words before after status line
-  read_fault : status ≡ 4 → line ≡ read_fault_line → after.holds ≡ before.holds → Rose before.look_faults after.look_faults → after.write_faults ≡ before.write_faults → Says words before after status line
-  write_fault : (bytes done : List ℕ) → IsCounted words done → IfSome before.holds (λ tree. IsGenerated words tree bytes done) → status ≡ 5 → line ≡ write_fault_line → after.holds ≡ before.holds → after.look_faults ≡ before.look_faults → Rose before.write_faults after.write_faults
+  outcome :
+      Shaped words status line
+      → IfSome before.holds (λ tree. (later : Tree) × Outcome words tree status line later × (after.holds ≡ Some later))
+      → after.look_faults ≡ before.look_faults → after.write_faults ≡ before.write_faults
+      → Says words before after status line
+  memory :
+      status ≡ 8 → line ≡ memory_line → after.holds ≡ before.holds → after.look_faults ≡ before.look_faults
+      → after.write_faults ≡ before.write_faults → Says words before after status line
+  read_fault :
+      (config : Config) → IsConfigOf words config → status ≡ 4 → line ≡ read_fault_line → after.holds ≡ before.holds
+      → Rose before.look_faults after.look_faults → after.write_faults ≡ before.write_faults
+      → Says words before after status line
+  write_fault :
+      (bytes done : List ℕ) → IsCounted words done → IfSome before.holds (λ tree. IsGenerated words tree bytes done)
+      → status ≡ 5 → line ≡ write_fault_line → after.holds ≡ before.holds → after.look_faults ≡ before.look_faults
+      → Rose before.write_faults after.write_faults
       → Says words before after status line
 
 -- ---- what goes out
@@ -80,8 +95,12 @@ pub record Gives (out out_after : Option (List ℕ)) (line : List ℕ) : Type 0 
 
 -- own: the output failed and counted it, a front of the line went out, and 5 is answered; else all of it went out
 pub data Ends (status : ℕ) (line : List ℕ) (out out_after : SinkState) (result : ℕ) : Type 0 where
-  said : result ≡ status → out_after.got ≡ option_map (λ front. front ++ line) out.got → out_after.faults ≡ out.faults → Ends status line out out_after result
-  output_fault : result ≡ 5 → Gives out.got out_after.got line → Rose out.faults out_after.faults → Ends status line out out_after result
+  said :
+      result ≡ status → out_after.got ≡ option_map (λ front. front ++ line) out.got → out_after.faults ≡ out.faults
+      → Ends status line out out_after result
+  output_fault :
+      result ≡ 5 → Gives out.got out_after.got line → Rose out.faults out_after.faults
+      → Ends status line out out_after result
 
 -- own: a refusal is told, or that memory is wanting
 abbrev pub TellsRefusal : Refusal → SinkState → SinkState → ℕ → Type 0
@@ -90,12 +109,16 @@ TellsRefusal why out out_after result =
 
 -- ---- the end
 
-pub record EndsAs (words : List (List ℕ)) (before after : FolderState) (out out_after : SinkState) (result : ℕ) : Type 0 where
+-- own: where 0 is answered, the map was written and serves; the line of a map that is written is said only where it was
+pub record EndsAs (words : List (List ℕ)) (before after : FolderState) (out out_after : SinkState)
+    (result : ℕ) : Type 0 where
   pub headline : result ≡ 0 → IfSome before.holds (λ tree. Linked words tree after.holds)
-  pub kept : (after.holds ≡ before.holds) ⊎ IfSome before.holds (λ tree. Linked words tree after.holds)
-  pub untold : before.holds ≡ None → after.holds ≡ None
   pub status : ℕ
   pub line : List ℕ
   pub says : Says words before after status line
   pub ends : Ends status line out out_after result
-  pub later : (before.look_faults ≤ after.look_faults) × (before.write_faults ≤ after.write_faults) × (out.faults ≤ out_after.faults)
+  pub written : status ≡ 0 → IfSome before.holds (λ tree. Linked words tree after.holds)
+  pub untold : before.holds ≡ None → after.holds ≡ None
+  pub looks_later : before.look_faults ≤ after.look_faults
+  pub writes_later : before.write_faults ≤ after.write_faults
+  pub output_later : out.faults ≤ out_after.faults

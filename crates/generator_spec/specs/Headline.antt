@@ -19,11 +19,17 @@ use Rattle.trace_spec.specs.Traces.{requests}
 -- own: the page is reachable, and so is every module that Node answers for a request of something reachable
 pub data Reachable (tree : Tree) (config : Config) : Referrer Module → Type 0 where
   page : Reachable tree config the_page
-  requested : (referrer : Referrer Module) (specifiers : List (List ℕ)) (specifier : List ℕ) (target : Module) → Reachable tree config referrer → requests (get tree) config referrer ≡ Some specifiers → Contains specifiers specifier
-      → Resolves tree (path_of config referrer) specifier (node.Resolved target.path target.suffix) → Reachable tree config (a_module target)
+  requested :
+      (referrer : Referrer Module) (specifiers : List (List ℕ)) (specifier : List ℕ) (target : Module)
+      → Reachable tree config referrer → requests (get tree) config referrer ≡ Some specifiers
+      → Contains specifiers specifier
+      → Resolves tree (path_of config referrer) specifier (node.Resolved target.path target.suffix)
+      → Reachable tree config (a_module target)
 
--- own: Node answers a specifier with a file, HTML's resolution through the map ends at a URL, and this file is served there
-pub record Leads (tree : Tree) (config : Config) (map : ParsedMap) (referrer : Referrer Module) (name specifier : List ℕ) : Type 0 where
+-- own: Node answers a specifier with a file, HTML's resolution through the map ends at a URL, and this file is served
+-- there
+pub record Leads (tree : Tree) (config : Config) (map : ParsedMap) (referrer : Referrer Module)
+    (name specifier : List ℕ) : Type 0 where
   pub path : List ℕ
   pub suffix : List ℕ
   pub url : List ℕ

@@ -4,3 +4,5 @@ pub mod Headline
 pub mod Lines
 pub mod Outcome
 pub mod Ending
+pub mod Promises
+pub mod Laws

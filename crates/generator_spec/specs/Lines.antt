@@ -4,7 +4,6 @@
 --     done_line all                   the same for the trace whose map it is
 use Rattle.std.specs.Prelude.{ℕ, List, [], ◌∷◌, ◌++◌, length, codes, unwrap_or}
 use Rattle.std.specs.Fmt.{decimal}
-use Rattle.tree_spec.specs.declared.LimitName.{LimitName}
 use Rattle.tree_spec.specs.Limits.{limit_number, limit_name}
 use Rattle.json_spec.specs.PrintedString.{quoted}
 use Rattle.node_spec.specs.declared.Cause.{Cause}
@@ -62,10 +61,13 @@ write_fault_line = codes "fault: write" ++ end_of_line
 
 abbrev pub trace_line : TraceFault → List ℕ
 trace_line (Unservable path url) = pair_line (codes "refused: Unservable ") path (codes " as ") (unwrap_or url [])
-trace_line (Refused referrer specifier why) = codes "refused: " ++ (cause_name why ++ pair_line (codes " from ") referrer (codes " for ") specifier)
-trace_line (RequestNotBuilt referrer specifier) = pair_line (codes "not built: from ") referrer (codes " for ") specifier
+trace_line (Refused referrer specifier why) =
+    codes "refused: " ++ (cause_name why ++ pair_line (codes " from ") referrer (codes " for ") specifier)
+trace_line (RequestNotBuilt referrer specifier) =
+    pair_line (codes "not built: from ") referrer (codes " for ") specifier
 trace_line (ModuleNotBuilt m) = codes "not built: " ++ (quoted m ++ end_of_line)
-trace_line (Limit which) = codes "limit: " ++ (limit_name which ++ (codes " above " ++ (decimal (limit_number which) ++ end_of_line)))
+trace_line (Limit which) =
+    codes "limit: " ++ (limit_name which ++ (codes " above " ++ (decimal (limit_number which) ++ end_of_line)))
 trace_line ReadFault = read_fault_line
 trace_line Memory = memory_line
 
@@ -76,7 +78,9 @@ line_of (Trace fault) = trace_line fault
 
 -- own: so many modules, requests and mappings
 abbrev pub counts_line : ℕ → ℕ → ℕ → List ℕ
-counts_line modules requests mappings = codes "ok: " ++ (decimal modules ++ (codes " modules, " ++ (decimal requests ++ (codes " requests, " ++ (decimal mappings ++ (codes " mappings" ++ end_of_line))))))
+counts_line modules requests mappings =
+    codes "ok: " ++ (decimal modules ++ (codes " modules, "
+    ++ (decimal requests ++ (codes " requests, " ++ (decimal mappings ++ (codes " mappings" ++ end_of_line))))))
 
 -- own: the modules of the trace without the page, its requests with the entries, and the mappings of its layout
 abbrev pub done_line : Before → List ℕ

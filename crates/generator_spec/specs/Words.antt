@@ -36,4 +36,6 @@ pub record IsConfigOf (words : List (List ℕ)) (config : Config) : Type 0 where
 -- own: they aren't such words, or their base isn't the URL of a folder on the web
 pub data RefusesWords (words : List (List ℕ)) : Refusal → Type 0 where
   no_link : ((base : List ℕ) (entries : List (List ℕ)) → IsLink words base entries → ⊥) → RefusesWords words Words
-  bad_base : (base : List ℕ) (entries : List (List ℕ)) → IsLink words base entries → base_of base ≡ None → RefusesWords words (BadBase base)
+  bad_base :
+      (base : List ℕ) (entries : List (List ℕ)) → IsLink words base entries → base_of base ≡ None
+      → RefusesWords words (BadBase base)

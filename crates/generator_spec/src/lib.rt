@@ -1,6 +1,10 @@
-//! What is generated for a tree and a config, what the map promises, and how a run ends: definitions, and their laws as the contracts of
-//! functions that do nothing.
+//! What is generated for a tree and a config, what the map promises, and how a run ends: definitions, and their laws as
+//! the contracts of functions that do nothing.
 #![tactic(auto)]
+
+ghost use Rattle.generator_spec.specs.Laws.{OneConfig, OneWordsRefusal, RefusedOrConfig, SomeConfig};
+ghost use Rattle.generator_spec.specs.Laws.{PageOfWordsIsFile, OneGeneration, SomeGeneration, NothingRefused};
+ghost use Rattle.generator_spec.specs.Laws.{OneOutcome, SomeOutcome, EndsKeepPromises};
 
 use primitives::Text;
 use trace_spec::TraceFault;
@@ -15,3 +19,58 @@ pub enum Refusal {
     /// There is no trace.
     Trace { fault: TraceFault },
 }
+
+/// Words give one config at most.
+pub fn one_config()
+    ensures { OneConfig }
+{}
+
+/// Words are refused in one way at most.
+pub fn one_words_refusal()
+    ensures { OneWordsRefusal }
+{}
+
+/// Refused words give no config.
+pub fn refused_or_config()
+    ensures { RefusedOrConfig }
+{}
+
+/// Words give a config or are refused.
+pub fn some_config()
+    ensures { SomeConfig }
+{}
+
+/// A tree and a config have one text at most.
+pub fn one_generation()
+    ensures { OneGeneration }
+{}
+
+/// Where the page has no folder's web name, the text of each trace is generated.
+pub fn some_generation()
+    ensures { SomeGeneration }
+{}
+
+/// Where something is generated, nothing is refused.
+pub fn nothing_refused()
+    ensures { NothingRefused }
+{}
+
+/// The page that words give has no folder's web name.
+pub fn page_of_words_is_file()
+    ensures { PageOfWordsIsFile }
+{}
+
+/// A command over a tree has one outcome at most.
+pub fn one_outcome()
+    ensures { OneOutcome }
+{}
+
+/// A command over a tree has an outcome.
+pub fn some_outcome()
+    ensures { SomeOutcome }
+{}
+
+/// A run that ends as it must keeps all promises, if what is generated serves.
+pub fn ends_keep_promises()
+    ensures { EndsKeepPromises }
+{}

@@ -1,0 +1,271 @@
+-- What the status of an end says of the folder and of the faults.
+use Rattle.std.proofs.Common.{◌≡◌, ◌≢◌, ◌⊎◌, ℕ, List, Option, Some, None, IfSome, inl, inr, refl, sym, ap, ◌∙◌, subst, arith}
+use Rattle.tree_spec.specs.Counts.{Rose}
+use Rattle.tree_spec.specs.States.{FolderState, SinkState}
+use Rattle.tree_spec.specs.Trees.{Tree}
+use Rattle.trace_spec.specs.declared.TraceFault.{TraceFault}
+use Rattle.trace_spec.specs.declared.TraceFault.TheVariants as fault
+use Rattle.trace_spec.specs.Kinds.{IsOfTrace}
+use Rattle.trace_spec.specs.Modules.{Config}
+use Rattle.generator_spec.specs.declared.Refusal.{Refusal}
+use Rattle.generator_spec.specs.declared.Refusal.TheVariants as refusal
+use Rattle.generator_spec.specs.Words.{RefusesWords}
+use Rattle.generator_spec.specs.Words.RefusesWords.{no_link, bad_base}
+use Rattle.generator_spec.specs.Lines.{trace_status, status_of}
+use Rattle.generator_spec.specs.Outcome.{Outcome, Outcome as outcome}
+use Rattle.generator_spec.specs.Ending.{Linked, Shaped, Says, Ends, Shaped as shaped, Says as says, Ends as ends}
+use Rattle.generator_spec.specs.Promises.{IsRefusalStatus, Shows}
+
+-- ---- statuses
+
+-- own: the statuses of a refusal
+data IsRefusing (status : ℕ) : Type 0 where
+  one : status ≡ 1 → IsRefusing status
+  two : status ≡ 2 → IsRefusing status
+  three : status ≡ 3 → IsRefusing status
+  nine : status ≡ 9 → IsRefusing status
+
+words_refusing : (words : List (List ℕ)) (why : Refusal) → RefusesWords words why → IsRefusing (status_of why)
+words_refusing words why (no_link none) = nine refl
+words_refusing words why (bad_base base entries link none) = two refl
+
+trace_refusing : (config : Config) (why : TraceFault) → IsOfTrace config why → IsRefusing (trace_status why)
+trace_refusing config (fault.Unservable path url) kind = one refl
+trace_refusing config (fault.Refused referrer specifier cause) kind = one refl
+trace_refusing config (fault.RequestNotBuilt referrer specifier) kind = nine refl
+trace_refusing config (fault.ModuleNotBuilt m) kind = nine refl
+trace_refusing config (fault.Limit which) kind = three refl
+trace_refusing config fault.ReadFault kind = absurd kind
+trace_refusing config fault.Memory kind = absurd kind
+
+shaped_status :
+    (words : List (List ℕ)) (status : ℕ) (line : List ℕ) → Shaped words status line → (status ≡ 0) ⊎ IsRefusing status
+shaped_status words status line (shaped.words_refused why refuses s l) =
+    inr (subst IsRefusing (sym s) (words_refusing words why refuses))
+shaped_status words status line (shaped.trace_refused config why is kind s l) =
+    inr (subst IsRefusing (sym s) (trace_refusing config why kind))
+shaped_status words status line (shaped.done s counted) = inl s
+
+refusal_status : (status : ℕ) → IsRefusing status → IsRefusalStatus status
+refusal_status status (one e) = inl e
+refusal_status status (two e) = inr (inl e)
+refusal_status status (three e) = inr (inr (inl e))
+refusal_status status (nine e) = inr (inr (inr (inr (inr e))))
+
+no_refusing : (status : ℕ) → IsRefusing status → (status ≢ 0) × (status ≢ 4) × (status ≢ 5)
+no_refusing status (one e) = (λ f. omega arith, λ f. omega arith, λ f. omega arith)
+no_refusing status (two e) = (λ f. omega arith, λ f. omega arith, λ f. omega arith)
+no_refusing status (three e) = (λ f. omega arith, λ f. omega arith, λ f. omega arith)
+no_refusing status (nine e) = (λ f. omega arith, λ f. omega arith, λ f. omega arith)
+
+trace_not : (why : TraceFault) → (trace_status why ≢ 0) × (trace_status why ≢ 2)
+trace_not (fault.Unservable path url) = (λ e. omega (arith, e), λ e. omega (arith, e))
+trace_not (fault.Refused referrer specifier cause) = (λ e. omega (arith, e), λ e. omega (arith, e))
+trace_not (fault.RequestNotBuilt referrer specifier) = (λ e. omega (arith, e), λ e. omega (arith, e))
+trace_not (fault.ModuleNotBuilt m) = (λ e. omega (arith, e), λ e. omega (arith, e))
+trace_not (fault.Limit which) = (λ e. omega (arith, e), λ e. omega (arith, e))
+trace_not fault.ReadFault = (λ e. omega (arith, e), λ e. omega (arith, e))
+trace_not fault.Memory = (λ e. omega (arith, e), λ e. omega (arith, e))
+
+refusal_not_zero : (why : Refusal) → status_of why ≢ 0
+refusal_not_zero refusal.Words e = omega (arith, e)
+refusal_not_zero (refusal.BadBase text) e = omega (arith, e)
+refusal_not_zero (refusal.Trace why) e = (trace_not why).0 e
+
+-- status 2 is that of a bad base
+bad_base_of :
+    (words : List (List ℕ)) (why : Refusal) → RefusesWords words why → status_of why ≡ 2
+    → (base : List ℕ) × RefusesWords words (refusal.BadBase base)
+bad_base_of words why (no_link none) is_two = absurd (omega arith)
+bad_base_of words why (bad_base base entries link none) is_two = (base, bad_base base entries link none)
+
+abbrev IsStatus : ℕ → Type 0
+IsStatus status = (status ≡ 0) ⊎ (status ≡ 5) ⊎ IsRefusalStatus status
+
+shaped_is_status : (status : ℕ) → (status ≡ 0) ⊎ IsRefusing status → IsStatus status
+shaped_is_status status (inl e) = inl e
+shaped_is_status status (inr refusing) = inr (inr (refusal_status status refusing))
+
+no_refusal_status : (status : ℕ) → (status ≡ 0) ⊎ (status ≡ 5) → IsRefusalStatus status → ⊥
+no_refusal_status status is refused = grind (arith, is, refused)
+
+-- ---- the outcome's tree
+
+abbrev pub HasOutcomeIn : List (List ℕ) → ℕ → List ℕ → Option Tree → Tree → Type 0
+HasOutcomeIn words status line told tree = (later : Tree) × Outcome words tree status line later × (told ≡ Some later)
+
+-- a refusal leaves the tree as it was
+unmoved :
+    (words : List (List ℕ)) (tree : Tree) (status : ℕ) (line : List ℕ) (later : Tree)
+    → Outcome words tree status line later → status ≢ 0 → later ≡ tree
+unmoved words tree status line later (outcome.words_refused why refuses s l same) other = same
+unmoved words tree status line later (outcome.trace_refused config why is refused s l same) other = same
+unmoved words tree status line later (outcome.done config bytes is generates s l placed) other = absurd (other s)
+
+kept_where_refused :
+    (words : List (List ℕ)) (status : ℕ) (line : List ℕ) (held told : Option Tree) → (held ≡ None → told ≡ None)
+    → status ≢ 0
+    → IfSome held (HasOutcomeIn words status line told) → told ≡ held
+kept_where_refused words status line None told untold other here = untold refl
+kept_where_refused words status line (Some tree) told untold other here =
+    here.2 ∙ ap Some (unmoved words tree status line here.0 here.1 other)
+
+-- ---- what the status says
+
+module _ (words : List (List ℕ)) (before after : FolderState) (status : ℕ) (line : List ℕ) where
+  said_status : Says words before after status line → IsStatus status
+  said_status (says.outcome shape o l w) = shaped_is_status status (shaped_status words status line shape)
+  said_status (says.memory s t k l w) = inr (inr (inr (inr (inr (inr (inl s))))))
+  said_status (says.read_fault config gives s t k rose w) = inr (inr (inr (inr (inr (inl s)))))
+  said_status (says.write_fault bytes done counted generated s t k l rose) = inr (inl s)
+
+  said_kept :
+      (before.holds ≡ None → after.holds ≡ None) → Says words before after status line → IsRefusalStatus status
+      → after.holds ≡ before.holds
+  said_kept untold (says.outcome shape o l w) refused =
+      kept_where_refused words status line before.holds after.holds untold
+      (λ zero. no_refusal_status status (inl zero) refused) o
+  said_kept untold (says.memory s t k l w) refused = k
+  said_kept untold (says.read_fault config gives s t k rose w) refused = k
+  said_kept untold (says.write_fault bytes done counted generated s t k l rose) refused = k
+
+  -- unmoved, or the map was written
+  said_left :
+      (before.holds ≡ None → after.holds ≡ None)
+      → (status ≡ 0 → IfSome before.holds (λ tree. Linked words tree after.holds)) → Says words before after status line
+      → (after.holds ≡ before.holds) ⊎ IfSome before.holds (λ tree. Linked words tree after.holds)
+  said_left untold written (says.outcome shape o l w) = by (shaped_status words status line shape)
+    where
+      by :
+          (status ≡ 0) ⊎ IsRefusing status
+          → (after.holds ≡ before.holds) ⊎ IfSome before.holds (λ tree. Linked words tree after.holds)
+      by (inl zero) = inr (written zero)
+      by (inr refusing) =
+          inl (kept_where_refused words status line before.holds after.holds untold (no_refusing status refusing).0 o)
+  said_left untold written (says.memory s t k l w) = inl k
+  said_left untold written (says.read_fault config gives s t k rose w) = inl k
+  said_left untold written (says.write_fault bytes done counted generated s t k l rose) = inl k
+
+  outcome_not : (n : ℕ) → (n ≡ 4) ⊎ (n ≡ 5) → (status ≡ 0) ⊎ IsRefusing status → status ≢ n
+  outcome_not n fault (inl zero) e = grind (arith, fault, zero, e)
+  outcome_not n (inl four) (inr refusing) e = (no_refusing status refusing).1 (e ∙ four)
+  outcome_not n (inr five) (inr refusing) e = (no_refusing status refusing).2 (e ∙ five)
+
+  said_read : Says words before after status line → status ≡ 4 → Rose before.look_faults after.look_faults
+  said_read (says.outcome shape o l w) four =
+      absurd (outcome_not 4 (inl refl) (shaped_status words status line shape) four)
+  said_read (says.memory s t k l w) four = absurd (omega arith)
+  said_read (says.read_fault config gives s t k rose w) four = rose
+  said_read (says.write_fault bytes done counted generated s t k l rose) four = absurd (omega arith)
+
+  said_write : Says words before after status line → status ≡ 5 → Rose before.write_faults after.write_faults
+  said_write (says.outcome shape o l w) five =
+      absurd (outcome_not 5 (inr refl) (shaped_status words status line shape) five)
+  said_write (says.memory s t k l w) five = absurd (omega arith)
+  said_write (says.read_fault config gives s t k rose w) five = absurd (omega arith)
+  said_write (says.write_fault bytes done counted generated s t k l rose) five = rose
+
+  -- ---- the base
+
+  shaped_two : Shaped words status line → status ≡ 2 → (base : List ℕ) × RefusesWords words (refusal.BadBase base)
+  shaped_two (shaped.words_refused why refuses s l) is_two = bad_base_of words why refuses (sym s ∙ is_two)
+  shaped_two (shaped.trace_refused config why is kind s l) is_two = absurd ((trace_not why).1 (sym s ∙ is_two))
+  shaped_two (shaped.done s counted) is_two = absurd (omega arith)
+
+  said_two :
+      Says words before after status line → status ≡ 2 → (base : List ℕ) × RefusesWords words (refusal.BadBase base)
+  said_two (says.outcome shape o l w) is_two = shaped_two shape is_two
+  said_two (says.memory s t k l w) is_two = absurd (omega arith)
+  said_two (says.read_fault config gives s t k rose w) is_two = absurd (omega arith)
+  said_two (says.write_fault bytes done counted generated s t k l rose) is_two = absurd (omega arith)
+
+  -- ---- counts
+
+  said_looks : Says words before after status line → after.look_faults ≢ before.look_faults → status ≡ 4
+  said_looks (says.outcome shape o l w) changed = absurd (changed l)
+  said_looks (says.memory s t k l w) changed = absurd (changed l)
+  said_looks (says.read_fault config gives s t k rose w) changed = s
+  said_looks (says.write_fault bytes done counted generated s t k l rose) changed = absurd (changed l)
+
+  said_writes : Says words before after status line → after.write_faults ≢ before.write_faults → status ≡ 5
+  said_writes (says.outcome shape o l w) changed = absurd (changed w)
+  said_writes (says.memory s t k l w) changed = absurd (changed w)
+  said_writes (says.read_fault config gives s t k rose w) changed = absurd (changed w)
+  said_writes (says.write_fault bytes done counted generated s t k l rose) changed = s
+
+  writes_unless : Says words before after status line → status ≢ 5 → after.write_faults ≡ before.write_faults
+  writes_unless (says.outcome shape o l w) other = w
+  writes_unless (says.memory s t k l w) other = w
+  writes_unless (says.read_fault config gives s t k rose w) other = w
+  writes_unless (says.write_fault bytes done counted generated s t k l rose) other = absurd (other s)
+
+-- ---- what the answer says
+
+module _ (words : List (List ℕ)) (before after : FolderState) (out out_after : SinkState) (result status : ℕ)
+    (line : List ℕ) (s : Says words before after status line) where
+  pub end_statuses : Ends status line out out_after result → IsStatus result
+  end_statuses (ends.said is given quiet) = subst IsStatus (sym is) (said_status words before after status line s)
+  end_statuses (ends.output_fault is gives rose) = inr (inl is)
+
+  pub end_kept :
+      (before.holds ≡ None → after.holds ≡ None) → Ends status line out out_after result → IsRefusalStatus result
+      → after.holds ≡ before.holds
+  end_kept untold (ends.said is given quiet) refused =
+      said_kept words before after status line untold s (subst IsRefusalStatus is refused)
+  end_kept untold (ends.output_fault is gives rose) refused = absurd (no_refusal_status result (inr is) refused)
+
+  pub end_left :
+      (before.holds ≡ None → after.holds ≡ None)
+      → (status ≡ 0 → IfSome before.holds (λ tree. Linked words tree after.holds))
+      → (after.holds ≡ before.holds) ⊎ IfSome before.holds (λ tree. Linked words tree after.holds)
+  end_left untold written = said_left words before after status line untold written s
+
+  pub end_read : Ends status line out out_after result → result ≡ 4 → Rose before.look_faults after.look_faults
+  end_read (ends.said is given quiet) four = said_read words before after status line s (sym is ∙ four)
+  end_read (ends.output_fault is gives rose) four = absurd (omega arith)
+
+  pub end_write :
+      Ends status line out out_after result → result ≡ 5
+      → Rose before.write_faults after.write_faults ⊎ Rose out.faults out_after.faults
+  end_write (ends.said is given quiet) five = inl (said_write words before after status line s (sym is ∙ five))
+  end_write (ends.output_fault is gives rose) five = inr rose
+
+  pub end_two :
+      Ends status line out out_after result → result ≡ 2 → (base : List ℕ) × RefusesWords words (refusal.BadBase base)
+  end_two (ends.said is given quiet) is_two = said_two words before after status line s (sym is ∙ is_two)
+  end_two (ends.output_fault is gives rose) is_two = absurd (omega arith)
+
+  looks_show :
+      Ends status line out out_after result → after.look_faults ≢ before.look_faults → (result ≡ 4) ⊎ (result ≡ 5)
+  looks_show (ends.said is given quiet) changed = inl (is ∙ said_looks words before after status line s changed)
+  looks_show (ends.output_fault is gives rose) changed = inr is
+
+  looks_alone :
+      Ends status line out out_after result → after.look_faults ≢ before.look_faults
+      → (Rose out.faults out_after.faults → ⊥) → result ≡ 4
+  looks_alone (ends.said is given quiet) changed none = is ∙ said_looks words before after status line s changed
+  looks_alone (ends.output_fault is gives rose) changed none = absurd (none rose)
+
+  writes_show : Ends status line out out_after result → after.write_faults ≢ before.write_faults → result ≡ 5
+  writes_show (ends.said is given quiet) changed = is ∙ said_writes words before after status line s changed
+  writes_show (ends.output_fault is gives rose) changed = is
+
+  output_shows : Ends status line out out_after result → out_after.faults ≢ out.faults → result ≡ 5
+  output_shows (ends.said is given quiet) changed = absurd (changed quiet)
+  output_shows (ends.output_fault is gives rose) changed = is
+
+  read_alone :
+      Ends status line out out_after result → result ≡ 4
+      → (after.write_faults ≡ before.write_faults) × (out_after.faults ≡ out.faults)
+  read_alone (ends.said is given quiet) four =
+      (writes_unless words before after status line s (λ five. omega arith), quiet)
+  read_alone (ends.output_fault is gives rose) four = absurd (omega arith)
+
+  pub end_shows : Ends status line out out_after result → Shows before after out out_after result
+  end_shows e = record {
+    looks = looks_show e;
+    writes = writes_show e;
+    output = output_shows e;
+    looks_alone = looks_alone e;
+    read_alone = read_alone e;
+  }

@@ -1,0 +1,102 @@
+-- The laws of words, generation, outcomes and ends. Each is the contract of a function of this crate.
+use Rattle.std.specs.Prelude.{◌≡◌, ◌⊎◌, ℕ, List, Ok, Err}
+use Rattle.std.specs.FinMap.{get}
+use Rattle.tree_spec.specs.States.{FolderState, SinkState}
+use Rattle.tree_spec.specs.Trees.{Tree, IsTree}
+use Rattle.layout_spec.specs.Layout.{layout}
+use Rattle.layout_spec.specs.PrintedMap.{map_text}
+use Rattle.trace_spec.specs.declared.TraceFault.{TraceFault}
+use Rattle.trace_spec.specs.Modules.{Config}
+use Rattle.trace_spec.specs.Checks.{Before}
+use Rattle.trace_spec.specs.Traces.{traced}
+use Rattle.generator_spec.specs.declared.Refusal.{Refusal}
+use Rattle.generator_spec.specs.Words.{IsConfigOf, RefusesWords}
+use Rattle.generator_spec.specs.Generation.{PageIsFile, Generates}
+use Rattle.generator_spec.specs.Outcome.{Outcome}
+use Rattle.generator_spec.specs.Ending.{EndsAs}
+use Rattle.generator_spec.specs.Promises.{Promises}
+
+-- ---- words
+
+-- words give one config at most
+abbrev pub OneConfig : Type 0
+OneConfig =
+    (words : List (List ℕ)) (some other : Config) → IsConfigOf words some → IsConfigOf words other → some ≡ other
+
+-- words are refused in one way at most
+abbrev pub OneWordsRefusal : Type 0
+OneWordsRefusal =
+    (words : List (List ℕ)) (some other : Refusal) → RefusesWords words some → RefusesWords words other → some ≡ other
+
+-- refused words give no config
+abbrev pub RefusedOrConfig : Type 0
+RefusedOrConfig =
+    (words : List (List ℕ)) (why : Refusal) (config : Config) → RefusesWords words why → IsConfigOf words config → ⊥
+
+pub record HasConfig (words : List (List ℕ)) : Type 0 where
+  pub config : Config
+  pub is : IsConfigOf words config
+
+pub record AreRefused (words : List (List ℕ)) : Type 0 where
+  pub why : Refusal
+  pub refuses : RefusesWords words why
+
+-- words give a config or are refused
+abbrev pub SomeConfig : Type 0
+SomeConfig = (words : List (List ℕ)) → HasConfig words ⊎ AreRefused words
+
+-- the page that words give has no folder's web name
+abbrev pub PageOfWordsIsFile : Type 0
+PageOfWordsIsFile = (words : List (List ℕ)) (config : Config) → IsConfigOf words config → PageIsFile config
+
+-- ---- generation
+
+-- a tree and a config have one text at most
+abbrev pub OneGeneration : Type 0
+OneGeneration =
+    (tree : Tree) (config : Config) (some other : List ℕ) → Generates tree config some → Generates tree config other
+    → some ≡ other
+
+-- where the page has no folder's web name, the text of each trace is generated
+abbrev pub SomeGeneration : Type 0
+SomeGeneration =
+    (tree : Tree) (config : Config) (all : Before) → PageIsFile config → traced (get tree) config ≡ Ok all
+    → Generates tree config (map_text (layout all.needs))
+
+-- where something is generated, nothing is refused
+abbrev pub NothingRefused : Type 0
+NothingRefused =
+    (tree : Tree) (config : Config) (bytes : List ℕ) (fault : TraceFault) → Generates tree config bytes
+    → traced (get tree) config ≡ Err fault → ⊥
+
+-- ---- outcomes
+
+pub record SameOutcome (status other : ℕ) (line another : List ℕ) (after last : Tree) : Type 0 where
+  pub one_status : status ≡ other
+  pub one_line : line ≡ another
+  pub one_tree : after ≡ last
+
+-- a command over a tree has one outcome at most
+abbrev pub OneOutcome : Type 0
+OneOutcome =
+    (words : List (List ℕ)) (tree : Tree) (status other : ℕ) (line another : List ℕ) (after last : Tree)
+    → Outcome words tree status line after → Outcome words tree other another last
+    → SameOutcome status other line another after last
+
+pub record HasOutcome (words : List (List ℕ)) (tree : Tree) : Type 0 where
+  pub status : ℕ
+  pub line : List ℕ
+  pub after : Tree
+  pub outcome : Outcome words tree status line after
+
+-- a command over a tree has an outcome
+abbrev pub SomeOutcome : Type 0
+SomeOutcome = (words : List (List ℕ)) (tree : Tree) → IsTree tree → HasOutcome words tree
+
+-- ---- ends
+
+-- a run that ends as it must keeps all promises
+abbrev pub EndsKeepPromises : Type 0
+EndsKeepPromises =
+    (words : List (List ℕ)) (before after : FolderState) (out out_after : SinkState) (result : ℕ)
+    → EndsAs words before after out out_after result → Promises words before after out out_after result

@@ -1,0 +1,110 @@
+-- What follows from how a run ends, as its caller asks for it.
+--     IsRefusalStatus status         an end before the first write has this status
+--     Tells out out_after written    a line went out, that of a command that was done only where this holds
+--     Quiet before after out out_after             no count of faults rose
+--     Stands status line held after out out_after result          this was answered, said and left
+--     Finishes words tree before after out out_after result       it ended as an outcome says, or with `memory`
+--     Completes status line later before after out out_after result       the same, with this outcome
+--     Meets words tree before after out out_after result          what it has to do with the outcome that is defined
+--     Shows before after out out_after result      which counts of faults show in the status, and how
+--     Promises words before after out out_after result            all of this
+use Rattle.std.specs.Prelude.{◌≡◌, ◌≢◌, ◌≤◌, ◌⊎◌, ◌++◌, ℕ, List, Option, Some, None, IfSome, option_map, take}
+use Rattle.tree_spec.specs.Counts.{Rose}
+use Rattle.tree_spec.specs.States.{FolderState, SinkState}
+use Rattle.tree_spec.specs.Trees.{Tree}
+use Rattle.generator_spec.specs.declared.Refusal.TheVariants.{BadBase}
+use Rattle.generator_spec.specs.Words.{RefusesWords}
+use Rattle.generator_spec.specs.Lines.{counts_line, memory_line}
+use Rattle.generator_spec.specs.Outcome.{Outcome}
+use Rattle.generator_spec.specs.Ending.{Linked, Gives}
+
+-- own: the statuses of an end before the first write
+abbrev pub IsRefusalStatus : ℕ → Type 0
+IsRefusalStatus status = (status ≡ 1) ⊎ (status ≡ 2) ⊎ (status ≡ 3) ⊎ (status ≡ 4) ⊎ (status ≡ 8) ⊎ (status ≡ 9)
+
+-- own: a front of one line went out; and a byte of the line of a command that was done only where its map was written
+pub record Tells (out out_after : Option (List ℕ)) (written : Type 0) : Type 0 where
+  pub line : List ℕ
+  pub gives : Gives out out_after line
+  pub only_where_done :
+      (front : List ℕ) (modules requests mappings count : ℕ) → out ≡ Some front → 1 ≤ count
+      → out_after ≡ Some (front ++ take count (counts_line modules requests mappings)) → written
+
+-- own: no count of faults rose
+pub record Quiet (before after : FolderState) (out out_after : SinkState) : Type 0 where
+  pub looks : Rose before.look_faults after.look_faults → ⊥
+  pub writes : Rose before.write_faults after.write_faults → ⊥
+  pub output : Rose out.faults out_after.faults → ⊥
+
+-- own: this status was answered, this line went out, and the folder tells this
+pub record Stands (status : ℕ) (line : List ℕ) (held : Option Tree) (after : FolderState) (out out_after : SinkState)
+    (result : ℕ) : Type 0 where
+  pub answered : result ≡ status
+  pub given : out_after.got ≡ option_map (λ front. front ++ line) out.got
+  pub told : after.holds ≡ held
+
+-- own: the command ended with this status, line and tree; or with `memory`, and the tree is as it was
+pub data Completes (status : ℕ) (line : List ℕ) (later : Tree) (before after : FolderState)
+    (out out_after : SinkState) (result : ℕ) : Type 0 where
+  complete :
+      Stands status line (Some later) after out out_after result
+      → Completes status line later before after out out_after result
+  memory :
+      Stands 8 memory_line before.holds after out out_after result
+      → Completes status line later before after out out_after result
+
+-- own: the command ended as an outcome says that is defined; or with `memory`, and the tree is as it was
+pub data Finishes (words : List (List ℕ)) (tree : Tree) (before after : FolderState) (out out_after : SinkState)
+    (result : ℕ) : Type 0 where
+  finished :
+      (status : ℕ) (line : List ℕ) (later : Tree) → Outcome words tree status line later
+      → Stands status line (Some later) after out out_after result
+      → Finishes words tree before after out out_after result
+  memory :
+      Stands 8 memory_line before.holds after out out_after result
+      → Finishes words tree before after out out_after result
+
+-- own: where no fault was counted, the command ended as an outcome says that is defined, or with `memory`. Where the
+-- words and the tree have an outcome, the answer is its status, or 8, or 4 or 5 for a fault; where no fault was
+-- counted, the command ended so; and where that outcome has no map, no write failed
+pub record Meets (words : List (List ℕ)) (tree : Tree) (before after : FolderState) (out out_after : SinkState)
+    (result : ℕ) : Type 0 where
+  pub ended : Quiet before after out out_after → Finishes words tree before after out out_after result
+  pub exactly :
+      (status : ℕ) (line : List ℕ) (later : Tree) → Outcome words tree status line later
+      → (result ≡ status) ⊎ (result ≡ 8) ⊎ (result ≡ 4) ⊎ (result ≡ 5)
+  pub complete :
+      (status : ℕ) (line : List ℕ) (later : Tree) → Outcome words tree status line later
+      → Quiet before after out out_after
+      → Completes status line later before after out out_after result
+  pub unwritten :
+      (status : ℕ) (line : List ℕ) (later : Tree) → Outcome words tree status line later → status ≢ 0
+      → after.write_faults ≡ before.write_faults
+
+-- own: a count that changed shows in the status: that of looks in 4, or in 5 where the output failed too; 4 comes
+-- only where the looks alone failed
+pub record Shows (before after : FolderState) (out out_after : SinkState) (result : ℕ) : Type 0 where
+  pub looks : after.look_faults ≢ before.look_faults → (result ≡ 4) ⊎ (result ≡ 5)
+  pub writes : after.write_faults ≢ before.write_faults → result ≡ 5
+  pub output : out_after.faults ≢ out.faults → result ≡ 5
+  pub looks_alone : after.look_faults ≢ before.look_faults → (Rose out.faults out_after.faults → ⊥) → result ≡ 4
+  pub read_alone : result ≡ 4 → (after.write_faults ≡ before.write_faults) × (out_after.faults ≡ out.faults)
+
+-- own: what each status says of the folder, of the output and of the faults
+pub record Promises (words : List (List ℕ)) (before after : FolderState) (out out_after : SinkState)
+    (result : ℕ) : Type 0 where
+  pub statuses : (result ≡ 0) ⊎ (result ≡ 5) ⊎ IsRefusalStatus result
+  pub kept : IsRefusalStatus result → after.holds ≡ before.holds
+  pub done : result ≡ 0 → IfSome before.holds (λ tree. Linked words tree after.holds)
+  pub write_fault :
+      result ≡ 5 → (after.holds ≡ before.holds) ⊎ IfSome before.holds (λ tree. Linked words tree after.holds)
+  pub read : result ≡ 4 → Rose before.look_faults after.look_faults
+  pub write : result ≡ 5 → Rose before.write_faults after.write_faults ⊎ Rose out.faults out_after.faults
+  pub told : Tells out.got out_after.got (IfSome before.holds (λ tree. Linked words tree after.holds))
+  pub meets : IfSome before.holds (λ tree. Meets words tree before after out out_after result)
+  pub shows : Shows before after out out_after result
+  pub looks_later : before.look_faults ≤ after.look_faults
+  pub writes_later : before.write_faults ≤ after.write_faults
+  pub output_later : out.faults ≤ out_after.faults
+  pub untold : before.holds ≡ None → after.holds ≡ None
+  pub bad_base : result ≡ 2 → (base : List ℕ) × RefusesWords words (BadBase base)
