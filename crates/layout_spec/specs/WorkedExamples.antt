@@ -1,13 +1,15 @@
 -- Worked examples. The base is `https://app.test/`.
+--     PlaceExamples      places of referrers
 --     LayoutExamples, CountExamples, ClashExamples      layouts and their texts, needs counted once, needs that clash
 --     TextExamples      maps and their texts
 use Rattle.std.specs.FinMap.{empty}
-use Rattle.std.specs.Prelude.{codes, ◌≡◌, List, [], ◌∷◌}
+use Rattle.std.specs.Prelude.{codes, ◌≡◌, List, [], ◌∷◌, map}
 use Rattle.import_map_spec.specs.ParsedMap.{ParsedMap}
 use Rattle.import_map_spec.specs.WorkedExamples.{pair, to_url, to_null, scope}
 use Rattle.import_map_spec.specs.WrittenMaps.{Lists, map_of_lists}
 use Rattle.layout_spec.specs.Layout.{layout}
 use Rattle.layout_spec.specs.Needs.{counted, NoClash}
+use Rattle.layout_spec.specs.Places.{places}
 use Rattle.layout_spec.specs.PrintedMap.{map_text}
 use Rattle.layout_spec.specs.declared.Need.{Need}
 use Prim.Native.String.{String}
@@ -39,6 +41,25 @@ below_app = need "https://app.test/app/m.mjs" "https://app.test/app/x.mjs" "http
 
 abbrev pub beside : Need
 beside = need "https://app.test/app/m.mjs" "https://app.test/app/x.mjs" "https://app.test/app/x.mjs"
+
+abbrev pub HasPlaces : String → List String → Type 0
+HasPlaces referrer wanted = places (codes referrer) ≡ map codes wanted
+
+pub record PlaceExamples : Type 0 where
+  pub page : HasPlaces "https://app.test/index.html" ("https://app.test/index.html" ∷ "https://app.test/" ∷ "" ∷ [])
+  -- `https://` ends in `/` and is no URL
+  pub at_root : HasPlaces "https://app.test/" ("https://app.test/" ∷ "" ∷ [])
+  pub deep :
+      HasPlaces "https://app.test/app/a/m.mjs"
+      ("https://app.test/app/a/m.mjs" ∷ "https://app.test/app/a/" ∷ "https://app.test/app/" ∷ "https://app.test/" ∷ "" ∷ [])
+  -- a query has places too, but the text before it is none
+  pub in_query :
+      HasPlaces "https://app.test/m.mjs?x/y"
+      ("https://app.test/m.mjs?x/y" ∷ "https://app.test/m.mjs?x/" ∷ "https://app.test/" ∷ "" ∷ [])
+  -- the text of a URL doesn't have the port that its scheme has anyway
+  pub no_own_text : HasPlaces "https://app.test:443/m.mjs" ("https://app.test:443/m.mjs" ∷ "" ∷ [])
+  pub of_file : HasPlaces "file:///a/m.mjs" ("file:///a/m.mjs" ∷ "file:///a/" ∷ "file:///" ∷ "" ∷ [])
+  pub of_none : HasPlaces "" ("" ∷ [])
 
 abbrev pub no_mappings : ParsedMap
 no_mappings = record { imports = empty; scopes = empty; integrity = empty }
@@ -95,4 +116,4 @@ pub record TextExamples : Type 0 where
       "{\n  \"imports\": {\n    \"a\": null,\n    \"b\": \"https://app.test/b\"\n  },\n  \"scopes\": {\n    \"https://app.test/x/\": {\n      \"#\\u003c\": \"https://app.test/y\"\n    }\n  }\n}\n"
 
 abbrev pub WorkedExamples : Type 0
-WorkedExamples = LayoutExamples × CountExamples × ClashExamples × TextExamples
+WorkedExamples = PlaceExamples × LayoutExamples × CountExamples × ClashExamples × TextExamples
