@@ -2,6 +2,7 @@
 use Rattle.std.proofs.Common.{refl, sym, ap, ◌∙◌, subst}
 use Rattle.std.proofs.lemmas.Bool.{cases_Bool, true≢false}
 use Rattle.std.proofs.lemmas.Slice.Eq.{bytes_eq-Decides}
+use Rattle.std.proofs.lemmas.Option.{none-some}
 use Rattle.std.specs.FinMap.{get, empty}
 use Rattle.std.specs.Prelude.{◌≡◌, ℕ, List, [], ◌∷◌, Option, Some, None, take, unwrap_or, bytes_eq, Contains}
 use mathlib.Core.Logic.{inl, inr}
@@ -21,9 +22,6 @@ use Rattle.layout_spec.specs.Places.{above, places}
 use Rattle.layout_spec.specs.Serving.{held, first_of, NoCapture, OfNeeds}
 use Rattle.layout_spec.specs.declared.Need.{Need}
 
-never : {A : Type 0} {o : Option A} {x : A} → o ≡ None → o ≡ Some x → ⊥
-never p q = cc
-
 -- where no place has an answer, there is none
 pub first_of_none : {A : Type 0} (answer : List ℕ → Option A) (places : List (List ℕ)) → ((place : List ℕ) → Contains places place → answer place ≡ None) → first_of answer places ≡ None
 first_of_none answer [] each = refl
@@ -34,7 +32,7 @@ none_after None rest e = e
 none_after (Some x) rest e = refl
 
 not_empty : IsUrl [] → ⊥
-not_empty is = never no_urls.1 is
+not_empty is = none-some [] (sym no_urls.1 ∙ is)
 
 module _ (needs : List Need) (m : ParsedMap) (lays : Lays needs m) (no_clash : NoClash needs) (files : (need : Need) → Contains needs need → NamesFiles need) where
   top_holds_none : (asked : List ℕ) → held m asked [] ≡ None
@@ -42,7 +40,7 @@ module _ (needs : List Need) (m : ParsedMap) (lays : Lays needs m) (no_clash : N
 
   -- what a place holds is a mapping of the scope with that key
   held_mapped : (asked place : List ℕ) (address : Option (List ℕ)) → held m asked place ≡ Some address → mapped m.scopes place asked ≡ Some address
-  held_mapped asked [] address e = absurd (never (top_holds_none asked) e)
+  held_mapped asked [] address e = absurd (none-some address (sym (top_holds_none asked) ∙ e))
   held_mapped asked (b ∷ rest) address e = e
 
   -- no referrer stands above another one
