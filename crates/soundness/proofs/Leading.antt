@@ -2,9 +2,9 @@
 use Rattle.std.proofs.Common.{refl, sym, ap, ◌∙◌, subst}
 use Rattle.std.proofs.Math.Seq.{take-length}
 use Rattle.std.proofs.lemmas.Bool.{cases_Bool, cond-true, cond-false, true≢false}
-use Rattle.std.proofs.lemmas.Option.{none-some}
+use Rattle.std.proofs.lemmas.Option.{none-some, same_Some}
 use Rattle.std.specs.FinMap.{get, empty}
-use Rattle.std.specs.Prelude.{◌≡◌, ◌⊎◌, ℕ, zero, suc, Bool, true, false, List, [], ◌∷◌, ◌++◌, length, take, drop, Option, Some, None, option_map, unwrap_or, Contains, if◌then◌else◌}
+use Rattle.std.specs.Prelude.{◌≡◌, ℕ, zero, suc, Bool, true, false, List, [], ◌∷◌, ◌++◌, length, take, drop, Option, Some, None, option_map, unwrap_or, Contains, if◌then◌else◌}
 use mathlib.Core.Logic.{inl, inr}
 use Rattle.url_spec.proofs.NoUrls.{no_urls}
 use Rattle.url_spec.proofs.OwnUrls.{own_urls}
@@ -138,13 +138,10 @@ module _ (needs : List Need) (m : ParsedMap) (of_needs : OfNeeds needs m) (files
   leads_from (b ∷ rest) asked target url is serves alone =
       ap (λ o. answer_or o (unmatched url)) (places_answer url asked b rest) ∙ answered (first_of (held m asked) (places (b ∷ rest))) serves
     where
-      same_some : (one other : List ℕ) → Some one ≡ Some other → one ≡ other
-      same_some one other e = cc
-
       answered : (found : Option (Option (List ℕ))) → unwrap_or found (Some asked) ≡ Some target → answer_or (exact_match found) (unmatched url) ≡ Resolved target
-      answered None e = ap unmatched (alone (same_some asked target e))
+      answered None e = ap unmatched (alone (same_Some asked target e))
       answered (Some None) e = absurd (none-some target e)
-      answered (Some (Some address)) e = ap Resolved (same_some address target e)
+      answered (Some (Some address)) e = ap Resolved (same_Some address target e)
 
 -- ---- needs
 

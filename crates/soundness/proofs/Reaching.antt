@@ -1,8 +1,9 @@
 -- Whatever the headline reaches by Node's answers the trace reaches too; and what is known there of names.
 use Rattle.std.proofs.Common.{refl, sym, ap, ◌∙◌, subst}
 use Rattle.std.proofs.lemmas.Bool.{cond-true}
+use Rattle.std.proofs.lemmas.Option.{same_Some}
 use Rattle.std.specs.FinMap.{get}
-use Rattle.std.specs.Prelude.{◌≡◌, ℕ, suc, true, false, List, [], Option, Some, None, Result, Ok, Err, unwrap_or, Contains}
+use Rattle.std.specs.Prelude.{◌≡◌, ℕ, suc, true, false, List, [], Option, Some, None, Ok, unwrap_or, Contains}
 use Rattle.asking_spec.proofs.AskingLemmas.{ok_parts}
 use Rattle.tree_spec.specs.Limits.{limit_number}
 use Rattle.tree_spec.specs.Trees.{Tree}
@@ -20,17 +21,14 @@ use Rattle.layout_spec.specs.declared.Need.{Need}
 use Rattle.trace_spec.proofs.Steps.{traced_outcome, served_parts, file_name_parts}
 use Rattle.trace_spec.proofs.Traces.{requests_pass, needs_are_requests}
 use Rattle.trace_spec.specs.Checks.{Before, page_opened, opens, begun, rules}
-use Rattle.trace_spec.specs.Laws.{Passes, AllPass}
+use Rattle.trace_spec.specs.Laws.{Passes}
 use Rattle.trace_spec.specs.Levels.{page as page_is_reached, requested as is_requested}
 use Rattle.trace_spec.specs.Modules.{Config, Module, path_of, web_name, served_name}
 use Rattle.trace_spec.specs.Questions.{always}
-use Rattle.trace_spec.specs.Traces.{traced, requests, specifiers, resolution, module_in, leads, Reachable as IsReached}
+use Rattle.trace_spec.specs.Traces.{traced, requests, specifiers, module_in, leads, Reachable as IsReached}
 use Rattle.trace_spec.specs.Walking.{Referrer, the_page, a_module, Opened, followed, visited, walked}
 use Rattle.generator_spec.specs.Generation.{PageIsFile}
 use Rattle.generator_spec.specs.Headline.{Reachable, page, requested}
-
-some_same : {A : Type 0} (one other : A) → ◌≡◌ {A = Option A} (Some one) (Some other) → one ≡ other
-some_same one other e = cc
 
 -- a web name that is no folder's
 pub record IsNamed (config : Config) (referrer : Referrer Module) : Type 0 where
@@ -43,7 +41,7 @@ module _ (tree : Tree) (config : Config) (all : Before) (is_traced : traced (get
   passes_at : (referrer : Referrer Module) (specifiers : List (List ℕ)) (specifier : List ℕ) → IsReached (get tree) config referrer → requests (get tree) config referrer ≡ Some specifiers → Contains specifiers specifier → Passes (get tree) config all referrer specifier
   passes_at referrer specifiers specifier reached asks asked =
       let pass = requests_pass (get tree) config all is_traced referrer reached in
-      pass.pass specifier (subst (λ some. Contains some specifier) (some_same specifiers pass.specifiers (sym asks ∙ pass.asks)) asked)
+      pass.pass specifier (subst (λ some. Contains some specifier) (same_Some specifiers pass.specifiers (sym asks ∙ pass.asks)) asked)
 
   -- Node's answer is the one that the trace asks for
   node_leads : (referrer : Referrer Module) (specifier : List ℕ) (target : Module) → is_relative specifier ≡ true → node.Resolves tree (path_of config referrer) specifier (node.Resolved target.path target.suffix) → leads (get tree) config referrer specifier ≡ Some target
@@ -72,7 +70,7 @@ module _ (tree : Tree) (config : Config) (all : Before) (is_traced : traced (get
 
   target_named : (referrer : Referrer Module) (specifier : List ℕ) (target : Module) → Passes (get tree) config all referrer specifier → leads (get tree) config referrer specifier ≡ Some target → IsNamed config (a_module target)
   target_named referrer specifier target passes led =
-      let same = some_same passes.target target (sym (cond-true _ _ _ passes.relative ∙ ap module_in passes.answers) ∙ led) in
+      let same = same_Some passes.target target (sym (cond-true _ _ _ passes.relative ∙ ap module_in passes.answers) ∙ led) in
       let need = (needs_are_requests (get tree) config all is_traced).each passes.need passes.is_need in
       record { name = passes.need.target; named = subst (λ m. web_name config (a_module m) ≡ Some passes.need.target) same passes.servable.name; is_file = (file_name_parts config need.target passes.need.target need.is_name).is_file }
 
@@ -93,6 +91,6 @@ module _ (tree : Tree) (config : Config) (all : Before) (is_traced : traced (get
         referrer = kept_urls.2 _ _ _ _ is.named;
         asked = own_urls.1 need.referrer is.specifier need.asked is.asks;
         target = kept_urls.2 _ _ _ _ file.servable.name;
-        referrer_is_file = subst (λ name. ends_in_slash name ≡ false) (some_same referrer.name need.referrer (sym referrer.named ∙ is.named)) referrer.is_file;
+        referrer_is_file = subst (λ name. ends_in_slash name ≡ false) (same_Some referrer.name need.referrer (sym referrer.named ∙ is.named)) referrer.is_file;
         asked_is_file = is.asked_is_file;
       }

@@ -1,5 +1,6 @@
 -- What is generated serves: a map of the needs of a trace does that captures none of them and has no mappings but theirs.
 use Rattle.std.proofs.Common.{refl, sym, ap, ◌∙◌, subst}
+use Rattle.std.proofs.lemmas.Option.{same_Some}
 use Rattle.std.specs.FinMap.{get, empty}
 use Rattle.std.specs.Prelude.{◌≡◌, ℕ, List, Some, Ok, unwrap_or, Contains}
 use Rattle.tree_spec.specs.Trees.{Tree}
@@ -25,15 +26,12 @@ use Rattle.trace_spec.specs.Levels.{page as page_is_reached}
 use Rattle.trace_spec.specs.Modules.{Config, Module, path_of, web_name}
 use Rattle.trace_spec.specs.Traces.{traced}
 use Rattle.trace_spec.specs.Walking.{Referrer, the_page}
-use Rattle.generator_spec.specs.Generation.{Generates, PageIsFile}
+use Rattle.generator_spec.specs.Generation.{PageIsFile}
 use Rattle.generator_spec.specs.Headline.{Reachable, Leads, AllLead, Serves}
 use Rattle.soundness.proofs.Kept.{map_kept}
 use Rattle.soundness.proofs.Leading.{need_leads}
 use Rattle.soundness.proofs.Reaching.{reached, is_named, needs_name}
 use Rattle.soundness.specs.Soundness.{Soundness}
-
-same_name : (one other : List ℕ) → Some one ≡ Some other → one ≡ other
-same_name one other e = cc
 
 normal_by_url : (referrer specifier asked : List ℕ) → as_url referrer specifier ≡ Some asked → normalized referrer specifier ≡ asked
 unfolding normalized
@@ -47,7 +45,7 @@ module _ (tree : Tree) (config : Config) (all : Before) (is_traced : traced (get
   leads : (referrer : Referrer Module) (name specifier : List ℕ) → web_name config referrer ≡ Some name → Passes (get tree) config all referrer specifier → Leads tree config m referrer name specifier
   leads referrer name specifier named passes =
       let need = passes.need in
-      let same : need.referrer ≡ name = same_name need.referrer name (sym passes.named ∙ named) in
+      let same : need.referrer ≡ name = same_Some need.referrer name (sym passes.named ∙ named) in
       record {
         path = passes.target.path;
         suffix = passes.target.suffix;
