@@ -52,8 +52,8 @@ pub record PlaceExamples : Type 0 where
   -- `https://` ends in `/` and is no URL
   pub at_root : HasPlaces "https://app.test/" ("https://app.test/" ∷ "" ∷ [])
   pub deep :
-      HasPlaces "https://app.test/app/a/m.mjs"
-      ("https://app.test/app/a/m.mjs" ∷ "https://app.test/app/a/" ∷ "https://app.test/app/" ∷ "https://app.test/" ∷ "" ∷ [])
+      HasPlaces "https://app.test/a/b/m.mjs"
+      ("https://app.test/a/b/m.mjs" ∷ "https://app.test/a/b/" ∷ "https://app.test/a/" ∷ "https://app.test/" ∷ "" ∷ [])
   -- a query has places too, but the text before it is none
   pub in_query :
       HasPlaces "https://app.test/m.mjs?x/y"

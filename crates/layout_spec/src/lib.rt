@@ -1,4 +1,5 @@
-//! Needs, the places where a map can serve them, the layout that does, and the map as it is printed: definitions and their laws.
+//! Needs, the places where a map can serve them, the layout that does, and the map as it is printed: definitions and
+//! their laws.
 #![tactic(auto)]
 
 ghost use Rattle.layout_spec.specs.Laws.{CountedKeeps, CountedOnce, LayoutLays, LayoutServes, OneLayout, PlacesByCases, PlacesShrink, TextsReadBack};
