@@ -1,6 +1,8 @@
 pub mod Contained
 pub mod CountedNeeds
+pub mod PlaceLemmas
 pub mod Lays
+pub mod LayoutServes
 pub mod OneLayout
 pub mod MapMembers
 pub mod MapBack

@@ -2,3 +2,4 @@ pub mod LaidLists
 pub mod PrintedLists
 pub mod Agreement
 pub mod WorkedExamples
+pub mod HeldLists

@@ -3,8 +3,10 @@ use Rattle.std.specs.Prelude.{◌↔◌, List, Contains, ◌≡◌, ℕ, Ok}
 use Rattle.import_map_spec.specs.ParsedMap.{ParsedMap}
 use Rattle.import_map_spec.specs.Parsing.{ParsesMap}
 use Rattle.layout_spec.specs.Layout.{layout, Lays}
-use Rattle.layout_spec.specs.Needs.{counted, AreDistinct, NoClash}
+use Rattle.layout_spec.specs.Needs.{counted, AreDistinct, NoClash, NamesFiles}
+use Rattle.layout_spec.specs.Places.{places, IsPlace, AreShrinking}
 use Rattle.layout_spec.specs.PrintedMap.{map_text, IsKept}
+use Rattle.layout_spec.specs.Serving.{NoCapture, OfNeeds}
 use Rattle.layout_spec.specs.declared.Need.{Need}
 
 -- own law: to count each need once leaves out none and adds none
@@ -15,9 +17,23 @@ CountedKeeps = (needs : List Need) (need : Need) → Contains needs need ↔ Con
 abbrev pub CountedOnce : Type 0
 CountedOnce = (needs : List Need) → AreDistinct (counted needs)
 
+-- own law: the places of a referrer are itself, the folders above it and the top level
+abbrev pub PlacesByCases : Type 0
+PlacesByCases = (referrer place : List ℕ) → Contains (places referrer) place ↔ IsPlace referrer place
+
+-- own law: they stand longest first, each a shorter front of those before it, so that none stands twice
+abbrev pub PlacesShrink : Type 0
+PlacesShrink = (referrer : List ℕ) → AreShrinking (places referrer)
+
 -- own law: the layout of needs without a clash has their mappings and no other
 abbrev pub LayoutLays : Type 0
 LayoutLays = (needs : List Need) → NoClash needs → Lays needs (layout needs)
+
+-- own law: the layout of needs without a clash that name files captures none of them, and has no mappings but theirs
+abbrev pub LayoutServes : Type 0
+LayoutServes =
+    (needs : List Need) → NoClash needs → ((need : Need) → Contains needs need → NamesFiles need)
+    → NoCapture needs (layout needs) × OfNeeds needs (layout needs)
 
 -- own law: two maps that have the mappings that the needs want, and nothing else, are one
 abbrev pub OneLayout : Type 0

@@ -1,14 +1,18 @@
 -- Worked examples. The base is `https://app.test/`.
+--     PlaceExamples      places of referrers
 --     LayoutExamples, CountExamples, ClashExamples      layouts and their texts, needs counted once, needs that clash
+--     ServingExamples      maps that serve needs, and maps that capture them
 --     TextExamples      maps and their texts
 use Rattle.std.specs.FinMap.{empty}
-use Rattle.std.specs.Prelude.{codes, ◌≡◌, List, [], ◌∷◌}
+use Rattle.std.specs.Prelude.{codes, ◌≡◌, List, [], ◌∷◌, map}
 use Rattle.import_map_spec.specs.ParsedMap.{ParsedMap}
 use Rattle.import_map_spec.specs.WorkedExamples.{pair, to_url, to_null, scope}
 use Rattle.import_map_spec.specs.WrittenMaps.{Lists, map_of_lists}
 use Rattle.layout_spec.specs.Layout.{layout}
 use Rattle.layout_spec.specs.Needs.{counted, NoClash}
+use Rattle.layout_spec.specs.Places.{places}
 use Rattle.layout_spec.specs.PrintedMap.{map_text}
+use Rattle.layout_spec.specs.Serving.{NoCapture, OfNeeds}
 use Rattle.layout_spec.specs.declared.Need.{Need}
 use Prim.Native.String.{String}
 
@@ -39,6 +43,25 @@ below_app = need "https://app.test/app/m.mjs" "https://app.test/app/x.mjs" "http
 
 abbrev pub beside : Need
 beside = need "https://app.test/app/m.mjs" "https://app.test/app/x.mjs" "https://app.test/app/x.mjs"
+
+abbrev pub HasPlaces : String → List String → Type 0
+HasPlaces referrer wanted = places (codes referrer) ≡ map codes wanted
+
+pub record PlaceExamples : Type 0 where
+  pub page : HasPlaces "https://app.test/index.html" ("https://app.test/index.html" ∷ "https://app.test/" ∷ "" ∷ [])
+  -- `https://` ends in `/` and is no URL
+  pub at_root : HasPlaces "https://app.test/" ("https://app.test/" ∷ "" ∷ [])
+  pub deep :
+      HasPlaces "https://app.test/a/b/m.mjs"
+      ("https://app.test/a/b/m.mjs" ∷ "https://app.test/a/b/" ∷ "https://app.test/a/" ∷ "https://app.test/" ∷ "" ∷ [])
+  -- a query has places too, but the text before it is none
+  pub in_query :
+      HasPlaces "https://app.test/m.mjs?x/y"
+      ("https://app.test/m.mjs?x/y" ∷ "https://app.test/m.mjs?x/" ∷ "https://app.test/" ∷ "" ∷ [])
+  -- the text of a URL doesn't have the port that its scheme has anyway
+  pub no_own_text : HasPlaces "https://app.test:443/m.mjs" ("https://app.test:443/m.mjs" ∷ "" ∷ [])
+  pub of_file : HasPlaces "file:///a/m.mjs" ("file:///a/m.mjs" ∷ "file:///a/" ∷ "file:///" ∷ "" ∷ [])
+  pub of_none : HasPlaces "" ("" ∷ [])
 
 abbrev pub no_mappings : ParsedMap
 no_mappings = record { imports = empty; scopes = empty; integrity = empty }
@@ -74,6 +97,44 @@ pub record ClashExamples : Type 0 where
   -- a module may be asked for by two referrers, and by one under two spellings
   pub none : NoClash (page_app ∷ app_home ∷ app_id ∷ home_id ∷ app_ab ∷ [])
 
+-- a need of another file in that folder, which wants no mapping
+abbrev pub neighbor : Need
+neighbor = need "https://app.test/app/n.mjs" "https://app.test/app/x.mjs" "https://app.test/app/x.mjs"
+
+-- a map in whose imports or scope of `https://app.test/app/` the specifier has these addresses
+abbrev pub with_addresses : List String → List String → Lists
+with_addresses on_top in_folder =
+    record {
+      imports = map (to_url "https://app.test/app/x.mjs") on_top;
+      scopes = scope "https://app.test/app/" (map (to_url "https://app.test/app/x.mjs") in_folder) ∷ [];
+      integrity = [];
+    }
+
+abbrev pub Captures : List Need → Lists → Type 0
+Captures needs lists = NoCapture needs (map_of_lists lists) → ⊥
+
+abbrev pub CapturesNone : List Need → Lists → Type 0
+CapturesNone needs lists = NoCapture needs (map_of_lists lists)
+
+abbrev pub x_below : String
+x_below = "https://app.test/app/app/x.mjs"
+
+abbrev pub x_itself : String
+x_itself = "https://app.test/app/x.mjs"
+
+pub record ServingExamples : Type 0 where
+  -- a mapping serves a need from any place of the referrer
+  pub in_folder : CapturesNone (below_app ∷ []) (with_addresses [] (x_below ∷ []))
+  pub on_top : CapturesNone (below_app ∷ []) (with_addresses (x_below ∷ []) [])
+  -- the longest place decides
+  pub longest : CapturesNone (below_app ∷ []) (with_addresses (x_itself ∷ []) (x_below ∷ []))
+  pub not_longest : Captures (below_app ∷ []) (with_addresses (x_below ∷ []) (x_itself ∷ []))
+  -- a need that wants no mapping is captured by one that stands above it
+  pub free : CapturesNone (neighbor ∷ []) (with_addresses [] [])
+  pub free_captured : Captures (below_app ∷ neighbor ∷ []) (with_addresses [] (x_below ∷ []))
+  -- a mapping that is no need's
+  pub no_need : OfNeeds (neighbor ∷ []) (map_of_lists (with_addresses [] (x_below ∷ []))) → ⊥
+
 abbrev pub only_integrity : Lists
 only_integrity = record { imports = []; scopes = []; integrity = pair "https://app.test/app.mjs" "sha384-x" ∷ [] }
 
@@ -95,4 +156,5 @@ pub record TextExamples : Type 0 where
       "{\n  \"imports\": {\n    \"a\": null,\n    \"b\": \"https://app.test/b\"\n  },\n  \"scopes\": {\n    \"https://app.test/x/\": {\n      \"#\\u003c\": \"https://app.test/y\"\n    }\n  }\n}\n"
 
 abbrev pub WorkedExamples : Type 0
-WorkedExamples = LayoutExamples × CountExamples × ClashExamples × TextExamples
+WorkedExamples =
+    PlaceExamples × LayoutExamples × CountExamples × ClashExamples × ServingExamples × TextExamples

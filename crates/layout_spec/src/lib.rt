@@ -1,7 +1,8 @@
-//! Needs, the layout that serves them, and the map as it is printed: definitions and their laws.
+//! Needs, the places where a map can serve them, the layout that does, and the map as it is printed: definitions and
+//! their laws.
 #![tactic(auto)]
 
-ghost use Rattle.layout_spec.specs.Laws.{CountedKeeps, CountedOnce, LayoutLays, OneLayout, TextsReadBack};
+ghost use Rattle.layout_spec.specs.Laws.{CountedKeeps, CountedOnce, LayoutLays, LayoutServes, OneLayout, PlacesByCases, PlacesShrink, TextsReadBack};
 ghost use Rattle.layout_spec.specs.WorkedExamples.{WorkedExamples};
 
 use primitives::Text;
@@ -27,11 +28,28 @@ pub fn counted_once()
     ensures { CountedOnce }
 {}
 
+/// The places of a referrer are itself, the folders above it and the top level.
+pub fn places_by_cases()
+    ensures { PlacesByCases }
+{}
+
+/// The places of a referrer stand longest first, each a shorter front of those before it.
+#[tactic(auto, using(crate::proofs::PlaceLemmas::places_shrink))]
+pub fn places_shrink()
+    ensures { PlacesShrink }
+{}
+
 /// The layout of needs of which no two clash has the mappings that they want, each in the scope of its referrer, and
 /// nothing else.
 #[tactic(auto, using(crate::proofs::Lays::layout_lays))]
 pub fn layout_lays()
     ensures { LayoutLays }
+{}
+
+/// Through the layout of needs that name files, and of which no two clash, each need is served by what its referrer's
+/// longest place holds.
+pub fn layout_serves()
+    ensures { LayoutServes }
 {}
 
 /// At most one map has the mappings that needs want, and nothing else.

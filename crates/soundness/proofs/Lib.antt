@@ -1,3 +1,4 @@
-pub mod Resolving
+pub mod Leading
 pub mod Kept
+pub mod Reaching
 pub mod Sound

@@ -1,75 +1,88 @@
--- What is generated serves.
-use Rattle.std.proofs.Common.{◌≡◌, ℕ, List, Some, sym, ◌∙◌, subst}
-use Rattle.std.specs.Prelude.{Contains, Ok}
+-- What is generated serves: a map of the needs of a trace does that captures none of them and has no mappings but theirs.
+use Rattle.std.proofs.Common.{refl, sym, ap, ◌∙◌, subst}
+use Rattle.std.proofs.lemmas.Option.{same_Some}
+use Rattle.std.specs.FinMap.{get, empty}
+use Rattle.std.specs.Prelude.{◌≡◌, ℕ, List, Some, Ok, unwrap_or, Contains}
 use Rattle.tree_spec.specs.Trees.{Tree}
-use Rattle.url_spec.specs.Parsing.{IsUrl}
 use Rattle.url_spec.proofs.KeptUrls.{kept_urls}
+use Rattle.url_spec.specs.Specifiers.{as_url, normalized}
+use Rattle.node_spec.proofs.RelativeLemmas.{finds_relative}
+use Rattle.node_spec.specs.Resolution as node
+use Rattle.import_map_spec.proofs.ResolvesByCases.{resolves_by_cases}
+use Rattle.import_map_spec.specs.ParsedMap.{ParsedMap}
 use Rattle.import_map_spec.specs.Parsing.{ParsesMap}
-use Rattle.layout_spec.proofs.TextBack.{texts_read_back}
-use Rattle.import_map_spec.specs.LookUps.{resolve_in}
 use Rattle.import_map_spec.specs.Resolving as html
-use Rattle.layout_spec.specs.declared.Need.{Need}
-use Rattle.layout_spec.specs.Layout.{layout, Lays}
+use Rattle.layout_spec.proofs.LayoutServes.{layout_serves}
+use Rattle.layout_spec.proofs.TextBack.{texts_read_back}
+use Rattle.layout_spec.specs.Layout.{layout}
 use Rattle.layout_spec.specs.Needs.{NamesFiles}
-use Rattle.layout_spec.proofs.Lays.{layout_lays}
-use Rattle.generator_spec.specs.Modules.{Config, Module, Referrer, web_name, Asks}
-use Rattle.generator_spec.specs.Trace.{Passes, needs_of}
-use Rattle.generator_spec.specs.Generation.{Generates}
+use Rattle.layout_spec.specs.PrintedMap.{map_text}
+use Rattle.layout_spec.specs.Serving.{NoCapture, OfNeeds}
+use Rattle.layout_spec.specs.declared.Need.{Need}
+use Rattle.trace_spec.proofs.Traces.{requests_pass, needs_are_requests}
+use Rattle.trace_spec.specs.Checks.{Before}
+use Rattle.trace_spec.specs.Laws.{Passes}
+use Rattle.trace_spec.specs.Levels.{page as page_is_reached}
+use Rattle.trace_spec.specs.Modules.{Config, Module, path_of, web_name}
+use Rattle.trace_spec.specs.Traces.{traced}
+use Rattle.trace_spec.specs.Walking.{Referrer, the_page}
+use Rattle.generator_spec.specs.Generation.{PageIsFile}
 use Rattle.generator_spec.specs.Headline.{Reachable, Leads, AllLead, Serves}
-use Rattle.generator_spec.specs.Reaching.{reached, turn_passes, passed_at, need_names}
-use Rattle.soundness.specs.Soundness.{Soundness}
-use Rattle.soundness.proofs.Resolving.{need_leads}
 use Rattle.soundness.proofs.Kept.{map_kept}
+use Rattle.soundness.proofs.Leading.{need_leads}
+use Rattle.soundness.proofs.Reaching.{reached, is_named, needs_name}
+use Rattle.soundness.specs.Soundness.{Soundness}
 
-same_some : (text other : List ℕ) → Some text ≡ Some other → text ≡ other
-same_some text other e = cc
+normal_by_url : (referrer specifier asked : List ℕ) → as_url referrer specifier ≡ Some asked → normalized referrer specifier ≡ asked
+unfolding normalized
+normal_by_url referrer specifier asked e = ap (λ found. unwrap_or found specifier) e
 
-module _ (tree : Tree) (config : Config) (bytes : List ℕ) (is : Generates tree config bytes) where
-  files : (need : Need) → Contains (needs_of is.trace) need → NamesFiles need
-  files need c = need_names tree config is.trace is.is_trace is.page_name is.page.name is.page_is_file need c
-
-  lays : Lays (needs_of is.trace) (layout (needs_of is.trace))
-  lays = layout_lays (needs_of is.trace) is.no_clash
+module _ (tree : Tree) (config : Config) (all : Before) (is_traced : traced (get tree) config ≡ Ok all) (page_is_file : PageIsFile config) (m : ParsedMap) (no_capture : NoCapture all.needs m) (of_needs : OfNeeds all.needs m) where
+  files : (need : Need) → Contains all.needs need → NamesFiles need
+  files = needs_name tree config all is_traced page_is_file
 
   -- a request that passed leads to its file
-  leads : (referrer : Referrer) (name specifier : List ℕ) (need : Need) (target : Module) → web_name config referrer ≡ Some name → Contains (needs_of is.trace) need → Passes tree config referrer specifier need target → Leads tree config (layout (needs_of is.trace)) referrer name specifier
-  leads referrer name specifier need target named c passes =
-      let same : need.referrer ≡ name = same_some need.referrer name (sym passes.named ∙ named) in
+  leads : (referrer : Referrer Module) (name specifier : List ℕ) → web_name config referrer ≡ Some name → Passes (get tree) config all referrer specifier → Leads tree config m referrer name specifier
+  leads referrer name specifier named passes =
+      let need = passes.need in
+      let same : need.referrer ≡ name = same_Some need.referrer name (sym passes.named ∙ named) in
       record {
-        path = target.path;
-        suffix = target.suffix;
+        path = passes.target.path;
+        suffix = passes.target.suffix;
         url = need.target;
-        node = passes.answers;
+        node = subst (node.Resolves tree (path_of config referrer) specifier) passes.answers (finds_relative tree (path_of config referrer) specifier passes.relative);
         web = passes.servable.name;
-        html = subst (λ n. resolve_in (layout (needs_of is.trace)) n specifier ≡ html.Resolved need.target) same (need_leads (needs_of is.trace) (layout (needs_of is.trace)) lays is.no_clash files need specifier c passes.asks);
+        html = subst (λ n. html.Resolves m n specifier (html.Resolved need.target)) same
+            ((resolves_by_cases m need.referrer specifier (html.Resolved need.target)).0 (need_leads all.needs m no_capture of_needs files need specifier passes.is_need (normal_by_url need.referrer specifier need.asked passes.asks)));
         served = passes.servable.back;
       }
 
-  all_lead : (referrer : Referrer) → Reachable tree config referrer → AllLead tree config (layout (needs_of is.trace)) referrer
+  all_lead : (referrer : Referrer Module) → Reachable tree config referrer → AllLead tree config m referrer
   all_lead referrer reachable =
-      let found = reached tree config is.trace is.is_trace is.page_name is.page.name referrer reachable in
-      let asks : Asks tree config referrer found.turn.specifiers = subst (λ r. Asks tree config r found.turn.specifiers) found.is_of (turn_passes tree config is.trace is.is_trace found.turn found.is_turn).asks in
+      let is_reached = reached tree config all is_traced referrer reachable in
+      let named = is_named tree config all is_traced page_is_file referrer is_reached in
+      let pass = requests_pass (get tree) config all is_traced referrer is_reached in
       record {
-        name = found.name;
-        named = found.named;
-        specifiers = found.turn.specifiers;
-        asks = asks;
-        leads = λ specifier asked.
-            let passed = passed_at tree config is.trace is.is_trace found.turn referrer found.turn.specifiers specifier found.is_turn found.is_of asks asked in
-            leads referrer found.name specifier passed.need passed.target found.named passed.is_need passed.passes;
+        name = named.name;
+        named = named.named;
+        specifiers = pass.specifiers;
+        asks = pass.asks;
+        leads = λ specifier asked. leads referrer named.name specifier named.named (pass.pass specifier asked);
       }
 
-  page_url : IsUrl is.page_name
-  page_url = kept_urls.2 _ _ _ _ is.page.name
-
-  serves : Serves tree config bytes
-  serves = record {
-    map_base = is.page_name;
-    named = is.page.name;
-    map = layout (needs_of is.trace);
-    parses = subst (λ text. ParsesMap is.page_name text (Ok (layout (needs_of is.trace)))) (sym is.text) (texts_read_back is.page_name (layout (needs_of is.trace)) (map_kept is.page_name page_url (needs_of is.trace) (layout (needs_of is.trace)) lays files));
-    all_lead = all_lead;
-  }
+  text_serves : m.integrity ≡ empty → (bytes : List ℕ) → bytes ≡ map_text m → Serves tree config bytes
+  text_serves no_digests bytes text =
+      let page = is_named tree config all is_traced page_is_file the_page page_is_reached in
+      let kept = map_kept page.name (kept_urls.2 _ _ _ _ page.named) all.needs m of_needs files no_digests in
+      record {
+        map_base = page.name;
+        named = page.named;
+        map = m;
+        parses = subst (λ written. ParsesMap page.name written (Ok m)) (sym text) (texts_read_back page.name m kept);
+        all_lead = all_lead;
+      }
 
 pub sound : Soundness
-sound tree config bytes is = serves tree config bytes is
+sound tree config bytes is =
+    let laid = layout_serves is.all.needs (needs_are_requests (get tree) config is.all is.is_traced).no_clash (needs_name tree config is.all is.is_traced is.page_is_file) in
+    text_serves tree config is.all is.is_traced is.page_is_file (layout is.all.needs) laid.0 laid.1 refl bytes is.text

@@ -1,7 +1,7 @@
 -- The theorem of this project.
 use Rattle.std.specs.Prelude.{ℕ, List}
 use Rattle.tree_spec.specs.Trees.{Tree}
-use Rattle.generator_spec.specs.Modules.{Config}
+use Rattle.trace_spec.specs.Modules.{Config}
 use Rattle.generator_spec.specs.Generation.{Generates}
 use Rattle.generator_spec.specs.Headline.{Serves}
 

@@ -1,5 +1,6 @@
 //! The promise of a generated map: the theorem that joins Node's resolution and HTML's. It is a
 //! law of definitions alone; the code owes nothing but to give what generation is defined to give.
+//! It rests on what any map owes to needs, and not on where this layout puts its mappings.
 #![tactic(auto)]
 
 ghost use Rattle.soundness.specs.Soundness.{Soundness};
