@@ -70,7 +70,7 @@ pub fn some_outcome()
     ensures { SomeOutcome }
 {}
 
-/// A run that ends as it must keeps all promises, if what is generated serves.
+/// A run that ends as it must keeps all promises.
 pub fn ends_keep_promises()
     ensures { EndsKeepPromises }
 {}

@@ -1,0 +1,10 @@
+//! The lines that a command says and its exit statuses: the one place with a printed text or a status.
+#![tactic(auto)]
+
+mod lines;
+mod statuses;
+#[cfg(test)]
+mod tests;
+
+pub use lines::{done_line, line_of, memory_line, read_fault_line, write_fault_line};
+pub use statuses::{DONE, MEMORY, READ_FAULT, WRITE_FAULT, status_of};

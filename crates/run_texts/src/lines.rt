@@ -1,0 +1,162 @@
+ghost use Rattle.std.specs.Prelude.{◌≡◌, ◌++◌, [], IfOk, OnOk};
+ghost use Rattle.json_spec.specs.PrintedString.{quoted};
+ghost use Rattle.trace_spec.specs.declared.TraceFault.TheVariants as fault;
+ghost use Rattle.generator_spec.specs.Lines as spec;
+ghost use Rattle.generator_spec.specs.Lines.{end_of_line};
+
+use generator_spec::Refusal;
+use node_spec::Cause;
+use ordered_json::print_text;
+use primitives::{Memory, Text};
+use std::alloc::Global;
+use trace_spec::TraceFault;
+use tree_spec::LimitName;
+
+/// The line of a command that lacks memory, also for its own line.
+pub fn memory_line() -> &'static [u8]
+    ensures { result.now ≡ spec.memory_line }
+{
+    b"memory\n".as_slice()
+}
+
+/// The line of a command of which a look failed.
+pub fn read_fault_line() -> &'static [u8]
+    ensures { result.now ≡ spec.read_fault_line }
+{
+    b"fault: read\n".as_slice()
+}
+
+/// The line of a command of which the write of the map failed.
+pub fn write_fault_line() -> &'static [u8]
+    ensures { result.now ≡ spec.write_fault_line }
+{
+    b"fault: write\n".as_slice()
+}
+
+/// The line of a command whose map is written.
+pub fn done_line(
+    alloc: Global,
+    modules: usize,
+    requests: usize,
+    mappings: usize,
+) -> Result<Vec<u8>, Memory>
+    ensures { IfOk result (λ line. line.items ≡ spec.counts_line modules requests mappings) }
+{
+    let line = format!(in alloc;
+        "ok: {modules} modules, {requests} requests, {mappings} mappings\n"
+    )?;
+    Ok(line.into_bytes())
+}
+
+/// The line that tells of a refusal.
+pub fn line_of(alloc: Global, refusal: &Refusal) -> Result<Vec<u8>, Memory>
+    ensures { IfOk result (λ line. line.items ≡ spec.line_of refusal.now) }
+{
+    match refusal {
+        Refusal::Words => Vec::from_slice(alloc, b"not built: words\n".as_slice()),
+        Refusal::BadBase { text } => named_line(alloc, "words: BadBase ", text.as_str()),
+        Refusal::Trace { fault } => trace_line(alloc, fault),
+    }
+}
+
+fn trace_line(alloc: Global, fault: &TraceFault) -> Result<Vec<u8>, Memory>
+    ensures { IfOk result (λ line. line.items ≡ spec.trace_line fault.now) }
+{
+    match fault {
+        TraceFault::Unservable { path, url } => unservable_line(alloc, path, url),
+        TraceFault::Refused {
+            referrer,
+            specifier,
+            cause,
+        } => refused_line(alloc, referrer, specifier, *cause),
+        TraceFault::RequestNotBuilt {
+            referrer,
+            specifier,
+        } => request_line(alloc, referrer, specifier),
+        TraceFault::ModuleNotBuilt { module } => named_line(alloc, "not built: ", module.as_str()),
+        TraceFault::Limit { which } => limit_line(alloc, *which),
+        TraceFault::ReadFault => Vec::from_slice(alloc, read_fault_line()),
+        TraceFault::Memory => Vec::from_slice(alloc, memory_line()),
+    }
+}
+
+fn unservable_line(alloc: Global, path: &Text, url: &Option<Text>) -> Result<Vec<u8>, Memory>
+    ensures { IfOk result (λ line. line.items ≡ spec.trace_line (fault.Unservable path.now url.now)) }
+{
+    let url = match url {
+        None => "",
+        Some(url) => url.as_str(),
+    };
+    let mut line = Vec::from_slice(alloc, b"refused: Unservable ".as_slice())?;
+    push_pair(&mut line, path.as_str(), " as ", url)?;
+    Ok(line)
+}
+
+fn refused_line(
+    alloc: Global,
+    referrer: &Text,
+    specifier: &Text,
+    cause: Cause,
+) -> Result<Vec<u8>, Memory>
+    ensures { IfOk result (λ line. line.items ≡ spec.trace_line (fault.Refused referrer.now specifier.now cause)) }
+{
+    let mut line = Vec::from_slice(alloc, b"refused: ".as_slice())?;
+    line.extend_from_slice(cause_name(cause).as_bytes())?;
+    line.extend_from_slice(b" from ".as_slice())?;
+    push_pair(&mut line, referrer.as_str(), " for ", specifier.as_str())?;
+    Ok(line)
+}
+
+fn request_line(alloc: Global, referrer: &Text, specifier: &Text) -> Result<Vec<u8>, Memory>
+    ensures { IfOk result (λ line. line.items ≡ spec.trace_line (fault.RequestNotBuilt referrer.now specifier.now)) }
+{
+    let mut line = Vec::from_slice(alloc, b"not built: from ".as_slice())?;
+    push_pair(&mut line, referrer.as_str(), " for ", specifier.as_str())?;
+    Ok(line)
+}
+
+fn limit_line(alloc: Global, which: LimitName) -> Result<Vec<u8>, Memory>
+    ensures { IfOk result (λ line. line.items ≡ spec.trace_line (fault.Limit which)) }
+{
+    let name = which.name();
+    let number = which.number();
+    let line = format!(in alloc; "limit: {name} above {number}\n")?;
+    Ok(line.into_bytes())
+}
+
+// A text as a JSON string behind these words.
+fn named_line(alloc: Global, front: &str, name: &str) -> Result<Vec<u8>, Memory>
+    ensures { IfOk result (λ line. line.items ≡ front.now ++ (quoted name.now ++ end_of_line)) }
+{
+    let mut line = Vec::from_slice(alloc, front.as_bytes())?;
+    print_text(&mut line, name)?;
+    line.push(b'\n')?;
+    Ok(line)
+}
+
+// Ends a line with two texts, each as a JSON string.
+fn push_pair(line: &mut Vec<u8>, first: &str, between: &str, second: &str) -> Result<(), Memory>
+    ensures { OnOk result (line.new.items ≡ spec.pair_line line.old.items first.now between.now second.now) }
+{
+    print_text(line, first)?;
+    line.extend_from_slice(between.as_bytes())?;
+    print_text(line, second)?;
+    line.push(b'\n')?;
+    Ok(())
+}
+
+fn cause_name(cause: Cause) -> &'static str
+    ensures { result.now ≡ spec.cause_name cause }
+{
+    match cause {
+        Cause::Builtin => "Builtin",
+        Cause::ExternalUrl => "ExternalUrl",
+        Cause::InvalidSpecifier => "InvalidSpecifier",
+        Cause::InvalidConfig => "InvalidConfig",
+        Cause::InvalidTarget => "InvalidTarget",
+        Cause::NotExported => "NotExported",
+        Cause::ImportNotDefined => "ImportNotDefined",
+        Cause::NotFound => "NotFound",
+        Cause::DirectoryImport => "DirectoryImport",
+    }
+}

@@ -1,0 +1,55 @@
+ghost use Rattle.std.specs.Prelude.{◌≡◌};
+ghost use Rattle.generator_spec.specs.Lines as spec;
+
+use generator_spec::Refusal;
+use trace_spec::TraceFault;
+
+/// The map is written.
+pub const DONE: u8 = 0;
+/// A look failed.
+pub const READ_FAULT: u8 = 4;
+/// The map wasn't written, or the line didn't go out.
+pub const WRITE_FAULT: u8 = 5;
+/// Want of memory.
+pub const MEMORY: u8 = 8;
+
+/// A request or the page is refused.
+const REFUSED: u8 = 1;
+/// The words are wrong.
+const BAD_WORDS: u8 = 2;
+/// A limit is passed.
+const LIMIT: u8 = 3;
+/// What is asked for isn't built.
+const NOT_BUILT: u8 = 9;
+
+/// The exit status of a refusal.
+pub fn status_of(refusal: &Refusal) -> u8
+    ensures { result ≡ spec.status_of refusal.now }
+{
+    match refusal {
+        Refusal::Words => NOT_BUILT,
+        Refusal::BadBase { text: _ } => BAD_WORDS,
+        Refusal::Trace { fault } => trace_status(fault),
+    }
+}
+
+fn trace_status(fault: &TraceFault) -> u8
+    ensures { result ≡ spec.trace_status fault.now }
+{
+    match fault {
+        TraceFault::Unservable { path: _, url: _ } => REFUSED,
+        TraceFault::Refused {
+            referrer: _,
+            specifier: _,
+            cause: _,
+        } => REFUSED,
+        TraceFault::RequestNotBuilt {
+            referrer: _,
+            specifier: _,
+        } => NOT_BUILT,
+        TraceFault::ModuleNotBuilt { module: _ } => NOT_BUILT,
+        TraceFault::Limit { which: _ } => LIMIT,
+        TraceFault::ReadFault => READ_FAULT,
+        TraceFault::Memory => MEMORY,
+    }
+}
