@@ -63,43 +63,31 @@ outcome_links words tree status line later told (trace_refused config why is_con
 outcome_links words tree status line later told (done config bytes is_config generates s l placed) is zero =
     linked words tree bytes line told (record { config = config; is_config = is_config; generates = generates; says = l }) (record { after = later; is_told = is; placed = placed })
 
-outcome_keeps : (words : List (List ℕ)) (tree : Tree) (status : ℕ) (line : List ℕ) (later : Tree) (told : Option Tree) → Outcome words tree status line later → told ≡ Some later → (told ≡ Some tree) ⊎ Linked words tree told
-outcome_keeps words tree status line later told (words_refused why refuses s l a) is = inl (is ∙ ap Some a)
-outcome_keeps words tree status line later told (trace_refused config why is_config is_traced s l a) is = inl (is ∙ ap Some a)
-outcome_keeps words tree status line later told (done config bytes is_config generates s l placed) is =
-    inr (linked words tree bytes line told (record { config = config; is_config = is_config; generates = generates; says = l }) (record { after = later; is_told = is; placed = placed }))
-
 -- ---- an end that is said is the end of a run
 
-module _ (words : List (List ℕ)) (before after : FolderState) (out out_after : SinkState) (result status : ℕ) (line : List ℕ) where
-  headline_of : Says words before after status line → Ends status line out out_after result → result ≡ 0 → IfSome before.holds (λ tree. Linked words tree after.holds)
-  headline_of (says.outcome shape told l w) (ends.said is given quiet) zero = if_some before.holds (λ tree o. outcome_links words tree status line o.0 after.holds o.1 o.2 (sym is ∙ zero)) told
-  headline_of (says.memory s l h lk wr) (ends.said is given quiet) zero = absurd (omega arith)
-  headline_of (says.read_fault s l h rose wr) (ends.said is given quiet) zero = absurd (omega arith)
-  headline_of (says.write_fault bytes done_line counted generated s l h lk rose) (ends.said is given quiet) zero = absurd (omega arith)
-  headline_of says (ends.output_fault is gives rose) zero = absurd (omega arith)
+written_of : (words : List (List ℕ)) (before after : FolderState) (status : ℕ) (line : List ℕ) → Says words before after status line → status ≡ 0 → IfSome before.holds (λ tree. Linked words tree after.holds)
+written_of words before after status line (says.outcome shape told l w) zero = if_some before.holds (λ tree o. outcome_links words tree status line o.0 after.holds o.1 o.2 zero) told
+written_of words before after status line (says.memory s l h lk wr) zero = absurd (omega arith)
+written_of words before after status line (says.read_fault config gives s l h rose wr) zero = absurd (omega arith)
+written_of words before after status line (says.write_fault bytes done_line counted generated s l h lk rose) zero = absurd (omega arith)
 
-kept_told : (words : List (List ℕ)) (status : ℕ) (line : List ℕ) (told after : Option Tree) → (told ≡ None → after ≡ None) → IfSome told (λ tree. (later : Tree) × Outcome words tree status line later × (after ≡ Some later)) → (after ≡ told) ⊎ IfSome told (λ tree. Linked words tree after)
-kept_told words status line None after untold outcome = inl (untold refl)
-kept_told words status line (Some tree) after untold outcome = outcome_keeps words tree status line outcome.0 after outcome.1 outcome.2
-
-kept_of : (words : List (List ℕ)) (before after : FolderState) (status : ℕ) (line : List ℕ) → (before.holds ≡ None → after.holds ≡ None) → Says words before after status line → (after.holds ≡ before.holds) ⊎ IfSome before.holds (λ tree. Linked words tree after.holds)
-kept_of words before after status line untold (says.outcome shape told l w) = kept_told words status line before.holds after.holds untold told
-kept_of words before after status line untold (says.memory s l h lk wr) = inl h
-kept_of words before after status line untold (says.read_fault s l h rose wr) = inl h
-kept_of words before after status line untold (says.write_fault bytes done_line counted generated s l h lk rose) = inl h
+status_done : (status : ℕ) (line : List ℕ) (out out_after : SinkState) (result : ℕ) → Ends status line out out_after result → result ≡ 0 → status ≡ 0
+status_done status line out out_after result (ends.said is given quiet) zero = sym is ∙ zero
+status_done status line out out_after result (ends.output_fault is gives rose) zero = absurd (omega arith)
 
 pub ends_as : (words : List (List ℕ)) (before after : FolderState) (out out_after : SinkState) (result status : ℕ) (line : List ℕ) → (before.holds ≡ None → after.holds ≡ None) → Says words before after status line → Ends status line out out_after result
-    → (before.look_faults ≤ after.look_faults) × (before.write_faults ≤ after.write_faults) × (out.faults ≤ out_after.faults) → EndsAs words before after out out_after result
-ends_as words before after out out_after result status line untold says_so ends_so later = record {
-  headline = headline_of words before after out out_after result status line says_so ends_so;
-  kept = kept_of words before after status line untold says_so;
-  untold = untold;
+    → before.look_faults ≤ after.look_faults → before.write_faults ≤ after.write_faults → out.faults ≤ out_after.faults → EndsAs words before after out out_after result
+ends_as words before after out out_after result status line untold says_so ends_so looks writes output = record {
+  headline = λ zero. written_of words before after status line says_so (status_done status line out out_after result ends_so zero);
   status = status;
   line = line;
   says = says_so;
   ends = ends_so;
-  later = later;
+  written = written_of words before after status line says_so;
+  untold = untold;
+  looks_later = looks;
+  writes_later = writes;
+  output_later = output;
 }
 
 -- ---- words that are refused
@@ -113,13 +101,13 @@ words_say words state why refuses =
     says.outcome (shaped.words_refused why refuses refl refl) (some_same state.holds _ (λ tree is. (tree, words_refused why refuses refl refl refl, is))) refl refl
 
 pub words_end : (words : List (List ℕ)) (state : FolderState) (out out_after : SinkState) (result : ℕ) (why : Refusal) → RefusesWords words why → TellsRefusal why out out_after result → out.faults ≤ out_after.faults → EndsAs words state state out out_after result
-words_end words state out out_after result why refuses (inl told) later = ends_as words state state out out_after result (status_of why) (line_of why) (λ e. e) (words_say words state why refuses) told (omega arith, omega arith, later)
-words_end words state out out_after result why refuses (inr memory) later = ends_as words state state out out_after result 8 memory_line (λ e. e) (says.memory refl refl refl refl refl) memory (omega arith, omega arith, later)
+words_end words state out out_after result why refuses (inl told) later = ends_as words state state out out_after result (status_of why) (line_of why) (λ e. e) (words_say words state why refuses) told (omega arith) (omega arith) later
+words_end words state out out_after result why refuses (inr memory) later = ends_as words state state out out_after result 8 memory_line (λ e. e) (says.memory refl refl refl refl refl) memory (omega arith) (omega arith) later
 
 pub memory_ends : (words : List (List ℕ)) (before after : FolderState) (out out_after : SinkState) (result : ℕ) → after.holds ≡ before.holds → after.look_faults ≡ before.look_faults → after.write_faults ≡ before.write_faults → Ends 8 memory_line out out_after result
     → out.faults ≤ out_after.faults → EndsAs words before after out out_after result
 memory_ends words before after out out_after result h l w memory later =
-    ends_as words before after out out_after result 8 memory_line (λ e. h ∙ e) (says.memory refl refl h l w) memory (omega (arith, l), omega (arith, w), later)
+    ends_as words before after out out_after result 8 memory_line (λ e. h ∙ e) (says.memory refl refl h l w) memory (omega (arith, l)) (omega (arith, w)) later
 
 -- ---- a trace that is refused
 
@@ -132,8 +120,8 @@ module _ (words : List (List ℕ)) (config : Config) (is_config : IsConfigOf wor
   apart : (why : TraceFault) → found ≡ Err why → why ≢ fault.ReadFault → after.look_faults ≡ before.look_faults
   apart why e read = is.looks.quiet (λ same. read (let f : Err why ≡ Err fault.ReadFault = sym e ∙ same in cc))
 
-  later : out.faults ≤ out_after.faults → (before.look_faults ≤ after.look_faults) × (before.write_faults ≤ after.write_faults) × (out.faults ≤ out_after.faults)
-  later more = (is.looks.later, omega (arith, is.looks.writes), more)
+  writes_later : before.write_faults ≤ after.write_faults
+  writes_later = let w = is.looks.writes in omega arith
 
   untold : before.holds ≡ None → after.holds ≡ None
   untold none = is.looks.tree ∙ none
@@ -143,11 +131,11 @@ module _ (words : List (List ℕ)) (config : Config) (is_config : IsConfigOf wor
       let here : Generating config before (Err why) after = subst (λ r. Generating config before r after) e is in
       ends_as words before after out out_after result (status_of (refusal.Trace why)) (line_of (refusal.Trace why)) untold
       (says.outcome (shaped.trace_refused config why is_config (here.kind read memory) refl refl) (refused_told words config why before.holds after.holds is_config is.looks.tree (here.refused read memory)) (apart why e read) is.looks.writes)
-      told (later more)
+      told is.looks.later writes_later more
   trace_end why e read memory (inr lacks) more = memory_ends words before after out out_after result is.looks.tree (apart why e read) is.looks.writes lacks more
 
   pub read_end : found ≡ Err fault.ReadFault → Ends 4 read_fault_line out out_after result → out.faults ≤ out_after.faults → EndsAs words before after out out_after result
-  read_end e told more = ends_as words before after out out_after result 4 read_fault_line untold (says.read_fault refl refl is.looks.tree (is.looks.cause e) is.looks.writes) told (later more)
+  read_end e told more = ends_as words before after out out_after result 4 read_fault_line untold (says.read_fault config is_config refl refl is.looks.tree (is.looks.cause e) is.looks.writes) told is.looks.later writes_later more
 
   pub memory_end : found ≡ Err fault.Memory → Ends 8 memory_line out out_after result → out.faults ≤ out_after.faults → EndsAs words before after out out_after result
   memory_end e told more = memory_ends words before after out out_after result is.looks.tree (apart fault.Memory e (λ same. cc)) is.looks.writes told more
@@ -198,4 +186,4 @@ module _ (words : List (List ℕ)) (config : Config) (is_config : IsConfigOf wor
   pub write_end : EndsAs words before after out out_after result
   write_end =
       ends_as words before after out out_after result wrote.status wrote.line (λ none. wrote.untold (is.looks.tree ∙ none)) (write_says wrote.status wrote.line wrote.says) wrote.ends
-      (omega (arith, looks), subst (λ n. n ≤ after.write_faults) is.looks.writes wrote.writes, wrote.output)
+      (omega (arith, looks)) (subst (λ n. n ≤ after.write_faults) is.looks.writes wrote.writes) wrote.output

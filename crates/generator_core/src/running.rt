@@ -9,7 +9,10 @@ use generation::{Generated, generate};
 use generator_spec::Refusal;
 use primitives::Steps;
 use request_trace::Config;
-use run_texts::{done_line, line_of, status_of};
+use run_texts::{
+    DONE, MEMORY, READ_FAULT, WRITE_FAULT, done_line, line_of, memory_line, read_fault_line, status_of,
+    write_fault_line,
+};
 use std::alloc::Global;
 use std::sync::ledger::Ledger;
 use trace_spec::TraceFault;
@@ -28,14 +31,14 @@ pub fn run<F: Folder, I: Source, O: Sink, L: Ledger>(
     _steps: &mut Steps<L>,
 ) -> u8
     ensures end { EndsAs (texts words.now) (F.state folder.old) (F.state folder.new) (O.state out.old) (O.state out.new) result }
-    ensures words { (why : Refusal) → RefusesWords (texts words.now) why → (folder.new ≡ folder.old) × TellsRefusal why (O.state out.old) (O.state out.new) result }
+    ensures words { (why : Refusal) → RefusesWords (texts words.now) why → folder.new ≡ folder.old }
     ensures input { _input.new ≡ _input.old }
     ensures steps { _steps.new ≡ _steps.old }
 {
     match config_of(alloc, words) {
         Ok(config) => link(alloc, folder, &config, out),
-        Err(WordsFault::Refused { refusal }) => refuse(alloc, &refusal, out),
-        Err(WordsFault::Memory) => tell(out, b"memory\n".as_slice(), 8),
+        Err(WordsFault::Refused { why }) => refuse(alloc, &why, out),
+        Err(WordsFault::Memory) => tell(out, memory_line(), MEMORY),
     }
 }
 
@@ -45,8 +48,8 @@ fn link<F: Folder, O: Sink>(alloc: Global, folder: &mut F, config: &Config, out:
 {
     match generate(alloc, folder, config) {
         Ok(generated) => finish(alloc, folder, &generated, out),
-        Err(TraceFault::ReadFault) => tell(out, b"fault: read\n".as_slice(), 4),
-        Err(TraceFault::Memory) => tell(out, b"memory\n".as_slice(), 8),
+        Err(TraceFault::ReadFault) => tell(out, read_fault_line(), READ_FAULT),
+        Err(TraceFault::Memory) => tell(out, memory_line(), MEMORY),
         Err(fault) => refuse(alloc, &Refusal::Trace { fault }, out),
     }
 }
@@ -66,16 +69,16 @@ fn finish<F: Folder, O: Sink>(
         generated.requests,
         generated.mappings,
     ) else {
-        return tell(out, b"memory\n".as_slice(), 8);
+        return tell(out, memory_line(), MEMORY);
     };
     let path = match Path::parse(alloc, MAP_PATH) {
         Ok(path) => path,
-        Err(PathFault::Memory) => return tell(out, b"memory\n".as_slice(), 8),
+        Err(PathFault::Memory) => return tell(out, memory_line(), MEMORY),
         Err(PathFault::BadPath) => unreachable!(),
     };
     match folder.write(&path, generated.map.as_slice()) {
-        Ok(()) => tell(out, line.as_slice(), 0),
-        Err(_) => tell(out, b"fault: write\n".as_slice(), 5),
+        Ok(()) => tell(out, line.as_slice(), DONE),
+        Err(_) => tell(out, write_fault_line(), WRITE_FAULT),
     }
 }
 
@@ -86,7 +89,7 @@ fn refuse<O: Sink>(alloc: Global, refusal: &Refusal, out: &mut O) -> u8
 {
     match line_of(alloc, refusal) {
         Ok(line) => tell(out, line.as_slice(), status_of(refusal)),
-        Err(_) => tell(out, b"memory\n".as_slice(), 8),
+        Err(_) => tell(out, memory_line(), MEMORY),
     }
 }
 
@@ -97,6 +100,6 @@ fn tell<O: Sink>(out: &mut O, line: &[u8], status: u8) -> u8
 {
     match out.give(line) {
         Ok(()) => status,
-        Err(_) => 5,
+        Err(_) => WRITE_FAULT,
     }
 }

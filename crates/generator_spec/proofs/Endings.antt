@@ -1,5 +1,5 @@
 -- What the status of an end says of the folder and of the faults.
-use Rattle.std.proofs.Common.{◌≡◌, ◌≢◌, ◌⊎◌, ℕ, List, Option, Some, None, IfSome, inl, inr, refl, sym, ap, ◌∙◌, subst, arith}
+use Rattle.std.proofs.Common.{◌≡◌, ◌≢◌, ◌⊎◌, ℕ, List, Option, Some, None, IfSome, inl, inr, ⊎_elim, refl, sym, ap, ◌∙◌, subst, arith}
 use Rattle.tree_spec.specs.Counts.{Rose}
 use Rattle.tree_spec.specs.States.{FolderState, SinkState}
 use Rattle.tree_spec.specs.Trees.{Tree}
@@ -11,10 +11,11 @@ use Rattle.generator_spec.specs.declared.Refusal.{Refusal}
 use Rattle.generator_spec.specs.declared.Refusal.TheVariants as refusal
 use Rattle.generator_spec.specs.Words.{RefusesWords}
 use Rattle.generator_spec.specs.Words.RefusesWords.{no_link, bad_base}
-use Rattle.generator_spec.specs.Lines.{trace_status, status_of}
+use Rattle.generator_spec.specs.Lines.{trace_status, status_of, line_of, memory_line}
 use Rattle.generator_spec.specs.Outcome.{Outcome, Outcome as outcome}
 use Rattle.generator_spec.specs.Ending.{Linked, Shaped, Says, Ends, Shaped as shaped, Says as says, Ends as ends}
-use Rattle.generator_spec.specs.Promises.{IsRefusalStatus, Shows}
+use Rattle.generator_spec.specs.Promises.{IsRefusalStatus, Untouched, Shows}
+use Rattle.generator_spec.proofs.Configs.{one_words_refusal, refused_or_config}
 
 -- ---- statuses
 
@@ -58,19 +59,14 @@ no_refusing status (two e) = (λ f. omega arith, λ f. omega arith, λ f. omega 
 no_refusing status (three e) = (λ f. omega arith, λ f. omega arith, λ f. omega arith)
 no_refusing status (nine e) = (λ f. omega arith, λ f. omega arith, λ f. omega arith)
 
-trace_not : (why : TraceFault) → (trace_status why ≢ 0) × (trace_status why ≢ 2)
-trace_not (fault.Unservable path url) = (λ e. omega (arith, e), λ e. omega (arith, e))
-trace_not (fault.Refused referrer specifier cause) = (λ e. omega (arith, e), λ e. omega (arith, e))
-trace_not (fault.RequestNotBuilt referrer specifier) = (λ e. omega (arith, e), λ e. omega (arith, e))
-trace_not (fault.ModuleNotBuilt m) = (λ e. omega (arith, e), λ e. omega (arith, e))
-trace_not (fault.Limit which) = (λ e. omega (arith, e), λ e. omega (arith, e))
-trace_not fault.ReadFault = (λ e. omega (arith, e), λ e. omega (arith, e))
-trace_not fault.Memory = (λ e. omega (arith, e), λ e. omega (arith, e))
-
-refusal_not_zero : (why : Refusal) → status_of why ≢ 0
-refusal_not_zero refusal.Words e = omega (arith, e)
-refusal_not_zero (refusal.BadBase text) e = omega (arith, e)
-refusal_not_zero (refusal.Trace why) e = (trace_not why).0 e
+trace_not_two : (why : TraceFault) → trace_status why ≢ 2
+trace_not_two (fault.Unservable path url) e = omega (arith, e)
+trace_not_two (fault.Refused referrer specifier cause) e = omega (arith, e)
+trace_not_two (fault.RequestNotBuilt referrer specifier) e = omega (arith, e)
+trace_not_two (fault.ModuleNotBuilt m) e = omega (arith, e)
+trace_not_two (fault.Limit which) e = omega (arith, e)
+trace_not_two fault.ReadFault e = omega (arith, e)
+trace_not_two fault.Memory e = omega (arith, e)
 
 -- status 2 is that of a bad base
 bad_base_of :
@@ -116,7 +112,7 @@ module _ (words : List (List ℕ)) (before after : FolderState) (status : ℕ) (
   said_status : Says words before after status line → IsStatus status
   said_status (says.outcome shape o l w) = shaped_is_status status (shaped_status words status line shape)
   said_status (says.memory s t k l w) = inr (inr (inr (inr (inr (inr (inl s))))))
-  said_status (says.read_fault config gives s t k rose w) = inr (inr (inr (inr (inr (inl s)))))
+  said_status (says.read_fault config is_config s t k rose w) = inr (inr (inr (inr (inr (inl s)))))
   said_status (says.write_fault bytes done counted generated s t k l rose) = inr (inl s)
 
   said_kept :
@@ -126,25 +122,8 @@ module _ (words : List (List ℕ)) (before after : FolderState) (status : ℕ) (
       kept_where_refused words status line before.holds after.holds untold
       (λ zero. no_refusal_status status (inl zero) refused) o
   said_kept untold (says.memory s t k l w) refused = k
-  said_kept untold (says.read_fault config gives s t k rose w) refused = k
+  said_kept untold (says.read_fault config is_config s t k rose w) refused = k
   said_kept untold (says.write_fault bytes done counted generated s t k l rose) refused = k
-
-  -- unmoved, or the map was written
-  said_left :
-      (before.holds ≡ None → after.holds ≡ None)
-      → (status ≡ 0 → IfSome before.holds (λ tree. Linked words tree after.holds)) → Says words before after status line
-      → (after.holds ≡ before.holds) ⊎ IfSome before.holds (λ tree. Linked words tree after.holds)
-  said_left untold written (says.outcome shape o l w) = by (shaped_status words status line shape)
-    where
-      by :
-          (status ≡ 0) ⊎ IsRefusing status
-          → (after.holds ≡ before.holds) ⊎ IfSome before.holds (λ tree. Linked words tree after.holds)
-      by (inl zero) = inr (written zero)
-      by (inr refusing) =
-          inl (kept_where_refused words status line before.holds after.holds untold (no_refusing status refusing).0 o)
-  said_left untold written (says.memory s t k l w) = inl k
-  said_left untold written (says.read_fault config gives s t k rose w) = inl k
-  said_left untold written (says.write_fault bytes done counted generated s t k l rose) = inl k
 
   outcome_not : (n : ℕ) → (n ≡ 4) ⊎ (n ≡ 5) → (status ≡ 0) ⊎ IsRefusing status → status ≢ n
   outcome_not n fault (inl zero) e = grind (arith, fault, zero, e)
@@ -155,48 +134,89 @@ module _ (words : List (List ℕ)) (before after : FolderState) (status : ℕ) (
   said_read (says.outcome shape o l w) four =
       absurd (outcome_not 4 (inl refl) (shaped_status words status line shape) four)
   said_read (says.memory s t k l w) four = absurd (omega arith)
-  said_read (says.read_fault config gives s t k rose w) four = rose
+  said_read (says.read_fault config is_config s t k rose w) four = rose
   said_read (says.write_fault bytes done counted generated s t k l rose) four = absurd (omega arith)
 
   said_write : Says words before after status line → status ≡ 5 → Rose before.write_faults after.write_faults
   said_write (says.outcome shape o l w) five =
       absurd (outcome_not 5 (inr refl) (shaped_status words status line shape) five)
   said_write (says.memory s t k l w) five = absurd (omega arith)
-  said_write (says.read_fault config gives s t k rose w) five = absurd (omega arith)
+  said_write (says.read_fault config is_config s t k rose w) five = absurd (omega arith)
   said_write (says.write_fault bytes done counted generated s t k l rose) five = rose
 
   -- ---- the base
 
   shaped_two : Shaped words status line → status ≡ 2 → (base : List ℕ) × RefusesWords words (refusal.BadBase base)
   shaped_two (shaped.words_refused why refuses s l) is_two = bad_base_of words why refuses (sym s ∙ is_two)
-  shaped_two (shaped.trace_refused config why is kind s l) is_two = absurd ((trace_not why).1 (sym s ∙ is_two))
+  shaped_two (shaped.trace_refused config why is kind s l) is_two = absurd (trace_not_two why (sym s ∙ is_two))
   shaped_two (shaped.done s counted) is_two = absurd (omega arith)
 
   said_two :
       Says words before after status line → status ≡ 2 → (base : List ℕ) × RefusesWords words (refusal.BadBase base)
   said_two (says.outcome shape o l w) is_two = shaped_two shape is_two
   said_two (says.memory s t k l w) is_two = absurd (omega arith)
-  said_two (says.read_fault config gives s t k rose w) is_two = absurd (omega arith)
+  said_two (says.read_fault config is_config s t k rose w) is_two = absurd (omega arith)
   said_two (says.write_fault bytes done counted generated s t k l rose) is_two = absurd (omega arith)
+
+  -- the tree is as it was, or the map was written
+  kept_or_written :
+      (before.holds ≡ None → after.holds ≡ None) → Says words before after status line
+      → (after.holds ≡ before.holds) ⊎ (status ≡ 0)
+  kept_or_written untold (says.outcome shape o l w) =
+      let kept = λ (other : status ≢ 0). kept_where_refused words status line before.holds after.holds untold other o in
+      ⊎_elim inr (λ refusing. inl (kept (no_refusing status refusing).0)) (shaped_status words status line shape)
+  kept_or_written untold (says.memory s t k l w) = inl k
+  kept_or_written untold (says.read_fault config is_config s t k rose w) = inl k
+  kept_or_written untold (says.write_fault bytes done counted generated s t k l rose) = inl k
+
+  -- ---- words that are refused
+
+  refused_shape :
+      (why : Refusal) → RefusesWords words why → Shaped words status line
+      → (status ≡ status_of why) × (line ≡ line_of why)
+  refused_shape why refuses (shaped.words_refused because too s l) =
+      let same = one_words_refusal words because why too refuses in
+      (s ∙ ap status_of same, l ∙ ap line_of same)
+  refused_shape why refuses (shaped.trace_refused config fault is kind s l) =
+      absurd (refused_or_config words why config refuses is)
+  refused_shape why refuses (shaped.done s counted) =
+      absurd (refused_or_config words why counted.config refuses counted.is_config)
+
+  refused_says :
+      (untold : before.holds ≡ None → after.holds ≡ None) (why : Refusal) → RefusesWords words why
+      → Says words before after status line
+      → Untouched before after
+      × (((status ≡ status_of why) × (line ≡ line_of why)) ⊎ ((status ≡ 8) × (line ≡ memory_line)))
+  refused_says untold why refuses (says.outcome shape o l w) =
+      let same = refused_shape why refuses shape in
+      let not_zero =
+      λ (zero : status ≡ 0). (no_refusing _ (words_refusing words why refuses)).0 (sym same.0 ∙ zero) in
+      let kept = kept_where_refused words status line before.holds after.holds untold not_zero o in
+      (record { told = kept; looks = l; writes = w }, inl same)
+  refused_says untold why refuses (says.memory s t k l w) = (record { told = k; looks = l; writes = w }, inr (s, t))
+  refused_says untold why refuses (says.read_fault config is_config s t k rose w) =
+      absurd (refused_or_config words why config refuses is_config)
+  refused_says untold why refuses (says.write_fault bytes done counted generated s t k l rose) =
+      absurd (refused_or_config words why counted.config refuses counted.is_config)
 
   -- ---- counts
 
   said_looks : Says words before after status line → after.look_faults ≢ before.look_faults → status ≡ 4
   said_looks (says.outcome shape o l w) changed = absurd (changed l)
   said_looks (says.memory s t k l w) changed = absurd (changed l)
-  said_looks (says.read_fault config gives s t k rose w) changed = s
+  said_looks (says.read_fault config is_config s t k rose w) changed = s
   said_looks (says.write_fault bytes done counted generated s t k l rose) changed = absurd (changed l)
 
   said_writes : Says words before after status line → after.write_faults ≢ before.write_faults → status ≡ 5
   said_writes (says.outcome shape o l w) changed = absurd (changed w)
   said_writes (says.memory s t k l w) changed = absurd (changed w)
-  said_writes (says.read_fault config gives s t k rose w) changed = absurd (changed w)
+  said_writes (says.read_fault config is_config s t k rose w) changed = absurd (changed w)
   said_writes (says.write_fault bytes done counted generated s t k l rose) changed = s
 
   writes_unless : Says words before after status line → status ≢ 5 → after.write_faults ≡ before.write_faults
   writes_unless (says.outcome shape o l w) other = w
   writes_unless (says.memory s t k l w) other = w
-  writes_unless (says.read_fault config gives s t k rose w) other = w
+  writes_unless (says.read_fault config is_config s t k rose w) other = w
   writes_unless (says.write_fault bytes done counted generated s t k l rose) other = absurd (other s)
 
 -- ---- what the answer says
@@ -214,12 +234,6 @@ module _ (words : List (List ℕ)) (before after : FolderState) (out out_after :
       said_kept words before after status line untold s (subst IsRefusalStatus is refused)
   end_kept untold (ends.output_fault is gives rose) refused = absurd (no_refusal_status result (inr is) refused)
 
-  pub end_left :
-      (before.holds ≡ None → after.holds ≡ None)
-      → (status ≡ 0 → IfSome before.holds (λ tree. Linked words tree after.holds))
-      → (after.holds ≡ before.holds) ⊎ IfSome before.holds (λ tree. Linked words tree after.holds)
-  end_left untold written = said_left words before after status line untold written s
-
   pub end_read : Ends status line out out_after result → result ≡ 4 → Rose before.look_faults after.look_faults
   end_read (ends.said is given quiet) four = said_read words before after status line s (sym is ∙ four)
   end_read (ends.output_fault is gives rose) four = absurd (omega arith)
@@ -234,6 +248,31 @@ module _ (words : List (List ℕ)) (before after : FolderState) (out out_after :
       Ends status line out out_after result → result ≡ 2 → (base : List ℕ) × RefusesWords words (refusal.BadBase base)
   end_two (ends.said is given quiet) is_two = said_two words before after status line s (sym is ∙ is_two)
   end_two (ends.output_fault is gives rose) is_two = absurd (omega arith)
+
+  pub end_kept_or_written :
+      (before.holds ≡ None → after.holds ≡ None)
+      → (status ≡ 0 → IfSome before.holds (λ tree. Linked words tree after.holds))
+      → (after.holds ≡ before.holds) ⊎ IfSome before.holds (λ tree. Linked words tree after.holds)
+  end_kept_or_written untold linked =
+      ⊎_elim inl (λ zero. inr (linked zero)) (kept_or_written words before after status line untold s)
+
+  moved :
+      (other : ℕ) (text : List ℕ) → (status ≡ other) × (line ≡ text) → Ends status line out out_after result
+      → Ends other text out out_after result
+  moved other text same e =
+      subst (λ n. Ends n text out out_after result) same.0 (subst (λ t. Ends status t out out_after result) same.1 e)
+
+  pub end_refused_words :
+      (before.holds ≡ None → after.holds ≡ None) → Ends status line out out_after result → (why : Refusal)
+      → RefusesWords words why
+      → Untouched before after
+      × (Ends (status_of why) (line_of why) out out_after result ⊎ Ends 8 memory_line out out_after result)
+  end_refused_words untold e why refuses =
+      let found = refused_says words before after status line untold why refuses s in
+      let ended =
+      ⊎_elim (λ same. inl (moved (status_of why) (line_of why) same e)) (λ same. inr (moved 8 memory_line same e))
+      found.1 in
+      (found.0, ended)
 
   looks_show :
       Ends status line out out_after result → after.look_faults ≢ before.look_faults → (result ≡ 4) ⊎ (result ≡ 5)

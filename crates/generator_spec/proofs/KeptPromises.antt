@@ -1,6 +1,6 @@
 -- A run that ends as it must keeps all promises.
 use Rattle.generator_spec.specs.Laws.{EndsKeepPromises}
-use Rattle.generator_spec.proofs.Endings.{end_statuses, end_kept, end_left, end_read, end_write, end_two, end_shows}
+use Rattle.generator_spec.proofs.Endings.{end_statuses, end_kept, end_kept_or_written, end_refused_words, end_read, end_write, end_two, end_shows}
 use Rattle.generator_spec.proofs.ToldLines.{end_tells}
 use Rattle.generator_spec.proofs.Meetings.{end_meets}
 
@@ -9,7 +9,8 @@ ends_keep_promises words before after out out_after result e = record {
   statuses = end_statuses words before after out out_after result e.status e.line e.says e.ends;
   kept = end_kept words before after out out_after result e.status e.line e.says e.untold e.ends;
   done = e.headline;
-  write_fault = λ five. end_left words before after out out_after result e.status e.line e.says e.untold e.written;
+  write_fault =
+      λ five. end_kept_or_written words before after out out_after result e.status e.line e.says e.untold e.written;
   read = end_read words before after out out_after result e.status e.line e.says e.ends;
   write = end_write words before after out out_after result e.status e.line e.says e.ends;
   told = end_tells words before after e.status e.line e.written out out_after result e.says e.ends;
@@ -19,5 +20,6 @@ ends_keep_promises words before after out out_after result e = record {
   writes_later = e.writes_later;
   output_later = e.output_later;
   untold = e.untold;
+  refused_words = end_refused_words words before after out out_after result e.status e.line e.says e.untold e.ends;
   bad_base = end_two words before after out out_after result e.status e.line e.says e.ends;
 }

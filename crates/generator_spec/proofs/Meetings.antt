@@ -53,7 +53,7 @@ module _ (words : List (List ℕ)) (tree : Tree) (before after : FolderState) (o
       let here = told_outcome o in
       finish.finished status line here.0 here.1 (record { answered = is; given = given; told = here.2 })
   finishes none (says.memory s t k l w) (ends.said is given quiet) = finish.memory (with_memory is given s t k)
-  finishes none (says.read_fault config gives s t k rose w) ended = absurd (none.looks rose)
+  finishes none (says.read_fault config is_config s t k rose w) ended = absurd (none.looks rose)
   finishes none (says.write_fault bytes done counted generated s t k l rose) ended = absurd (none.writes rose)
   finishes none (says.outcome shape o l w) (ends.output_fault is gives rose) = absurd (none.output rose)
   finishes none (says.memory s t k l w) (ends.output_fault is gives rose) = absurd (none.output rose)
@@ -66,7 +66,7 @@ module _ (words : List (List ℕ)) (tree : Tree) (before after : FolderState) (o
     status_is : Says words before after status line → (status ≡ expected) ⊎ (status ≡ 8) ⊎ (status ≡ 4) ⊎ (status ≡ 5)
     status_is (says.outcome shape o l w) = inl (same_outcome (told_outcome o)).one_status
     status_is (says.memory s t k l w) = inr (inl s)
-    status_is (says.read_fault config gives s t k rose w) = inr (inr (inl s))
+    status_is (says.read_fault config is_config s t k rose w) = inr (inr (inl s))
     status_is (says.write_fault bytes done counted generated s t k l rose) = inr (inr (inr s))
 
     exactly :
@@ -88,7 +88,7 @@ module _ (words : List (List ℕ)) (tree : Tree) (before after : FolderState) (o
           told = here.2 ∙ ap Some same.one_tree;
         })
     completes none (says.memory s t k l w) (ends.said is given quiet) = complete.memory (with_memory is given s t k)
-    completes none (says.read_fault config gives s t k rose w) ended = absurd (none.looks rose)
+    completes none (says.read_fault config is_config s t k rose w) ended = absurd (none.looks rose)
     completes none (says.write_fault bytes done counted generated s t k l rose) ended = absurd (none.writes rose)
     completes none (says.outcome shape o l w) (ends.output_fault is gives rose) = absurd (none.output rose)
     completes none (says.memory s t k l w) (ends.output_fault is gives rose) = absurd (none.output rose)
@@ -96,7 +96,7 @@ module _ (words : List (List ℕ)) (tree : Tree) (before after : FolderState) (o
     unwritten : expected ≢ 0 → Says words before after status line → after.write_faults ≡ before.write_faults
     unwritten other (says.outcome shape o l w) = w
     unwritten other (says.memory s t k l w) = w
-    unwritten other (says.read_fault config gives s t k rose w) = w
+    unwritten other (says.read_fault config is_config s t k rose w) = w
     unwritten other (says.write_fault bytes done counted generated s t k l rose) =
         let here = told_there (λ t. IsGenerated words t bytes done) before.holds tree told generated in
         absurd (no_map words tree bytes done expected text later here result_is other)

@@ -11,7 +11,6 @@ use Rattle.generator_spec.specs.declared.Refusal.TheVariants as refusal
 use Rattle.generator_spec.specs.Lines.{trace_line, line_of, counts_line, memory_line, read_fault_line, write_fault_line}
 use Rattle.generator_spec.specs.Ending.{Linked, Gives, Shaped, Says, Ends, Shaped as shaped, Says as says, Ends as ends}
 use Rattle.generator_spec.specs.Promises.{Tells}
-use Rattle.generator_spec.proofs.Endings.{HasOutcomeIn, linked_where_done}
 
 -- ---- lines by their first byte
 
@@ -85,21 +84,19 @@ gives_of status line out out_after result (ends.said is given quiet) = whole_giv
 gives_of status line out out_after result (ends.output_fault is gives rose) = gives
 
 module _ (words : List (List ℕ)) (before after : FolderState) (status : ℕ) (line : List ℕ)
-    (written : status ≡ 0 → IfSome before.holds (λ tree. Linked words tree after.holds)) where
+    (linked : status ≡ 0 → IfSome before.holds (λ tree. Linked words tree after.holds)) where
   abbrev IsLinked : Type 0
   IsLinked = IfSome before.holds (λ tree. Linked words tree after.holds)
 
-  shaped_line :
-      IfSome before.holds (HasOutcomeIn words status line after.holds) → Shaped words status line
-      → IsAnother line ⊎ IsLinked
-  shaped_line o (shaped.words_refused why refuses s l) = inl (subst IsAnother (sym l) (refusal_is_another why))
-  shaped_line o (shaped.trace_refused config why is kind s l) = inl (subst IsAnother (sym l) (trace_is_another why))
-  shaped_line o (shaped.done s counted) = inr (written s)
+  shaped_line : Shaped words status line → IsAnother line ⊎ IsLinked
+  shaped_line (shaped.words_refused why refuses s l) = inl (subst IsAnother (sym l) (refusal_is_another why))
+  shaped_line (shaped.trace_refused config why is kind s l) = inl (subst IsAnother (sym l) (trace_is_another why))
+  shaped_line (shaped.done s counted) = inr (linked s)
 
   said_line : Says words before after status line → IsAnother line ⊎ IsLinked
-  said_line (says.outcome shape o l w) = shaped_line o shape
+  said_line (says.outcome shape o l w) = shaped_line shape
   said_line (says.memory s t k l w) = inl (subst IsAnother (sym t) (other_line 109 memory_line refl (λ e. omega arith)))
-  said_line (says.read_fault config gives s t k rose w) =
+  said_line (says.read_fault config is_config s t k rose w) =
       inl (subst IsAnother (sym t) (other_line 102 read_fault_line refl (λ e. omega arith)))
   said_line (says.write_fault bytes done counted generated s t k l rose) =
       inl (subst IsAnother (sym t) (other_line 102 write_fault_line refl (λ e. omega arith)))
@@ -117,5 +114,5 @@ module _ (words : List (List ℕ)) (before after : FolderState) (status : ℕ) (
             (λ another.
             absurd
             (no_byte line out.got out_after.got front modules requests mappings count another gives told some given))
-            (λ linked. linked) (said_line s);
+            (λ written. written) (said_line s);
       }

@@ -7,16 +7,18 @@
 --     Completes status line later before after out out_after result       the same, with this outcome
 --     Meets words tree before after out out_after result          what it has to do with the outcome that is defined
 --     Shows before after out out_after result      which counts of faults show in the status, and how
+--     Untouched before after         nothing of the folder changed, and no call of it failed
 --     Promises words before after out out_after result            all of this
 use Rattle.std.specs.Prelude.{◌≡◌, ◌≢◌, ◌≤◌, ◌⊎◌, ◌++◌, ℕ, List, Option, Some, None, IfSome, option_map, take}
 use Rattle.tree_spec.specs.Counts.{Rose}
 use Rattle.tree_spec.specs.States.{FolderState, SinkState}
 use Rattle.tree_spec.specs.Trees.{Tree}
+use Rattle.generator_spec.specs.declared.Refusal.{Refusal}
 use Rattle.generator_spec.specs.declared.Refusal.TheVariants.{BadBase}
 use Rattle.generator_spec.specs.Words.{RefusesWords}
-use Rattle.generator_spec.specs.Lines.{counts_line, memory_line}
+use Rattle.generator_spec.specs.Lines.{status_of, line_of, counts_line, memory_line}
 use Rattle.generator_spec.specs.Outcome.{Outcome}
-use Rattle.generator_spec.specs.Ending.{Linked, Gives}
+use Rattle.generator_spec.specs.Ending.{Linked, Gives, TellsRefusal}
 
 -- own: the statuses of an end before the first write
 abbrev pub IsRefusalStatus : ℕ → Type 0
@@ -90,6 +92,12 @@ pub record Shows (before after : FolderState) (out out_after : SinkState) (resul
   pub looks_alone : after.look_faults ≢ before.look_faults → (Rose out.faults out_after.faults → ⊥) → result ≡ 4
   pub read_alone : result ≡ 4 → (after.write_faults ≡ before.write_faults) × (out_after.faults ≡ out.faults)
 
+-- own: the tree is as it was, and no fault was counted
+pub record Untouched (before after : FolderState) : Type 0 where
+  pub told : after.holds ≡ before.holds
+  pub looks : after.look_faults ≡ before.look_faults
+  pub writes : after.write_faults ≡ before.write_faults
+
 -- own: what each status says of the folder, of the output and of the faults
 pub record Promises (words : List (List ℕ)) (before after : FolderState) (out out_after : SinkState)
     (result : ℕ) : Type 0 where
@@ -107,4 +115,8 @@ pub record Promises (words : List (List ℕ)) (before after : FolderState) (out 
   pub writes_later : before.write_faults ≤ after.write_faults
   pub output_later : out.faults ≤ out_after.faults
   pub untold : before.holds ≡ None → after.holds ≡ None
+  pub refused_words :
+      (why : Refusal) → RefusesWords words why
+      → Untouched before after
+      × TellsRefusal why out out_after result
   pub bad_base : result ≡ 2 → (base : List ℕ) × RefusesWords words (BadBase base)
