@@ -46,8 +46,8 @@ pub fn layout_lays()
     ensures { LayoutLays }
 {}
 
-/// Through the layout of needs that name files, and of which no two clash, each need is served by what its referrer's
-/// longest place holds.
+/// The layout of needs that name files, and of which no two clash, captures none of them, and has no mapping that isn't
+/// one of theirs.
 pub fn layout_serves()
     ensures { LayoutServes }
 {}
