@@ -1,4 +1,4 @@
--- Lists in the order of their keys have a map whose entries they are.
+-- Lists in key order are the entries of a map.
 use Rattle.std.specs.Prelude.{◌≡◌, ℕ, Bool, true, false, ◌&&◌, T, List, [], ◌∷◌, map}
 use Rattle.std.proofs.Common.{refl, sym, ap, ◌∙◌, subst}
 use Rattle.std.specs.List.{AllByRecursion}
@@ -8,10 +8,14 @@ use Rattle.std.specs.Cmp.Lexicographic.{slice_cmp}
 use Rattle.std.specs.declared.cmp.Ordering.TheVariants.{Less}
 use Rattle.std.specs.FinMap.{entries, from_sorted, entries-from_sorted}
 use Rattle.std.specs.FinMap.Entries.{below_all, is_sorted}
-use Rattle.import_map_spec.specs.ParsedMap.{Addresses, ParsedMap}
-use Rattle.map_print.specs.declared.keyed.Layout.{Layout}
-use Rattle.map_print.specs.Keys.{keys_of, InKeyOrder}
-use Rattle.map_print.specs.Lists.{address_entry, scope_entries, scope_entry, Lists}
+use Rattle.import_map_spec.specs.ParsedMap.{Addresses}
+use Rattle.scope_builder.specs.Keys.{keys_of, InKeyOrder}
+use Rattle.scope_builder.specs.Lists.{address_entry, scope_entries, scope_entry}
+use Rattle.scope_builder.specs.SomeMap.{SomeMap}
+
+pub none_in_order : IsStrictlySortedBy (slice_cmp nat_cmp) []
+unfolding IsStrictlySortedBy
+none_in_order = tt
 
 and_true : (a b : Bool) → a ≡ true → b ≡ true → (a && b) ≡ true
 and_true true b p q = q
@@ -28,7 +32,7 @@ module _ {X : Type 0} where
   sorted (e ∷ es) order = and_true _ _ (below_rest e.0 es order.0) (sorted es order.1)
 
   -- entries in order are those of a map
-  entries_of : (es : List (List ℕ × X)) → InKeyOrder es → entries (from_sorted {R = slice_cmp nat_cmp} es) ≡ es
+  pub entries_of : (es : List (List ℕ × X)) → InKeyOrder es → entries (from_sorted {R = slice_cmp nat_cmp} es) ≡ es
   entries_of es order = entries-from_sorted (slice_cmp nat_cmp) es (subst T (sym (sorted es order)) tt)
 
 -- what stands at a key may change, and the keys are the same
@@ -48,14 +52,6 @@ scope_of scope = (scope.0, addresses scope.1)
 all_scopes : (scopes : List (List ℕ × List (List ℕ × List ℕ))) → AllByRecursion (λ scope. InKeyOrder scope.1) scopes → map scope_entries (map scope_of scopes) ≡ map scope_entry scopes
 all_scopes [] all = refl
 all_scopes (scope ∷ more) all = λ i. (scope.0, address_entries scope.1 all.0 i) ∷ all_scopes more all.1 i
-
-pub record HasMap (layout : Layout) (integrity : List (List ℕ × List ℕ)) : Type 0 where
-  pub m : ParsedMap
-  pub lists : Lists layout integrity m
-
--- own law: lists in key order, whose scopes are in key order, are the entries of a map
-abbrev pub SomeMap : Type 0
-SomeMap = (layout : Layout) (integrity : List (List ℕ × List ℕ)) → InKeyOrder layout.imports → InKeyOrder layout.scopes → AllByRecursion (λ scope. InKeyOrder scope.1) layout.scopes → InKeyOrder integrity → HasMap layout integrity
 
 pub some_map : SomeMap
 some_map layout integrity imports scopes each digests = record {

@@ -1,5 +1,5 @@
 ghost use Rattle.std.specs.Prelude.{◌≡◌, ◌==◌, List, [], ◌∷◌, ◌++◌, ℕ, length, slice_get, option_map, if◌then◌else◌, is_ok, IfOk};
-ghost use Rattle.map_print.specs.Keys.{InKeyOrder};
+ghost use Rattle.scope_builder.specs.Keys.{InKeyOrder};
 
 use primitives::{Memory, Text};
 use std::alloc::Global;
@@ -14,7 +14,7 @@ pub struct Keyed<V> {
 
 impl<V> Model for Keyed<V> {
     ghost use Rattle.std.specs.Prelude.{List, ℕ};
-    ghost use Rattle.map_print.specs.Keys.{InKeyOrder};
+    ghost use Rattle.scope_builder.specs.Keys.{InKeyOrder};
 
     ghost Value = { List (List ℕ × V) };
 

@@ -1,5 +1,7 @@
 -- Lists of pairs in the byte order of their keys.
-use Rattle.std.specs.Prelude.{ℕ, List, map, []}
+--     keys_of pairs      their keys
+--     InKeyOrder pairs      each key is below those after it
+use Rattle.std.specs.Prelude.{ℕ, List, map}
 use Rattle.std.specs.Ordering.{nat_cmp}
 use Rattle.std.specs.Cmp.Lexicographic.{slice_cmp}
 use Rattle.std.specs.List.Sorted.{IsStrictlySortedBy}
@@ -11,7 +13,3 @@ keys_of pairs = map (λ p. p.0) pairs
 -- own: each key is below those after it, in the order of bytes
 abbrev pub InKeyOrder : {V : Type 0} → List (List ℕ × V) → Type 0
 InKeyOrder pairs = IsStrictlySortedBy (slice_cmp nat_cmp) (keys_of pairs)
-
-pub none_in_order : IsStrictlySortedBy (slice_cmp nat_cmp) []
-unfolding IsStrictlySortedBy
-none_in_order = tt

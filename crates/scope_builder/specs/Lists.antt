@@ -1,11 +1,9 @@
--- How the lists that are printed stand for an import map.
+-- How lists stand for an import map.
 --     Lists layout integrity m      the lists are the entries of the map m
-use Rattle.std.specs.Prelude.{◌≡◌, ℕ, List, map, codes, Option, Some}
+use Rattle.std.specs.Prelude.{◌≡◌, ℕ, List, map, Option, Some}
 use Rattle.std.specs.FinMap.{entries}
-use Rattle.json_spec.specs.Value.{Json, a_text, an_object, no_members, a_member}
 use Rattle.import_map_spec.specs.ParsedMap.{Addresses, ParsedMap}
-use Rattle.layout_spec.specs.PrintedMap.{members_of, with_part}
-use Rattle.map_print.specs.declared.keyed.Layout.{Layout}
+use Rattle.scope_builder.specs.declared.keyed.Layout.{Layout}
 
 -- a mapping as an entry of a module specifier map: its address is a URL, and never null
 abbrev pub address_entry : List ℕ × List ℕ → List ℕ × Option (List ℕ)
@@ -23,13 +21,3 @@ pub record Lists (layout : Layout) (integrity : List (List ℕ × List ℕ)) (m 
   pub imports : entries m.imports ≡ map address_entry layout.imports
   pub scopes : map scope_entries (entries m.scopes) ≡ map scope_entry layout.scopes
   pub integrity_texts : entries m.integrity ≡ integrity
-
--- the object of mappings, as JSON
-abbrev pub mappings_value : List (List ℕ × List ℕ) → Json
-mappings_value mappings = an_object (members_of a_text mappings)
-
--- the whole map, as JSON
-abbrev pub layout_value : Layout → List (List ℕ × List ℕ) → Json
-layout_value layout integrity =
-    an_object (a_member (codes "imports") (mappings_value layout.imports)
-    (with_part (codes "scopes") (members_of mappings_value layout.scopes) (with_part (codes "integrity") (members_of a_text integrity) no_members)))
