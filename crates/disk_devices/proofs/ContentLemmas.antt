@@ -2,7 +2,7 @@
 use Rattle.std.proofs.Common.{◌≡◌, ◌≤◌, ◌+◌, ◌++◌, [], ℕ, List, None, Some, Option, IfSome, length, take, option_map, arith, ap}
 use Rattle.std.proofs.lemmas.List.{take_all, length-take}
 use Rattle.tree_spec.specs.declared.Look.TheVariants.{File}
-use Rattle.generator_cli.specs.Contents.{IsContent}
+use Rattle.disk_devices.specs.Contents.{IsContent}
 
 whole_list : (limit most : ℕ) (all found : List ℕ) → most ≡ limit + 1 → found ≡ take most all → length found ≤ limit → IsContent all limit (File found)
 whole_list limit most all found further front short =

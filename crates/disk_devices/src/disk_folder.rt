@@ -1,7 +1,7 @@
 //! A folder of the disk.
 ghost use Rattle.std.specs.Prelude.{◌≡◌, ◌≢◌, ◌≤◌, ◌<◌, ◌-◌, ◌^◌, ℕ, None, IfOk, IfSome, length};
 ghost use Rattle.tree_spec.specs.Counts.{Rose};
-ghost use Rattle.generator_cli.specs.Contents.{IsContent};
+ghost use Rattle.disk_devices.specs.Contents.{IsContent};
 
 use crate::faults::one_more;
 use std::alloc::{AllocError, Global};
@@ -59,13 +59,7 @@ impl<'a, R> DiskFolder<'a, R> {
 impl<'a, R: Files> Folder for DiskFolder<'a, R> {
     ghost use Rattle.std.proofs.Common.{rules};
 
-    ghost holds = { λ _. None };
-
-    ghost look_faults = { λ f. f.look_faults };
-
-    ghost write_faults = { λ f. f.write_faults };
-
-    ghost asked = { λ _. None };
+    ghost state = { λ folder. record { holds = None; asked = None; look_faults = folder.look_faults; write_faults = folder.write_faults } };
 
     ghost told = { Prim.search rules };
 

@@ -29,9 +29,7 @@ impl<R> StdSource<R> {
 }
 
 impl<R: Read> Source for StdSource<R> {
-    ghost left = { λ _. None };
-
-    ghost faults = { λ s. s.faults };
+    ghost state = { λ source. record { left = None; faults = source.faults } };
 
     fn take(&mut self, into: &mut [u8]) -> Result<usize, Failed>
         ensures taken { IfOk result (λ count. Consumes (R.remaining self.old.input) (R.remaining self.new.input) (take count into.new)) }
@@ -76,9 +74,7 @@ impl<W> StdSink<W> {
 }
 
 impl<W: Write> Sink for StdSink<W> {
-    ghost got = { λ _. None };
-
-    ghost faults = { λ s. s.faults };
+    ghost state = { λ sink. record { got = None; faults = sink.faults } };
 
     fn give(&mut self, bytes: &[u8]) -> Result<(), Failed>
         ensures sent { OnOk result (Appends (W.contents self.old.output) (W.contents self.new.output) bytes.now) }

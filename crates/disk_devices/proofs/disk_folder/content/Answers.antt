@@ -1,6 +1,6 @@
 use Rattle.std.proofs.Common.{ap, arith}
-use Rattle.generator_cli.proofs.ContentLemmas.{whole_content}
-use Rattle.generator_cli.proofs.disk_folder.content.Goals as goal
+use Rattle.disk_devices.proofs.ContentLemmas.{whole_content}
+use Rattle.disk_devices.proofs.disk_folder.content.Goals as goal
 
 pub returns : goal.returns
 returns g c =
