@@ -1,16 +1,12 @@
 //! The program: it makes the folder, the streams, the counter and the words, and leaves every decision to `run`.
 #![tactic(auto)]
 
-mod disk_folder;
-mod faults;
-mod streams;
-
 ghost use Rattle.std.specs.Prelude.{◌≡◌, ◌<◌, ℕ};
 
-use crate::disk_folder::DiskFolder;
-use crate::streams::{StdSink, StdSource};
+use disk_devices::{DiskFolder, StdSink, StdSource};
 use generator_core::run;
 use primitives::Steps;
+use run_texts::{MEMORY, WRITE_FAULT, memory_line};
 use std::marker::Brand;
 use std::process::ExitCode;
 use std::rt::Runtime;
@@ -47,9 +43,9 @@ fn start<R: Runtime + AllocGlobal, L: Ledger>(rt: &R, words: &[String], blank: B
 
 /// The status where the words find no memory.
 fn without_memory<R: Runtime>(rt: &R) -> u8 {
-    match StdSink::new(io::writer(rt)).give(b"memory\n".as_slice()) {
-        Ok(()) => 8,
-        Err(_) => 5,
+    match StdSink::new(io::writer(rt)).give(memory_line()) {
+        Ok(()) => MEMORY,
+        Err(_) => WRITE_FAULT,
     }
 }
 

@@ -6,8 +6,8 @@ use Rattle.std.specs.FinMap.{entries, len, len-entries}
 use Rattle.std.proofs.lemmas.List.Sums.{sum_by-cons}
 use Rattle.std.proofs.lemmas.List.{length-map, take_all}
 use Rattle.import_map_spec.specs.ParsedMap.{Addresses, ParsedMap}
-use Rattle.map_print.specs.declared.keyed.Layout.{Layout}
-use Rattle.map_print.specs.Lists.{address_entry, scope_entries, scope_entry, Lists}
+use Rattle.scope_builder.specs.declared.keyed.Layout.{Layout}
+use Rattle.scope_builder.specs.Lists.{address_entry, scope_entries, scope_entry, Lists}
 use Rattle.layout_spec.specs.Counting.{mapping_count}
 use Rattle.map_flatten.specs.Counting.{listed_count}
 

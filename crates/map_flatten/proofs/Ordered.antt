@@ -13,8 +13,8 @@ use Rattle.std.proofs.lemmas.List.{nil_from_length, map-append}
 use Rattle.std.proofs.lemmas.List.Elements.{All-head, All-tail}
 use Rattle.layout_spec.specs.declared.Need.{Need}
 use Rattle.layout_spec.specs.Layout.{scopes_onto, layout}
-use Rattle.map_print.specs.Keys.{InKeyOrder}
-use Rattle.map_print.specs.Lists.{address_entry, scope_entries, scope_entry, Lists}
+use Rattle.scope_builder.specs.Keys.{InKeyOrder}
+use Rattle.scope_builder.specs.Lists.{address_entry, scope_entries, scope_entry, Lists}
 use Rattle.map_flatten.specs.Grouped.{Scope, addresses_of, scope_of, listed_scope}
 use Rattle.map_flatten.proofs.Updates.{mapped}
 

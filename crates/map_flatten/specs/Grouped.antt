@@ -3,7 +3,7 @@ use Rattle.std.specs.Prelude.{ℕ, List, map}
 use Rattle.std.specs.BTreeMap.{BTreeMap}
 use Rattle.std.specs.FinMap.{from_entries}
 use Rattle.import_map_spec.specs.ParsedMap.{Texts, Addresses}
-use Rattle.map_print.specs.Lists.{address_entry}
+use Rattle.scope_builder.specs.Lists.{address_entry}
 
 -- own: a map from specifiers to URLs
 abbrev pub Scope : Type 0

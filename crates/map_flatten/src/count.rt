@@ -1,10 +1,10 @@
 ghost use Rattle.std.specs.Prelude.{◌≡◌, ◌≤◌, ◌^◌, List, ℕ, IfSome, MatchOption};
 ghost use Rattle.import_map_spec.specs.ParsedMap.{ParsedMap};
 ghost use Rattle.layout_spec.specs.Counting.{mapping_count};
-ghost use Rattle.map_print.specs.Lists.{Lists};
+ghost use Rattle.scope_builder.specs.Lists.{Lists};
 ghost use Rattle.map_flatten.specs.Counting.{listed_count};
 
-use map_print::Layout;
+use scope_builder::Layout;
 
 /// How many mappings a layout has; None where that is more than a count holds.
 pub fn mappings(layout: &Layout) -> Option<usize>

@@ -1,11 +1,11 @@
 ghost use Rattle.std.specs.Prelude.{◌≡◌, [], List, ℕ, map, IfOk, OnOk, All};
 ghost use Rattle.std.specs.FinMap.{empty};
-ghost use Rattle.map_print.specs.Keys.{InKeyOrder};
-ghost use Rattle.map_print.specs.Lists.{Lists};
+ghost use Rattle.scope_builder.specs.Keys.{InKeyOrder};
+ghost use Rattle.scope_builder.specs.Lists.{Lists};
 ghost use Rattle.layout_spec.specs.Layout as definition;
 ghost use Rattle.map_flatten.specs.Grouped.{scopes_of, listed_scope};
 
-use map_print::{Layout, Mappings, Scopes};
+use scope_builder::{Layout, Mappings, Scopes};
 use need_table::{Need, Needs};
 use primitives::{Memory, Text};
 use std::alloc::Global;

@@ -7,8 +7,8 @@ use Rattle.json_spec.specs.Value.{Json, a_text, an_object, Members, no_members, 
 use Rattle.json_spec.specs.PrintedString.{quoted}
 use Rattle.json_spec.specs.PrintedValue.{margin, line, printed, printed_members}
 use Rattle.layout_spec.specs.PrintedMap.{members_of, with_part}
-use Rattle.map_print.specs.declared.keyed.Layout.{Layout}
-use Rattle.map_print.specs.Lists.{mappings_value, layout_value}
+use Rattle.scope_builder.specs.declared.keyed.Layout.{Layout}
+use Rattle.map_print.specs.PrintedLists.{mappings_value, layout_value}
 use Rattle.map_print.specs.Appending.{Appends}
 
 pub piece : {old new : List ℕ} (bytes : List ℕ) → new ≡ old ++ bytes → Appends old new (λ rest. bytes ++ rest)

@@ -6,8 +6,9 @@ use Rattle.json_spec.specs.Value.{Json, a_text, an_object, no_members, a_member}
 use Rattle.json_spec.specs.PrintedValue.{printed}
 use Rattle.import_map_spec.specs.ParsedMap.{Addresses, ParsedMap}
 use Rattle.layout_spec.specs.PrintedMap.{members_of, address_value, addresses_value, with_part, map_value, map_text}
-use Rattle.map_print.specs.declared.keyed.Layout.{Layout}
-use Rattle.map_print.specs.Lists.{address_entry, scope_entries, scope_entry, Lists, mappings_value, layout_value}
+use Rattle.scope_builder.specs.declared.keyed.Layout.{Layout}
+use Rattle.scope_builder.specs.Lists.{address_entry, scope_entries, scope_entry, Lists}
+use Rattle.map_print.specs.PrintedLists.{mappings_value, layout_value}
 
 mappings : (pairs : List (List ℕ × List ℕ)) → members_of address_value (map address_entry pairs) ≡ members_of a_text pairs
 mappings [] = refl

@@ -1,4 +1,2 @@
-pub mod Keys
-pub mod Lists
+pub mod PrintedLists
 pub mod Appending
-pub mod SomeMap

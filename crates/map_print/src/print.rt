@@ -4,11 +4,13 @@ ghost use Rattle.json_spec.specs.Value.{a_text, an_object, no_members};
 ghost use Rattle.json_spec.specs.PrintedValue.{line, printed, printed_members, printed_text};
 ghost use Rattle.import_map_spec.specs.ParsedMap.{ParsedMap};
 ghost use Rattle.layout_spec.specs.PrintedMap.{members_of, with_part, map_text};
-ghost use Rattle.map_print.specs.Lists.{Lists, mappings_value, layout_value};
+ghost use Rattle.scope_builder.specs.Lists.{Lists};
+ghost use Rattle.map_print.specs.PrintedLists.{mappings_value, layout_value};
 ghost use Rattle.map_print.specs.Appending.{Appends};
 
-use crate::{Layout, Mappings, print_text};
+use ordered_json::print_text;
 use primitives::{Memory, Text};
+use scope_builder::{Layout, Mappings};
 use std::alloc::{AllocError, Global};
 
 /// Why a map isn't printed.

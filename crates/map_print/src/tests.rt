@@ -1,5 +1,6 @@
-use crate::{Layout, Mappings, Scopes, print_map};
+use crate::print_map;
 use primitives::Text;
+use scope_builder::{Layout, Mappings, Scopes};
 use std::alloc::Global;
 use std::collections::BTreeMap;
 use std::test::Fail;

@@ -1,6 +1,6 @@
 use Rattle.std.proofs.Common.{rules, map, ◌≡◌, [], ◌∷◌, ◌++◌}
 use Rattle.std.proofs.lemmas.List.Elements.{All-push}
-use Rattle.map_print.specs.Keys.{InKeyOrder}
+use Rattle.scope_builder.specs.Keys.{InKeyOrder}
 use Rattle.map_flatten.specs.Grouped.{listed_scope}
 use Rattle.map_flatten.proofs.Ordered.{front_in_order, listed_in_order, next_listed}
 use Rattle.map_flatten.proofs.flatten.listed.Goals as goal

@@ -1,6 +1,6 @@
 use Rattle.std.proofs.Common.{◌≡◌, ◌++◌, map}
 use Rattle.std.specs.Prelude.{All}
-use Rattle.map_print.specs.Keys.{InKeyOrder}
+use Rattle.scope_builder.specs.Keys.{InKeyOrder}
 use Rattle.map_flatten.specs.Grouped.{listed_scope}
 use Rattle.map_flatten.proofs.flatten.listed.Given as goal
 

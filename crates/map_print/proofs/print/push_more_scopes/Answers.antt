@@ -1,4 +1,4 @@
-use Rattle.map_print.specs.Lists.{mappings_value}
+use Rattle.map_print.specs.PrintedLists.{mappings_value}
 use Rattle.map_print.proofs.Appends.{all_members}
 use Rattle.map_print.proofs.print.push_more_scopes.Goals as goal
 

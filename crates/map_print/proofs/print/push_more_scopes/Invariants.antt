@@ -1,7 +1,7 @@
 use Rattle.std.proofs.Common.{drop}
 use Rattle.json_spec.specs.PrintedValue.{printed_members}
 use Rattle.layout_spec.specs.PrintedMap.{members_of}
-use Rattle.map_print.specs.Lists.{mappings_value}
+use Rattle.map_print.specs.PrintedLists.{mappings_value}
 use Rattle.map_print.proofs.Appends.{Completes}
 use Rattle.map_print.proofs.print.push_more_scopes.Given as goal
 

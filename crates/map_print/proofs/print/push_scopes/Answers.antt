@@ -1,6 +1,6 @@
 use Rattle.std.proofs.Common.{rules, refl}
 use Rattle.std.proofs.lemmas.Result.{on_ok_weaker}
-use Rattle.map_print.specs.Lists.{mappings_value}
+use Rattle.map_print.specs.PrintedLists.{mappings_value}
 use Rattle.map_print.proofs.Appends.{object}
 use Rattle.map_print.proofs.print.push_scopes.Goals as goal
 

@@ -1,7 +1,7 @@
 use Rattle.std.proofs.Common.{rules, ap, ℕ, List, ◌++◌}
 use Rattle.std.specs.Prelude.{codes}
 use Rattle.std.proofs.lemmas.Result.{on_ok_weaker}
-use Rattle.map_print.specs.Lists.{mappings_value}
+use Rattle.map_print.specs.PrintedLists.{mappings_value}
 use Rattle.map_print.proofs.Appends.{part}
 use Rattle.map_print.proofs.print.push_scopes_member.Goals as goal
 

@@ -1,0 +1,3 @@
+mod LinkWords
+pub mod PagePath
+mod Refusing

@@ -1,0 +1,34 @@
+-- Words of a command line.
+use Rattle.std.proofs.Common.{◌≡◌, ◌<◌, ◌+◌, ℕ, List, [], ◌∷◌, ◌++◌, length, take, map, get_or, All, sym, refl, ap, ◌∙◌, if◌then◌else◌}
+use Rattle.std.specs.Prelude.{bytes_eq}
+use Rattle.std.specs.List.{list_any}
+use Rattle.std.proofs.lemmas.List.{take_more}
+use Rattle.std.proofs.lemmas.List.Elements.{All-head, All-tail, All-cons, All-nil, All-same}
+use Rattle.indexmap.specs.IndexSet.{insert_key}
+use Rattle.generator_spec.specs.Words.{IsEntry, IsLink, once_onto}
+
+once_onto-append : (seen xs ys : List (List ℕ)) → once_onto seen (xs ++ ys) ≡ once_onto (once_onto seen xs) ys
+once_onto-append seen [] ys = refl
+once_onto-append seen (x ∷ xs) ys = once_onto-append (if list_any (bytes_eq x) seen then seen else seen ++ x ∷ []) xs ys
+
+map-append : {A : Type 0} (f : A → List ℕ) (xs ys : List A) → map f (xs ++ ys) ≡ map f xs ++ map f ys
+map-append f [] ys = refl
+map-append f (x ∷ xs) ys = ap (λ zs. f x ∷ zs) (map-append f xs ys)
+
+-- one more text is counted
+pub one_more : {A : Type 0} (f : A → List ℕ) (xs : List A) (i : ℕ) (x : A) (old new : List (List ℕ)) (text : List ℕ) → i < length xs → x ≡ get_or xs i x → old ≡ once_onto [] (map f (take i xs)) → text ≡ f x → new ≡ insert_key bytes_eq old text → new ≡ once_onto [] (map f (take (i + 1) xs))
+one_more f xs i x old new text within is so_far same e =
+    e
+    ∙ ((λ j. insert_key bytes_eq (so_far j) (same j))
+    ∙ (sym (once_onto-append [] (map f (take i xs)) (f x ∷ []))
+    ∙ ap (once_onto []) (sym (map-append f (take i xs) (x ∷ [])) ∙ ap (map f) (ap (λ y. take i xs ++ y ∷ []) is ∙ sym (take_more xs i x within)))))
+
+-- what holds of each image holds of each
+pub all_of_map : {A : Type 0} (P : List ℕ → Type 0) (f : A → List ℕ) (xs : List A) → All P (map f xs) → All (λ x. P (f x)) xs
+all_of_map P f [] all = All-nil (λ x. P (f x))
+all_of_map P f (x ∷ xs) all = All-cons (λ x. P (f x)) x xs (All-head P (f x) (map f xs) all) (all_of_map P f xs (All-tail P (f x) (map f xs) all))
+
+-- the entries of the words are no entries
+pub no_link : {A : Type 0} (f : A → List ℕ) (words : List (List ℕ)) (entries : List A) (link option base other : List ℕ) (others : List (List ℕ)) → words ≡ link ∷ option ∷ base ∷ map f entries → (All (λ word. IsEntry (f word)) entries → ⊥) → IsLink words other others → ⊥
+no_link f words entries link option base other others split none is =
+    none (all_of_map IsEntry f entries (let e = is.split in let same : map f entries ≡ others = cc in All-same IsEntry (map f entries) others same is.are_entries))

@@ -1,0 +1,68 @@
+ghost use Rattle.std.specs.Prelude.{◌≡◌, Err, IfOk, map, string_bytes};
+ghost use Rattle.generator_spec.specs.declared.Refusal.{Refusal};
+ghost use Rattle.generator_spec.specs.declared.Refusal.TheVariants as refusal;
+ghost use Rattle.generator_spec.specs.Words.{IsConfigOf, RefusesWords};
+
+use crate::words::{distinct, link_words};
+use generator_spec::Refusal;
+use primitives::{Memory, Text};
+use request_trace::Config;
+use std::alloc::{AllocError, Global};
+use tree_model::{Path, PathFault};
+use web_url::{Base, BaseFault};
+
+/// The page of each site.
+pub const PAGE_PATH: &str = "/index.html";
+
+/// Why words give no config.
+#[derive(Debug, Drop)]
+pub enum WordsFault {
+    /// They are refused.
+    Refused { why: Refusal },
+    /// Want of memory.
+    Memory,
+}
+
+impl From<AllocError> for WordsFault {
+    ghost use Rattle.std.specs.Prelude.{◌≡◌};
+    ghost use Rattle.command_words.specs.declared.config.WordsFault.TheVariants.{Memory};
+
+    ghost from_gives = { λ _ fault. fault ≡ Memory };
+
+    fn from(_: AllocError) -> Self {
+        WordsFault::Memory
+    }
+}
+
+/// The config that the words give.
+pub fn config_of(alloc: Global, words: &[String]) -> Result<Config, WordsFault>
+    ensures config { IfOk result (IsConfigOf (map string_bytes words.now)) }
+    ensures refused { (why : Refusal) → result ≡ Err (WordsFault.Refused why) → RefusesWords (map string_bytes words.now) why }
+{
+    let Some((base, entries)) = link_words(words) else {
+        return Err(WordsFault::Refused {
+            why: Refusal::Words,
+        });
+    };
+    let base = match Base::parse(alloc, base) {
+        Ok(base) => base,
+        Err(BaseFault::BadBase) => return Err(bad_base(alloc, base)?),
+        Err(BaseFault::Memory) => return Err(WordsFault::Memory),
+    };
+    let entries = distinct(alloc, entries)?;
+    match Path::parse(alloc, PAGE_PATH) {
+        Ok(page) => Ok(Config::new(base, page, entries)),
+        Err(PathFault::Memory) => Err(WordsFault::Memory),
+        Err(PathFault::BadPath) => unreachable!(),
+    }
+}
+
+fn bad_base(alloc: Global, base: &str) -> Result<WordsFault, Memory>
+    ensures { IfOk result (λ fault. fault ≡ WordsFault.Refused (refusal.BadBase base.now)) }
+{
+    Ok(WordsFault::Refused {
+        why: Refusal::BadBase {
+            text: Text::of(alloc, base)?,
+        },
+    })
+}

@@ -1,0 +1,68 @@
+ghost use Rattle.std.specs.Prelude.{◌≡◌, ◌↔◌, ◌++◌, ◌∷◌, [], List, ℕ, All, IsTrue, IfOk, MatchOption, map, string_bytes};
+ghost use Rattle.generator_spec.specs.Words.{IsEntry, IsLink, once_onto};
+
+use indexmap::IndexSet;
+use primitives::{Listed, Memory, Text};
+use std::alloc::Global;
+
+/// The base and the entries of words that are `link --base BASE` and entries; None where they aren't.
+pub fn link_words(words: &[String]) -> Option<(&str, &[String])>
+    ensures { MatchOption result ((base : List ℕ) (entries : List (List ℕ)) → IsLink (map string_bytes words.now) base entries → ⊥) (λ found. IsLink (map string_bytes words.now) found.0.now (map string_bytes found.1.now)) }
+{
+    let Some(after_command) = after_word(words, "link") else {
+        return None;
+    };
+    let Some(after_option) = after_word(after_command, "--base") else {
+        return None;
+    };
+    let Some((base, entries)) = first_word(after_option) else {
+        return None;
+    };
+    if !are_entries(entries) {
+        return None;
+    }
+    Some((base, entries))
+}
+
+fn first_word(words: &[String]) -> Option<(&str, &[String])>
+    ensures { MatchOption result ((first : List ℕ) (rest : List (List ℕ)) → map string_bytes words.now ≡ first ∷ rest → ⊥) (λ found. map string_bytes words.now ≡ found.0.now ∷ map string_bytes found.1.now) }
+{
+    let (first, rest) = words.split_first()?;
+    Some((first.as_str(), rest))
+}
+
+fn after_word<'a>(words: &'a [String], word: &str) -> Option<&'a [String]>
+    ensures { MatchOption result ((rest : List (List ℕ)) → map string_bytes words.now ≡ word.now ∷ rest → ⊥) (λ rest. map string_bytes words.now ≡ word.now ∷ map string_bytes rest.now) }
+{
+    let (first, rest) = words.split_first()?;
+    if first.as_str() != word {
+        return None;
+    }
+    Some(rest)
+}
+
+fn are_entries(words: &[String]) -> bool
+    ensures { IsTrue result ↔ All (λ word. IsEntry (string_bytes word)) words.now }
+{
+    words.iter().all(|word| is_entry(word.as_str()))
+}
+
+fn is_entry(word: &str) -> bool
+    ensures { IsTrue result ↔ IsEntry word.now }
+{
+    match word.as_bytes().split_first() {
+        None => false,
+        Some((first, _)) => *first != b'-',
+    }
+}
+
+/// The entries, equal ones once.
+pub fn distinct(alloc: Global, entries: &[String]) -> Result<Listed<Text>, Memory>
+    ensures { IfOk result (λ texts. texts ≡ once_onto [] (map string_bytes entries.now)) }
+{
+    let mut seen = IndexSet::new(alloc);
+    for entry in entries {
+        seen.insert(Text::of(alloc, entry.as_str())?)?;
+    }
+    Ok(Listed::from_vec(seen.into_iter().collect(alloc)?))
+}

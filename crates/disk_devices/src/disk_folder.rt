@@ -1,0 +1,413 @@
+//! A folder of the disk.
+ghost use Rattle.std.specs.Prelude.{◌≡◌, ◌≢◌, ◌≤◌, ◌<◌, ◌-◌, ◌^◌, ℕ, None, IfOk, IfSome, length};
+ghost use Rattle.tree_spec.specs.Counts.{Rose};
+ghost use Rattle.disk_devices.specs.Contents.{IsContent};
+
+use crate::faults::one_more;
+use std::alloc::{AllocError, Global};
+use std::collections::HashSet;
+use std::fs::OpenOptions;
+use std::io::{ErrorKind, Read, Write};
+use std::rt::Files;
+use std::{fs, io};
+use tree_model::{Bytes, Failed, Folder, Look, LookFault, Path};
+
+/// How many names a write tries for the file that it makes beside its goal.
+const DRAFTS: u8 = 100;
+
+/// A folder of the disk with all below it. It tells nothing of what it holds.
+///
+/// A link isn't followed: a look at one, or past one, fails. A folder on the way to a file is judged once, so a link
+/// that takes its place after that goes unseen.
+#[derive(Drop)]
+pub struct DiskFolder<'a, R> {
+    disk: Disk<'a, R>,
+    look_faults: u64,
+    write_faults: u64,
+}
+
+impl<'a, R> DiskFolder<'a, R> {
+    /// The folder with this name on the disk, which has not failed yet.
+    pub fn new(rt: R, alloc: Global, root: &'a str) -> DiskFolder<'a, R> {
+        DiskFolder {
+            disk: Disk {
+                rt,
+                alloc,
+                root,
+                judged: HashSet::new(alloc),
+            },
+            look_faults: 0,
+            write_faults: 0,
+        }
+    }
+
+    /// The fault of a look that an error of the disk makes, counted where it isn't want of memory.
+    fn look_fault(&mut self, fault: io::Error) -> LookFault
+        ensures failed { result ≡ LookFault.Failed → Rose self.old.look_faults self.new.look_faults }
+        ensures quiet { result ≢ LookFault.Failed → self.new.look_faults ≡ self.old.look_faults }
+        ensures later { self.old.look_faults ≤ self.new.look_faults }
+        ensures writes { self.new.write_faults ≡ self.old.write_faults }
+    {
+        if fault.kind() == ErrorKind::OutOfMemory {
+            return LookFault::Memory;
+        }
+        self.look_faults = one_more(self.look_faults);
+        LookFault::Failed
+    }
+}
+
+impl<'a, R: Files> Folder for DiskFolder<'a, R> {
+    ghost use Rattle.std.proofs.Common.{rules};
+
+    ghost state = { λ folder. record { holds = None; asked = None; look_faults = folder.look_faults; write_faults = folder.write_faults } };
+
+    ghost told = { Prim.search rules };
+
+    fn look(&mut self, alloc: Global, path: &Path, limit: u64) -> Result<Look, LookFault> {
+        match self.disk.look(alloc, path.as_str(), limit) {
+            Ok(look) => Ok(look),
+            Err(fault) => Err(self.look_fault(fault)),
+        }
+    }
+
+    fn write(&mut self, path: &Path, bytes: &[u8]) -> Result<(), Failed> {
+        match self.disk.write(path.as_str(), bytes) {
+            Ok(()) => Ok(()),
+            Err(_) => {
+                self.write_faults = one_more(self.write_faults);
+                Err(Failed)
+            }
+        }
+    }
+}
+
+/// What stands under a name of the disk.
+#[derive(Clone, Copy)]
+enum Standing {
+    Absent,
+    Folder,
+    /// A file of this many bytes.
+    File(u64),
+}
+
+/// The files below one folder of the disk, with the names of the folders that were found to be no links.
+#[derive(Drop)]
+struct Disk<'a, R> {
+    rt: R,
+    alloc: Global,
+    root: &'a str,
+    judged: HashSet<String>,
+}
+
+impl<'a, R: Files> Disk<'a, R> {
+    /// What stands at a path, where a file may have at most `limit` bytes.
+    fn look(&mut self, alloc: Global, path: &str, limit: u64) -> io::Result<Look> {
+        let name = self.name_of(alloc, path)?;
+        if !self.reaches(alloc, name.as_str())? {
+            return Ok(Look::Absent);
+        }
+        match self.standing(name.as_str())? {
+            Standing::Absent => Ok(Look::Absent),
+            Standing::Folder => Ok(Look::Folder),
+            Standing::File(size) => {
+                if size > limit {
+                    return Ok(Look::TooLarge);
+                }
+                let file = fs::open(&self.rt, name.as_str())?;
+                // No file is so long that the greatest number makes a difference.
+                content(alloc, file, size, limit.min(u64::MAX - 1))
+            }
+        }
+    }
+
+    /// Makes a file of these bytes, or leaves what stands there.
+    fn write(&mut self, path: &str, bytes: &[u8]) -> io::Result<()> {
+        let alloc = self.alloc;
+        let goal = self.name_of(alloc, path)?;
+        let above = above(goal.as_str());
+        if !self.reaches(alloc, goal.as_str())? {
+            fs::create_dir_all(&self.rt, above)?;
+        }
+        if let Standing::Folder = self.standing(goal.as_str())? {
+            return Err(io::Error::from(ErrorKind::IsADirectory));
+        }
+        // Written beside the goal and moved over it, so that a write that fails leaves what was there.
+        let (draft, mut file) = self.draft(alloc, above)?;
+        let written = file.write_all(bytes);
+        drop(file);
+        let moved = match written {
+            Ok(()) => fs::rename(&self.rt, draft.as_str(), goal.as_str()),
+            Err(fault) => Err(fault),
+        };
+        if moved.is_err() {
+            // The fault to tell is the one before, whether or not the draft can be taken away.
+            let _ = fs::remove_file(&self.rt, draft.as_str());
+        }
+        moved
+    }
+
+    /// The name on the disk of what stands at a path.
+    fn name_of(&self, alloc: Global, path: &str) -> Result<String, AllocError> {
+        let mut name = String::with_capacity(alloc, self.root.len().saturating_add(path.len()))?;
+        name.push_str(self.root)?;
+        name.push_str(path)?;
+        Ok(name)
+    }
+
+    /// What stands under a name, a link not followed.
+    fn standing(&self, name: &str) -> io::Result<Standing> {
+        match fs::symlink_metadata(&self.rt, name) {
+            Ok(found) => {
+                if found.is_file() {
+                    Ok(Standing::File(found.len()))
+                } else if found.is_dir() {
+                    Ok(Standing::Folder)
+                } else {
+                    Err(io::Error::from(ErrorKind::Unsupported))
+                }
+            }
+            Err(fault) => match fault.kind() {
+                ErrorKind::NotFound | ErrorKind::NotADirectory | ErrorKind::InvalidFilename => {
+                    Ok(Standing::Absent)
+                }
+                _ => Err(fault),
+            },
+        }
+    }
+
+    /// Whether all that stands above a name, from the root folder on, are folders.
+    fn reaches(&mut self, alloc: Global, name: &str) -> io::Result<bool> {
+        let above = above(name);
+        if above.len() <= self.root.len() || self.judged.contains(above) {
+            return Ok(true);
+        }
+        let mut place = String::from_str(alloc, self.root)?;
+        let Some(rest) = above.strip_prefix(self.root) else {
+            return Ok(true);
+        };
+        for segment in rest.split('/') {
+            if segment.is_empty() {
+                continue;
+            }
+            place.push_str("/")?;
+            place.push_str(segment)?;
+            if self.judged.contains(place.as_str()) {
+                continue;
+            }
+            match self.standing(place.as_str())? {
+                Standing::Folder => {}
+                Standing::Absent | Standing::File(_) => return Ok(false),
+            }
+            self.judged.insert(place.clone()?)?;
+        }
+        Ok(true)
+    }
+
+    /// A new file in a folder, with its name.
+    fn draft(&self, alloc: Global, above: &str) -> io::Result<(String, R::File)> {
+        for number in 0..DRAFTS {
+            let name = format!(in alloc; "{above}/.salimgub-draft-{number}")?;
+            match OpenOptions::new()
+                .write(true)
+                .create_new(true)
+                .open(&self.rt, name.as_str())
+            {
+                Ok(file) => return Ok((name, file)),
+                Err(fault) => {
+                    if fault.kind() != ErrorKind::AlreadyExists {
+                        return Err(fault);
+                    }
+                }
+            }
+        }
+        Err(io::Error::from(ErrorKind::AlreadyExists))
+    }
+}
+
+/// What stands before the last slash of a name.
+fn above(name: &str) -> &str {
+    match name.rsplit_once('/') {
+        None => "",
+        Some((above, _)) => above,
+    }
+}
+
+/// The content of a file of about `size` bytes, or too large where there are more than `limit`.
+fn content<F: Read + Drop>(alloc: Global, file: F, size: u64, limit: u64) -> io::Result<Look>
+    requires { limit < 2 ^ 64 - 1 }
+    ensures { IfOk result (λ look. IfSome (F.remaining file) (λ all. IsContent all limit look)) }
+{
+    let room = size.min(limit) + 1;
+    let mut bytes = Vec::with_capacity(alloc, room as usize)?;
+    let mut front = file.take(limit + 1);
+    front.read_to_end(&mut bytes)?;
+    if bytes.len() as u64 > limit {
+        return Ok(Look::TooLarge);
+    }
+    Ok(Look::File(Bytes::from_vec(bytes)))
+}
+
+#[cfg(test)]
+mod tests {
+    use super::*;
+    use std::os::unix::fs::symlink;
+    use std::test::Fail;
+    use std::{env, process};
+
+    #[derive(Clone, Copy, Debug, PartialEq, Eq)]
+    enum Seen {
+        Absent,
+        Folder,
+        File(usize),
+        TooLarge,
+        Failed,
+        Memory,
+    }
+
+    fn answered(answer: Result<Look, LookFault>) -> Seen {
+        match answer {
+            Ok(Look::Absent) => Seen::Absent,
+            Ok(Look::Folder) => Seen::Folder,
+            Ok(Look::File(bytes)) => Seen::File(bytes.len()),
+            Ok(Look::TooLarge) => Seen::TooLarge,
+            Err(LookFault::Failed) => Seen::Failed,
+            Err(LookFault::Memory) => Seen::Memory,
+        }
+    }
+
+    static LOOKS: [(&str, u64, Seen); 12] = [
+        ("/", 9, Seen::Folder),
+        ("/folder", 0, Seen::Folder),
+        ("/folder/five", 5, Seen::File(5)),
+        ("/folder/five", 4, Seen::TooLarge),
+        ("/folder/empty", 0, Seen::File(0)),
+        ("/folder/none", 9, Seen::Absent),
+        ("/none/none", 9, Seen::Absent),
+        ("/folder/five/below", 9, Seen::Absent),
+        ("/linked_file", 9, Seen::Failed),
+        ("/linked_folder", 9, Seen::Failed),
+        ("/linked_folder/five", 9, Seen::Failed),
+        ("/folder/five", 9, Seen::File(5)),
+    ];
+
+    /// A new folder with the files that `LOOKS` speaks of.
+    fn made(rt: &HostRuntime, name: &str) -> Result<String, Fail> {
+        let alloc = rt.alloc();
+        let place = env::temp_dir(rt)?;
+        let number = process::id(rt.process());
+        let root = format!(in alloc; "{}/salimgub-{name}-{number}", place.as_str())?;
+        fs::create_dir_all(rt, format!(in alloc; "{root}/folder")?.as_str())?;
+        fs::write(
+            rt,
+            format!(in alloc; "{root}/folder/five")?.as_str(),
+            "12345",
+        )?;
+        fs::write(rt, format!(in alloc; "{root}/folder/empty")?.as_str(), "")?;
+        symlink(
+            rt,
+            "folder/five",
+            format!(in alloc; "{root}/linked_file")?.as_str(),
+        )?;
+        symlink(
+            rt,
+            "folder",
+            format!(in alloc; "{root}/linked_folder")?.as_str(),
+        )?;
+        Ok(root)
+    }
+
+    #[test]
+    fn looks(rt: HostRuntime) -> Result<(), Fail> {
+        let alloc = rt.alloc();
+        let root = made(&rt, "looks")?;
+        let mut folder = DiskFolder::new(rt, alloc, root.as_str());
+        for (path, limit, wanted) in LOOKS {
+            let path = Path::parse(alloc, path)?;
+            assert_eq!(rt;
+                answered(folder.look(alloc, &path, limit)),
+                wanted,
+                "at {}",
+                path.as_str()
+            );
+        }
+        assert_eq!(rt; folder.look_faults, 3);
+        let mut devices = DiskFolder::new(rt, alloc, "/dev");
+        let null = Path::parse(alloc, "/null")?;
+        assert_eq!(rt;
+            answered(devices.look(alloc, &null, 9)),
+            Seen::Failed,
+            "a special file"
+        );
+        fs::remove_dir_all(&rt, root.as_str())?;
+        Ok(())
+    }
+
+    /// Whether a write at a path is answered, and what a look at it answers then.
+    fn rewritten(
+        alloc: Global,
+        folder: &mut DiskFolder<'_, HostRuntime>,
+        path: &str,
+    ) -> Result<(bool, Seen), Fail> {
+        let path = Path::parse(alloc, path)?;
+        let is_written = folder.write(&path, b"written").is_ok();
+        Ok((is_written, answered(folder.look(alloc, &path, 9))))
+    }
+
+    static WRITES: [(&str, bool, Seen); 6] = [
+        ("/new/deep/map", true, Seen::File(7)),
+        ("/folder/empty", true, Seen::File(7)),
+        ("/folder", false, Seen::Folder),
+        ("/folder/five/below", false, Seen::Absent),
+        ("/linked_file", false, Seen::Failed),
+        ("/linked_folder/new", false, Seen::Failed),
+    ];
+
+    #[test]
+    fn writes(rt: HostRuntime) -> Result<(), Fail> {
+        let root = made(&rt, "writes")?;
+        let mut folder = DiskFolder::new(rt, rt.alloc(), root.as_str());
+        for (path, is_written, read) in WRITES {
+            let found = rewritten(rt.alloc(), &mut folder, path)?;
+            assert!(rt; found == (is_written, read));
+        }
+        assert!(rt; folder.write_faults == 4);
+        fs::remove_dir_all(&rt, root.as_str())?;
+        Ok(())
+    }
+
+    /// Takes all names of the files that a write makes beside its goal.
+    fn take_drafts(rt: &HostRuntime, root: &str) -> Result<(), Fail> {
+        for number in 0..DRAFTS {
+            let draft = format!(in rt.alloc(); "{root}/folder/.salimgub-draft-{number}")?;
+            fs::write(rt, draft.as_str(), "")?;
+        }
+        Ok(())
+    }
+
+    #[test]
+    fn a_failed_write_leaves_the_file(rt: HostRuntime) -> Result<(), Fail> {
+        let root = made(&rt, "failed")?;
+        take_drafts(&rt, root.as_str())?;
+        let mut folder = DiskFolder::new(rt, rt.alloc(), root.as_str());
+        let found = rewritten(rt.alloc(), &mut folder, "/folder/five")?;
+        assert!(rt; found == (false, Seen::File(5)));
+        fs::remove_dir_all(&rt, root.as_str())?;
+        Ok(())
+    }
+
+    /// A name of 256 bytes, one more than a disk takes.
+    const LONG: &str =
+        "/alone/xxxxxxxxxxxxxxxxxxxxxxxxxxxxxxxxxxxxxxxxxxxxxxxxxxxxxxxxxxxxxxxxxxxxxxxxxxxxxxxxxxxxxxxxxxxxxxxxxxxxxxxxxxxxxxxxxxxxxxxxxxxxxxxxxxxxxxxxxxxxxxxxxxxxxxxxxxxxxxxxxxxxxxxxxxxxxxxxxxxxxxxxxxxxxxxxxxxxxxxxxxxxxxxxxxxxxxxxxxxxxxxxxxxxxxxxxxxxxxxxxxxxxxxxxxxxxxxx";
+
+    #[test]
+    fn a_name_too_long_is_absent(rt: HostRuntime) -> Result<(), Fail> {
+        let root = made(&rt, "long")?;
+        let mut folder = DiskFolder::new(rt, rt.alloc(), root.as_str());
+        let found = rewritten(rt.alloc(), &mut folder, LONG)?;
+        assert!(rt; found == (false, Seen::Absent));
+        // What the write made beside its goal is gone, so the folder can be taken away as an empty one.
+        fs::remove_dir(&rt, format!(in rt.alloc(); "{root}/alone")?.as_str())?;
+        fs::remove_dir_all(&rt, root.as_str())?;
+        Ok(())
+    }
+}

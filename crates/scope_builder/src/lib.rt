@@ -1,0 +1,16 @@
+//! The lists of which a map consists: mappings and scopes in the order of their keys.
+#![tactic(auto)]
+
+ghost use Rattle.scope_builder.specs.SomeMap.{SomeMap};
+
+mod keyed;
+#[cfg(test)]
+mod tests;
+
+pub use keyed::{Keyed, Layout, Mappings, Scopes};
+
+/// Lists in the order of their keys, with scopes in the order of theirs, are the entries of a map; so what is said of each map
+/// whose entries they are is said of one.
+pub fn some_map()
+    ensures { SomeMap }
+{}
