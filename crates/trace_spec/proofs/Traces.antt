@@ -155,9 +155,11 @@ module _ (sights : Sights) (config : Config) where
     visited : IsVisited before.modules referrer
     named : web_name config referrer ≡ Some need.referrer
     specifier : List ℕ
+    is_request : Contains (specifiers sights config referrer) specifier
     asks : as_url need.referrer specifier ≡ Some need.asked
     asked_is_file : ends_in_slash need.asked ≡ false
     target : Module
+    leads_to : leads sights config referrer specifier ≡ Some target
     is_name : file_name config target ≡ Some need.target
 
   record Stands (before : Before) : Type 0 where
@@ -224,23 +226,27 @@ module _ (sights : Sights) (config : Config) where
     visited = visited_more is.referrer before.modules (new_modules is_module before.modules (target ∷ [])) is.visited;
     named = is.named;
     specifier = is.specifier;
+    is_request = is.is_request;
     asks = is.asks;
     asked_is_file = is.asked_is_file;
     target = is.target;
+    leads_to = is.leads_to;
     is_name = is.is_name;
   }
 
-  stand_more : (before : Before) (referrer : Referrer Module) (specifier : List ℕ) (after : Before) → IsVisited before.modules referrer → Stands before → Follows sights config before referrer specifier after → Stands after
-  stand_more before referrer specifier after visited stands is =
+  stand_more : (before : Before) (referrer : Referrer Module) (specifier : List ℕ) (after : Before) → IsVisited before.modules referrer → Contains (specifiers sights config referrer) specifier → Stands before → Follows sights config before referrer specifier after → Stands after
+  stand_more before referrer specifier after visited asked_for stands is =
       let need : Need = record { referrer = is.want.referrer; asked = is.want.asked; target = is.url } in
       let own : IsOf before need = record {
         referrer = referrer;
         visited = visited;
         named = is.wants.named;
         specifier = specifier;
+        is_request = asked_for;
         asks = is.wants.asks;
         asked_is_file = is.wants.asks_file;
         target = is.target;
+        leads_to = leads_there referrer specifier is.target is.wants.relative is.answers;
         is_name = is.is_name;
       } in
       subst Stands (sym is.fits.is)
@@ -262,8 +268,10 @@ module _ (sights : Sights) (config : Config) where
         named = is.wants.named;
         relative = is.wants.relative;
         asks = is.wants.asks;
+        asked_is_file = is.wants.asks_file;
         answers = is.answers;
         servable = (file_name_parts config is.target is.url is.is_name).servable;
+        is_name = is.is_name;
         is_need = subst (λ b. Contains b.needs need) (sym is.fits.is) (with_need_new before.needs need);
       }
 
@@ -276,8 +284,10 @@ module _ (sights : Sights) (config : Config) where
         named = passes.named;
         relative = passes.relative;
         asks = passes.asks;
+        asked_is_file = passes.asked_is_file;
         answers = passes.answers;
         servable = passes.servable;
+        is_name = passes.is_name;
         is_need = with_need_old before.needs need passes.need passes.is_need;
       })
 
@@ -287,9 +297,11 @@ module _ (sights : Sights) (config : Config) where
     visited = subst (λ ms. IsVisited ms is.referrer) (sym leaves.modules) is.visited;
     named = is.named;
     specifier = is.specifier;
+    is_request = is.is_request;
     asks = is.asks;
     asked_is_file = is.asked_is_file;
     target = is.target;
+    leads_to = is.leads_to;
     is_name = is.is_name;
   }
 
@@ -307,8 +319,10 @@ module _ (sights : Sights) (config : Config) where
     named = passes.named;
     relative = passes.relative;
     asks = passes.asks;
+    asked_is_file = passes.asked_is_file;
     answers = passes.answers;
     servable = passes.servable;
+    is_name = passes.is_name;
     is_need = subst (λ ns. Contains ns passes.need) (sym leaves.needs) passes.is_need;
   }
 
@@ -317,7 +331,7 @@ module _ (sights : Sights) (config : Config) where
     starts = record { each = λ need c. absurd (contains_none need c); no_clash = λ one other c d. absurd (contains_none one c); once = λ i j m e f. absurd (cc) };
     opens = λ before referrer opened e stands. stand_on before opened.after (opens_leaves sights config before referrer opened e) stands;
     still = λ before referrer opened e other earlier passes. pass_on before opened.after other earlier (opens_leaves sights config before referrer opened e) passes;
-    follows = λ before referrer specifier after visited stands e. stand_more before referrer specifier after visited stands (follows_is sights config before referrer specifier after e);
+    follows = λ before referrer specifier after visited asked_for stands e. stand_more before referrer specifier after visited asked_for stands (follows_is sights config before referrer specifier after e);
     leaves = λ before referrer specifier after e. passes_now before referrer specifier after (follows_is sights config before referrer specifier after e);
     stays = λ before referrer specifier after e other earlier passes.
         let is = follows_is sights config before referrer specifier after e in
@@ -362,9 +376,11 @@ module _ (sights : Sights) (config : Config) where
             reached = visited_reached of.referrer of.visited;
             named = of.named;
             specifier = of.specifier;
+            is_request = of.is_request;
             asks = of.asks;
             asked_is_file = of.asked_is_file;
             target = of.target;
+            leads_there = of.leads_to;
             is_name = of.is_name;
           };
       no_clash = end.holds.no_clash;

@@ -128,8 +128,10 @@ pub record Passes (sights : Sights) (config : Config) (all : Before) (referrer :
   pub named : web_name config referrer ≡ Some need.referrer
   pub relative : is_relative specifier ≡ true
   pub asks : as_url need.referrer specifier ≡ Some need.asked
+  pub asked_is_file : ends_in_slash need.asked ≡ false
   pub answers : resolution sights config referrer specifier ≡ node.Resolved target.path target.suffix
   pub servable : IsServable config target.path target.suffix need.target
+  pub is_name : file_name config target ≡ Some need.target
   pub is_need : Contains all.needs need
 
 -- whatever the page reaches has requests, and they all pass
@@ -141,15 +143,18 @@ pub record AllPass (sights : Sights) (config : Config) (all : Before) (referrer 
 abbrev pub RequestsPass : Type 0
 RequestsPass = (sights : Sights) (config : Config) (all : Before) → traced sights config ≡ Ok all → (referrer : Referrer Module) → Reachable sights config referrer → AllPass sights config all referrer
 
--- a need names no folder, neither by what it asks for nor by its target; its referrer is reached, and has that web name
+-- a need is that of a request of a referrer that is reached and has that web name: it is for what the request asks for, and names the module
+-- to which Node leads it; neither name is a folder's
 pub record IsNeed (sights : Sights) (config : Config) (need : Need) : Type 0 where
   pub referrer : Referrer Module
   pub reached : Reachable sights config referrer
   pub named : web_name config referrer ≡ Some need.referrer
   pub specifier : List ℕ
+  pub is_request : Contains (specifiers sights config referrer) specifier
   pub asks : as_url need.referrer specifier ≡ Some need.asked
   pub asked_is_file : ends_in_slash need.asked ≡ false
   pub target : Module
+  pub leads_there : leads sights config referrer specifier ≡ Some target
   pub is_name : file_name config target ≡ Some need.target
 
 -- the needs are those of requests of what is reached, and no two clash
