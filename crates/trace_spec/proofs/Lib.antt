@@ -5,4 +5,5 @@ pub mod WalkRefusals
 pub mod WalkFacts
 pub mod Lists
 pub mod Steps
+pub mod Sources
 pub mod Traces

@@ -1,12 +1,14 @@
 -- The laws of traces. Each is the contract of a function of this crate.
-use Rattle.std.specs.Prelude.{◌≡◌, ◌≤◌, ◌↔◌, ◌++◌, ℕ, true, false, List, [], ◌∷◌, length, map, flat_map, slice_get, Option, Some, Ok, Err, Contains, unwrap_or}
+use Rattle.std.specs.Prelude.{◌≡◌, ◌≤◌, ◌↔◌, ◌++◌, ℕ, true, false, List, [], ◌∷◌, length, map, flat_map, slice_get, Option, Some, Ok, Err, Contains, unwrap_or, codes}
 use Rattle.asking_spec.specs.Askings.{questions}
+use Rattle.tree_spec.specs.declared.Entry.TheVariants.{Stored}
 use Rattle.tree_spec.specs.declared.LimitName.{LimitName}
 use Rattle.tree_spec.specs.declared.LimitName.TheVariants.{Modules}
 use Rattle.tree_spec.specs.Limits.{limit_number}
 use Rattle.tree_spec.specs.LookAskings.{Sights}
 use Rattle.url_spec.specs.Specifiers.{ends_in_slash}
 use Rattle.url_spec.specs.Specifiers.{is_relative, as_url}
+use Rattle.module_spec.specs.PlainForm.{Requests}
 use Rattle.node_spec.specs.Resolution as node
 use Rattle.layout_spec.specs.declared.Need.{Need}
 use Rattle.layout_spec.specs.Needs.{NoClash}
@@ -117,6 +119,20 @@ pub record InOrder (sights : Sights) (config : Config) (all : Before) : Type 0 w
 
 abbrev pub GoesInOrder : Type 0
 GoesInOrder = (sights : Sights) (config : Config) (all : Before) → traced sights config ≡ Ok all → InOrder sights config all
+
+-- ---- the sources
+
+-- a module has this source: its path ends in `.mjs`; a file with the source's bytes stands there; and these bytes are UTF-8, and a text of the
+-- plain form with the source's requests
+pub record HasSource (sights : Sights) (m : Module) (own : Source) : Type 0 where
+  pub stem : List ℕ
+  pub named : m.path ≡ stem ++ codes ".mjs"
+  pub stored : sights m.path ≡ Some (Stored own.bytes)
+  pub asks : Requests own.bytes own.specifiers
+
+-- what stands at a module's path decides its source
+abbrev pub SourcesAreRead : Type 0
+SourcesAreRead = (sights : Sights) (m : Module) (own : Source) → source sights m ≡ Some own ↔ HasSource sights m own
 
 -- ---- what a trace knows of its requests and needs
 

@@ -2,7 +2,7 @@
 //! contracts of functions that do nothing.
 #![tactic(auto)]
 
-ghost use Rattle.trace_spec.specs.Laws.{HasLevels, IsWhatIsReached, ModulesOnce, FewModules, FirstRefusalDecides, GoesInOrder, RequestsPass, NeedsAreRequests};
+ghost use Rattle.trace_spec.specs.Laws.{HasLevels, IsWhatIsReached, ModulesOnce, FewModules, FirstRefusalDecides, GoesInOrder, SourcesAreRead, RequestsPass, NeedsAreRequests};
 
 use node_spec::Cause;
 use primitives::Text;
@@ -82,6 +82,11 @@ pub fn first_refusal_decides()
 /// The tables of a trace hold its requests in order, and each question is asked at its place.
 pub fn goes_in_order()
     ensures { GoesInOrder }
+{}
+
+/// A module has a source exactly where a file stands at its path that is of the form.
+pub fn sources_are_read()
+    ensures { SourcesAreRead }
 {}
 
 /// Each request of whatever the page reaches passes its checks.
