@@ -2,6 +2,7 @@ pub mod Queues
 pub mod WalkModules
 pub mod WalkOrder
 pub mod WalkRefusals
+pub mod WalkRoom
 pub mod WalkFacts
 pub mod Lists
 pub mod Steps

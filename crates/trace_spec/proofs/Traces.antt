@@ -30,12 +30,13 @@ use Rattle.trace_spec.specs.Modules.{Config, Module, is_module, path_of, web_nam
 use Rattle.trace_spec.specs.Questions.{Source, Question, of_request, Answer, Trail, answers, always}
 use Rattle.trace_spec.specs.Checks.{Before, opens, follows, with_request, has_room, begun, rules}
 use Rattle.trace_spec.specs.Traces.{trace, result_of, traced, source, requests, specifiers, resolution, module_in, leads, targets, Reachable}
-use Rattle.trace_spec.specs.Laws.{HasLevels, IsWhatIsReached, ModulesOnce, FewModules, refusal_by, IsFirst, Decides, FirstRefusalDecides, Request, no_module, no_source, target_of, need_of, requests_put, opening_put, visits_put, opening, asked_in, visits_of, InOrder, GoesInOrder, Passes, AllPass, RequestsPass, IsNeed, NeedsAre, NeedsAreRequests}
+use Rattle.trace_spec.specs.Laws.{HasLevels, IsWhatIsReached, ModulesOnce, FewModules, refusal_by, IsFirst, Decides, FirstRefusalDecides, NeverOutOfRoom, Request, no_module, no_source, target_of, need_of, requests_put, opening_put, visits_put, opening, asked_in, visits_of, InOrder, GoesInOrder, Passes, AllPass, RequestsPass, IsNeed, NeedsAre, NeedsAreRequests}
 use Rattle.trace_spec.proofs.Lists.{none_by_test, same_module, AreOnce, new_module, once_more}
 use Rattle.trace_spec.proofs.Steps.{answers_always, traced_outcome, file_name_parts, Opens, opens_is, Leaves, opens_leaves, Wants, Fits, Follows, follows_is}
 use Rattle.trace_spec.proofs.WalkModules.{LeadsBy, walk_has_levels, walk_is_reached}
 use Rattle.trace_spec.proofs.WalkOrder.{all_in, PutsBy, walk_in_order}
 use Rattle.trace_spec.proofs.WalkRefusals.{Grows, KeepsFew, walk_where_all_pass, walk_fails_first, walk_few}
+use Rattle.trace_spec.proofs.WalkRoom.{walk_same}
 use Rattle.trace_spec.proofs.WalkFacts.{IsVisited, Keeps, AtEnd, WasVisited, at_end}
 
 module _ (sights : Sights) (config : Config) where
@@ -447,6 +448,9 @@ few_modules sights config all is = walk_few (answers sights) (rules config) tt (
 
 pub first_refusal_decides : FirstRefusalDecides
 first_refusal_decides sights config = decides sights config
+
+pub never_out_of_room : NeverOutOfRoom
+never_out_of_room sights config above = walk_same (answers sights) (rules config) tt above (keep_few sights config)
 
 pub goes_in_order : GoesInOrder
 goes_in_order sights config all is = in_order sights config all is

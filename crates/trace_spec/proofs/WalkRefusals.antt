@@ -134,10 +134,10 @@ module _ {M B R Q T S : Type 0} {A : Q → Type 0} (answers : Answers T S Q A) (
     pub opens : (before : B) (state : T) (referrer : Referrer M) (opened : Opened B) (after : T) → evaluated answers state (rules.opens before referrer) ≡ ends (Ok opened) after → Grows before opened.after
     pub follows : (before : B) (state : T) (referrer : Referrer M) (specifier : List ℕ) (after : B) (later_state : T) → evaluated answers state (rules.follows before referrer specifier) ≡ ends (Ok after) later_state → Grows before after
 
-  visit_step : (room : ℕ) (before : B) (place : ℕ) (m : M) → slice_get (rules.modules before) place ≡ Some m → walked rules (suc room) before place ≡ and_ok (visited rules before (a_module m)) (λ after. walked rules room after (suc place))
+  pub visit_step : (room : ℕ) (before : B) (place : ℕ) (m : M) → slice_get (rules.modules before) place ≡ Some m → walked rules (suc room) before place ≡ and_ok (visited rules before (a_module m)) (λ after. walked rules room after (suc place))
   visit_step room before place m is = ap (where_some (answered (Ok before)) (λ n. and_ok (visited rules before (a_module n)) (λ after. walked rules room after (suc place)))) is
 
-  last_step : (room : ℕ) (before : B) (place : ℕ) → slice_get (rules.modules before) place ≡ None → walked rules (suc room) before place ≡ answered (Ok before)
+  pub last_step : (room : ℕ) (before : B) (place : ℕ) → slice_get (rules.modules before) place ≡ None → walked rules (suc room) before place ≡ answered (Ok before)
   last_step room before place is = ap (where_some (answered (Ok before)) (λ n. and_ok (visited rules before (a_module n)) (λ after. walked rules room after (suc place)))) is
 
   module _ (keeps : KeepsFew) where
@@ -158,11 +158,11 @@ module _ {M B R Q T S : Type 0} {A : Q → Type 0} (answers : Answers T S Q A) (
         let parts = values_of answers state (rules.opens before referrer) (λ opened. followed rules opened.after referrer opened.specifiers) after later_state e in
         then_grows before parts.value.after after (keeps.opens before state referrer parts.value parts.middle parts.first_is) (followed_grows referrer parts.value.specifiers parts.value.after parts.middle after later_state parts.next_is)
 
-    record Few (before : B) (count : ℕ) : Type 0 where
-      within : count ≤ length (rules.modules before)
-      few : length (rules.modules before) ≤ rules.most
+    pub record Few (before : B) (count : ℕ) : Type 0 where
+      pub within : count ≤ length (rules.modules before)
+      pub few : length (rules.modules before) ≤ rules.most
 
-    passed_few : (before : B) (state : T) (count : ℕ) → Passed answers rules begun before state count → Few before count
+    pub passed_few : (before : B) (state : T) (count : ℕ) → Passed answers rules begun before state count → Few before count
     passed_few before state count (page_passes passes) = record { within = omega arith; few = (visited_grows the_page rules.start begun before state passes).few (let none = ap length keeps.starts in omega (arith, none)) }
     passed_few before state count (next_passes {before = earlier} {after = a} {state = s} {later = l} {count = n} {found = m} passed is passes) =
         let few = passed_few earlier s n passed in

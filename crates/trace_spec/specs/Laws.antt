@@ -1,6 +1,7 @@
 -- The laws of traces. Each is the contract of a function of this crate.
 use Rattle.std.specs.Prelude.{◌≡◌, ◌≤◌, ◌↔◌, ◌++◌, ℕ, true, false, List, [], ◌∷◌, length, map, flat_map, slice_get, Option, Some, Ok, Err, Contains, unwrap_or, codes}
 use Rattle.asking_spec.specs.Askings.{questions}
+use Rattle.asking_spec.specs.Evaluation.{evaluated}
 use Rattle.tree_spec.specs.declared.Entry.TheVariants.{Stored}
 use Rattle.tree_spec.specs.declared.LimitName.{LimitName}
 use Rattle.tree_spec.specs.declared.LimitName.TheVariants.{Modules}
@@ -14,7 +15,7 @@ use Rattle.layout_spec.specs.declared.Need.{Need}
 use Rattle.layout_spec.specs.Needs.{NoClash}
 use Rattle.trace_spec.specs.declared.TraceFault.{TraceFault}
 use Rattle.trace_spec.specs.declared.TraceFault.TheVariants.{Limit}
-use Rattle.trace_spec.specs.Walking.{Referrer, the_page, a_module}
+use Rattle.trace_spec.specs.Walking.{Referrer, the_page, a_module, Rules, walk}
 use Rattle.trace_spec.specs.Levels.{Levels}
 use Rattle.trace_spec.specs.FirstRefusals.{Failure, refused, halted, AllPassed, FirstFailure}
 use Rattle.trace_spec.specs.Modules.{Config, Module, is_module, path_of, web_name, IsServable, file_name}
@@ -59,6 +60,26 @@ pub record Decides (sights : Sights) (config : Config) : Type 0 where
 
 abbrev pub FirstRefusalDecides : Type 0
 FirstRefusalDecides = (sights : Sights) (config : Config) → Decides sights config
+
+-- ---- room for the visits
+
+-- the rules with another refusal where the room of a walk is used up
+abbrev pub with_above : {M B R Q : Type 0} {A : Q → Type 0} → Rules M B R Q A → R → Rules M B R Q A
+with_above rules above = record {
+  same = rules.same;
+  start = rules.start;
+  modules = rules.modules;
+  most = rules.most;
+  above = above;
+  opens = rules.opens;
+  follows = rules.follows;
+}
+
+-- the room of a walk is never used up: whatever were refused there, the walk of a config would come to the same
+abbrev pub NeverOutOfRoom : Type 0
+NeverOutOfRoom =
+    (sights : Sights) (config : Config) (above : TraceFault)
+    → evaluated (answers sights) tt (walk (with_above (rules config) above)) ≡ evaluated (answers sights) tt (trace config)
 
 -- ---- the order
 

@@ -2,7 +2,7 @@
 //! contracts of functions that do nothing.
 #![tactic(auto)]
 
-ghost use Rattle.trace_spec.specs.Laws.{HasLevels, IsWhatIsReached, ModulesOnce, FewModules, FirstRefusalDecides, GoesInOrder, SourcesAreRead, RequestsPass, NeedsAreRequests};
+ghost use Rattle.trace_spec.specs.Laws.{HasLevels, IsWhatIsReached, ModulesOnce, FewModules, FirstRefusalDecides, NeverOutOfRoom, GoesInOrder, SourcesAreRead, RequestsPass, NeedsAreRequests};
 
 use node_spec::Cause;
 use primitives::Text;
@@ -77,6 +77,11 @@ pub fn few_modules()
 /// There is a trace exactly where all visits pass; else the refusal is that of the first check that isn't passed.
 pub fn first_refusal_decides()
     ensures { FirstRefusalDecides }
+{}
+
+/// A trace never ends for want of room for its visits.
+pub fn never_out_of_room()
+    ensures { NeverOutOfRoom }
 {}
 
 /// The tables of a trace hold its requests in order, and each question is asked at its place.
