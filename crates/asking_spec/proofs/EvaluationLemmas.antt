@@ -47,7 +47,7 @@ asked_twice : {Q : Type 0} (asked : Option (List Q)) (some more : List Q) → wi
 asked_twice None some more = refl
 asked_twice (Some questions) some more = ap Some (append_assoc questions some more)
 
-asked_none : {Q : Type 0} (asked : Option (List Q)) → with_asked asked [] ≡ asked
+pub asked_none : {Q : Type 0} (asked : Option (List Q)) → with_asked asked [] ≡ asked
 asked_none None = refl
 asked_none (Some questions) = ap Some (append-nil questions)
 

@@ -8,3 +8,4 @@ pub mod Lists
 pub mod Steps
 pub mod Sources
 pub mod Traces
+pub mod RefusalOrder

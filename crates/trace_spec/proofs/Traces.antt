@@ -45,7 +45,7 @@ module _ (sights : Sights) (config : Config) where
   leads_there : (referrer : Referrer Module) (specifier : List ℕ) (target : Module) → is_relative specifier ≡ true → resolution sights config referrer specifier ≡ node.Resolved target.path target.suffix → leads sights config referrer specifier ≡ Some target
   leads_there referrer specifier target relative answers = cond-true _ (module_in (resolution sights config referrer specifier)) None relative ∙ ap module_in answers
 
-  lead : LeadsBy (always sights) (rules config) (specifiers sights config) (leads sights config)
+  pub lead : LeadsBy (always sights) (rules config) (specifiers sights config) (leads sights config)
   lead = record {
     starts = refl;
     opens = λ before referrer opened e. let is = opens_is sights config before referrer opened e in (sym (ap (λ o. unwrap_or o []) is.asks), (opens_leaves sights config before referrer opened e).modules);
@@ -70,7 +70,7 @@ module _ (sights : Sights) (config : Config) where
     longer = subst (λ b. length before.modules ≤ length b.modules) (sym fits.is) (omega (arith, length-append before.modules (new_modules is_module before.modules (target ∷ []))));
   }
 
-  keep_few : KeepsFew (answers sights) (rules config) tt
+  pub keep_few : KeepsFew (answers sights) (rules config) tt
   keep_few = record {
     starts = refl;
     opens = λ before state referrer opened after e.
@@ -83,10 +83,10 @@ module _ (sights : Sights) (config : Config) where
 
   -- ---- the order
 
-  abbrev request_of : Referrer Module → List ℕ → Request
+  abbrev pub request_of : Referrer Module → List ℕ → Request
   request_of referrer specifier = record { referrer = referrer; specifier = specifier }
 
-  abbrev put_request : Before → Request → Before
+  abbrev pub put_request : Before → Request → Before
   put_request before request = with_request before (need_of sights config request) (target_of sights config request)
 
   -- what a request that went through needs
@@ -101,7 +101,7 @@ module _ (sights : Sights) (config : Config) where
   target_is : (before : Before) (referrer : Referrer Module) (specifier : List ℕ) (after : Before) (is : Follows sights config before referrer specifier after) → target_of sights config (request_of referrer specifier) ≡ is.target
   target_is before referrer specifier after is = ap (λ o. unwrap_or o no_module) (leads_there referrer specifier is.target is.wants.relative is.answers)
 
-  put_in : PutsBy (always sights) (rules config) (specifiers sights config) (leads sights config) opening (λ referrer. of_request (path_of config referrer)) (opening_put sights) put_request request_of
+  pub put_in : PutsBy (always sights) (rules config) (specifiers sights config) (leads sights config) opening (λ referrer. of_request (path_of config referrer)) (opening_put sights) put_request request_of
   put_in = record {
     opens = λ before referrer opened e. let is = opens_is sights config before referrer opened e in (sym (ap (λ o. unwrap_or o []) is.asks), is.after, is.questions);
     follows = λ before referrer specifier after e.
@@ -110,7 +110,7 @@ module _ (sights : Sights) (config : Config) where
         (same, is.questions);
   }
 
-  requests_put_is : (referrer : Referrer Module) (some : List (List ℕ)) (before : Before) → requests_put sights config referrer before some ≡ all_in put_request before (map (request_of referrer) some)
+  pub requests_put_is : (referrer : Referrer Module) (some : List (List ℕ)) (before : Before) → requests_put sights config referrer before some ≡ all_in put_request before (map (request_of referrer) some)
   requests_put_is referrer [] before = refl
   requests_put_is referrer (specifier ∷ more) before = requests_put_is referrer more (put_request before (request_of referrer specifier))
 

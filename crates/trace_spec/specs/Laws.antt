@@ -1,7 +1,7 @@
 -- The laws of traces. Each is the contract of a function of this crate.
-use Rattle.std.specs.Prelude.{◌≡◌, ◌≤◌, ◌↔◌, ◌++◌, ℕ, true, false, List, [], ◌∷◌, length, map, flat_map, slice_get, Option, Some, Ok, Err, Contains, unwrap_or, codes}
-use Rattle.asking_spec.specs.Askings.{questions}
-use Rattle.asking_spec.specs.Evaluation.{evaluated}
+use Rattle.std.specs.Prelude.{◌≡◌, ◌≤◌, ◌↔◌, ◌++◌, ℕ, true, false, List, [], ◌∷◌, length, map, flat_map, slice_get, Option, Some, None, Result, Ok, Err, Contains, unwrap_or, codes}
+use Rattle.asking_spec.specs.Askings.{Asking, questions}
+use Rattle.asking_spec.specs.Evaluation.{evaluated, Asked, listed}
 use Rattle.tree_spec.specs.declared.Entry.TheVariants.{Stored}
 use Rattle.tree_spec.specs.declared.LimitName.{LimitName}
 use Rattle.tree_spec.specs.declared.LimitName.TheVariants.{Modules}
@@ -15,13 +15,13 @@ use Rattle.layout_spec.specs.declared.Need.{Need}
 use Rattle.layout_spec.specs.Needs.{NoClash}
 use Rattle.trace_spec.specs.declared.TraceFault.{TraceFault}
 use Rattle.trace_spec.specs.declared.TraceFault.TheVariants.{Limit}
-use Rattle.trace_spec.specs.Walking.{Referrer, the_page, a_module, Rules, walk}
+use Rattle.trace_spec.specs.Walking.{Referrer, the_page, a_module, Opened, Rules, followed, walk}
 use Rattle.trace_spec.specs.Levels.{Levels}
-use Rattle.trace_spec.specs.FirstRefusals.{Failure, refused, halted, AllPassed, FirstFailure}
+use Rattle.trace_spec.specs.FirstRefusals.{Failure, refused, halted, Comes, AllPassed, FirstFailure}
 use Rattle.trace_spec.specs.Modules.{Config, Module, is_module, path_of, web_name, IsServable, file_name}
-use Rattle.trace_spec.specs.Questions.{Source, Question, of_module, of_request, Trail, answers, always}
-use Rattle.trace_spec.specs.Checks.{Before, with_source, with_request, begun, rules}
-use Rattle.trace_spec.specs.Traces.{trace, traced, source, requests, specifiers, resolution, leads, targets, Reachable}
+use Rattle.trace_spec.specs.Questions.{Source, Question, of_module, of_request, Answer, Trail, answers, always}
+use Rattle.trace_spec.specs.Checks.{Before, with_source, opens, Wanted, wanted, with_request, follows, begun, rules}
+use Rattle.trace_spec.specs.Traces.{trace, result_of, state_of, traced, source, requests, specifiers, resolution, leads, targets, Reachable}
 
 -- the modules of a trace are its levels, one behind another
 abbrev pub HasLevels : Type 0
@@ -140,6 +140,65 @@ pub record InOrder (sights : Sights) (config : Config) (all : Before) : Type 0 w
 
 abbrev pub GoesInOrder : Type 0
 GoesInOrder = (sights : Sights) (config : Config) (all : Before) → traced sights config ≡ Ok all → InOrder sights config all
+
+-- ---- the order of a refusal
+
+-- no question yet
+abbrev pub none_asked : Asked Trail Question
+none_asked = record { state = tt; asked = Some [] }
+
+-- the questions that were asked when a trace of a config ended, each at its place
+abbrev pub asked_by_end : Sights → Config → Option (List Question)
+asked_by_end sights config = (state_of (evaluated (listed (answers sights)) none_asked (trace config))).asked
+
+-- what a request asks: its question, if its specifier is of the form
+abbrev pub if_wanted : Question → Option Wanted → List Question
+if_wanted question None = []
+if_wanted question (Some want) = question ∷ []
+
+abbrev pub asked_for : Config → Referrer Module → List ℕ → List Question
+asked_for config referrer specifier = if_wanted (of_request (path_of config referrer) specifier) (wanted config referrer specifier)
+
+abbrev pub ComesTo : {X : Type 0} → Sights → Asking Question Answer (Result X TraceFault) → Result X TraceFault → Type 0
+ComesTo sights asking result = result_of (evaluated (answers sights) tt asking) ≡ result
+
+-- the opening of a visit passes, and so do the requests in front of this one, which is refused
+pub record RefusedRequest (sights : Sights) (config : Config) (before : Before) (referrer : Referrer Module) (refusal : TraceFault)
+    (front : List (List ℕ)) (specifier : List ℕ) : Type 0 where
+  pub behind : List (List ℕ)
+  pub split : specifiers sights config referrer ≡ front ++ specifier ∷ behind
+  pub opened : Opened Before
+  pub opens_so : ComesTo sights (opens config before referrer) (Ok opened)
+  pub tables : Before
+  pub tables_are : tables ≡ requests_put sights config referrer (opening_put sights before referrer) front
+  pub passed : ComesTo sights (followed (rules config) opened.after referrer front) (Ok tables)
+  pub refused : ComesTo sights (follows config tables referrer specifier) (Err refusal)
+
+-- where a visit is refused, and what was asked in it by then: what its opening asks, and then what the requests ask up to the one that is refused
+pub data RefusedAt (sights : Sights) (config : Config) (before : Before) (referrer : Referrer Module) (refusal : TraceFault) : List Question → Type 0 where
+  at_opening : ComesTo sights (opens config before referrer) (Err refusal) → RefusedAt sights config before referrer refusal (opening referrer)
+  at_request : (front : List (List ℕ)) (specifier : List ℕ) → RefusedRequest sights config before referrer refusal front specifier
+      → RefusedAt sights config before referrer refusal
+          (opening referrer ++ map (of_request (path_of config referrer)) front ++ asked_for config referrer specifier)
+
+-- these visits pass, the visit of this referrer comes next in the order of the tables, and is refused; what was asked are the questions of
+-- these visits, and then those of this one by then
+pub record RefusedInOrder (sights : Sights) (config : Config) (refusal : TraceFault) : Type 0 where
+  pub visits : List (Referrer Module)
+  pub referrer : Referrer Module
+  pub later : List (Referrer Module)
+  pub before : Before
+  pub tables : before ≡ visits_put sights config begun visits
+  pub in_order : visits_of before ≡ visits ++ referrer ∷ later
+  pub comes : Comes (answers sights) (rules config) tt before tt referrer
+  pub asked_last : List Question
+  pub refused : RefusedAt sights config before referrer refusal asked_last
+  pub asked : asked_by_end sights config ≡ Some (asked_in sights config visits ++ asked_last)
+
+-- a refusal comes at its place too
+abbrev pub RefusesInOrder : Type 0
+RefusesInOrder =
+    (sights : Sights) (config : Config) (refusal : TraceFault) → traced sights config ≡ Err refusal → RefusedInOrder sights config refusal
 
 -- ---- the sources
 
