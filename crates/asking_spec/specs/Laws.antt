@@ -1,4 +1,4 @@
--- The laws of askings, for each type of questions, answers and values.
+-- The laws of askings, for all types of questions and values, and all families of types of answers, one for each question.
 use Rattle.std.specs.Prelude.{◌≡◌, ◌++◌, List, Option, All}
 use Rattle.asking_spec.specs.Askings.{Asking, outcome, questions, and_then, through}
 use Rattle.asking_spec.specs.Evaluation.{ends, then_ended, Answers, evaluated, Asked, with_asked, listed, unlisted, AreAlways}
