@@ -6,15 +6,14 @@ use Rattle.std.proofs.lemmas.List.{map-append}
 use Rattle.std.proofs.lemmas.Grind.{flat_map-append}
 use Rattle.asking_spec.specs.Askings.{Asking, answered, outcome, questions}
 use Rattle.asking_spec.specs.Evaluation.{Ended, ends, stopped, then_ended, Answers, evaluated, Asked, with_asked, keep_asked, listed, unlisted}
-use Rattle.asking_spec.specs.Laws.{Comes as CameTo}
+use Rattle.asking_spec.specs.Laws.{IsOutcome}
 use Rattle.asking_spec.proofs.EvaluationLemmas.{evaluated_comes, evaluated_listed, asked_none}
 use Rattle.tree_spec.specs.declared.LimitName.{LimitName}
 use Rattle.tree_spec.specs.LookAskings.{Sights}
 use Rattle.trace_spec.specs.declared.TraceFault.{TraceFault}
 use Rattle.trace_spec.specs.declared.TraceFault.TheVariants.{Limit}
 use Rattle.trace_spec.specs.Walking.{Referrer, the_page, a_module, Opened, new_modules, followed, visited}
-use Rattle.trace_spec.specs.FirstRefusals as first
-use Rattle.trace_spec.specs.FirstRefusals.{Failure, refused, halted, failed, Passed, page_passes, next_passes, Comes, page_first, module_next, FailsIn, FirstFailure}
+use Rattle.trace_spec.specs.FirstRefusals.{Failure, refused, halted, failed, Passed, page_passes, next_passes, Comes, page_first, module_next, FailsIn, by_opening, by_request, FirstFailure}
 use Rattle.trace_spec.specs.Modules.{Config, Module, is_module, path_of}
 use Rattle.trace_spec.specs.Questions.{Question, of_module, of_request, Answer, Trail, answers, always}
 use Rattle.trace_spec.specs.Checks.{Before, module_opened, opens, Wanted, wanted, led, followed_by, follows, begun, rules}
@@ -40,7 +39,7 @@ module _ (sights : Sights) (config : Config) where
   without asking before end e = sym (evaluated_listed (answers sights) before asking) ∙ ap unlisted e
 
   came_to : {X : Type 0} (asking : Asking Question Answer X) (before : Told) (value : X) (after : Told)
-      → evaluated told before asking ≡ ends value after → CameTo (always sights) before.asked asking value after.asked
+      → evaluated told before asking ≡ ends value after → IsOutcome (always sights) before.asked asking value after.asked
   came_to asking before value after e = evaluated_comes (answers sights) (always sights) (answers_always sights) before asking value after e
 
   keep_told : KeepsFew told (rules config) none_asked
@@ -227,13 +226,13 @@ module _ (sights : Sights) (config : Config) where
   refused_there : (before : Before) (state : Told) (referrer : Referrer Module) (why : Failure TraceFault LimitName) (after : Told) (visits : List (Referrer Module))
       → state.asked ≡ Some (asked_in sights config visits) → FailsIn told (rules config) none_asked before state referrer why after
       → Refused before state referrer why after visits
-  refused_there before state referrer why after visits asked (first.opening f) = record {
+  refused_there before state referrer why after visits asked (by_opening f) = record {
     asked_last = opening referrer;
     refused = at_opening (fails_so (opens config before referrer) state why after f);
     asked = failed_asked (opens config before referrer) state why after f
         ∙ (opening_asked before referrer state ∙ ap (λ qs. with_asked qs (opening referrer)) asked);
   }
-  refused_there before state referrer why after visits asked (first.request opened middle front specifier behind tables later f split pass fails) =
+  refused_there before state referrer why after visits asked (by_request opened middle front specifier behind tables later f split pass fails) =
       let opening_came = came_to (opens config before referrer) state (Ok opened) middle f in
       let opens_so = (put_in sights config).opens before referrer opened (sym opening_came.is) in
       let front_came = came_to (followed (rules config) opened.after referrer front) middle (Ok tables) later pass in

@@ -30,7 +30,7 @@ use Rattle.trace_spec.specs.Modules.{Config, Module, is_module, path_of, web_nam
 use Rattle.trace_spec.specs.Questions.{Source, Question, of_request, Answer, Trail, answers, always}
 use Rattle.trace_spec.specs.Checks.{Before, opens, follows, with_request, has_room, begun, rules}
 use Rattle.trace_spec.specs.Traces.{trace, result_of, traced, source, requests, specifiers, resolution, module_in, leads, targets, Reachable}
-use Rattle.trace_spec.specs.Laws.{HasLevels, IsWhatIsReached, ModulesOnce, FewModules, refusal_by, IsFirst, Decides, FirstRefusalDecides, NeverOutOfRoom, Request, no_module, no_source, target_of, need_of, requests_put, opening_put, visits_put, opening, asked_in, visits_of, InOrder, GoesInOrder, Passes, AllPass, RequestsPass, IsNeed, NeedsAre, NeedsAreRequests}
+use Rattle.trace_spec.specs.Laws.{HasLevels, IsWhatIsReached, ModulesOnce, FewModules, refusal_by, IsFirst, Decides, FirstRefusalDecides, NeverOutOfRoom, no_module, no_source, target_of, need_of, request_put, requests_put, opening_put, visits_put, opening, asked_in, visits_of, InOrder, GoesInOrder, Passes, AllPass, RequestsPass, IsNeed, NeedsAre, NeedsAreRequests}
 use Rattle.trace_spec.proofs.Lists.{none_by_test, same_module, AreOnce, new_module, once_more}
 use Rattle.trace_spec.proofs.Steps.{answers_always, traced_outcome, file_name_parts, Opens, opens_is, Leaves, opens_leaves, Wants, Fits, Follows, follows_is}
 use Rattle.trace_spec.proofs.WalkModules.{LeadsBy, walk_has_levels, walk_is_reached}
@@ -38,6 +38,11 @@ use Rattle.trace_spec.proofs.WalkOrder.{all_in, PutsBy, walk_in_order}
 use Rattle.trace_spec.proofs.WalkRefusals.{Grows, KeepsFew, walk_where_all_pass, walk_fails_first, walk_few}
 use Rattle.trace_spec.proofs.WalkRoom.{walk_same}
 use Rattle.trace_spec.proofs.WalkFacts.{IsVisited, Keeps, AtEnd, WasVisited, at_end}
+
+-- a request of a referrer
+pub record Link : Type 0 where
+  pub referrer : Referrer Module
+  pub specifier : List ℕ
 
 module _ (sights : Sights) (config : Config) where
   -- ---- where requests lead
@@ -83,22 +88,22 @@ module _ (sights : Sights) (config : Config) where
 
   -- ---- the order
 
-  abbrev pub request_of : Referrer Module → List ℕ → Request
+  abbrev pub request_of : Referrer Module → List ℕ → Link
   request_of referrer specifier = record { referrer = referrer; specifier = specifier }
 
-  abbrev pub put_request : Before → Request → Before
-  put_request before request = with_request before (need_of sights config request) (target_of sights config request)
+  abbrev pub put_request : Before → Link → Before
+  put_request before link = request_put sights config before link.referrer link.specifier
 
   -- what a request that went through needs
-  need_is : (before : Before) (referrer : Referrer Module) (specifier : List ℕ) (after : Before) (is : Follows sights config before referrer specifier after) → need_of sights config (request_of referrer specifier) ≡ record { referrer = is.want.referrer; asked = is.want.asked; target = is.url }
+  need_is : (before : Before) (referrer : Referrer Module) (specifier : List ℕ) (after : Before) (is : Follows sights config before referrer specifier after) → need_of sights config referrer specifier ≡ record { referrer = is.want.referrer; asked = is.want.asked; target = is.url }
   need_is before referrer specifier after is =
       let name : unwrap_or (web_name config referrer) [] ≡ is.want.referrer = ap (λ o. unwrap_or o []) is.wants.named in
       let asked : unwrap_or (as_url (unwrap_or (web_name config referrer) []) specifier) [] ≡ is.want.asked = ap (λ n. unwrap_or (as_url n specifier) []) name ∙ ap (λ o. unwrap_or o []) is.wants.asks in
-      let target : target_of sights config (request_of referrer specifier) ≡ is.target = ap (λ o. unwrap_or o no_module) (leads_there referrer specifier is.target is.wants.relative is.answers) in
-      let url : unwrap_or (file_name config (target_of sights config (request_of referrer specifier))) [] ≡ is.url = ap (λ m. unwrap_or (file_name config m) []) target ∙ ap (λ o. unwrap_or o []) is.is_name in
+      let target : target_of sights config referrer specifier ≡ is.target = ap (λ o. unwrap_or o no_module) (leads_there referrer specifier is.target is.wants.relative is.answers) in
+      let url : unwrap_or (file_name config (target_of sights config referrer specifier)) [] ≡ is.url = ap (λ m. unwrap_or (file_name config m) []) target ∙ ap (λ o. unwrap_or o []) is.is_name in
       same_need _ _ name asked url
 
-  target_is : (before : Before) (referrer : Referrer Module) (specifier : List ℕ) (after : Before) (is : Follows sights config before referrer specifier after) → target_of sights config (request_of referrer specifier) ≡ is.target
+  target_is : (before : Before) (referrer : Referrer Module) (specifier : List ℕ) (after : Before) (is : Follows sights config before referrer specifier after) → target_of sights config referrer specifier ≡ is.target
   target_is before referrer specifier after is = ap (λ o. unwrap_or o no_module) (leads_there referrer specifier is.target is.wants.relative is.answers)
 
   pub put_in : PutsBy (always sights) (rules config) (specifiers sights config) (leads sights config) opening (λ referrer. of_request (path_of config referrer)) (opening_put sights) put_request request_of
@@ -123,7 +128,7 @@ module _ (sights : Sights) (config : Config) where
       ap (λ b. visits_put sights config b more) (requests_put_is referrer (specifiers sights config referrer) (opening_put sights before referrer)) ∙ visits_put_is (visit_in before referrer) more
 
   -- requests leave the sources as they are, and a visit puts one there
-  sources_left : (some : List Request) (before : Before) → (all_in put_request before some).sources ≡ before.sources
+  sources_left : (some : List Link) (before : Before) → (all_in put_request before some).sources ≡ before.sources
   sources_left [] before = refl
   sources_left (request ∷ more) before = sources_left more (put_request before request)
 

@@ -6,7 +6,7 @@ use Rattle.asking_spec.specs.Askings.{Asking, answered, on_ok, and_ok}
 use Rattle.asking_spec.specs.Evaluation.{Ended, ends, stopped, then_ended, Answers, evaluated}
 use Rattle.asking_spec.proofs.EvaluationLemmas.{evaluated_then, ends_then, refused_then, stopped_then}
 use Rattle.trace_spec.specs.Walking.{Referrer, the_page, a_module, Opened, Rules, followed, visited, where_some, walked, walk}
-use Rattle.trace_spec.specs.FirstRefusals.{Failure, refused, halted, failed, Passed, page_passes, next_passes, Comes, page_first, module_next, AllPassed, FailsIn, opening, request, FirstFailure}
+use Rattle.trace_spec.specs.FirstRefusals.{Failure, refused, halted, failed, Passed, page_passes, next_passes, Comes, page_first, module_next, AllPassed, FailsIn, by_opening, by_request, FirstFailure}
 
 -- ---- one asking behind another
 
@@ -111,14 +111,14 @@ module _ {M B R Q T S : Type 0} {A : Q → Type 0} (answers : Answers T S Q A) (
   visit_fails before state referrer why after e = by (fails_of answers state (rules.opens before referrer) (λ opened. followed rules opened.after referrer opened.specifiers) why after e)
     where
       by : Fails (evaluated answers state (rules.opens before referrer)) (λ opened t. evaluated answers t (followed rules opened.after referrer opened.specifiers)) why after → FailsIn answers rules begun before state referrer why after
-      by (at_once f) = opening f
+      by (at_once f) = by_opening f
       by (later opened middle f g) =
           let at = request_fails referrer opened.specifiers opened.after middle why after g in
-          request opened middle at.front at.specifier at.behind at.tables at.later_state f at.split at.pass at.fails
+          by_request opened middle at.front at.specifier at.behind at.tables at.later_state f at.split at.pass at.fails
 
   visit_failed : (before : B) (state : T) (referrer : Referrer M) (why : Failure R S) (after : T) → FailsIn answers rules begun before state referrer why after → evaluated answers state (visited rules before referrer) ≡ failed why after
-  visit_failed before state referrer why after (opening f) = failed_then answers state (rules.opens before referrer) (λ opened. followed rules opened.after referrer opened.specifiers) why after f
-  visit_failed before state referrer why after (request opened middle front specifier behind tables later_state f split pass fails) =
+  visit_failed before state referrer why after (by_opening f) = failed_then answers state (rules.opens before referrer) (λ opened. followed rules opened.after referrer opened.specifiers) why after f
+  visit_failed before state referrer why after (by_request opened middle front specifier behind tables later_state f split pass fails) =
       ends_then answers state middle (rules.opens before referrer) (λ o. followed rules o.after referrer o.specifiers) opened f
       ∙ (ap (λ some. evaluated answers middle (followed rules opened.after referrer some)) split ∙ request_failed referrer front specifier behind opened.after middle tables later_state why after pass fails)
 

@@ -22,8 +22,8 @@ use Rattle.trace_spec.specs.Walking.{Referrer, the_page, a_module, new_modules, 
 use Rattle.trace_spec.specs.Modules.{Config, Module, is_module, path_of, web_name, shown, served_name, file_name}
 use Rattle.trace_spec.specs.Questions.{Source, Question, of_module, of_request, Answer}
 
--- own: the modules that were asked for and the needs, each once at its first place; the sources of those modules that had their visits; and the
--- number of requests
+-- own: the modules that were asked for and the needs, each once at its first place; the sources of the modules whose visits were opened, in
+-- the order of the modules; and the number of requests
 pub record Before : Type 0 where
   pub modules : List Module
   pub sources : List Source

@@ -83,31 +83,36 @@ NeverOutOfRoom =
 
 -- ---- the order
 
-pub record Request : Type 0 where
-  pub referrer : Referrer Module
-  pub specifier : List ℕ
-
 abbrev pub no_module : Module
 no_module = record { path = []; suffix = [] }
 
 abbrev pub no_source : Source
 no_source = record { bytes = []; specifiers = [] }
 
-abbrev pub target_of : Sights → Config → Request → Module
-target_of sights config request = unwrap_or (leads sights config request.referrer request.specifier) no_module
+-- where a request leads
+abbrev pub target_of : Sights → Config → Referrer Module → List ℕ → Module
+target_of sights config referrer specifier = unwrap_or (leads sights config referrer specifier) no_module
 
 -- what a request needs
-abbrev pub need_of : Sights → Config → Request → Need
-need_of sights config request =
-    let name = unwrap_or (web_name config request.referrer) [] in
-    record { referrer = name; asked = unwrap_or (as_url name request.specifier) []; target = unwrap_or (file_name config (target_of sights config request)) [] }
+abbrev pub need_of : Sights → Config → Referrer Module → List ℕ → Need
+need_of sights config referrer specifier =
+    let name = unwrap_or (web_name config referrer) [] in
+    record {
+      referrer = name;
+      asked = unwrap_or (as_url name specifier) [];
+      target = unwrap_or (file_name config (target_of sights config referrer specifier)) [];
+    }
+
+-- a request is put into the tables
+abbrev pub request_put : Sights → Config → Before → Referrer Module → List ℕ → Before
+request_put sights config before referrer specifier =
+    with_request before (need_of sights config referrer specifier) (target_of sights config referrer specifier)
 
 -- requests of a referrer are put into the tables one after another
 abbrev pub requests_put : Sights → Config → Referrer Module → Before → List (List ℕ) → Before
 requests_put sights config referrer before [] = before
 requests_put sights config referrer before (specifier ∷ more) =
-    let request : Request = record { referrer = referrer; specifier = specifier } in
-    requests_put sights config referrer (with_request before (need_of sights config request) (target_of sights config request)) more
+    requests_put sights config referrer (request_put sights config before referrer specifier) more
 
 -- what the opening of a visit puts there
 abbrev pub opening_put : Sights → Before → Referrer Module → Before
