@@ -1,10 +1,10 @@
 -- The tables and the questions of a trace up to its first refusal.
-use Rattle.std.specs.Prelude.{◌≡◌, ℕ, zero, suc, List, [], ◌∷◌, ◌++◌, length, map, flat_map, slice_get, Option, Some, None, option_map, Result, Ok, Err}
+use Rattle.std.specs.Prelude.{◌≡◌, ℕ, suc, List, [], ◌∷◌, ◌++◌, length, map, slice_get, Option, Some, None, option_map, Result, Ok, Err}
 use Rattle.std.proofs.Common.{refl, sym, ap, ◌∙◌, subst, arith, length-append, append_assoc, append-nil}
 use Rattle.std.proofs.lemmas.Option.{slice_get-map}
 use Rattle.std.proofs.lemmas.List.{map-append}
 use Rattle.std.proofs.lemmas.Grind.{flat_map-append}
-use Rattle.asking_spec.specs.Askings.{Asking, answered, outcome, questions}
+use Rattle.asking_spec.specs.Askings.{Asking, answered}
 use Rattle.asking_spec.specs.Evaluation.{Ended, ends, stopped, then_ended, Answers, evaluated, Asked, with_asked, keep_asked, listed, unlisted}
 use Rattle.asking_spec.specs.Laws.{IsOutcome}
 use Rattle.asking_spec.proofs.EvaluationLemmas.{evaluated_comes, evaluated_listed, asked_none}
@@ -12,16 +12,16 @@ use Rattle.tree_spec.specs.declared.LimitName.{LimitName}
 use Rattle.tree_spec.specs.LookAskings.{Sights}
 use Rattle.trace_spec.specs.declared.TraceFault.{TraceFault}
 use Rattle.trace_spec.specs.declared.TraceFault.TheVariants.{Limit}
-use Rattle.trace_spec.specs.Walking.{Referrer, the_page, a_module, Opened, new_modules, followed, visited}
-use Rattle.trace_spec.specs.FirstRefusals.{Failure, refused, halted, failed, Passed, page_passes, next_passes, Comes, page_first, module_next, FailsIn, by_opening, by_request, FirstFailure}
+use Rattle.trace_spec.specs.Walking.{Referrer, the_page, a_module, new_modules, followed, visited}
+use Rattle.trace_spec.specs.FirstRefusals.{Failure, refused, halted, failed, Passed, page_passes, next_passes, Comes, page_first, module_next, FailsIn, by_opening, by_request}
 use Rattle.trace_spec.specs.Modules.{Config, Module, is_module, path_of}
 use Rattle.trace_spec.specs.Questions.{Question, of_module, of_request, Answer, Trail, answers, always}
 use Rattle.trace_spec.specs.Checks.{Before, module_opened, opens, Wanted, wanted, led, followed_by, follows, begun, rules}
 use Rattle.trace_spec.specs.Traces.{trace, result_of, state_of, traced, specifiers, leads, targets}
-use Rattle.trace_spec.specs.Laws.{refusal_by, opening, opening_put, requests_put, visits_put, asked_in, visits_of, none_asked, asked_by_end, if_wanted, asked_for, ComesTo, RefusedRequest, RefusedAt, at_opening, at_request, RefusedInOrder, RefusesInOrder}
+use Rattle.trace_spec.specs.Laws.{refusal_by, opening, opening_put, requests_put, visits_put, asked_in, visits_of, none_asked, if_wanted, asked_for, ComesTo, RefusedAt, at_opening, at_request, RefusedInOrder, RefusesInOrder}
 use Rattle.trace_spec.proofs.Steps.{answers_always}
 use Rattle.trace_spec.proofs.WalkModules.{slice_there, visited_modules}
-use Rattle.trace_spec.proofs.WalkOrder.{all_in, Followed, in_order, visit_in_order}
+use Rattle.trace_spec.proofs.WalkOrder.{in_order, visit_in_order}
 use Rattle.trace_spec.proofs.WalkRefusals.{KeepsFew, walk_fails_first}
 use Rattle.trace_spec.proofs.Traces.{lead, keep_few, request_of, put_request, put_in, requests_put_is}
 

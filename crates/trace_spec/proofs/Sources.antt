@@ -1,5 +1,5 @@
 -- What stands at a module's path gives its source.
-use Rattle.std.specs.Prelude.{◌≡◌, ◌↔◌, ◌⊎◌, ◌&&◌, ℕ, Bool, true, false, List, ◌++◌, codes, nat_eq, Option, Some, None}
+use Rattle.std.specs.Prelude.{◌≡◌, ◌⊎◌, ◌&&◌, ℕ, true, List, ◌++◌, codes, nat_eq, Option, Some, None}
 use Rattle.std.specs.List.{ends_with}
 use Rattle.std.specs.Str.{is_utf8}
 use Rattle.std.proofs.Common.{refl, sym, ap, ◌∙◌, subst}
@@ -10,14 +10,11 @@ use Rattle.std.proofs.lemmas.Slice.Eq.{ends_is}
 use Rattle.std.proofs.lemmas.Str.{IsUtf8-from_is_utf8, is_utf8-from_IsUtf8}
 use Rattle.tree_spec.specs.declared.Entry.{Entry}
 use Rattle.tree_spec.specs.declared.Entry.TheVariants.{Stored, Directory}
-use Rattle.tree_spec.specs.LookAskings.{Sights}
 use Rattle.module_spec.specs.PlainForm.{IsPlain, Requests}
 use Rattle.module_spec.proofs.PlainReadings.{HasReading, NoReading, reading_or_not}
 use Rattle.module_spec.proofs.Readings.{one_reading}
-use Rattle.trace_spec.specs.Modules.{Module}
 use Rattle.trace_spec.specs.Questions.{Source, as_read, source_in}
-use Rattle.trace_spec.specs.Traces.{source}
-use Rattle.trace_spec.specs.Laws.{HasSource, SourcesAreRead}
+use Rattle.trace_spec.specs.Laws.{SourcesAreRead}
 
 -- ---- texts
 

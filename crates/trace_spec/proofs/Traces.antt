@@ -1,5 +1,5 @@
 -- The laws of a config's trace, by what its steps do.
-use Rattle.std.specs.Prelude.{◌≡◌, ◌≤◌, ◌<◌, ◌↔◌, ◌&&◌, ◌||◌, ◌⊎◌, not, ℕ, Bool, true, false, List, [], ◌∷◌, ◌++◌, length, map, flat_map, slice_get, Option, Some, None, option_map, Result, Ok, Err, unwrap_or, filter_map, bytes_eq, nat_lt, Contains, if◌then◌else◌}
+use Rattle.std.specs.Prelude.{◌≡◌, ◌≤◌, ◌↔◌, ◌&&◌, ◌||◌, ◌⊎◌, not, ℕ, true, false, List, [], ◌∷◌, ◌++◌, length, map, Option, Some, None, option_map, Result, Ok, Err, unwrap_or, bytes_eq, nat_lt, Contains}
 use Rattle.std.specs.List.{list_any}
 use Rattle.std.proofs.Common.{refl, sym, ap, ◌∙◌, subst, arith, length-append, append_assoc, append-nil}
 use mathlib.Core.Logic.{inl, inr}
@@ -7,7 +7,7 @@ use Rattle.std.proofs.lemmas.Bool.{cases_Bool, cond-true, cond-false, true≢fal
 use Rattle.std.proofs.lemmas.Slice.Eq.{bytes_eq-Decides}
 use Rattle.std.proofs.lemmas.List.Elements.{Contains-append_left, Contains-push, Contains-push_cases}
 use Rattle.std.proofs.lemmas.Map.Views.{Contains-from_any}
-use Rattle.asking_spec.specs.Askings.{outcome, questions}
+use Rattle.asking_spec.specs.Askings.{outcome}
 use Rattle.asking_spec.specs.Evaluation.{Ended, ends, stopped, evaluated}
 use Rattle.asking_spec.proofs.EvaluationLemmas.{ends_outcome}
 use Rattle.tree_spec.specs.declared.LimitName.{LimitName}
@@ -23,16 +23,16 @@ use Rattle.layout_spec.proofs.Contained.{contains_none, contains_here, contains_
 use Rattle.layout_spec.proofs.CountedNeeds.{same_need}
 use Rattle.trace_spec.specs.declared.TraceFault.{TraceFault}
 use Rattle.trace_spec.specs.declared.TraceFault.TheVariants.{Limit}
-use Rattle.trace_spec.specs.Walking.{Referrer, the_page, a_module, new_modules, Opened}
-use Rattle.trace_spec.specs.Levels.{Reached, page, requested}
-use Rattle.trace_spec.specs.FirstRefusals.{Failure, refused, halted, failed, AllPassed, FirstFailure}
-use Rattle.trace_spec.specs.Modules.{Config, Module, is_module, path_of, web_name, IsServable, file_name}
-use Rattle.trace_spec.specs.Questions.{Source, Question, of_request, Answer, Trail, answers, always}
+use Rattle.trace_spec.specs.Walking.{Referrer, the_page, a_module, new_modules}
+use Rattle.trace_spec.specs.Levels.{page}
+use Rattle.trace_spec.specs.FirstRefusals.{Failure, refused, halted, failed}
+use Rattle.trace_spec.specs.Modules.{Config, Module, is_module, path_of, web_name, file_name}
+use Rattle.trace_spec.specs.Questions.{Source, of_request, Trail, answers, always}
 use Rattle.trace_spec.specs.Checks.{Before, opens, follows, with_request, has_room, begun, rules}
-use Rattle.trace_spec.specs.Traces.{trace, result_of, traced, source, requests, specifiers, resolution, module_in, leads, targets, Reachable}
-use Rattle.trace_spec.specs.Laws.{HasLevels, IsWhatIsReached, ModulesOnce, FewModules, refusal_by, IsFirst, Decides, FirstRefusalDecides, NeverOutOfRoom, no_module, no_source, target_of, need_of, request_put, requests_put, opening_put, visits_put, opening, asked_in, visits_of, InOrder, GoesInOrder, Passes, AllPass, RequestsPass, IsNeed, NeedsAre, NeedsAreRequests}
+use Rattle.trace_spec.specs.Traces.{trace, result_of, traced, source, specifiers, resolution, module_in, leads, Reachable}
+use Rattle.trace_spec.specs.Laws.{HasLevels, IsWhatIsReached, ModulesOnce, FewModules, refusal_by, IsFirst, Decides, FirstRefusalDecides, NeverOutOfRoom, no_module, no_source, target_of, need_of, request_put, requests_put, opening_put, visits_put, opening, visits_of, InOrder, GoesInOrder, Passes, AllPass, RequestsPass, NeedsAre, NeedsAreRequests}
 use Rattle.trace_spec.proofs.Lists.{none_by_test, same_module, AreOnce, new_module, once_more}
-use Rattle.trace_spec.proofs.Steps.{answers_always, traced_outcome, file_name_parts, Opens, opens_is, Leaves, opens_leaves, Wants, Fits, Follows, follows_is}
+use Rattle.trace_spec.proofs.Steps.{answers_always, traced_outcome, file_name_parts, opens_is, Leaves, opens_leaves, Fits, Follows, follows_is}
 use Rattle.trace_spec.proofs.WalkModules.{LeadsBy, walk_has_levels, walk_is_reached}
 use Rattle.trace_spec.proofs.WalkOrder.{all_in, PutsBy, walk_in_order}
 use Rattle.trace_spec.proofs.WalkRefusals.{Grows, KeepsFew, walk_where_all_pass, walk_fails_first, walk_few}

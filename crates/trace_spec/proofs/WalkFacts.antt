@@ -1,10 +1,10 @@
 -- What holds of the tables at the end of a walk: what each step keeps, and what each request leaves.
-use Rattle.std.specs.Prelude.{◌≡◌, ◌⊎◌, ℕ, zero, suc, List, [], ◌∷◌, ◌++◌, slice_get, length, Option, Some, None, Result, Ok, Err, Contains}
+use Rattle.std.specs.Prelude.{◌≡◌, ℕ, zero, suc, List, [], ◌∷◌, ◌++◌, slice_get, length, Option, Some, None, Ok, Contains}
 use Rattle.std.proofs.Common.{refl, sym, ap, ◌∙◌, subst, arith, append_assoc, append-nil, length-append}
 use mathlib.Core.Logic.{inl, inr}
-use Rattle.std.proofs.lemmas.List.Elements.{Contains-append_left, Contains-append_right, Contains-append_cases}
+use Rattle.std.proofs.lemmas.List.Elements.{Contains-append_left, Contains-append_right}
 use Rattle.layout_spec.proofs.Contained.{contains_here, contains_there, contains_cases, contains_none}
-use Rattle.asking_spec.specs.Askings.{Asking, answered, outcome}
+use Rattle.asking_spec.specs.Askings.{outcome}
 use Rattle.asking_spec.proofs.AskingLemmas.{ok_parts}
 use Rattle.trace_spec.specs.Walking.{Referrer, the_page, a_module, Opened, Rules, new_modules, followed, visited, walked, walk}
 use Rattle.trace_spec.proofs.WalkModules.{slice_there, next_visit, LeadsBy, targets_by, visited_modules}

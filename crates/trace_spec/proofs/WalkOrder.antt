@@ -1,7 +1,7 @@
 -- The order of a walk: what is asked, and which requests are put into the tables, referrer by referrer.
-use Rattle.std.specs.Prelude.{◌≡◌, ◌+◌, ℕ, zero, suc, List, [], ◌∷◌, ◌++◌, map, flat_map, slice_get, length, Option, Some, None, Result, Ok, Err}
-use Rattle.std.proofs.Common.{refl, sym, ap, ◌∙◌, subst, arith, append_assoc, append-nil, length-append}
-use Rattle.asking_spec.specs.Askings.{Asking, answered, outcome, questions, on_ok, and_ok}
+use Rattle.std.specs.Prelude.{◌≡◌, ℕ, zero, suc, List, [], ◌∷◌, ◌++◌, map, flat_map, slice_get, length, Option, Some, None, Ok}
+use Rattle.std.proofs.Common.{refl, sym, ap, ◌∙◌, subst, arith, append_assoc, length-append}
+use Rattle.asking_spec.specs.Askings.{outcome, questions}
 use Rattle.asking_spec.proofs.AskingLemmas.{ok_parts, questions_ok}
 use Rattle.trace_spec.specs.Walking.{Referrer, the_page, a_module, Opened, Rules, new_modules, followed, visited, walked, walk}
 use Rattle.trace_spec.proofs.WalkModules.{slice_there, next_visit, LeadsBy, targets_by, visited_modules}

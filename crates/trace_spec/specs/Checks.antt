@@ -3,7 +3,7 @@
 --     opens config before referrer               the page can be served; a module has a text of the form
 --     follows config before referrer specifier   what the request asks for; where Node leads it; the name of what it leads to; that it
 --                                                clashes with no need before it; the number of modules
-use Rattle.std.specs.Prelude.{◌&&◌, ◌||◌, not, ◌+◌, ℕ, Bool, List, [], ◌∷◌, ◌++◌, length, bytes_eq, nat_lt, Option, Some, None, Result, Ok, Err, if◌then◌else◌}
+use Rattle.std.specs.Prelude.{◌||◌, ◌+◌, ℕ, Bool, List, [], ◌∷◌, ◌++◌, length, nat_lt, Option, Some, None, Result, Ok, Err, if◌then◌else◌}
 use Rattle.std.specs.List.{list_any}
 use Rattle.asking_spec.specs.Askings.{Asking, answered, ask}
 use Rattle.tree_spec.specs.declared.LimitName.TheVariants.{Modules}

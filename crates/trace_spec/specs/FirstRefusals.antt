@@ -6,7 +6,7 @@
 --     AllPassed all state            all visits pass
 --     FailsIn before state referrer why after      this visit fails, by its opening or by the first request that doesn't pass
 --     FirstFailure why after         the visits before one pass, and that one fails
-use Rattle.std.specs.Prelude.{◌≡◌, ℕ, suc, List, [], ◌∷◌, ◌++◌, slice_get, Some, None, Result, Ok, Err}
+use Rattle.std.specs.Prelude.{◌≡◌, ℕ, suc, List, ◌∷◌, ◌++◌, slice_get, Some, None, Result, Ok, Err}
 use Rattle.asking_spec.specs.Evaluation.{Ended, ends, stopped, Answers, evaluated}
 use Rattle.trace_spec.specs.Walking.{Referrer, the_page, a_module, Opened, Rules, followed, visited}
 

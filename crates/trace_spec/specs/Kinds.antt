@@ -1,6 +1,6 @@
 -- What can be refused whatever the tree holds.
 --     IsOfTrace config fault      a trace of this config can end so
-use Rattle.std.specs.Prelude.{◌≡◌, ◌⊎◌, ⊤, List, [], None}
+use Rattle.std.specs.Prelude.{◌≡◌, ◌⊎◌, ⊤, [], None}
 use Rattle.tree_spec.specs.declared.LimitName.{LimitName}
 use Rattle.tree_spec.specs.declared.LimitName.TheVariants.{File, Modules}
 use Rattle.url_spec.specs.WebNames.{web}
