@@ -3,7 +3,7 @@ use Rattle.std.specs.Prelude.{◌≡◌, ◌++◌, ◌∷◌, [], List, Option, 
 use Rattle.std.proofs.Common.{sym, ap, ◌∙◌, append_assoc, append-nil}
 use Rattle.asking_spec.specs.Askings.{Asking, answered, ask, outcome, questions, and_then, on_ok, and_ok, through}
 use Rattle.asking_spec.specs.Evaluation.{Ended, ends, stopped, then_ended, Answers, evaluated, Asked, with_asked, keep_asked, listed, unlisted, AreAlways}
-use Rattle.asking_spec.specs.Laws.{Comes}
+use Rattle.asking_spec.specs.Laws.{IsOutcome}
 
 then_same : {X Y T S : Type 0} (first : Ended X T S) (one other : X → T → Ended Y T S) → ((x : X) (t : T) → one x t ≡ other x t) → then_ended first one ≡ then_ended first other
 then_same (ends value state) one other same = same value state
@@ -47,14 +47,14 @@ asked_twice : {Q : Type 0} (asked : Option (List Q)) (some more : List Q) → wi
 asked_twice None some more = refl
 asked_twice (Some questions) some more = ap Some (append_assoc questions some more)
 
-asked_none : {Q : Type 0} (asked : Option (List Q)) → with_asked asked [] ≡ asked
+pub asked_none : {Q : Type 0} (asked : Option (List Q)) → with_asked asked [] ≡ asked
 asked_none None = refl
 asked_none (Some questions) = ap Some (append-nil questions)
 
 comes_by : {T S Q : Type 0} {A : Q → Type 0} {X : Type 0} (answers : Answers T S Q A) (always : (question : Q) → A question) (before : Asked T Q) (question : Q) (next : A question → Asking Q A X) (value : X) (after : Asked T Q)
     → (first : Ended (A question) T S) → ((answer : A question) (state : T) → first ≡ ends answer state → answer ≡ always question)
-    → ((answer : A question) (middle : Asked T Q) → evaluated (listed answers) middle (next answer) ≡ ends value after → Comes always middle.asked (next answer) value after.asked)
-    → then_ended (keep_asked (with_asked before.asked (question ∷ [])) first) (λ answer middle. evaluated (listed answers) middle (next answer)) ≡ ends value after → Comes always before.asked (ask question next) value after.asked
+    → ((answer : A question) (middle : Asked T Q) → evaluated (listed answers) middle (next answer) ≡ ends value after → IsOutcome always middle.asked (next answer) value after.asked)
+    → then_ended (keep_asked (with_asked before.asked (question ∷ [])) first) (λ answer middle. evaluated (listed answers) middle (next answer)) ≡ ends value after → IsOutcome always before.asked (ask question next) value after.asked
 comes_by answers always before question next value after (stopped stop state) are rest e = absurd (cc)
 comes_by answers always before question next value after (ends answer state) are rest e =
     let found = rest answer (record { state = state; asked = with_asked before.asked (question ∷ []) }) e in
@@ -65,7 +65,7 @@ comes_by answers always before question next value after (ends answer state) are
     }
 
 pub evaluated_comes : {T S Q : Type 0} {A : Q → Type 0} {X : Type 0} (answers : Answers T S Q A) (always : (question : Q) → A question) → AreAlways answers always → (before : Asked T Q) (asking : Asking Q A X) (value : X) (after : Asked T Q)
-    → evaluated (listed answers) before asking ≡ ends value after → Comes always before.asked asking value after.asked
+    → evaluated (listed answers) before asking ≡ ends value after → IsOutcome always before.asked asking value after.asked
 evaluated_comes answers always are before (answered value) other after e =
     let is : value ≡ other = cc in
     let same : before ≡ after = cc in

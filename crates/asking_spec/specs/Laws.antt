@@ -1,4 +1,4 @@
--- The laws of askings, for each type of questions, answers and values.
+-- The laws of askings, for all types of questions and values, and all families of types of answers, one for each question.
 use Rattle.std.specs.Prelude.{◌≡◌, ◌++◌, List, Option, All}
 use Rattle.asking_spec.specs.Askings.{Asking, outcome, questions, and_then, through}
 use Rattle.asking_spec.specs.Evaluation.{ends, then_ended, Answers, evaluated, Asked, with_asked, listed, unlisted, AreAlways}
@@ -34,14 +34,14 @@ SameByQuestions Q A X =
 
 -- where nothing stops it, an asking comes to the outcome of the answers that are always given, and puts its questions to the list, each
 -- at its place
-pub record Comes {Q : Type 0} {A : Q → Type 0} {X : Type 0} (always : (question : Q) → A question) (before : Option (List Q)) (asking : Asking Q A X) (value : X) (after : Option (List Q)) : Type 0 where
+pub record IsOutcome {Q : Type 0} {A : Q → Type 0} {X : Type 0} (always : (question : Q) → A question) (before : Option (List Q)) (asking : Asking Q A X) (value : X) (after : Option (List Q)) : Type 0 where
   pub is : value ≡ outcome always asking
   pub asked : after ≡ with_asked before (questions always asking)
 
 abbrev pub EvaluatedComes : (T S Q : Type 0) (A : Q → Type 0) (X : Type 0) → Type 0
 EvaluatedComes T S Q A X =
     (answers : Answers T S Q A) (always : (question : Q) → A question) → AreAlways answers always → (before : Asked T Q) (asking : Asking Q A X) (value : X) (after : Asked T Q)
-    → evaluated (listed answers) before asking ≡ ends value after → Comes always before.asked asking value after.asked
+    → evaluated (listed answers) before asking ≡ ends value after → IsOutcome always before.asked asking value after.asked
 
 -- to list the questions changes neither what an asking comes to nor the state
 abbrev pub EvaluatedListed : (T S Q : Type 0) (A : Q → Type 0) (X : Type 0) → Type 0

@@ -2,7 +2,10 @@ pub mod Queues
 pub mod WalkModules
 pub mod WalkOrder
 pub mod WalkRefusals
+pub mod WalkRoom
 pub mod WalkFacts
 pub mod Lists
 pub mod Steps
+pub mod Sources
 pub mod Traces
+pub mod RefusalOrder

@@ -9,7 +9,7 @@ use Rattle.std.proofs.lemmas.Grind.{flat_map-append}
 use Rattle.trace_spec.specs.Walking.{Referrer, the_page, a_module, new_modules}
 use Rattle.std.proofs.lemmas.List.Elements.{Contains-append_left, Contains-append_right, Contains-append_cases, Contains-push, Contains-push_cases}
 use Rattle.std.proofs.lemmas.Map.Views.{Contains-from_any}
-use Rattle.layout_spec.proofs.Contained.{contains_here, contains_there, contains_cases, contains_none, contains_flat, flat_from}
+use Rattle.layout_spec.proofs.Contained.{contains_here, contains_there, contains_cases, contains_none}
 use Rattle.trace_spec.specs.Levels.{Levels, last_level, next_level, Reached, page, requested}
 
 pub new_modules-append : {M : Type 0} (same : M → M → Bool) (seen some more : List M) → new_modules same seen (some ++ more) ≡ new_modules same seen some ++ new_modules same (seen ++ new_modules same seen some) more

@@ -1,10 +1,10 @@
 -- What one step of a config's rules does: an opening, and a request that goes through its checks.
-use Rattle.std.specs.Prelude.{◌≡◌, ◌≤◌, ◌+◌, ◌&&◌, ℕ, Bool, true, false, List, [], ◌∷◌, ◌++◌, length, Option, Some, None, option_map, Result, Ok, Err, unwrap_or, if◌then◌else◌, nat_lt}
+use Rattle.std.specs.Prelude.{◌≡◌, ℕ, true, false, List, [], ◌∷◌, length, Option, Some, None, option_map, Result, Ok, Err, unwrap_or, nat_lt}
 use Rattle.std.specs.List.{list_any}
 use Rattle.std.proofs.Common.{refl, sym, ap, ◌∙◌, subst}
 use mathlib.Core.Logic.{inl, inr}
-use Rattle.std.proofs.lemmas.Bool.{cases_Bool, cond-true, cond-false, true≢false}
-use Rattle.asking_spec.specs.Askings.{Asking, answered, outcome, questions}
+use Rattle.std.proofs.lemmas.Bool.{cases_Bool, cond-true, cond-false}
+use Rattle.asking_spec.specs.Askings.{outcome, questions}
 use Rattle.asking_spec.specs.Evaluation.{Ended, ends, stopped, evaluated}
 use Rattle.asking_spec.proofs.EvaluationLemmas.{ends_outcome}
 use Rattle.tree_spec.specs.declared.Entry.{Entry}
@@ -26,9 +26,9 @@ use Rattle.trace_spec.specs.declared.TraceFault.{TraceFault}
 use Rattle.trace_spec.specs.declared.TraceFault.TheVariants.{RequestNotBuilt, Limit}
 use Rattle.trace_spec.specs.Walking.{Referrer, the_page, a_module, Opened}
 use Rattle.trace_spec.specs.Modules.{Config, Module, path_of, web_name, shown, IsServable, served_name, not_folder, file_name}
-use Rattle.trace_spec.specs.Questions.{Source, Question, of_module, of_request, Answer, Trail, within_limit, limited, answers, always, put}
+use Rattle.trace_spec.specs.Questions.{Source, Question, of_request, Answer, Trail, within_limit, limited, answers, always, put}
 use Rattle.trace_spec.specs.Checks.{Before, page_opened, with_source, module_opened, opens, Wanted, file_wanted, wanted_by, wanted, with_request, has_room, placed, needed, named, led, followed_by, follows}
-use Rattle.trace_spec.specs.Traces.{trace, result_of, traced, source, requests, specifiers, resolution, module_in, leads}
+use Rattle.trace_spec.specs.Traces.{trace, result_of, traced, source, requests, resolution}
 use Rattle.trace_spec.specs.Laws.{opening, opening_put, no_source}
 
 -- ---- without limits

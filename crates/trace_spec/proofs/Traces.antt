@@ -1,5 +1,5 @@
 -- The laws of a config's trace, by what its steps do.
-use Rattle.std.specs.Prelude.{◌≡◌, ◌≤◌, ◌<◌, ◌↔◌, ◌&&◌, ◌||◌, ◌⊎◌, not, ℕ, Bool, true, false, List, [], ◌∷◌, ◌++◌, length, map, flat_map, slice_get, Option, Some, None, option_map, Result, Ok, Err, unwrap_or, filter_map, bytes_eq, nat_lt, Contains, if◌then◌else◌}
+use Rattle.std.specs.Prelude.{◌≡◌, ◌≤◌, ◌↔◌, ◌&&◌, ◌||◌, ◌⊎◌, not, ℕ, true, false, List, [], ◌∷◌, ◌++◌, length, map, Option, Some, None, option_map, Result, Ok, Err, unwrap_or, bytes_eq, nat_lt, Contains}
 use Rattle.std.specs.List.{list_any}
 use Rattle.std.proofs.Common.{refl, sym, ap, ◌∙◌, subst, arith, length-append, append_assoc, append-nil}
 use mathlib.Core.Logic.{inl, inr}
@@ -7,7 +7,7 @@ use Rattle.std.proofs.lemmas.Bool.{cases_Bool, cond-true, cond-false, true≢fal
 use Rattle.std.proofs.lemmas.Slice.Eq.{bytes_eq-Decides}
 use Rattle.std.proofs.lemmas.List.Elements.{Contains-append_left, Contains-push, Contains-push_cases}
 use Rattle.std.proofs.lemmas.Map.Views.{Contains-from_any}
-use Rattle.asking_spec.specs.Askings.{outcome, questions}
+use Rattle.asking_spec.specs.Askings.{outcome}
 use Rattle.asking_spec.specs.Evaluation.{Ended, ends, stopped, evaluated}
 use Rattle.asking_spec.proofs.EvaluationLemmas.{ends_outcome}
 use Rattle.tree_spec.specs.declared.LimitName.{LimitName}
@@ -23,20 +23,26 @@ use Rattle.layout_spec.proofs.Contained.{contains_none, contains_here, contains_
 use Rattle.layout_spec.proofs.CountedNeeds.{same_need}
 use Rattle.trace_spec.specs.declared.TraceFault.{TraceFault}
 use Rattle.trace_spec.specs.declared.TraceFault.TheVariants.{Limit}
-use Rattle.trace_spec.specs.Walking.{Referrer, the_page, a_module, new_modules, Opened}
-use Rattle.trace_spec.specs.Levels.{Reached, page, requested}
-use Rattle.trace_spec.specs.FirstRefusals.{Failure, refused, halted, failed, AllPassed, FirstFailure}
-use Rattle.trace_spec.specs.Modules.{Config, Module, is_module, path_of, web_name, IsServable, file_name}
-use Rattle.trace_spec.specs.Questions.{Source, Question, of_request, Answer, Trail, answers, always}
+use Rattle.trace_spec.specs.Walking.{Referrer, the_page, a_module, new_modules}
+use Rattle.trace_spec.specs.Levels.{page}
+use Rattle.trace_spec.specs.FirstRefusals.{Failure, refused, halted, failed}
+use Rattle.trace_spec.specs.Modules.{Config, Module, is_module, path_of, web_name, file_name}
+use Rattle.trace_spec.specs.Questions.{Source, of_request, Trail, answers, always}
 use Rattle.trace_spec.specs.Checks.{Before, opens, follows, with_request, has_room, begun, rules}
-use Rattle.trace_spec.specs.Traces.{trace, result_of, traced, source, requests, specifiers, resolution, module_in, leads, targets, Reachable}
-use Rattle.trace_spec.specs.Laws.{HasLevels, IsWhatIsReached, ModulesOnce, FewModules, refusal_by, IsFirst, Decides, FirstRefusalDecides, Request, no_module, no_source, target_of, need_of, requests_put, opening_put, visits_put, opening, asked_in, visits_of, InOrder, GoesInOrder, Passes, AllPass, RequestsPass, IsNeed, NeedsAre, NeedsAreRequests}
+use Rattle.trace_spec.specs.Traces.{trace, result_of, traced, source, specifiers, resolution, module_in, leads, Reachable}
+use Rattle.trace_spec.specs.Laws.{HasLevels, IsWhatIsReached, ModulesOnce, FewModules, refusal_by, IsFirst, Decides, FirstRefusalDecides, NeverOutOfRoom, no_module, no_source, target_of, need_of, request_put, requests_put, opening_put, visits_put, opening, visits_of, InOrder, GoesInOrder, Passes, AllPass, RequestsPass, NeedsAre, NeedsAreRequests}
 use Rattle.trace_spec.proofs.Lists.{none_by_test, same_module, AreOnce, new_module, once_more}
-use Rattle.trace_spec.proofs.Steps.{answers_always, traced_outcome, file_name_parts, Opens, opens_is, Leaves, opens_leaves, Wants, Fits, Follows, follows_is}
+use Rattle.trace_spec.proofs.Steps.{answers_always, traced_outcome, file_name_parts, opens_is, Leaves, opens_leaves, Fits, Follows, follows_is}
 use Rattle.trace_spec.proofs.WalkModules.{LeadsBy, walk_has_levels, walk_is_reached}
 use Rattle.trace_spec.proofs.WalkOrder.{all_in, PutsBy, walk_in_order}
 use Rattle.trace_spec.proofs.WalkRefusals.{Grows, KeepsFew, walk_where_all_pass, walk_fails_first, walk_few}
+use Rattle.trace_spec.proofs.WalkRoom.{walk_same}
 use Rattle.trace_spec.proofs.WalkFacts.{IsVisited, Keeps, AtEnd, WasVisited, at_end}
+
+-- a request of a referrer
+pub record Link : Type 0 where
+  pub referrer : Referrer Module
+  pub specifier : List ℕ
 
 module _ (sights : Sights) (config : Config) where
   -- ---- where requests lead
@@ -44,7 +50,7 @@ module _ (sights : Sights) (config : Config) where
   leads_there : (referrer : Referrer Module) (specifier : List ℕ) (target : Module) → is_relative specifier ≡ true → resolution sights config referrer specifier ≡ node.Resolved target.path target.suffix → leads sights config referrer specifier ≡ Some target
   leads_there referrer specifier target relative answers = cond-true _ (module_in (resolution sights config referrer specifier)) None relative ∙ ap module_in answers
 
-  lead : LeadsBy (always sights) (rules config) (specifiers sights config) (leads sights config)
+  pub lead : LeadsBy (always sights) (rules config) (specifiers sights config) (leads sights config)
   lead = record {
     starts = refl;
     opens = λ before referrer opened e. let is = opens_is sights config before referrer opened e in (sym (ap (λ o. unwrap_or o []) is.asks), (opens_leaves sights config before referrer opened e).modules);
@@ -69,7 +75,7 @@ module _ (sights : Sights) (config : Config) where
     longer = subst (λ b. length before.modules ≤ length b.modules) (sym fits.is) (omega (arith, length-append before.modules (new_modules is_module before.modules (target ∷ []))));
   }
 
-  keep_few : KeepsFew (answers sights) (rules config) tt
+  pub keep_few : KeepsFew (answers sights) (rules config) tt
   keep_few = record {
     starts = refl;
     opens = λ before state referrer opened after e.
@@ -82,25 +88,25 @@ module _ (sights : Sights) (config : Config) where
 
   -- ---- the order
 
-  abbrev request_of : Referrer Module → List ℕ → Request
+  abbrev pub request_of : Referrer Module → List ℕ → Link
   request_of referrer specifier = record { referrer = referrer; specifier = specifier }
 
-  abbrev put_request : Before → Request → Before
-  put_request before request = with_request before (need_of sights config request) (target_of sights config request)
+  abbrev pub put_request : Before → Link → Before
+  put_request before link = request_put sights config before link.referrer link.specifier
 
   -- what a request that went through needs
-  need_is : (before : Before) (referrer : Referrer Module) (specifier : List ℕ) (after : Before) (is : Follows sights config before referrer specifier after) → need_of sights config (request_of referrer specifier) ≡ record { referrer = is.want.referrer; asked = is.want.asked; target = is.url }
+  need_is : (before : Before) (referrer : Referrer Module) (specifier : List ℕ) (after : Before) (is : Follows sights config before referrer specifier after) → need_of sights config referrer specifier ≡ record { referrer = is.want.referrer; asked = is.want.asked; target = is.url }
   need_is before referrer specifier after is =
       let name : unwrap_or (web_name config referrer) [] ≡ is.want.referrer = ap (λ o. unwrap_or o []) is.wants.named in
       let asked : unwrap_or (as_url (unwrap_or (web_name config referrer) []) specifier) [] ≡ is.want.asked = ap (λ n. unwrap_or (as_url n specifier) []) name ∙ ap (λ o. unwrap_or o []) is.wants.asks in
-      let target : target_of sights config (request_of referrer specifier) ≡ is.target = ap (λ o. unwrap_or o no_module) (leads_there referrer specifier is.target is.wants.relative is.answers) in
-      let url : unwrap_or (file_name config (target_of sights config (request_of referrer specifier))) [] ≡ is.url = ap (λ m. unwrap_or (file_name config m) []) target ∙ ap (λ o. unwrap_or o []) is.is_name in
+      let target : target_of sights config referrer specifier ≡ is.target = ap (λ o. unwrap_or o no_module) (leads_there referrer specifier is.target is.wants.relative is.answers) in
+      let url : unwrap_or (file_name config (target_of sights config referrer specifier)) [] ≡ is.url = ap (λ m. unwrap_or (file_name config m) []) target ∙ ap (λ o. unwrap_or o []) is.is_name in
       same_need _ _ name asked url
 
-  target_is : (before : Before) (referrer : Referrer Module) (specifier : List ℕ) (after : Before) (is : Follows sights config before referrer specifier after) → target_of sights config (request_of referrer specifier) ≡ is.target
+  target_is : (before : Before) (referrer : Referrer Module) (specifier : List ℕ) (after : Before) (is : Follows sights config before referrer specifier after) → target_of sights config referrer specifier ≡ is.target
   target_is before referrer specifier after is = ap (λ o. unwrap_or o no_module) (leads_there referrer specifier is.target is.wants.relative is.answers)
 
-  put_in : PutsBy (always sights) (rules config) (specifiers sights config) (leads sights config) opening (λ referrer. of_request (path_of config referrer)) (opening_put sights) put_request request_of
+  pub put_in : PutsBy (always sights) (rules config) (specifiers sights config) (leads sights config) opening (λ referrer. of_request (path_of config referrer)) (opening_put sights) put_request request_of
   put_in = record {
     opens = λ before referrer opened e. let is = opens_is sights config before referrer opened e in (sym (ap (λ o. unwrap_or o []) is.asks), is.after, is.questions);
     follows = λ before referrer specifier after e.
@@ -109,7 +115,7 @@ module _ (sights : Sights) (config : Config) where
         (same, is.questions);
   }
 
-  requests_put_is : (referrer : Referrer Module) (some : List (List ℕ)) (before : Before) → requests_put sights config referrer before some ≡ all_in put_request before (map (request_of referrer) some)
+  pub requests_put_is : (referrer : Referrer Module) (some : List (List ℕ)) (before : Before) → requests_put sights config referrer before some ≡ all_in put_request before (map (request_of referrer) some)
   requests_put_is referrer [] before = refl
   requests_put_is referrer (specifier ∷ more) before = requests_put_is referrer more (put_request before (request_of referrer specifier))
 
@@ -122,7 +128,7 @@ module _ (sights : Sights) (config : Config) where
       ap (λ b. visits_put sights config b more) (requests_put_is referrer (specifiers sights config referrer) (opening_put sights before referrer)) ∙ visits_put_is (visit_in before referrer) more
 
   -- requests leave the sources as they are, and a visit puts one there
-  sources_left : (some : List Request) (before : Before) → (all_in put_request before some).sources ≡ before.sources
+  sources_left : (some : List Link) (before : Before) → (all_in put_request before some).sources ≡ before.sources
   sources_left [] before = refl
   sources_left (request ∷ more) before = sources_left more (put_request before request)
 
@@ -155,9 +161,11 @@ module _ (sights : Sights) (config : Config) where
     visited : IsVisited before.modules referrer
     named : web_name config referrer ≡ Some need.referrer
     specifier : List ℕ
+    is_request : Contains (specifiers sights config referrer) specifier
     asks : as_url need.referrer specifier ≡ Some need.asked
     asked_is_file : ends_in_slash need.asked ≡ false
     target : Module
+    leads_to : leads sights config referrer specifier ≡ Some target
     is_name : file_name config target ≡ Some need.target
 
   record Stands (before : Before) : Type 0 where
@@ -224,23 +232,27 @@ module _ (sights : Sights) (config : Config) where
     visited = visited_more is.referrer before.modules (new_modules is_module before.modules (target ∷ [])) is.visited;
     named = is.named;
     specifier = is.specifier;
+    is_request = is.is_request;
     asks = is.asks;
     asked_is_file = is.asked_is_file;
     target = is.target;
+    leads_to = is.leads_to;
     is_name = is.is_name;
   }
 
-  stand_more : (before : Before) (referrer : Referrer Module) (specifier : List ℕ) (after : Before) → IsVisited before.modules referrer → Stands before → Follows sights config before referrer specifier after → Stands after
-  stand_more before referrer specifier after visited stands is =
+  stand_more : (before : Before) (referrer : Referrer Module) (specifier : List ℕ) (after : Before) → IsVisited before.modules referrer → Contains (specifiers sights config referrer) specifier → Stands before → Follows sights config before referrer specifier after → Stands after
+  stand_more before referrer specifier after visited asked_for stands is =
       let need : Need = record { referrer = is.want.referrer; asked = is.want.asked; target = is.url } in
       let own : IsOf before need = record {
         referrer = referrer;
         visited = visited;
         named = is.wants.named;
         specifier = specifier;
+        is_request = asked_for;
         asks = is.wants.asks;
         asked_is_file = is.wants.asks_file;
         target = is.target;
+        leads_to = leads_there referrer specifier is.target is.wants.relative is.answers;
         is_name = is.is_name;
       } in
       subst Stands (sym is.fits.is)
@@ -262,8 +274,10 @@ module _ (sights : Sights) (config : Config) where
         named = is.wants.named;
         relative = is.wants.relative;
         asks = is.wants.asks;
+        asked_is_file = is.wants.asks_file;
         answers = is.answers;
         servable = (file_name_parts config is.target is.url is.is_name).servable;
+        is_name = is.is_name;
         is_need = subst (λ b. Contains b.needs need) (sym is.fits.is) (with_need_new before.needs need);
       }
 
@@ -276,8 +290,10 @@ module _ (sights : Sights) (config : Config) where
         named = passes.named;
         relative = passes.relative;
         asks = passes.asks;
+        asked_is_file = passes.asked_is_file;
         answers = passes.answers;
         servable = passes.servable;
+        is_name = passes.is_name;
         is_need = with_need_old before.needs need passes.need passes.is_need;
       })
 
@@ -287,9 +303,11 @@ module _ (sights : Sights) (config : Config) where
     visited = subst (λ ms. IsVisited ms is.referrer) (sym leaves.modules) is.visited;
     named = is.named;
     specifier = is.specifier;
+    is_request = is.is_request;
     asks = is.asks;
     asked_is_file = is.asked_is_file;
     target = is.target;
+    leads_to = is.leads_to;
     is_name = is.is_name;
   }
 
@@ -307,8 +325,10 @@ module _ (sights : Sights) (config : Config) where
     named = passes.named;
     relative = passes.relative;
     asks = passes.asks;
+    asked_is_file = passes.asked_is_file;
     answers = passes.answers;
     servable = passes.servable;
+    is_name = passes.is_name;
     is_need = subst (λ ns. Contains ns passes.need) (sym leaves.needs) passes.is_need;
   }
 
@@ -317,7 +337,7 @@ module _ (sights : Sights) (config : Config) where
     starts = record { each = λ need c. absurd (contains_none need c); no_clash = λ one other c d. absurd (contains_none one c); once = λ i j m e f. absurd (cc) };
     opens = λ before referrer opened e stands. stand_on before opened.after (opens_leaves sights config before referrer opened e) stands;
     still = λ before referrer opened e other earlier passes. pass_on before opened.after other earlier (opens_leaves sights config before referrer opened e) passes;
-    follows = λ before referrer specifier after visited stands e. stand_more before referrer specifier after visited stands (follows_is sights config before referrer specifier after e);
+    follows = λ before referrer specifier after visited asked_for stands e. stand_more before referrer specifier after visited asked_for stands (follows_is sights config before referrer specifier after e);
     leaves = λ before referrer specifier after e. passes_now before referrer specifier after (follows_is sights config before referrer specifier after e);
     stays = λ before referrer specifier after e other earlier passes.
         let is = follows_is sights config before referrer specifier after e in
@@ -362,9 +382,11 @@ module _ (sights : Sights) (config : Config) where
             reached = visited_reached of.referrer of.visited;
             named = of.named;
             specifier = of.specifier;
+            is_request = of.is_request;
             asks = of.asks;
             asked_is_file = of.asked_is_file;
             target = of.target;
+            leads_there = of.leads_to;
             is_name = of.is_name;
           };
       no_clash = end.holds.no_clash;
@@ -431,6 +453,9 @@ few_modules sights config all is = walk_few (answers sights) (rules config) tt (
 
 pub first_refusal_decides : FirstRefusalDecides
 first_refusal_decides sights config = decides sights config
+
+pub never_out_of_room : NeverOutOfRoom
+never_out_of_room sights config above = walk_same (answers sights) (rules config) tt above (keep_few sights config)
 
 pub goes_in_order : GoesInOrder
 goes_in_order sights config all is = in_order sights config all is

@@ -1,10 +1,10 @@
 -- What holds of the tables at the end of a walk: what each step keeps, and what each request leaves.
-use Rattle.std.specs.Prelude.{◌≡◌, ◌⊎◌, ℕ, zero, suc, List, [], ◌∷◌, ◌++◌, slice_get, length, Option, Some, None, Result, Ok, Err, Contains}
+use Rattle.std.specs.Prelude.{◌≡◌, ℕ, zero, suc, List, [], ◌∷◌, ◌++◌, slice_get, length, Option, Some, None, Ok, Contains}
 use Rattle.std.proofs.Common.{refl, sym, ap, ◌∙◌, subst, arith, append_assoc, append-nil, length-append}
 use mathlib.Core.Logic.{inl, inr}
-use Rattle.std.proofs.lemmas.List.Elements.{Contains-append_left, Contains-append_right, Contains-append_cases}
-use Rattle.layout_spec.proofs.Contained.{contains_here, contains_cases, contains_none}
-use Rattle.asking_spec.specs.Askings.{Asking, answered, outcome}
+use Rattle.std.proofs.lemmas.List.Elements.{Contains-append_left, Contains-append_right}
+use Rattle.layout_spec.proofs.Contained.{contains_here, contains_there, contains_cases, contains_none}
+use Rattle.asking_spec.specs.Askings.{outcome}
 use Rattle.asking_spec.proofs.AskingLemmas.{ok_parts}
 use Rattle.trace_spec.specs.Walking.{Referrer, the_page, a_module, Opened, Rules, new_modules, followed, visited, walked, walk}
 use Rattle.trace_spec.proofs.WalkModules.{slice_there, next_visit, LeadsBy, targets_by, visited_modules}
@@ -21,7 +21,7 @@ module _ {M B R Q : Type 0} {A : Q → Type 0} (answers : (question : Q) → A q
     pub starts : Holds rules.start
     pub opens : (before : B) (referrer : Referrer M) (opened : Opened B) → outcome answers (rules.opens before referrer) ≡ Ok opened → Holds before → Holds opened.after
     pub still : (before : B) (referrer : Referrer M) (opened : Opened B) → outcome answers (rules.opens before referrer) ≡ Ok opened → (other : Referrer M) (earlier : List ℕ) → Leaves other earlier before → Leaves other earlier opened.after
-    pub follows : (before : B) (referrer : Referrer M) (specifier : List ℕ) (after : B) → IsVisited (rules.modules before) referrer → Holds before → outcome answers (rules.follows before referrer specifier) ≡ Ok after → Holds after
+    pub follows : (before : B) (referrer : Referrer M) (specifier : List ℕ) (after : B) → IsVisited (rules.modules before) referrer → Contains (specifiers referrer) specifier → Holds before → outcome answers (rules.follows before referrer specifier) ≡ Ok after → Holds after
     pub leaves : (before : B) (referrer : Referrer M) (specifier : List ℕ) (after : B) → outcome answers (rules.follows before referrer specifier) ≡ Ok after → Leaves referrer specifier after
     pub stays : (before : B) (referrer : Referrer M) (specifier : List ℕ) (after : B) → outcome answers (rules.follows before referrer specifier) ≡ Ok after → (other : Referrer M) (earlier : List ℕ) → Leaves other earlier before → Leaves other earlier after
 
@@ -31,31 +31,36 @@ module _ {M B R Q : Type 0} {A : Q → Type 0} (answers : (question : Q) → A q
       holds : Holds before → Holds after
       stays : (other : Referrer M) (earlier : List ℕ) → Leaves other earlier before → Leaves other earlier after
 
+    -- these are specifiers of the referrer's requests
+    abbrev AreRequests : Referrer M → List (List ℕ) → Type 0
+    AreRequests referrer some = (specifier : List ℕ) → Contains some specifier → Contains (specifiers referrer) specifier
+
     visited_still : (referrer : Referrer M) (modules more : List M) → IsVisited modules referrer → IsVisited (modules ++ more) referrer
     visited_still the_page modules more is = tt
     visited_still (a_module m) modules more is = Contains-append_left modules more m is
 
-    followed_later : (referrer : Referrer M) (some : List (List ℕ)) (before after : B) → IsVisited (rules.modules before) referrer → outcome answers (followed rules before referrer some) ≡ Ok after → Later before after
-    followed_later referrer [] before after is e = let same : before ≡ after = cc in subst (Later before) same (record { holds = λ h. h; stays = λ other earlier l. l })
-    followed_later referrer (specifier ∷ more) before after is e =
+    followed_later : (referrer : Referrer M) (some : List (List ℕ)) (before after : B) → IsVisited (rules.modules before) referrer → AreRequests referrer some → outcome answers (followed rules before referrer some) ≡ Ok after → Later before after
+    followed_later referrer [] before after is are e = let same : before ≡ after = cc in subst (Later before) same (record { holds = λ h. h; stays = λ other earlier l. l })
+    followed_later referrer (specifier ∷ more) before after is are e =
         let parts = ok_parts answers (rules.follows before referrer specifier) (λ next. followed rules next referrer more) after e in
         let one = by.follows before referrer specifier parts.value parts.first_is in
         let still : IsVisited (rules.modules parts.value) referrer = subst (λ ms. IsVisited ms referrer) (sym one.2) (visited_still referrer (rules.modules before) _ is) in
-        let rest = followed_later referrer more parts.value after still parts.next_is in
+        let rest = followed_later referrer more parts.value after still (λ s c. are s (contains_there s specifier more c)) parts.next_is in
         record {
-          holds = λ h. rest.holds (keeps.follows before referrer specifier parts.value is h parts.first_is);
+          holds = λ h. rest.holds (keeps.follows before referrer specifier parts.value is (are specifier (contains_here specifier more)) h parts.first_is);
           stays = λ other earlier l. rest.stays other earlier (keeps.stays before referrer specifier parts.value parts.first_is other earlier l);
         }
 
-    followed_leaves : (referrer : Referrer M) (some : List (List ℕ)) (before after : B) → IsVisited (rules.modules before) referrer → outcome answers (followed rules before referrer some) ≡ Ok after → (specifier : List ℕ) → Contains some specifier → Leaves referrer specifier after
-    followed_leaves referrer [] before after is e specifier c = absurd (contains_none specifier c)
-    followed_leaves referrer (first ∷ more) before after is e specifier c =
+    followed_leaves : (referrer : Referrer M) (some : List (List ℕ)) (before after : B) → IsVisited (rules.modules before) referrer → AreRequests referrer some → outcome answers (followed rules before referrer some) ≡ Ok after → (specifier : List ℕ) → Contains some specifier → Leaves referrer specifier after
+    followed_leaves referrer [] before after is are e specifier c = absurd (contains_none specifier c)
+    followed_leaves referrer (first ∷ more) before after is are e specifier c =
+        let behind : AreRequests referrer more = λ s c. are s (contains_there s first more c) in
         let parts = ok_parts answers (rules.follows before referrer first) (λ next. followed rules next referrer more) after e in
         let one = by.follows before referrer first parts.value parts.first_is in
         let still : IsVisited (rules.modules parts.value) referrer = subst (λ ms. IsVisited ms referrer) (sym one.2) (visited_still referrer (rules.modules before) _ is) in
         elim (contains_cases specifier first more c) [
-          | inl same ↦ (followed_later referrer more parts.value after still parts.next_is).stays referrer specifier (subst (λ s. Leaves referrer s parts.value) same (keeps.leaves before referrer first parts.value parts.first_is))
-          | inr later ↦ followed_leaves referrer more parts.value after still parts.next_is specifier later
+          | inl same ↦ (followed_later referrer more parts.value after still behind parts.next_is).stays referrer specifier (subst (λ s. Leaves referrer s parts.value) same (keeps.leaves before referrer first parts.value parts.first_is))
+          | inr later ↦ followed_leaves referrer more parts.value after still behind parts.next_is specifier later
         ]
 
     record Visit (before after : B) (referrer : Referrer M) : Type 0 where
@@ -71,11 +76,12 @@ module _ {M B R Q : Type 0} {A : Q → Type 0} (answers : (question : Q) → A q
         let parts = ok_parts answers (rules.opens before referrer) (λ opened. followed rules opened.after referrer opened.specifiers) after e in
         let opened = by.opens before referrer parts.value parts.first_is in
         let still : IsVisited (rules.modules parts.value.after) referrer = subst (λ ms. IsVisited ms referrer) (sym opened.1) is in
+        let are : AreRequests referrer parts.value.specifiers = λ s c. subst (λ some. Contains some s) opened.0 c in
         record {
           later = later_then before parts.value.after after (record { holds = keeps.opens before referrer parts.value parts.first_is; stays = keeps.still before referrer parts.value parts.first_is })
-              (followed_later referrer parts.value.specifiers parts.value.after after still parts.next_is);
+              (followed_later referrer parts.value.specifiers parts.value.after after still are parts.next_is);
           opened = (parts.value, parts.first_is);
-          leaves = λ specifier c. followed_leaves referrer parts.value.specifiers parts.value.after after still parts.next_is specifier (subst (λ some. Contains some specifier) (sym opened.0) c);
+          leaves = λ specifier c. followed_leaves referrer parts.value.specifiers parts.value.after after still are parts.next_is specifier (subst (λ some. Contains some specifier) (sym opened.0) c);
         }
 
     -- a referrer was visited over some tables, and its requests left what they leave

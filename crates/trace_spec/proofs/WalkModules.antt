@@ -1,5 +1,5 @@
 -- The modules that a walk comes to, by one step of its rules: a request puts its target at the end of the table, where it isn't there yet.
-use Rattle.std.specs.Prelude.{◌≡◌, ◌↔◌, ℕ, zero, suc, true, List, [], ◌∷◌, ◌++◌, slice_get, length, Option, Some, None, Result, Ok, Err, filter_map, Contains}
+use Rattle.std.specs.Prelude.{◌≡◌, ◌↔◌, ℕ, zero, suc, true, List, [], ◌∷◌, ◌++◌, slice_get, length, Option, Some, None, Result, Ok, filter_map, Contains}
 use Rattle.std.specs.List.{cons_option}
 use Rattle.std.proofs.Common.{refl, sym, ap, ◌∙◌, subst, arith, append_assoc, append-nil, length-append}
 use Rattle.asking_spec.specs.Askings.{Asking, answered, outcome, and_ok}

@@ -1,7 +1,7 @@
 -- The order of a walk: what is asked, and which requests are put into the tables, referrer by referrer.
-use Rattle.std.specs.Prelude.{◌≡◌, ◌+◌, ℕ, zero, suc, List, [], ◌∷◌, ◌++◌, map, flat_map, slice_get, length, Option, Some, None, Result, Ok, Err}
-use Rattle.std.proofs.Common.{refl, sym, ap, ◌∙◌, subst, arith, append_assoc, append-nil, length-append}
-use Rattle.asking_spec.specs.Askings.{Asking, answered, outcome, questions, on_ok, and_ok}
+use Rattle.std.specs.Prelude.{◌≡◌, ℕ, zero, suc, List, [], ◌∷◌, ◌++◌, map, flat_map, slice_get, length, Option, Some, None, Ok}
+use Rattle.std.proofs.Common.{refl, sym, ap, ◌∙◌, subst, arith, append_assoc, length-append}
+use Rattle.asking_spec.specs.Askings.{outcome, questions}
 use Rattle.asking_spec.proofs.AskingLemmas.{ok_parts, questions_ok}
 use Rattle.trace_spec.specs.Walking.{Referrer, the_page, a_module, Opened, Rules, new_modules, followed, visited, walked, walk}
 use Rattle.trace_spec.proofs.WalkModules.{slice_there, next_visit, LeadsBy, targets_by, visited_modules}
@@ -31,11 +31,11 @@ module _ {M B R Q L : Type 0} {A : Q → Type 0} (answers : (question : Q) → A
     pub asked : questions answers (walk rules) ≡ asked_by (the_page ∷ map a_module (rules.modules all))
 
   module _ (leads_by : LeadsBy answers rules specifiers leads) (puts : PutsBy) where
-    record Followed (before after : B) (asked all : List Q) : Type 0 where
-      is : after ≡ before
-      are_asked : all ≡ asked
+    pub record Followed (before after : B) (asked all : List Q) : Type 0 where
+      pub is : after ≡ before
+      pub are_asked : all ≡ asked
 
-    in_order : (referrer : Referrer M) (some : List (List ℕ)) (before after : B) → outcome answers (followed rules before referrer some) ≡ Ok after → Followed (all_in put before (map (link referrer) some)) after (map (asking referrer) some) (questions answers (followed rules before referrer some))
+    pub in_order : (referrer : Referrer M) (some : List (List ℕ)) (before after : B) → outcome answers (followed rules before referrer some) ≡ Ok after → Followed (all_in put before (map (link referrer) some)) after (map (asking referrer) some) (questions answers (followed rules before referrer some))
     in_order referrer [] before after e = let same : before ≡ after = cc in record { is = sym same; are_asked = refl }
     in_order referrer (specifier ∷ more) before after e =
         let parts = ok_parts answers (rules.follows before referrer specifier) (λ next. followed rules next referrer more) after e in
@@ -46,7 +46,7 @@ module _ {M B R Q L : Type 0} {A : Q → Type 0} (answers : (question : Q) → A
           are_asked = questions_ok answers (rules.follows before referrer specifier) (λ next. followed rules next referrer more) parts.value parts.first_is ∙ (λ i. one.1 i ++ rest.are_asked i);
         }
 
-    visit_in_order : (referrer : Referrer M) (before after : B) → outcome answers (visited rules before referrer) ≡ Ok after → Followed (visit_put before referrer) after (opening referrer ++ map (asking referrer) (specifiers referrer)) (questions answers (visited rules before referrer))
+    pub visit_in_order : (referrer : Referrer M) (before after : B) → outcome answers (visited rules before referrer) ≡ Ok after → Followed (visit_put before referrer) after (opening referrer ++ map (asking referrer) (specifiers referrer)) (questions answers (visited rules before referrer))
     visit_in_order referrer before after e =
         let parts = ok_parts answers (rules.opens before referrer) (λ o. followed rules o.after referrer o.specifiers) after e in
         let opened = puts.opens before referrer parts.value parts.first_is in

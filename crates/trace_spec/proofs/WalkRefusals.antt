@@ -1,12 +1,12 @@
 -- A walk ends with the tables of all its visits, or fails as the first visit that fails.
-use Rattle.std.specs.Prelude.{◌≡◌, ◌≤◌, ◌<◌, ◌+◌, ◌-◌, ◌↔◌, ℕ, zero, suc, List, [], ◌∷◌, ◌++◌, slice_get, length, Option, Some, None, Result, Ok, Err}
+use Rattle.std.specs.Prelude.{◌≡◌, ◌≤◌, ◌+◌, ◌-◌, ◌↔◌, ℕ, zero, suc, List, [], ◌∷◌, ◌++◌, slice_get, length, Option, Some, None, Result, Ok, Err}
 use Rattle.std.proofs.Common.{refl, sym, ap, ◌∙◌, subst, arith}
 use Rattle.std.proofs.lemmas.Option.{slice_get_within}
 use Rattle.asking_spec.specs.Askings.{Asking, answered, on_ok, and_ok}
 use Rattle.asking_spec.specs.Evaluation.{Ended, ends, stopped, then_ended, Answers, evaluated}
 use Rattle.asking_spec.proofs.EvaluationLemmas.{evaluated_then, ends_then, refused_then, stopped_then}
 use Rattle.trace_spec.specs.Walking.{Referrer, the_page, a_module, Opened, Rules, followed, visited, where_some, walked, walk}
-use Rattle.trace_spec.specs.FirstRefusals.{Failure, refused, halted, failed, Passed, page_passes, next_passes, Comes, page_first, module_next, AllPassed, FailsIn, opening, request, FirstFailure}
+use Rattle.trace_spec.specs.FirstRefusals.{Failure, refused, halted, failed, Passed, page_passes, next_passes, Comes, page_first, module_next, AllPassed, FailsIn, by_opening, by_request, FirstFailure}
 
 -- ---- one asking behind another
 
@@ -111,14 +111,14 @@ module _ {M B R Q T S : Type 0} {A : Q → Type 0} (answers : Answers T S Q A) (
   visit_fails before state referrer why after e = by (fails_of answers state (rules.opens before referrer) (λ opened. followed rules opened.after referrer opened.specifiers) why after e)
     where
       by : Fails (evaluated answers state (rules.opens before referrer)) (λ opened t. evaluated answers t (followed rules opened.after referrer opened.specifiers)) why after → FailsIn answers rules begun before state referrer why after
-      by (at_once f) = opening f
+      by (at_once f) = by_opening f
       by (later opened middle f g) =
           let at = request_fails referrer opened.specifiers opened.after middle why after g in
-          request opened middle at.front at.specifier at.behind at.tables at.later_state f at.split at.pass at.fails
+          by_request opened middle at.front at.specifier at.behind at.tables at.later_state f at.split at.pass at.fails
 
   visit_failed : (before : B) (state : T) (referrer : Referrer M) (why : Failure R S) (after : T) → FailsIn answers rules begun before state referrer why after → evaluated answers state (visited rules before referrer) ≡ failed why after
-  visit_failed before state referrer why after (opening f) = failed_then answers state (rules.opens before referrer) (λ opened. followed rules opened.after referrer opened.specifiers) why after f
-  visit_failed before state referrer why after (request opened middle front specifier behind tables later_state f split pass fails) =
+  visit_failed before state referrer why after (by_opening f) = failed_then answers state (rules.opens before referrer) (λ opened. followed rules opened.after referrer opened.specifiers) why after f
+  visit_failed before state referrer why after (by_request opened middle front specifier behind tables later_state f split pass fails) =
       ends_then answers state middle (rules.opens before referrer) (λ o. followed rules o.after referrer o.specifiers) opened f
       ∙ (ap (λ some. evaluated answers middle (followed rules opened.after referrer some)) split ∙ request_failed referrer front specifier behind opened.after middle tables later_state why after pass fails)
 
@@ -134,10 +134,10 @@ module _ {M B R Q T S : Type 0} {A : Q → Type 0} (answers : Answers T S Q A) (
     pub opens : (before : B) (state : T) (referrer : Referrer M) (opened : Opened B) (after : T) → evaluated answers state (rules.opens before referrer) ≡ ends (Ok opened) after → Grows before opened.after
     pub follows : (before : B) (state : T) (referrer : Referrer M) (specifier : List ℕ) (after : B) (later_state : T) → evaluated answers state (rules.follows before referrer specifier) ≡ ends (Ok after) later_state → Grows before after
 
-  visit_step : (room : ℕ) (before : B) (place : ℕ) (m : M) → slice_get (rules.modules before) place ≡ Some m → walked rules (suc room) before place ≡ and_ok (visited rules before (a_module m)) (λ after. walked rules room after (suc place))
+  pub visit_step : (room : ℕ) (before : B) (place : ℕ) (m : M) → slice_get (rules.modules before) place ≡ Some m → walked rules (suc room) before place ≡ and_ok (visited rules before (a_module m)) (λ after. walked rules room after (suc place))
   visit_step room before place m is = ap (where_some (answered (Ok before)) (λ n. and_ok (visited rules before (a_module n)) (λ after. walked rules room after (suc place)))) is
 
-  last_step : (room : ℕ) (before : B) (place : ℕ) → slice_get (rules.modules before) place ≡ None → walked rules (suc room) before place ≡ answered (Ok before)
+  pub last_step : (room : ℕ) (before : B) (place : ℕ) → slice_get (rules.modules before) place ≡ None → walked rules (suc room) before place ≡ answered (Ok before)
   last_step room before place is = ap (where_some (answered (Ok before)) (λ n. and_ok (visited rules before (a_module n)) (λ after. walked rules room after (suc place)))) is
 
   module _ (keeps : KeepsFew) where
@@ -158,11 +158,11 @@ module _ {M B R Q T S : Type 0} {A : Q → Type 0} (answers : Answers T S Q A) (
         let parts = values_of answers state (rules.opens before referrer) (λ opened. followed rules opened.after referrer opened.specifiers) after later_state e in
         then_grows before parts.value.after after (keeps.opens before state referrer parts.value parts.middle parts.first_is) (followed_grows referrer parts.value.specifiers parts.value.after parts.middle after later_state parts.next_is)
 
-    record Few (before : B) (count : ℕ) : Type 0 where
-      within : count ≤ length (rules.modules before)
-      few : length (rules.modules before) ≤ rules.most
+    pub record Few (before : B) (count : ℕ) : Type 0 where
+      pub within : count ≤ length (rules.modules before)
+      pub few : length (rules.modules before) ≤ rules.most
 
-    passed_few : (before : B) (state : T) (count : ℕ) → Passed answers rules begun before state count → Few before count
+    pub passed_few : (before : B) (state : T) (count : ℕ) → Passed answers rules begun before state count → Few before count
     passed_few before state count (page_passes passes) = record { within = omega arith; few = (visited_grows the_page rules.start begun before state passes).few (let none = ap length keeps.starts in omega (arith, none)) }
     passed_few before state count (next_passes {before = earlier} {after = a} {state = s} {later = l} {count = n} {found = m} passed is passes) =
         let few = passed_few earlier s n passed in

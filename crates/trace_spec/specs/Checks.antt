@@ -3,7 +3,7 @@
 --     opens config before referrer               the page can be served; a module has a text of the form
 --     follows config before referrer specifier   what the request asks for; where Node leads it; the name of what it leads to; that it
 --                                                clashes with no need before it; the number of modules
-use Rattle.std.specs.Prelude.{◌&&◌, ◌||◌, not, ◌+◌, ℕ, Bool, List, [], ◌∷◌, ◌++◌, length, bytes_eq, nat_lt, Option, Some, None, Result, Ok, Err, if◌then◌else◌}
+use Rattle.std.specs.Prelude.{◌||◌, ◌+◌, ℕ, Bool, List, [], ◌∷◌, ◌++◌, length, nat_lt, Option, Some, None, Result, Ok, Err, if◌then◌else◌}
 use Rattle.std.specs.List.{list_any}
 use Rattle.asking_spec.specs.Askings.{Asking, answered, ask}
 use Rattle.tree_spec.specs.declared.LimitName.TheVariants.{Modules}
@@ -22,8 +22,8 @@ use Rattle.trace_spec.specs.Walking.{Referrer, the_page, a_module, new_modules, 
 use Rattle.trace_spec.specs.Modules.{Config, Module, is_module, path_of, web_name, shown, served_name, file_name}
 use Rattle.trace_spec.specs.Questions.{Source, Question, of_module, of_request, Answer}
 
--- own: the modules that were asked for and the needs, each once at its first place; the sources of those modules that had their visits; and the
--- number of requests
+-- own: the modules that were asked for and the needs, each once at its first place; the sources of the modules whose visits were opened, in
+-- the order of the modules; and the number of requests
 pub record Before : Type 0 where
   pub modules : List Module
   pub sources : List Source

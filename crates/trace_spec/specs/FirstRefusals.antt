@@ -6,7 +6,7 @@
 --     AllPassed all state            all visits pass
 --     FailsIn before state referrer why after      this visit fails, by its opening or by the first request that doesn't pass
 --     FirstFailure why after         the visits before one pass, and that one fails
-use Rattle.std.specs.Prelude.{◌≡◌, ℕ, suc, List, [], ◌∷◌, ◌++◌, slice_get, Some, None, Result, Ok, Err}
+use Rattle.std.specs.Prelude.{◌≡◌, ℕ, suc, List, ◌∷◌, ◌++◌, slice_get, Some, None, Result, Ok, Err}
 use Rattle.asking_spec.specs.Evaluation.{Ended, ends, stopped, Answers, evaluated}
 use Rattle.trace_spec.specs.Walking.{Referrer, the_page, a_module, Opened, Rules, followed, visited}
 
@@ -34,8 +34,8 @@ module _ {M B R Q T S : Type 0} {A : Q → Type 0} (answers : Answers T S Q A) (
     pub none_left : slice_get (rules.modules all) count ≡ None
 
   pub data FailsIn (before : B) (state : T) (referrer : Referrer M) (why : Failure R S) (after : T) : Type 0 where
-    opening : evaluated answers state (rules.opens before referrer) ≡ failed why after → FailsIn before state referrer why after
-    request : (opened : Opened B) (middle : T) (front : List (List ℕ)) (specifier : List ℕ) (behind : List (List ℕ)) (tables : B) (later : T) → evaluated answers state (rules.opens before referrer) ≡ ends (Ok opened) middle → opened.specifiers ≡ front ++ specifier ∷ behind
+    by_opening : evaluated answers state (rules.opens before referrer) ≡ failed why after → FailsIn before state referrer why after
+    by_request : (opened : Opened B) (middle : T) (front : List (List ℕ)) (specifier : List ℕ) (behind : List (List ℕ)) (tables : B) (later : T) → evaluated answers state (rules.opens before referrer) ≡ ends (Ok opened) middle → opened.specifiers ≡ front ++ specifier ∷ behind
         → evaluated answers middle (followed rules opened.after referrer front) ≡ ends (Ok tables) later → evaluated answers later (rules.follows tables referrer specifier) ≡ failed why after → FailsIn before state referrer why after
 
   pub record FirstFailure (why : Failure R S) (after : T) : Type 0 where

@@ -1,24 +1,27 @@
 -- The laws of traces. Each is the contract of a function of this crate.
-use Rattle.std.specs.Prelude.{◌≡◌, ◌≤◌, ◌↔◌, ◌++◌, ℕ, true, false, List, [], ◌∷◌, length, map, flat_map, slice_get, Option, Some, Ok, Err, Contains, unwrap_or}
-use Rattle.asking_spec.specs.Askings.{questions}
+use Rattle.std.specs.Prelude.{◌≡◌, ◌≤◌, ◌↔◌, ◌++◌, ℕ, true, false, List, [], ◌∷◌, length, map, flat_map, slice_get, Option, Some, None, Result, Ok, Err, Contains, unwrap_or, codes}
+use Rattle.asking_spec.specs.Askings.{Asking, questions}
+use Rattle.asking_spec.specs.Evaluation.{evaluated, Asked, listed}
+use Rattle.tree_spec.specs.declared.Entry.TheVariants.{Stored}
 use Rattle.tree_spec.specs.declared.LimitName.{LimitName}
 use Rattle.tree_spec.specs.declared.LimitName.TheVariants.{Modules}
 use Rattle.tree_spec.specs.Limits.{limit_number}
 use Rattle.tree_spec.specs.LookAskings.{Sights}
 use Rattle.url_spec.specs.Specifiers.{ends_in_slash}
 use Rattle.url_spec.specs.Specifiers.{is_relative, as_url}
+use Rattle.module_spec.specs.PlainForm.{Requests}
 use Rattle.node_spec.specs.Resolution as node
 use Rattle.layout_spec.specs.declared.Need.{Need}
 use Rattle.layout_spec.specs.Needs.{NoClash}
 use Rattle.trace_spec.specs.declared.TraceFault.{TraceFault}
 use Rattle.trace_spec.specs.declared.TraceFault.TheVariants.{Limit}
-use Rattle.trace_spec.specs.Walking.{Referrer, the_page, a_module}
+use Rattle.trace_spec.specs.Walking.{Referrer, the_page, a_module, Opened, Rules, followed, walk}
 use Rattle.trace_spec.specs.Levels.{Levels}
-use Rattle.trace_spec.specs.FirstRefusals.{Failure, refused, halted, AllPassed, FirstFailure}
+use Rattle.trace_spec.specs.FirstRefusals.{Failure, refused, halted, Comes, AllPassed, FirstFailure}
 use Rattle.trace_spec.specs.Modules.{Config, Module, is_module, path_of, web_name, IsServable, file_name}
-use Rattle.trace_spec.specs.Questions.{Source, Question, of_module, of_request, Trail, answers, always}
-use Rattle.trace_spec.specs.Checks.{Before, with_source, with_request, begun, rules}
-use Rattle.trace_spec.specs.Traces.{trace, traced, source, requests, specifiers, resolution, leads, targets, Reachable}
+use Rattle.trace_spec.specs.Questions.{Source, Question, of_module, of_request, Answer, Trail, answers, always}
+use Rattle.trace_spec.specs.Checks.{Before, with_source, opens, Wanted, wanted, with_request, follows, begun, rules}
+use Rattle.trace_spec.specs.Traces.{trace, result_of, state_of, traced, source, requests, specifiers, resolution, leads, targets, Reachable}
 
 -- the modules of a trace are its levels, one behind another
 abbrev pub HasLevels : Type 0
@@ -58,11 +61,27 @@ pub record Decides (sights : Sights) (config : Config) : Type 0 where
 abbrev pub FirstRefusalDecides : Type 0
 FirstRefusalDecides = (sights : Sights) (config : Config) → Decides sights config
 
--- ---- the order
+-- ---- room for the visits
 
-pub record Request : Type 0 where
-  pub referrer : Referrer Module
-  pub specifier : List ℕ
+-- the rules with another refusal where the room of a walk is used up
+abbrev pub with_above : {M B R Q : Type 0} {A : Q → Type 0} → Rules M B R Q A → R → Rules M B R Q A
+with_above rules above = record {
+  same = rules.same;
+  start = rules.start;
+  modules = rules.modules;
+  most = rules.most;
+  above = above;
+  opens = rules.opens;
+  follows = rules.follows;
+}
+
+-- the room of a walk is never used up: whatever were refused there, the walk of a config would come to the same
+abbrev pub NeverOutOfRoom : Type 0
+NeverOutOfRoom =
+    (sights : Sights) (config : Config) (above : TraceFault)
+    → evaluated (answers sights) tt (walk (with_above (rules config) above)) ≡ evaluated (answers sights) tt (trace config)
+
+-- ---- the order
 
 abbrev pub no_module : Module
 no_module = record { path = []; suffix = [] }
@@ -70,21 +89,30 @@ no_module = record { path = []; suffix = [] }
 abbrev pub no_source : Source
 no_source = record { bytes = []; specifiers = [] }
 
-abbrev pub target_of : Sights → Config → Request → Module
-target_of sights config request = unwrap_or (leads sights config request.referrer request.specifier) no_module
+-- where a request leads
+abbrev pub target_of : Sights → Config → Referrer Module → List ℕ → Module
+target_of sights config referrer specifier = unwrap_or (leads sights config referrer specifier) no_module
 
 -- what a request needs
-abbrev pub need_of : Sights → Config → Request → Need
-need_of sights config request =
-    let name = unwrap_or (web_name config request.referrer) [] in
-    record { referrer = name; asked = unwrap_or (as_url name request.specifier) []; target = unwrap_or (file_name config (target_of sights config request)) [] }
+abbrev pub need_of : Sights → Config → Referrer Module → List ℕ → Need
+need_of sights config referrer specifier =
+    let name = unwrap_or (web_name config referrer) [] in
+    record {
+      referrer = name;
+      asked = unwrap_or (as_url name specifier) [];
+      target = unwrap_or (file_name config (target_of sights config referrer specifier)) [];
+    }
+
+-- a request is put into the tables
+abbrev pub request_put : Sights → Config → Before → Referrer Module → List ℕ → Before
+request_put sights config before referrer specifier =
+    with_request before (need_of sights config referrer specifier) (target_of sights config referrer specifier)
 
 -- requests of a referrer are put into the tables one after another
 abbrev pub requests_put : Sights → Config → Referrer Module → Before → List (List ℕ) → Before
 requests_put sights config referrer before [] = before
 requests_put sights config referrer before (specifier ∷ more) =
-    let request : Request = record { referrer = referrer; specifier = specifier } in
-    requests_put sights config referrer (with_request before (need_of sights config request) (target_of sights config request)) more
+    requests_put sights config referrer (request_put sights config before referrer specifier) more
 
 -- what the opening of a visit puts there
 abbrev pub opening_put : Sights → Before → Referrer Module → Before
@@ -118,6 +146,79 @@ pub record InOrder (sights : Sights) (config : Config) (all : Before) : Type 0 w
 abbrev pub GoesInOrder : Type 0
 GoesInOrder = (sights : Sights) (config : Config) (all : Before) → traced sights config ≡ Ok all → InOrder sights config all
 
+-- ---- the order of a refusal
+
+-- no question yet
+abbrev pub none_asked : Asked Trail Question
+none_asked = record { state = tt; asked = Some [] }
+
+-- the questions that were asked when a trace of a config ended, each at its place
+abbrev pub asked_by_end : Sights → Config → Option (List Question)
+asked_by_end sights config = (state_of (evaluated (listed (answers sights)) none_asked (trace config))).asked
+
+-- what a request asks: its question, if its specifier is of the form
+abbrev pub if_wanted : Question → Option Wanted → List Question
+if_wanted question None = []
+if_wanted question (Some want) = question ∷ []
+
+abbrev pub asked_for : Config → Referrer Module → List ℕ → List Question
+asked_for config referrer specifier = if_wanted (of_request (path_of config referrer) specifier) (wanted config referrer specifier)
+
+abbrev pub ComesTo : {X : Type 0} → Sights → Asking Question Answer (Result X TraceFault) → Result X TraceFault → Type 0
+ComesTo sights asking result = result_of (evaluated (answers sights) tt asking) ≡ result
+
+-- the opening of a visit passes, and so do the requests in front of this one, which is refused
+pub record RefusedRequest (sights : Sights) (config : Config) (before : Before) (referrer : Referrer Module) (refusal : TraceFault)
+    (front : List (List ℕ)) (specifier : List ℕ) : Type 0 where
+  pub behind : List (List ℕ)
+  pub split : specifiers sights config referrer ≡ front ++ specifier ∷ behind
+  pub opened : Opened Before
+  pub opens_so : ComesTo sights (opens config before referrer) (Ok opened)
+  pub tables : Before
+  pub tables_are : tables ≡ requests_put sights config referrer (opening_put sights before referrer) front
+  pub passed : ComesTo sights (followed (rules config) opened.after referrer front) (Ok tables)
+  pub refused : ComesTo sights (follows config tables referrer specifier) (Err refusal)
+
+-- where a visit is refused, and what was asked in it by then: what its opening asks, and then what the requests ask up to the one that is refused
+pub data RefusedAt (sights : Sights) (config : Config) (before : Before) (referrer : Referrer Module) (refusal : TraceFault) : List Question → Type 0 where
+  at_opening : ComesTo sights (opens config before referrer) (Err refusal) → RefusedAt sights config before referrer refusal (opening referrer)
+  at_request : (front : List (List ℕ)) (specifier : List ℕ) → RefusedRequest sights config before referrer refusal front specifier
+      → RefusedAt sights config before referrer refusal
+          (opening referrer ++ map (of_request (path_of config referrer)) front ++ asked_for config referrer specifier)
+
+-- these visits pass, the visit of this referrer comes next in the order of the tables, and is refused; what was asked are the questions of
+-- these visits, and then those of this one by then
+pub record RefusedInOrder (sights : Sights) (config : Config) (refusal : TraceFault) : Type 0 where
+  pub visits : List (Referrer Module)
+  pub referrer : Referrer Module
+  pub later : List (Referrer Module)
+  pub before : Before
+  pub tables : before ≡ visits_put sights config begun visits
+  pub in_order : visits_of before ≡ visits ++ referrer ∷ later
+  pub comes : Comes (answers sights) (rules config) tt before tt referrer
+  pub asked_last : List Question
+  pub refused : RefusedAt sights config before referrer refusal asked_last
+  pub asked : asked_by_end sights config ≡ Some (asked_in sights config visits ++ asked_last)
+
+-- a refusal comes at its place too
+abbrev pub RefusesInOrder : Type 0
+RefusesInOrder =
+    (sights : Sights) (config : Config) (refusal : TraceFault) → traced sights config ≡ Err refusal → RefusedInOrder sights config refusal
+
+-- ---- the sources
+
+-- a module has this source: its path ends in `.mjs`; a file with the source's bytes stands there; and these bytes are UTF-8, and a text of the
+-- plain form with the source's requests
+pub record HasSource (sights : Sights) (m : Module) (own : Source) : Type 0 where
+  pub stem : List ℕ
+  pub named : m.path ≡ stem ++ codes ".mjs"
+  pub stored : sights m.path ≡ Some (Stored own.bytes)
+  pub asks : Requests own.bytes own.specifiers
+
+-- what stands at a module's path decides its source
+abbrev pub SourcesAreRead : Type 0
+SourcesAreRead = (sights : Sights) (m : Module) (own : Source) → source sights m ≡ Some own ↔ HasSource sights m own
+
 -- ---- what a trace knows of its requests and needs
 
 -- a request went through its checks: it is relative, and asks for the URL of a file; Node answers it with a module that is served at its web
@@ -128,8 +229,10 @@ pub record Passes (sights : Sights) (config : Config) (all : Before) (referrer :
   pub named : web_name config referrer ≡ Some need.referrer
   pub relative : is_relative specifier ≡ true
   pub asks : as_url need.referrer specifier ≡ Some need.asked
+  pub asked_is_file : ends_in_slash need.asked ≡ false
   pub answers : resolution sights config referrer specifier ≡ node.Resolved target.path target.suffix
   pub servable : IsServable config target.path target.suffix need.target
+  pub is_name : file_name config target ≡ Some need.target
   pub is_need : Contains all.needs need
 
 -- whatever the page reaches has requests, and they all pass
@@ -141,15 +244,18 @@ pub record AllPass (sights : Sights) (config : Config) (all : Before) (referrer 
 abbrev pub RequestsPass : Type 0
 RequestsPass = (sights : Sights) (config : Config) (all : Before) → traced sights config ≡ Ok all → (referrer : Referrer Module) → Reachable sights config referrer → AllPass sights config all referrer
 
--- a need names no folder, neither by what it asks for nor by its target; its referrer is reached, and has that web name
+-- a need is that of a request of a referrer that is reached and has that web name: it is for what the request asks for, and names the module
+-- to which Node leads it; neither name is a folder's
 pub record IsNeed (sights : Sights) (config : Config) (need : Need) : Type 0 where
   pub referrer : Referrer Module
   pub reached : Reachable sights config referrer
   pub named : web_name config referrer ≡ Some need.referrer
   pub specifier : List ℕ
+  pub is_request : Contains (specifiers sights config referrer) specifier
   pub asks : as_url need.referrer specifier ≡ Some need.asked
   pub asked_is_file : ends_in_slash need.asked ≡ false
   pub target : Module
+  pub leads_there : leads sights config referrer specifier ≡ Some target
   pub is_name : file_name config target ≡ Some need.target
 
 -- the needs are those of requests of what is reached, and no two clash

@@ -4,7 +4,7 @@
 --     web_name config referrer   the URL at which it is served, before it is asked whether it is served there
 --     shown config referrer      its path and suffix, as they are shown to a user
 --     file_name config m         the web name of a module that is served there and is no folder's
-use Rattle.std.specs.Prelude.{◌≡◌, ◌&&◌, not, ℕ, Bool, List, [], ◌++◌, bytes_eq, Option, Some, None, if◌then◌else◌}
+use Rattle.std.specs.Prelude.{◌≡◌, ◌&&◌, ℕ, Bool, List, [], ◌++◌, bytes_eq, Option, Some, None, if◌then◌else◌}
 use Rattle.url_spec.specs.Specifiers.{ends_in_slash}
 use Rattle.url_spec.specs.WebNames.{web}
 use Rattle.url_spec.specs.ServedPaths.{IsServed}

@@ -5,7 +5,7 @@
 --     Trail                       what was looked at so far, as far as limits count it
 --     answers sights              the answers by what stands at each path; a file above its limit stops the walk
 --     always sights               the answers without limits
-use Rattle.std.specs.Prelude.{◌&&◌, ◌≤◌, ℕ, Bool, List, length, codes, nat_eq, nat_lt, Option, Some, None, if◌then◌else◌, ◌⊎◌}
+use Rattle.std.specs.Prelude.{◌&&◌, ℕ, List, length, codes, nat_eq, nat_lt, Option, Some, None, if◌then◌else◌, ◌⊎◌}
 use Rattle.std.specs.Str.{is_utf8}
 use Rattle.std.specs.List.{ends_with}
 use mathlib.Core.Logic.{inl, inr}

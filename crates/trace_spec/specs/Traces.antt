@@ -5,7 +5,7 @@
 --     requests sights config referrer      what a referrer asks for, if it is of the form
 --     targets sights config referrer       the modules that Node answers for these requests
 --     Reachable sights config referrer     the page reaches it by requests
-use Rattle.std.specs.Prelude.{◌≡◌, ℕ, List, [], Option, Some, None, Result, Ok, Err, filter_map, option_map, unwrap_or, if◌then◌else◌}
+use Rattle.std.specs.Prelude.{ℕ, List, [], Option, Some, None, Result, Err, filter_map, option_map, unwrap_or, if◌then◌else◌}
 use Rattle.asking_spec.specs.Askings.{Asking, outcome}
 use Rattle.asking_spec.specs.Evaluation.{Ended, ends, stopped, evaluated}
 use Rattle.tree_spec.specs.declared.LimitName.{LimitName}
@@ -18,7 +18,7 @@ use Rattle.trace_spec.specs.declared.TraceFault.TheVariants.{Limit}
 use Rattle.trace_spec.specs.Walking.{Referrer, the_page, a_module, walk}
 use Rattle.trace_spec.specs.Levels.{Reached}
 use Rattle.trace_spec.specs.Modules.{Config, Module, path_of}
-use Rattle.trace_spec.specs.Questions.{Source, Question, of_module, Answer, Trail, answers, always}
+use Rattle.trace_spec.specs.Questions.{Source, Question, of_module, Answer, answers, always}
 use Rattle.trace_spec.specs.Checks.{Before, rules}
 
 abbrev pub trace : Config → Asking Question Answer (Result Before TraceFault)

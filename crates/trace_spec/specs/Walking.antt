@@ -46,7 +46,7 @@ abbrev pub where_some : {M X : Type 0} → X → (M → X) → Option M → X
 where_some none some None = none
 where_some none some (Some found) = some found
 
--- own: with room for so many visits; that it is never used up is a law
+-- own: with room for so many visits; a law says that the walk of a config never uses it up
 abbrev pub walked : {M B R Q : Type 0} {A : Q → Type 0} → Rules M B R Q A → ℕ → B → ℕ → Asking Q A (Result B R)
 walked rules zero before place = answered (Err rules.above)
 walked rules (suc room) before place = where_some (answered (Ok before)) (λ found. and_ok (visited rules before (a_module found)) (λ after. walked rules room after (suc place))) (slice_get (rules.modules before) place)

@@ -2,7 +2,7 @@
 //! contracts of functions that do nothing.
 #![tactic(auto)]
 
-ghost use Rattle.trace_spec.specs.Laws.{HasLevels, IsWhatIsReached, ModulesOnce, FewModules, FirstRefusalDecides, GoesInOrder, RequestsPass, NeedsAreRequests};
+ghost use Rattle.trace_spec.specs.Laws.{HasLevels, IsWhatIsReached, ModulesOnce, FewModules, FirstRefusalDecides, NeverOutOfRoom, GoesInOrder, RefusesInOrder, SourcesAreRead, RequestsPass, NeedsAreRequests};
 
 use node_spec::Cause;
 use primitives::Text;
@@ -79,9 +79,24 @@ pub fn first_refusal_decides()
     ensures { FirstRefusalDecides }
 {}
 
+/// A trace never ends for want of room for its visits.
+pub fn never_out_of_room()
+    ensures { NeverOutOfRoom }
+{}
+
 /// The tables of a trace hold its requests in order, and each question is asked at its place.
 pub fn goes_in_order()
     ensures { GoesInOrder }
+{}
+
+/// The visits before the first refusal pass in order, and each question up to it is asked at its place.
+pub fn refuses_in_order()
+    ensures { RefusesInOrder }
+{}
+
+/// A module has a source exactly where a file stands at its path that is of the form.
+pub fn sources_are_read()
+    ensures { SourcesAreRead }
 {}
 
 /// Each request of whatever the page reaches passes its checks.
