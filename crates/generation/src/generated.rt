@@ -5,9 +5,10 @@ ghost use Rattle.layout_spec.specs.Layout as definition;
 ghost use Rattle.generation.specs.Generating.{Generating, IsMapOf};
 
 use map_flatten::{layout, mappings};
-use map_print::{Mappings, PrintFault, print_map};
+use map_print::{PrintFault, print_map};
 use primitives::Memory;
 use request_trace::{Config, Trace, trace};
+use scope_builder::Mappings;
 use std::alloc::{AllocError, Global};
 use trace_spec::TraceFault;
 use tree_model::Folder;
