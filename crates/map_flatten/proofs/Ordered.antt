@@ -14,30 +14,18 @@ use Rattle.std.proofs.lemmas.List.Elements.{All-head, All-tail}
 use Rattle.layout_spec.specs.declared.Need.{Need}
 use Rattle.layout_spec.specs.Layout.{scopes_onto, layout}
 use Rattle.scope_builder.specs.Keys.{InKeyOrder}
+use Rattle.scope_builder.proofs.KeyOrder.{sorted, entries_of, same_keys}
 use Rattle.scope_builder.specs.Lists.{address_entry, scope_entries, scope_entry, Lists}
 use Rattle.map_flatten.specs.Grouped.{Scope, addresses_of, scope_of, listed_scope}
 use Rattle.map_flatten.proofs.Updates.{mapped}
 
-both : (a b : Bool) → T a → T b → T (a && b)
-both true b p q = q
-both false b p q = absurd p
-
-below : {X Y : Type 0} (f : X → Y) (key : List ℕ) (es : List (List ℕ × X)) → AllByRecursion (λ k. slice_cmp nat_cmp key k ≡ Less) (map (λ e. e.0) es) → T (below_all (slice_cmp nat_cmp) key (mapped f es))
-below f key [] h = tt
-below f key (e ∷ es) h = both _ _ (subst (λ o. T (is_lt o)) (sym h.0) tt) (below f key es h.1)
-
-sorted : {X Y : Type 0} (f : X → Y) (es : List (List ℕ × X)) → InKeyOrder es → T (is_sorted (slice_cmp nat_cmp) (mapped f es))
-unfolding IsStrictlySortedBy
-sorted f [] h = tt
-sorted f (e ∷ es) h = both _ _ (below f e.0 es h.0) (sorted f es h.1)
-
 pub entries_mapped : {X Y : Type 0} (f : X → Y) (es : List (List ℕ × X)) → InKeyOrder es → entries (from_entries {R = slice_cmp nat_cmp} (mapped f es)) ≡ mapped f es
 entries_mapped f es h =
-    let t = sorted f es h in
+    let order : InKeyOrder (mapped f es) = subst (IsStrictlySortedBy (slice_cmp nat_cmp)) (sym (same_keys (λ e. (e.0, f e.1)) (λ e. refl) es)) h in
     ap entries
     (same_map nat_list_cmp_total (slice_cmp-IsAntisymmetric nat_cmp-IsAntisymmetric) (from_entries (mapped f es)) (from_sorted (mapped f es))
-    (λ q. get-from_entries nat_list_cmp_total (mapped f es) q ∙ sym (get-from_sorted (slice_cmp nat_cmp) (mapped f es) q t)))
-    ∙ entries-from_sorted (slice_cmp nat_cmp) (mapped f es) t
+    (λ q. get-from_entries nat_list_cmp_total (mapped f es) q ∙ sym (get-from_sorted (slice_cmp nat_cmp) (mapped f es) q (subst T (sym (sorted (mapped f es) order)) tt))))
+    ∙ entries_of (mapped f es) order
 
 scopes_listed : (es : List (List ℕ × Scope)) → All (λ scope. InKeyOrder scope.1) (map listed_scope es) → map scope_entries (map scope_of es) ≡ map scope_entry (map listed_scope es)
 scopes_listed [] each = refl
@@ -46,13 +34,9 @@ scopes_listed (e ∷ es) each =
     let later = All-tail (λ (scope : List ℕ × List (List ℕ × List ℕ)). InKeyOrder scope.1) (listed_scope e) (map listed_scope es) each in
     λ i. (e.0, entries_mapped Some e.1.entries here i) ∷ scopes_listed es later i
 
-same_keys : (es : List (List ℕ × Scope)) → map (λ e. e.0) (map listed_scope es) ≡ map (λ e. e.0) es
-same_keys [] = refl
-same_keys (e ∷ es) = ap (λ (ks : List (List ℕ)). e.0 ∷ ks) (same_keys es)
-
 pub lists : (grouped : List (List ℕ × Scope)) (imports : List (List ℕ × List ℕ)) (scopes : List (List ℕ × List (List ℕ × List ℕ))) (needs : List Need) → imports ≡ [] → from_entries (map scope_of grouped) ≡ scopes_onto empty needs → scopes ≡ map listed_scope grouped → InKeyOrder scopes → All (λ scope. InKeyOrder scope.1) scopes → Lists (record { imports = imports; scopes = scopes }) [] (layout needs)
 lists grouped imports scopes needs none wanted are in_order each =
-    let keys : InKeyOrder grouped = subst (IsStrictlySortedBy (slice_cmp nat_cmp)) (same_keys grouped) (subst InKeyOrder are in_order) in
+    let keys : InKeyOrder grouped = subst (IsStrictlySortedBy (slice_cmp nat_cmp)) (same_keys listed_scope (λ e. refl) grouped) (subst InKeyOrder are in_order) in
     record {
       imports = no_entries (Option (List ℕ)) ∙ ap (map address_entry) (sym none);
       scopes = ap (λ m. map scope_entries (entries m)) (sym wanted)
@@ -76,7 +60,7 @@ front_in_order front later whole e h =
     front_sorted (map (λ p. p.0) front) (map (λ p. p.0) later) (subst (IsStrictlySortedBy (slice_cmp nat_cmp)) (map-append (λ p. p.0) front later) (subst InKeyOrder (sym e) h))
 
 pub listed_in_order : (es : List (List ℕ × Scope)) → InKeyOrder es → InKeyOrder (map listed_scope es)
-listed_in_order es h = subst (IsStrictlySortedBy (slice_cmp nat_cmp)) (sym (same_keys es)) h
+listed_in_order es h = subst (IsStrictlySortedBy (slice_cmp nat_cmp)) (sym (same_keys listed_scope (λ e. refl) es)) h
 
 -- the scope that is listed next
 pub next_listed : (done : List (List ℕ × List (List ℕ × List ℕ))) (left more : List (List ℕ × Scope)) (referrer : List ℕ) (scope : Scope) (mappings : List (List ℕ × List ℕ)) {all : List (List ℕ × List (List ℕ × List ℕ))} → done ++ map listed_scope left ≡ all → left ≡ (referrer, scope) ∷ more → mappings ≡ scope.entries → (done ++ (referrer, mappings) ∷ []) ++ map listed_scope more ≡ all

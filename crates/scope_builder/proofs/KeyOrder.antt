@@ -1,5 +1,5 @@
 -- Lists in key order are the entries of a map.
-use Rattle.std.specs.Prelude.{◌≡◌, ℕ, Bool, true, false, ◌&&◌, T, List, [], ◌∷◌, map}
+use Rattle.std.specs.Prelude.{◌≡◌, ℕ, Bool, true, false, ◌&&◌, T, List, [], ◌∷◌, ◌++◌, map}
 use Rattle.std.proofs.Common.{refl, sym, ap, ◌∙◌, subst}
 use Rattle.std.specs.List.{AllByRecursion}
 use Rattle.std.specs.List.Sorted.{IsStrictlySortedBy}
@@ -17,6 +17,11 @@ pub none_in_order : IsStrictlySortedBy (slice_cmp nat_cmp) []
 unfolding IsStrictlySortedBy
 none_in_order = tt
 
+-- a list that begins is in order
+pub first_in_order : {V : Type 0} (before : List (List ℕ × V)) (pair : List ℕ × V) → before ≡ [] → InKeyOrder (before ++ pair ∷ [])
+unfolding IsStrictlySortedBy
+first_in_order before pair none = subst (λ pairs. InKeyOrder (pairs ++ pair ∷ [])) (sym none) (tt, tt)
+
 and_true : (a b : Bool) → a ≡ true → b ≡ true → (a && b) ≡ true
 and_true true b p q = q
 and_true false b p q = absurd (cc)
@@ -26,7 +31,7 @@ module _ {X : Type 0} where
   below_rest key [] all = refl
   below_rest key (e ∷ es) all = and_true _ _ (ap is_lt all.0) (below_rest key es all.1)
 
-  sorted : (es : List (List ℕ × X)) → InKeyOrder es → is_sorted (slice_cmp nat_cmp) es ≡ true
+  pub sorted : (es : List (List ℕ × X)) → InKeyOrder es → is_sorted (slice_cmp nat_cmp) es ≡ true
   unfolding IsStrictlySortedBy
   sorted [] order = refl
   sorted (e ∷ es) order = and_true _ _ (below_rest e.0 es order.0) (sorted es order.1)
@@ -36,7 +41,7 @@ module _ {X : Type 0} where
   entries_of es order = entries-from_sorted (slice_cmp nat_cmp) es (subst T (sym (sorted es order)) tt)
 
 -- what stands at a key may change, and the keys are the same
-same_keys : {X Y : Type 0} (f : List ℕ × X → List ℕ × Y) → ((pair : List ℕ × X) → (f pair).0 ≡ pair.0) → (pairs : List (List ℕ × X)) → keys_of (map f pairs) ≡ keys_of pairs
+pub same_keys : {X Y : Type 0} (f : List ℕ × X → List ℕ × Y) → ((pair : List ℕ × X) → (f pair).0 ≡ pair.0) → (pairs : List (List ℕ × X)) → keys_of (map f pairs) ≡ keys_of pairs
 same_keys f same [] = refl
 same_keys f same (pair ∷ more) = λ i. same pair i ∷ same_keys f same more i
 

@@ -1,1 +1,1 @@
-mod KeyOrder
+pub mod KeyOrder
