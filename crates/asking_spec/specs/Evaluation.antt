@@ -1,4 +1,5 @@
--- Askings whose answers see a state and change it, as looks change what was looked at, and may stop the asking, as a limit does.
+-- Askings whose answers see a state and change it, as looks change what was looked at, and may stop the asking, as a
+-- limit does.
 --     Ended X T S                       a value `X` or a stop `S`, with the state `T` behind it
 --     Answers T S Q A                   the answer to each question, or what stops it, in each state
 --     evaluated answers state asking    what the asking comes to, begun in a state
@@ -20,12 +21,16 @@ abbrev pub then_ended : {X Y T S : Type 0} → Ended X T S → (X → T → Ende
 then_ended (ends value state) next = next value state
 then_ended (stopped stop state) next = stopped stop state
 
-abbrev pub evaluated : {T S Q : Type 0} {A : Q → Type 0} {X : Type 0} → Answers T S Q A → T → Asking Q A X → Ended X T S
+abbrev pub evaluated : {T S Q : Type 0} {A : Q → Type 0} {X : Type 0} → Answers T S Q A → T → Asking Q A X
+    → Ended X T S
 evaluated answers state (answered value) = ends value state
-evaluated answers state (ask question next) = then_ended (answers state question) (λ answer after. evaluated answers after (next answer))
+evaluated answers state (ask question next) =
+    then_ended (answers state question) (λ answer after. evaluated answers after (next answer))
 
 abbrev pub AreAlways : {T S Q : Type 0} {A : Q → Type 0} → Answers T S Q A → ((question : Q) → A question) → Type 0
-AreAlways {T} {S} {Q} {A} answers always = (state after : T) (question : Q) (answer : A question) → answers state question ≡ ends answer after → answer ≡ always question
+AreAlways {T} {S} {Q} {A} answers always =
+    (state after : T) (question : Q) (answer : A question) → answers state question ≡ ends answer after
+    → answer ≡ always question
 
 -- ---- the list of questions
 

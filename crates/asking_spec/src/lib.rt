@@ -1,6 +1,6 @@
-//! Askings: what asks questions one after another and goes on by their answers. Definitions and laws alone: each function here is
-//! empty, and its contract is a law, for all types of questions, values, states and stops, and for all types of answers, which may go by
-//! the question.
+//! Askings: what asks questions one after another and goes on by their answers. Definitions and laws alone: each
+//! function here is empty, and its contract is a law, for all types of questions, values, states and stops, and for
+//! all types of answers, which may go by the question.
 #![tactic(auto)]
 
 ghost use Rattle.asking_spec.specs.Laws.{OutcomeThen, QuestionsThen, EvaluatedThen, EvaluatedThrough};

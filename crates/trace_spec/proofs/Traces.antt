@@ -1,5 +1,6 @@
 -- The laws of a config's trace, by what its steps do.
-use Rattle.std.specs.Prelude.{◌≡◌, ◌≤◌, ◌↔◌, ◌&&◌, ◌||◌, ◌⊎◌, not, ℕ, true, false, List, [], ◌∷◌, ◌++◌, length, map, Option, Some, None, option_map, Result, Ok, Err, unwrap_or, bytes_eq, nat_lt, Contains}
+use Rattle.std.specs.Prelude.{◌≡◌, ◌≤◌, ◌↔◌, ◌&&◌, ◌||◌, ◌⊎◌, not, ℕ, true, false, List, [], ◌∷◌, ◌++◌, length, map}
+use Rattle.std.specs.Prelude.{Option, Some, None, option_map, Result, Ok, Err, unwrap_or, bytes_eq, nat_lt, Contains}
 use Rattle.std.specs.List.{list_any}
 use Rattle.std.proofs.Common.{refl, sym, ap, ◌∙◌, subst, arith, length-append, append_assoc, append-nil}
 use mathlib.Core.Logic.{inl, inr}
@@ -29,10 +30,15 @@ use Rattle.trace_spec.specs.FirstRefusals.{Failure, refused, halted, failed}
 use Rattle.trace_spec.specs.Modules.{Config, Module, is_module, path_of, web_name, file_name}
 use Rattle.trace_spec.specs.Questions.{Source, of_request, Trail, answers, always}
 use Rattle.trace_spec.specs.Checks.{Before, opens, follows, with_request, has_room, begun, rules}
-use Rattle.trace_spec.specs.Traces.{trace, result_of, traced, source, specifiers, resolution, module_in, leads, Reachable}
-use Rattle.trace_spec.specs.Laws.{HasLevels, IsWhatIsReached, ModulesOnce, FewModules, refusal_by, IsFirst, Decides, FirstRefusalDecides, NeverOutOfRoom, no_module, no_source, target_of, need_of, request_put, requests_put, opening_put, visits_put, opening, visits_of, InOrder, GoesInOrder, Passes, AllPass, RequestsPass, NeedsAre, NeedsAreRequests}
+use Rattle.trace_spec.specs.Traces.{trace, result_of, traced, source, specifiers, resolution, module_in, leads}
+use Rattle.trace_spec.specs.Traces.{Reachable}
+use Rattle.trace_spec.specs.Laws.{HasLevels, IsWhatIsReached, ModulesOnce, FewModules, refusal_by, IsFirst, Decides}
+use Rattle.trace_spec.specs.Laws.{FirstRefusalDecides, NeverOutOfRoom, no_module, no_source, target_of, need_of}
+use Rattle.trace_spec.specs.Laws.{request_put, requests_put, opening_put, visits_put, opening, visits_of, InOrder}
+use Rattle.trace_spec.specs.Laws.{GoesInOrder, Passes, AllPass, RequestsPass, NeedsAre, NeedsAreRequests}
 use Rattle.trace_spec.proofs.Lists.{none_by_test, same_module, AreOnce, new_module, once_more}
-use Rattle.trace_spec.proofs.Steps.{answers_always, traced_outcome, file_name_parts, opens_is, Leaves, opens_leaves, Fits, Follows, follows_is}
+use Rattle.trace_spec.proofs.Steps.{answers_always, traced_outcome, file_name_parts, opens_is, Leaves, opens_leaves}
+use Rattle.trace_spec.proofs.Steps.{Fits, Follows, follows_is}
 use Rattle.trace_spec.proofs.WalkModules.{LeadsBy, walk_has_levels, walk_is_reached}
 use Rattle.trace_spec.proofs.WalkOrder.{all_in, PutsBy, walk_in_order}
 use Rattle.trace_spec.proofs.WalkRefusals.{Grows, KeepsFew, walk_where_all_pass, walk_fails_first, walk_few}
@@ -47,42 +53,67 @@ pub record Link : Type 0 where
 module _ (sights : Sights) (config : Config) where
   -- ---- where requests lead
 
-  leads_there : (referrer : Referrer Module) (specifier : List ℕ) (target : Module) → is_relative specifier ≡ true → resolution sights config referrer specifier ≡ node.Resolved target.path target.suffix → leads sights config referrer specifier ≡ Some target
-  leads_there referrer specifier target relative answers = cond-true _ (module_in (resolution sights config referrer specifier)) None relative ∙ ap module_in answers
+  leads_there : (referrer : Referrer Module) (specifier : List ℕ) (target : Module) → is_relative specifier ≡ true
+      → resolution sights config referrer specifier ≡ node.Resolved target.path target.suffix
+      → leads sights config referrer specifier ≡ Some target
+  leads_there referrer specifier target relative answers =
+      cond-true _ (module_in (resolution sights config referrer specifier)) None relative ∙ ap module_in answers
 
   pub lead : LeadsBy (always sights) (rules config) (specifiers sights config) (leads sights config)
   lead = record {
     starts = refl;
-    opens = λ before referrer opened e. let is = opens_is sights config before referrer opened e in (sym (ap (λ o. unwrap_or o []) is.asks), (opens_leaves sights config before referrer opened e).modules);
+    opens = λ before referrer opened e. let is = opens_is sights config before referrer opened e in
+        (sym (ap (λ o. unwrap_or o []) is.asks), (opens_leaves sights config before referrer opened e).modules);
     follows = λ before referrer specifier after e.
-        let is = follows_is sights config before referrer specifier after e in
-        (is.target, leads_there referrer specifier is.target is.wants.relative is.answers, ap (λ b. b.modules) is.fits.is);
+        let is = follows_is sights config before referrer specifier after e in (
+          is.target,
+          leads_there referrer specifier is.target is.wants.relative is.answers,
+          ap (λ b. b.modules) is.fits.is,
+        );
   }
 
   -- ---- how the tables grow
 
-  one_more : (target : Module) (modules : List Module) → has_room modules target ≡ true → length modules ≤ limit_number Modules → length (modules ++ new_modules is_module modules (target ∷ [])) ≤ limit_number Modules
+  one_more : (target : Module) (modules : List Module) → has_room modules target ≡ true
+      → length modules ≤ limit_number Modules
+      → length (modules ++ new_modules is_module modules (target ∷ [])) ≤ limit_number Modules
   one_more target modules test few =
       elim (new_module modules target) [
-        | inl known ↦ omega (arith, length-append modules (new_modules is_module modules (target ∷ [])), ap length known.1)
-        | inr new ↦ let room = ltb-true (length modules) (limit_number Modules) (subst (λ b. (b || nat_lt (length modules) (limit_number Modules)) ≡ true) new.0 test) in
+        | inl known ↦
+            omega (arith, length-append modules (new_modules is_module modules (target ∷ [])), ap length known.1)
+        | inr new ↦ let room =
+            ltb-true (length modules) (limit_number Modules)
+            (subst (λ b. (b || nat_lt (length modules) (limit_number Modules)) ≡ true) new.0 test) in
             omega (arith, length-append modules (new_modules is_module modules (target ∷ [])), ap length new.1)
       ]
 
-  grows_by : (before after : Before) (need : Need) (target : Module) → Fits before need target after → Grows (answers sights) (rules config) tt before after
+  grows_by : (before after : Before) (need : Need) (target : Module) → Fits before need target after
+      → Grows (answers sights) (rules config) tt before after
   grows_by before after need target fits = record {
-    few = λ few. subst (λ b. length b.modules ≤ limit_number Modules) (sym fits.is) (one_more target before.modules fits.room few);
-    longer = subst (λ b. length before.modules ≤ length b.modules) (sym fits.is) (omega (arith, length-append before.modules (new_modules is_module before.modules (target ∷ []))));
+    few = λ few. subst (λ b. length b.modules ≤ limit_number Modules) (sym fits.is)
+        (one_more target before.modules fits.room few);
+    longer =
+        subst (λ b. length before.modules ≤ length b.modules) (sym fits.is)
+        (omega (arith, length-append before.modules (new_modules is_module before.modules (target ∷ []))));
   }
 
   pub keep_few : KeepsFew (answers sights) (rules config) tt
   keep_few = record {
     starts = refl;
     opens = λ before state referrer opened after e.
-        let is = opens_leaves sights config before referrer opened (sym (ends_outcome (answers sights) (always sights) (answers_always sights) state after (opens config before referrer) (Ok opened) e)) in
-        record { few = λ few. subst (λ ms. length ms ≤ limit_number Modules) (sym is.modules) few; longer = omega (arith, ap length is.modules) };
+        let is =
+        opens_leaves sights config before referrer opened
+        (sym (ends_outcome (answers sights) (always sights) (answers_always sights) state after
+        (opens config before referrer) (Ok opened) e)) in
+        record {
+          few = λ few. subst (λ ms. length ms ≤ limit_number Modules) (sym is.modules) few;
+          longer = omega (arith, ap length is.modules);
+        };
     follows = λ before state referrer specifier after later e.
-        let is = follows_is sights config before referrer specifier after (sym (ends_outcome (answers sights) (always sights) (answers_always sights) state later (follows config before referrer specifier) (Ok after) e)) in
+        let is =
+        follows_is sights config before referrer specifier after
+        (sym (ends_outcome (answers sights) (always sights) (answers_always sights) state later
+        (follows config before referrer specifier) (Ok after) e)) in
         grows_by before after _ is.target is.fits;
   }
 
@@ -95,37 +126,58 @@ module _ (sights : Sights) (config : Config) where
   put_request before link = request_put sights config before link.referrer link.specifier
 
   -- what a request that went through needs
-  need_is : (before : Before) (referrer : Referrer Module) (specifier : List ℕ) (after : Before) (is : Follows sights config before referrer specifier after) → need_of sights config referrer specifier ≡ record { referrer = is.want.referrer; asked = is.want.asked; target = is.url }
+  need_is : (before : Before) (referrer : Referrer Module) (specifier : List ℕ) (after : Before)
+      (is : Follows sights config before referrer specifier after)
+      → need_of sights config referrer specifier
+      ≡ record { referrer = is.want.referrer; asked = is.want.asked; target = is.url }
   need_is before referrer specifier after is =
-      let name : unwrap_or (web_name config referrer) [] ≡ is.want.referrer = ap (λ o. unwrap_or o []) is.wants.named in
-      let asked : unwrap_or (as_url (unwrap_or (web_name config referrer) []) specifier) [] ≡ is.want.asked = ap (λ n. unwrap_or (as_url n specifier) []) name ∙ ap (λ o. unwrap_or o []) is.wants.asks in
-      let target : target_of sights config referrer specifier ≡ is.target = ap (λ o. unwrap_or o no_module) (leads_there referrer specifier is.target is.wants.relative is.answers) in
-      let url : unwrap_or (file_name config (target_of sights config referrer specifier)) [] ≡ is.url = ap (λ m. unwrap_or (file_name config m) []) target ∙ ap (λ o. unwrap_or o []) is.is_name in
+      let name : unwrap_or (web_name config referrer) [] ≡ is.want.referrer =
+      ap (λ o. unwrap_or o []) is.wants.named in
+      let asked : unwrap_or (as_url (unwrap_or (web_name config referrer) []) specifier) [] ≡ is.want.asked =
+      ap (λ n. unwrap_or (as_url n specifier) []) name ∙ ap (λ o. unwrap_or o []) is.wants.asks in
+      let target : target_of sights config referrer specifier ≡ is.target =
+      ap (λ o. unwrap_or o no_module) (leads_there referrer specifier is.target is.wants.relative is.answers) in
+      let url : unwrap_or (file_name config (target_of sights config referrer specifier)) [] ≡ is.url =
+      ap (λ m. unwrap_or (file_name config m) []) target ∙ ap (λ o. unwrap_or o []) is.is_name in
       same_need _ _ name asked url
 
-  target_is : (before : Before) (referrer : Referrer Module) (specifier : List ℕ) (after : Before) (is : Follows sights config before referrer specifier after) → target_of sights config referrer specifier ≡ is.target
-  target_is before referrer specifier after is = ap (λ o. unwrap_or o no_module) (leads_there referrer specifier is.target is.wants.relative is.answers)
+  target_is : (before : Before) (referrer : Referrer Module) (specifier : List ℕ) (after : Before)
+      (is : Follows sights config before referrer specifier after)
+      → target_of sights config referrer specifier ≡ is.target
+  target_is before referrer specifier after is =
+      ap (λ o. unwrap_or o no_module) (leads_there referrer specifier is.target is.wants.relative is.answers)
 
-  pub put_in : PutsBy (always sights) (rules config) (specifiers sights config) (leads sights config) opening (λ referrer. of_request (path_of config referrer)) (opening_put sights) put_request request_of
+  pub put_in : PutsBy (always sights) (rules config) (specifiers sights config) (leads sights config) opening
+      (λ referrer. of_request (path_of config referrer)) (opening_put sights) put_request request_of
   put_in = record {
-    opens = λ before referrer opened e. let is = opens_is sights config before referrer opened e in (sym (ap (λ o. unwrap_or o []) is.asks), is.after, is.questions);
+    opens = λ before referrer opened e. let is = opens_is sights config before referrer opened e in
+        (sym (ap (λ o. unwrap_or o []) is.asks), is.after, is.questions);
     follows = λ before referrer specifier after e.
         let is = follows_is sights config before referrer specifier after e in
-        let same : after ≡ put_request before (request_of referrer specifier) = is.fits.is ∙ (λ i. with_request before (sym (need_is before referrer specifier after is) i) (sym (target_is before referrer specifier after is) i)) in
+        let same : after ≡ put_request before (request_of referrer specifier) =
+        is.fits.is ∙ (λ i. with_request before (sym (need_is before referrer specifier after is) i)
+        (sym (target_is before referrer specifier after is) i)) in
         (same, is.questions);
   }
 
-  pub requests_put_is : (referrer : Referrer Module) (some : List (List ℕ)) (before : Before) → requests_put sights config referrer before some ≡ all_in put_request before (map (request_of referrer) some)
+  pub requests_put_is : (referrer : Referrer Module) (some : List (List ℕ)) (before : Before)
+      → requests_put sights config referrer before some ≡ all_in put_request before (map (request_of referrer) some)
   requests_put_is referrer [] before = refl
-  requests_put_is referrer (specifier ∷ more) before = requests_put_is referrer more (put_request before (request_of referrer specifier))
+  requests_put_is referrer (specifier ∷ more) before =
+      requests_put_is referrer more (put_request before (request_of referrer specifier))
 
   abbrev visit_in : Before → Referrer Module → Before
-  visit_in before referrer = all_in put_request (opening_put sights before referrer) (map (request_of referrer) (specifiers sights config referrer))
+  visit_in before referrer =
+      all_in put_request (opening_put sights before referrer)
+      (map (request_of referrer) (specifiers sights config referrer))
 
-  visits_put_is : (before : Before) (visits : List (Referrer Module)) → visits_put sights config before visits ≡ all_in visit_in before visits
+  visits_put_is : (before : Before) (visits : List (Referrer Module))
+      → visits_put sights config before visits ≡ all_in visit_in before visits
   visits_put_is before [] = refl
   visits_put_is before (referrer ∷ more) =
-      ap (λ b. visits_put sights config b more) (requests_put_is referrer (specifiers sights config referrer) (opening_put sights before referrer)) ∙ visits_put_is (visit_in before referrer) more
+      ap (λ b. visits_put sights config b more)
+      (requests_put_is referrer (specifiers sights config referrer) (opening_put sights before referrer))
+      ∙ visits_put_is (visit_in before referrer) more
 
   -- requests leave the sources as they are, and a visit puts one there
   sources_left : (some : List Link) (before : Before) → (all_in put_request before some).sources ≡ before.sources
@@ -135,21 +187,29 @@ module _ (sights : Sights) (config : Config) where
   abbrev opened_source : Module → Source
   opened_source m = unwrap_or (source sights m) no_source
 
-  sources_put : (modules : List Module) (before : Before) → (all_in visit_in before (map a_module modules)).sources ≡ before.sources ++ map opened_source modules
+  sources_put : (modules : List Module) (before : Before)
+      → (all_in visit_in before (map a_module modules)).sources ≡ before.sources ++ map opened_source modules
   sources_put [] before = sym (append-nil before.sources)
   sources_put (m ∷ more) before =
       sources_put more (visit_in before (a_module m))
-      ∙ (ap (λ ss. ss ++ map opened_source more) (sources_left (map (request_of (a_module m)) (specifiers sights config (a_module m))) (opening_put sights before (a_module m))) ∙ append_assoc before.sources (opened_source m ∷ []) (map opened_source more))
+      ∙ (ap (λ ss. ss ++ map opened_source more)
+      (sources_left (map (request_of (a_module m)) (specifiers sights config (a_module m)))
+      (opening_put sights before (a_module m)))
+      ∙ append_assoc before.sources (opened_source m ∷ []) (map opened_source more))
 
   -- where each module has a source
-  sources_are : (modules : List Module) → ((m : Module) → Contains modules m → (found : Source) × (source sights m ≡ Some found)) → map Some (map opened_source modules) ≡ map (source sights) modules
+  sources_are : (modules : List Module)
+      → ((m : Module) → Contains modules m → (found : Source) × (source sights m ≡ Some found))
+      → map Some (map opened_source modules) ≡ map (source sights) modules
   sources_are [] has = refl
   sources_are (m ∷ more) has =
       let found = has m (contains_here m more) in
-      let first : Some (opened_source m) ≡ source sights m = ap (λ o. Some (unwrap_or o no_source)) found.1 ∙ sym found.1 in
+      let first : Some (opened_source m) ≡ source sights m =
+      ap (λ o. Some (unwrap_or o no_source)) found.1 ∙ sym found.1 in
       (λ i. first i ∷ sources_are more (λ n c. has n (contains_there n m more c)) i)
 
-  source_by : (m : Module) (some : List (List ℕ)) (found : Option Source) → option_map (λ (s : Source). s.specifiers) found ≡ Some some → (is : Source) × (found ≡ Some is)
+  source_by : (m : Module) (some : List (List ℕ)) (found : Option Source)
+      → option_map (λ (s : Source). s.specifiers) found ≡ Some some → (is : Source) × (found ≡ Some is)
   source_by m some None e = absurd (cc)
   source_by m some (Some is) e = (is, refl)
 
@@ -177,56 +237,78 @@ module _ (sights : Sights) (config : Config) where
   need_by_test one other e =
       let outer = and_parts _ _ e in
       let inner = and_parts _ _ outer.0 in
-      same_need one other ((bytes_eq-Decides _ _).0 inner.0) ((bytes_eq-Decides _ _).0 inner.1) ((bytes_eq-Decides _ _).0 outer.1)
+      same_need one other ((bytes_eq-Decides _ _).0 inner.0) ((bytes_eq-Decides _ _).0 inner.1)
+      ((bytes_eq-Decides _ _).0 outer.1)
 
-  with_need_old : (needs : List Need) (need other : Need) → Contains needs other → Contains (with_need needs need) other
+  with_need_old : (needs : List Need) (need other : Need) → Contains needs other
+      → Contains (with_need needs need) other
   with_need_old needs need other c =
       elim (cases_Bool (list_any (is_need need) needs)) [
         | inl known ↦ subst (λ ns. Contains ns other) (sym (cond-true _ needs (needs ++ need ∷ []) known)) c
-        | inr new ↦ subst (λ ns. Contains ns other) (sym (cond-false _ needs (needs ++ need ∷ []) new)) (Contains-append_left needs (need ∷ []) other c)
+        | inr new ↦
+            subst (λ ns. Contains ns other) (sym (cond-false _ needs (needs ++ need ∷ []) new))
+            (Contains-append_left needs (need ∷ []) other c)
       ]
 
   with_need_new : (needs : List Need) (need : Need) → Contains (with_need needs need) need
   with_need_new needs need =
       elim (cases_Bool (list_any (is_need need) needs)) [
-        | inl known ↦ subst (λ ns. Contains ns need) (sym (cond-true _ needs (needs ++ need ∷ []) known)) (Contains-from_any need_by_test need needs known)
-        | inr new ↦ subst (λ ns. Contains ns need) (sym (cond-false _ needs (needs ++ need ∷ []) new)) (Contains-push needs need)
+        | inl known ↦
+            subst (λ ns. Contains ns need) (sym (cond-true _ needs (needs ++ need ∷ []) known))
+            (Contains-from_any need_by_test need needs known)
+        | inr new ↦
+            subst (λ ns. Contains ns need) (sym (cond-false _ needs (needs ++ need ∷ []) new))
+            (Contains-push needs need)
       ]
 
-  with_need_cases : (needs : List Need) (need other : Need) → Contains (with_need needs need) other → Contains needs other ⊎ (need ≡ other)
+  with_need_cases : (needs : List Need) (need other : Need) → Contains (with_need needs need) other
+      → Contains needs other ⊎ (need ≡ other)
   with_need_cases needs need other c =
       elim (cases_Bool (list_any (is_need need) needs)) [
         | inl known ↦ inl (subst (λ ns. Contains ns other) (cond-true _ needs (needs ++ need ∷ []) known) c)
-        | inr new ↦ Contains-push_cases needs need other (subst (λ ns. Contains ns other) (cond-false _ needs (needs ++ need ∷ []) new) c)
+        | inr new ↦
+            Contains-push_cases needs need other (subst (λ ns. Contains ns other)
+            (cond-false _ needs (needs ++ need ∷ []) new) c)
       ]
 
   -- a need that clashes with none agrees with each that asks the same
-  agrees : (needs : List Need) (need other : Need) → list_any (clashes need) needs ≡ false → Contains needs other → other.referrer ≡ need.referrer → other.asked ≡ need.asked → other.target ≡ need.target
+  agrees : (needs : List Need) (need other : Need) → list_any (clashes need) needs ≡ false → Contains needs other
+      → other.referrer ≡ need.referrer → other.asked ≡ need.asked → other.target ≡ need.target
   agrees needs need other clear c referrer asked =
       let test : clashes need other ≡ false = none_by_test (clashes need) needs clear other c in
       elim (cases_Bool (bytes_eq other.target need.target)) [
         | inl same ↦ (bytes_eq-Decides _ _).0 same
-        | inr apart ↦ absurd (true≢false (sym (λ i. ((bytes_eq-Decides other.referrer need.referrer).1 referrer i && (bytes_eq-Decides other.asked need.asked).1 asked i) && ap not apart i) ∙ test))
+        | inr apart ↦
+            let same_referrer = (bytes_eq-Decides other.referrer need.referrer).1 referrer in
+            let same_asked = (bytes_eq-Decides other.asked need.asked).1 asked in
+            absurd (true≢false (sym (λ i. (same_referrer i && same_asked i) && ap not apart i) ∙ test))
       ]
 
-  no_clash_more : (needs : List Need) (need : Need) → NoClash needs → list_any (clashes need) needs ≡ false → NoClash (with_need needs need)
+  no_clash_more : (needs : List Need) (need : Need) → NoClash needs → list_any (clashes need) needs ≡ false
+      → NoClash (with_need needs need)
   no_clash_more needs need no_clash clear one other c d referrer asked =
       elim (with_need_cases needs need one c) [
         | inl old ↦ elim (with_need_cases needs need other d) [
           | inl old_too ↦ no_clash one other old old_too referrer asked
-          | inr new ↦ agrees needs need one clear old (referrer ∙ ap (λ n. n.referrer) (sym new)) (asked ∙ ap (λ n. n.asked) (sym new)) ∙ ap (λ n. n.target) new
+          | inr new ↦
+              agrees needs need one clear old (referrer ∙ ap (λ n. n.referrer) (sym new))
+              (asked ∙ ap (λ n. n.asked) (sym new)) ∙ ap (λ n. n.target) new
         ]
         | inr new ↦ elim (with_need_cases needs need other d) [
-          | inl old_too ↦ ap (λ n. n.target) (sym new) ∙ sym (agrees needs need other clear old_too (sym referrer ∙ ap (λ n. n.referrer) (sym new)) (sym asked ∙ ap (λ n. n.asked) (sym new)))
+          | inl old_too ↦
+              ap (λ n. n.target) (sym new) ∙ sym (agrees needs need other clear old_too
+              (sym referrer ∙ ap (λ n. n.referrer) (sym new)) (sym asked ∙ ap (λ n. n.asked) (sym new)))
           | inr new_too ↦ ap (λ n. n.target) (sym new ∙ new_too)
         ]
       ]
 
-  visited_more : (referrer : Referrer Module) (modules more : List Module) → IsVisited modules referrer → IsVisited (modules ++ more) referrer
+  visited_more : (referrer : Referrer Module) (modules more : List Module) → IsVisited modules referrer
+      → IsVisited (modules ++ more) referrer
   visited_more the_page modules more is = tt
   visited_more (a_module m) modules more is = Contains-append_left modules more m is
 
-  still_of : (before : Before) (need other : Need) (target : Module) → IsOf before other → IsOf (with_request before need target) other
+  still_of : (before : Before) (need other : Need) (target : Module) → IsOf before other
+      → IsOf (with_request before need target) other
   still_of before need other target is = record {
     referrer = is.referrer;
     visited = visited_more is.referrer before.modules (new_modules is_module before.modules (target ∷ [])) is.visited;
@@ -240,7 +322,9 @@ module _ (sights : Sights) (config : Config) where
     is_name = is.is_name;
   }
 
-  stand_more : (before : Before) (referrer : Referrer Module) (specifier : List ℕ) (after : Before) → IsVisited before.modules referrer → Contains (specifiers sights config referrer) specifier → Stands before → Follows sights config before referrer specifier after → Stands after
+  stand_more : (before : Before) (referrer : Referrer Module) (specifier : List ℕ) (after : Before)
+      → IsVisited before.modules referrer → Contains (specifiers sights config referrer) specifier → Stands before
+      → Follows sights config before referrer specifier after → Stands after
   stand_more before referrer specifier after visited asked_for stands is =
       let need : Need = record { referrer = is.want.referrer; asked = is.want.asked; target = is.url } in
       let own : IsOf before need = record {
@@ -265,7 +349,8 @@ module _ (sights : Sights) (config : Config) where
         once = once_more before.modules is.target stands.once;
       })
 
-  passes_now : (before : Before) (referrer : Referrer Module) (specifier : List ℕ) (after : Before) → Follows sights config before referrer specifier after → Passes sights config after referrer specifier
+  passes_now : (before : Before) (referrer : Referrer Module) (specifier : List ℕ) (after : Before)
+      → Follows sights config before referrer specifier after → Passes sights config after referrer specifier
   passes_now before referrer specifier after is =
       let need : Need = record { referrer = is.want.referrer; asked = is.want.asked; target = is.url } in
       record {
@@ -281,7 +366,9 @@ module _ (sights : Sights) (config : Config) where
         is_need = subst (λ b. Contains b.needs need) (sym is.fits.is) (with_need_new before.needs need);
       }
 
-  passes_still : (before : Before) (need : Need) (target : Module) (after : Before) (referrer : Referrer Module) (specifier : List ℕ) → after ≡ with_request before need target → Passes sights config before referrer specifier → Passes sights config after referrer specifier
+  passes_still : (before : Before) (need : Need) (target : Module) (after : Before) (referrer : Referrer Module)
+      (specifier : List ℕ) → after ≡ with_request before need target → Passes sights config before referrer specifier
+      → Passes sights config after referrer specifier
   passes_still before need target after referrer specifier is passes =
       subst (λ b. Passes sights config b referrer specifier) (sym is)
       (record {
@@ -318,7 +405,8 @@ module _ (sights : Sights) (config : Config) where
     once = subst AreOnce (sym leaves.modules) stands.once;
   }
 
-  pass_on : (before after : Before) (referrer : Referrer Module) (specifier : List ℕ) → Leaves before after → Passes sights config before referrer specifier → Passes sights config after referrer specifier
+  pass_on : (before after : Before) (referrer : Referrer Module) (specifier : List ℕ) → Leaves before after
+      → Passes sights config before referrer specifier → Passes sights config after referrer specifier
   pass_on before after referrer specifier leaves passes = record {
     need = passes.need;
     target = passes.target;
@@ -332,13 +420,26 @@ module _ (sights : Sights) (config : Config) where
     is_need = subst (λ ns. Contains ns passes.need) (sym leaves.needs) passes.is_need;
   }
 
-  keep : Keeps (always sights) (rules config) (specifiers sights config) (leads sights config) lead Stands (λ referrer specifier before. Passes sights config before referrer specifier)
+  keep : Keeps (always sights) (rules config) (specifiers sights config) (leads sights config) lead Stands
+      (λ referrer specifier before. Passes sights config before referrer specifier)
   keep = record {
-    starts = record { each = λ need c. absurd (contains_none need c); no_clash = λ one other c d. absurd (contains_none one c); once = λ i j m e f. absurd (cc) };
-    opens = λ before referrer opened e stands. stand_on before opened.after (opens_leaves sights config before referrer opened e) stands;
-    still = λ before referrer opened e other earlier passes. pass_on before opened.after other earlier (opens_leaves sights config before referrer opened e) passes;
-    follows = λ before referrer specifier after visited asked_for stands e. stand_more before referrer specifier after visited asked_for stands (follows_is sights config before referrer specifier after e);
-    leaves = λ before referrer specifier after e. passes_now before referrer specifier after (follows_is sights config before referrer specifier after e);
+    starts =
+        record {
+          each = λ need c. absurd (contains_none need c);
+          no_clash = λ one other c d. absurd (contains_none one c);
+          once = λ i j m e f. absurd (cc);
+        };
+    opens = λ before referrer opened e stands.
+        stand_on before opened.after (opens_leaves sights config before referrer opened e) stands;
+    still = λ before referrer opened e other earlier passes.
+        pass_on before opened.after other earlier (opens_leaves sights config before referrer opened e) passes;
+    follows =
+        λ before referrer specifier after visited asked_for stands e.
+        stand_more before referrer specifier after visited asked_for stands
+        (follows_is sights config before referrer specifier after e);
+    leaves =
+        λ before referrer specifier after e. passes_now before referrer specifier after
+        (follows_is sights config before referrer specifier after e);
     stays = λ before referrer specifier after e other earlier passes.
         let is = follows_is sights config before referrer specifier after e in
         passes_still before _ is.target after other earlier is.fits.is passes;
@@ -351,22 +452,29 @@ module _ (sights : Sights) (config : Config) where
     whole = traced_outcome sights config all is
 
     reached_or_not : (m : Module) → Contains all.modules m ↔ Reachable sights config (a_module m)
-    reached_or_not m = walk_is_reached (always sights) (rules config) (specifiers sights config) (leads sights config) lead same_module all whole m
+    reached_or_not m =
+        walk_is_reached (always sights) (rules config) (specifiers sights config)
+        (leads sights config) lead same_module all whole m
 
-    end : AtEnd (always sights) (rules config) (specifiers sights config) (leads sights config) lead Stands (λ referrer specifier before. Passes sights config before referrer specifier) keep all
-    end = at_end (always sights) (rules config) (specifiers sights config) (leads sights config) lead Stands (λ referrer specifier before. Passes sights config before referrer specifier) keep all whole
+    end : AtEnd (always sights) (rules config) (specifiers sights config) (leads sights config) lead Stands
+        (λ referrer specifier before. Passes sights config before referrer specifier) keep all
+    end = at_end (always sights) (rules config) (specifiers sights config) (leads sights config) lead Stands
+        (λ referrer specifier before. Passes sights config before referrer specifier) keep all whole
 
     visited_reached : (referrer : Referrer Module) → IsVisited all.modules referrer → Reachable sights config referrer
     visited_reached the_page visited = page
     visited_reached (a_module m) visited = (reached_or_not m).0 visited
 
-    all_pass : (referrer : Referrer Module) → WasVisited (always sights) (rules config) (specifiers sights config) (leads sights config) lead Stands (λ referrer specifier before. Passes sights config before referrer specifier) keep all referrer → AllPass sights config all referrer
+    all_pass : (referrer : Referrer Module) → WasVisited (always sights) (rules config) (specifiers sights config)
+        (leads sights config) lead Stands (λ referrer specifier before. Passes sights config before referrer specifier)
+        keep all referrer → AllPass sights config all referrer
     all_pass referrer was =
         let opened = opens_is sights config was.before referrer was.opened.0 was.opened.1 in
         record {
           specifiers = was.opened.0.specifiers;
           asks = opened.asks;
-          pass = λ specifier c. was.leaves specifier (subst (λ o. Contains (unwrap_or o []) specifier) (sym opened.asks) c);
+          pass = λ specifier c. was.leaves specifier
+              (subst (λ o. Contains (unwrap_or o []) specifier) (sym opened.asks) c);
         }
 
     reached_pass : (referrer : Referrer Module) → Reachable sights config referrer → AllPass sights config all referrer
@@ -394,44 +502,63 @@ module _ (sights : Sights) (config : Config) where
 
     in_order : InOrder sights config all
     in_order =
-        let order = walk_in_order (always sights) (rules config) (specifiers sights config) (leads sights config) opening (λ referrer. of_request (path_of config referrer)) (opening_put sights) put_request request_of lead put_in all whole in
+        let order =
+        walk_in_order (always sights) (rules config) (specifiers sights config) (leads sights config) opening
+        (λ referrer. of_request (path_of config referrer))
+        (opening_put sights) put_request request_of lead put_in all whole in
         let page : Before = visit_in begun the_page in
         let sources : all.sources ≡ map opened_source all.modules =
-        ap (λ b. b.sources) order.tables ∙ (sources_put all.modules page ∙ ap (λ ss. ss ++ map opened_source all.modules) (sources_left (map (request_of the_page) (specifiers sights config the_page)) begun)) in
+        ap (λ b. b.sources) order.tables ∙ (sources_put all.modules page
+        ∙ ap (λ ss. ss ++ map opened_source all.modules)
+        (sources_left (map (request_of the_page) (specifiers sights config the_page)) begun)) in
         record {
           tables = order.tables ∙ sym (visits_put_is begun (visits_of all));
-          sources = ap (map Some) sources ∙ sources_are all.modules (λ m c. let pass = all_pass (a_module m) (end.each m c) in source_by m pass.specifiers (source sights m) pass.asks);
+          sources =
+              ap (map Some) sources ∙ sources_are all.modules
+              (λ m c. let pass = all_pass (a_module m) (end.each m c) in
+              source_by m pass.specifiers (source sights m) pass.asks);
           asked = order.asked;
         }
 
   -- ---- the first refusal
 
-  ok_ended : (all : Before) (end : Ended (Result Before TraceFault) Trail LimitName) → result_of end ≡ Ok all → end ≡ ends (Ok all) tt
+  ok_ended : (all : Before) (end : Ended (Result Before TraceFault) Trail LimitName) → result_of end ≡ Ok all
+      → end ≡ ends (Ok all) tt
   ok_ended all (ends result trail) e = ap (λ r. ends r trail) e
   ok_ended all (stopped limit trail) e = absurd (cc)
 
-  err_ended : (refusal : TraceFault) (end : Ended (Result Before TraceFault) Trail LimitName) → result_of end ≡ Err refusal → (why : Failure TraceFault LimitName) × (refusal ≡ refusal_by why) × (end ≡ failed why tt)
+  err_ended : (refusal : TraceFault) (end : Ended (Result Before TraceFault) Trail LimitName)
+      → result_of end ≡ Err refusal → (why : Failure TraceFault LimitName) × (refusal ≡ refusal_by why)
+      × (end ≡ failed why tt)
   err_ended refusal (ends (Ok all) trail) e = absurd (cc)
   err_ended refusal (ends (Err other) trail) e = let p : refusal ≡ other = cc in (refused other, p, refl)
   err_ended refusal (stopped limit trail) e = let p : refusal ≡ Limit limit = cc in (halted limit, p, refl)
 
-  failed_refuses : (why : Failure TraceFault LimitName) (trail : Trail) → result_of {X = Before} (failed why trail) ≡ Err (refusal_by why)
+  failed_refuses : (why : Failure TraceFault LimitName) (trail : Trail)
+      → result_of {X = Before} (failed why trail) ≡ Err (refusal_by why)
   failed_refuses (refused refusal) trail = refl
   failed_refuses (halted limit) trail = refl
 
   first_of : (refusal : TraceFault) → traced sights config ≡ Err refusal → IsFirst sights config refusal
   first_of refusal e =
       let end = err_ended refusal (evaluated (answers sights) tt (trace config)) e in
-      record { why = end.0; shown = end.1; trail = tt; first = (walk_fails_first (answers sights) (rules config) tt keep_few end.0 tt).0 end.2 }
+      record {
+        why = end.0;
+        shown = end.1;
+        trail = tt;
+        first = (walk_fails_first (answers sights) (rules config) tt keep_few end.0 tt).0 end.2;
+      }
 
   refusal_from : (refusal : TraceFault) → IsFirst sights config refusal → traced sights config ≡ Err refusal
   refusal_from refusal first =
-      ap result_of ((walk_fails_first (answers sights) (rules config) tt keep_few first.why first.trail).1 first.first) ∙ (failed_refuses first.why first.trail ∙ ap Err (sym first.shown))
+      ap result_of ((walk_fails_first (answers sights) (rules config) tt keep_few first.why first.trail).1 first.first)
+      ∙ (failed_refuses first.why first.trail ∙ ap Err (sym first.shown))
 
   pub decides : Decides sights config
   decides = record {
     passes = λ all. (
-      (λ e. (walk_where_all_pass (answers sights) (rules config) tt keep_few all tt).0 (ok_ended all (evaluated (answers sights) tt (trace config)) e)),
+      (λ e. (walk_where_all_pass (answers sights) (rules config) tt keep_few all tt).0
+          (ok_ended all (evaluated (answers sights) tt (trace config)) e)),
       (λ passed. ap result_of ((walk_where_all_pass (answers sights) (rules config) tt keep_few all tt).1 passed)),
     );
     refuses = λ refusal. (first_of refusal, refusal_from refusal);
@@ -440,7 +567,9 @@ module _ (sights : Sights) (config : Config) where
 -- ---- the laws
 
 pub has_levels : HasLevels
-has_levels sights config all is = walk_has_levels (always sights) (rules config) (specifiers sights config) (leads sights config) (lead sights config) all (whole sights config all is)
+has_levels sights config all is =
+    walk_has_levels (always sights) (rules config) (specifiers sights config) (leads sights config)
+    (lead sights config) all (whole sights config all is)
 
 pub is_what_is_reached : IsWhatIsReached
 is_what_is_reached sights config all is m = reached_or_not sights config all is m
@@ -449,7 +578,9 @@ pub modules_once : ModulesOnce
 modules_once sights config all is = (end sights config all is).holds.once
 
 pub few_modules : FewModules
-few_modules sights config all is = walk_few (answers sights) (rules config) tt (keep_few sights config) all tt (ok_ended sights config all (evaluated (answers sights) tt (trace config)) is)
+few_modules sights config all is =
+    walk_few (answers sights) (rules config) tt (keep_few sights config) all tt
+    (ok_ended sights config all (evaluated (answers sights) tt (trace config)) is)
 
 pub first_refusal_decides : FirstRefusalDecides
 first_refusal_decides sights config = decides sights config

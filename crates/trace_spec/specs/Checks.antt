@@ -1,9 +1,11 @@
 -- The checks of a trace: what opens the visit of a referrer, and what is checked of a request, in order.
 --     Before                                     the tables of what came before
 --     opens config before referrer               the page can be served; a module has a text of the form
---     follows config before referrer specifier   what the request asks for; where Node leads it; the name of what it leads to; that it
---                                                clashes with no need before it; the number of modules
-use Rattle.std.specs.Prelude.{◌||◌, ◌+◌, ℕ, Bool, List, [], ◌∷◌, ◌++◌, length, nat_lt, Option, Some, None, Result, Ok, Err, if◌then◌else◌}
+--     follows config before referrer specifier   what the request asks for; where Node leads it; the name of what it
+--                                                leads to; that it clashes with no need before it; the number of
+--                                                modules
+use Rattle.std.specs.Prelude.{◌||◌, ◌+◌, ℕ, Bool, List, [], ◌∷◌, ◌++◌, length, nat_lt, Option, Some, None, Result, Ok}
+use Rattle.std.specs.Prelude.{Err, if◌then◌else◌}
 use Rattle.std.specs.List.{list_any}
 use Rattle.asking_spec.specs.Askings.{Asking, answered, ask}
 use Rattle.tree_spec.specs.declared.LimitName.TheVariants.{Modules}
@@ -17,13 +19,14 @@ use Rattle.node_spec.specs.Resolution as node
 use Rattle.layout_spec.specs.declared.Need.{Need}
 use Rattle.layout_spec.specs.Needs.{clashes, with_need}
 use Rattle.trace_spec.specs.declared.TraceFault.{TraceFault}
-use Rattle.trace_spec.specs.declared.TraceFault.TheVariants.{Unservable, Refused, RequestNotBuilt, ModuleNotBuilt, Limit}
+use Rattle.trace_spec.specs.declared.TraceFault.TheVariants.{Unservable, Refused, RequestNotBuilt, ModuleNotBuilt}
+use Rattle.trace_spec.specs.declared.TraceFault.TheVariants.{Limit}
 use Rattle.trace_spec.specs.Walking.{Referrer, the_page, a_module, new_modules, Opened, Rules}
 use Rattle.trace_spec.specs.Modules.{Config, Module, is_module, path_of, web_name, shown, served_name, file_name}
 use Rattle.trace_spec.specs.Questions.{Source, Question, of_module, of_request, Answer}
 
--- own: the modules that were asked for and the needs, each once at its first place; the sources of the modules whose visits were opened, in
--- the order of the modules; and the number of requests
+-- own: the modules that were asked for and the needs, each once at its first place; the sources of the modules whose
+-- visits were opened, in the order of the modules; and the number of requests
 pub record Before : Type 0 where
   pub modules : List Module
   pub sources : List Source
@@ -38,14 +41,22 @@ page_opened config before None = Err (Unservable config.page (web config.base co
 page_opened config before (Some url) = Ok (record { specifiers = config.entries; after = before })
 
 abbrev pub with_source : Before → Source → Before
-with_source before source = record { modules = before.modules; sources = before.sources ++ source ∷ []; needs = before.needs; requests = before.requests }
+with_source before source =
+    record {
+      modules = before.modules;
+      sources = before.sources ++ source ∷ [];
+      needs = before.needs;
+      requests = before.requests;
+    }
 
 abbrev pub module_opened : Config → Before → Module → Option Source → Result (Opened Before) TraceFault
 module_opened config before m None = Err (ModuleNotBuilt (shown config (a_module m)))
-module_opened config before m (Some source) = Ok (record { specifiers = source.specifiers; after = with_source before source })
+module_opened config before m (Some source) =
+    Ok (record { specifiers = source.specifiers; after = with_source before source })
 
 abbrev pub opens : Config → Before → Referrer Module → Asking Question Answer (Result (Opened Before) TraceFault)
-opens config before the_page = answered (page_opened config before (served_name config.base config.page (web config.base config.page [])))
+opens config before the_page =
+    answered (page_opened config before (served_name config.base config.page (web config.base config.page [])))
 opens config before (a_module m) = ask (of_module m.path) (λ found. answered (module_opened config before m found))
 
 -- ---- what is checked of a request
@@ -80,34 +91,48 @@ refused_by cause.NotFound referrer specifier = Refused referrer specifier cause.
 refused_by cause.DirectoryImport referrer specifier = RequestNotBuilt referrer specifier
 
 abbrev pub with_request : Before → Need → Module → Before
-with_request before need target = record { modules = before.modules ++ new_modules is_module before.modules (target ∷ []); sources = before.sources; needs = with_need before.needs need; requests = before.requests + 1 }
+with_request before need target =
+    record {
+      modules = before.modules ++ new_modules is_module before.modules (target ∷ []);
+      sources = before.sources;
+      needs = with_need before.needs need;
+      requests = before.requests + 1;
+    }
 
 -- own: the module is known, or there is room for one more
 abbrev pub has_room : List Module → Module → Bool
 has_room modules target = list_any (is_module target) modules || nat_lt (length modules) (limit_number Modules)
 
 abbrev pub placed : Before → Need → Module → Result Before TraceFault
-placed before need target = if has_room before.modules target then Ok (with_request before need target) else Err (Limit Modules)
+placed before need target =
+    if has_room before.modules target then Ok (with_request before need target) else Err (Limit Modules)
 
 abbrev pub needed : TraceFault → Before → Need → Module → Result Before TraceFault
-needed refusal before need target = if list_any (clashes need) before.needs then Err refusal else placed before need target
+needed refusal before need target =
+    if list_any (clashes need) before.needs then Err refusal else placed before need target
 
 abbrev pub named : TraceFault → Before → Wanted → Module → Option (List ℕ) → Result Before TraceFault
 named refusal before want target None = Err refusal
-named refusal before want target (Some url) = needed refusal before (record { referrer = want.referrer; asked = want.asked; target = url }) target
+named refusal before want target (Some url) =
+    needed refusal before (record { referrer = want.referrer; asked = want.asked; target = url }) target
 
 -- by Node's answer
 abbrev pub led : Config → Before → Referrer Module → List ℕ → Wanted → node.Answer → Result Before TraceFault
 led config before referrer specifier want (node.Refused why) = Err (refused_by why (shown config referrer) specifier)
 led config before referrer specifier want (node.Resolved path suffix) =
-    named (RequestNotBuilt (shown config referrer) specifier) before want (record { path = path; suffix = suffix }) (file_name config (record { path = path; suffix = suffix }))
+    named (RequestNotBuilt (shown config referrer) specifier) before want (record { path = path; suffix = suffix })
+    (file_name config (record { path = path; suffix = suffix }))
 
-abbrev pub followed_by : Config → Before → Referrer Module → List ℕ → Option Wanted → Asking Question Answer (Result Before TraceFault)
+abbrev pub followed_by : Config → Before → Referrer Module → List ℕ → Option Wanted
+    → Asking Question Answer (Result Before TraceFault)
 followed_by config before referrer specifier None = answered (Err (RequestNotBuilt (shown config referrer) specifier))
-followed_by config before referrer specifier (Some want) = ask (of_request (path_of config referrer) specifier) (λ found. answered (led config before referrer specifier want found))
+followed_by config before referrer specifier (Some want) =
+    ask (of_request (path_of config referrer) specifier)
+    (λ found. answered (led config before referrer specifier want found))
 
 abbrev pub follows : Config → Before → Referrer Module → List ℕ → Asking Question Answer (Result Before TraceFault)
-follows config before referrer specifier = followed_by config before referrer specifier (wanted config referrer specifier)
+follows config before referrer specifier =
+    followed_by config before referrer specifier (wanted config referrer specifier)
 
 -- ---- the rules of a walk
 
@@ -115,4 +140,13 @@ abbrev pub begun : Before
 begun = record { modules = []; sources = []; needs = []; requests = 0 }
 
 abbrev pub rules : Config → Rules Module Before TraceFault Question Answer
-rules config = record { same = is_module; start = begun; modules = λ before. before.modules; most = limit_number Modules; above = Limit Modules; opens = opens config; follows = follows config }
+rules config =
+    record {
+      same = is_module;
+      start = begun;
+      modules = λ before. before.modules;
+      most = limit_number Modules;
+      above = Limit Modules;
+      opens = opens config;
+      follows = follows config;
+    }

@@ -1,5 +1,6 @@
 -- The laws of traces. Each is the contract of a function of this crate.
-use Rattle.std.specs.Prelude.{◌≡◌, ◌≤◌, ◌↔◌, ◌++◌, ℕ, true, false, List, [], ◌∷◌, length, map, flat_map, slice_get, Option, Some, None, Result, Ok, Err, Contains, unwrap_or, codes}
+use Rattle.std.specs.Prelude.{◌≡◌, ◌≤◌, ◌↔◌, ◌++◌, ℕ, true, false, List, [], ◌∷◌, length, map, flat_map, slice_get}
+use Rattle.std.specs.Prelude.{Option, Some, None, Result, Ok, Err, Contains, unwrap_or, codes}
 use Rattle.asking_spec.specs.Askings.{Asking, questions}
 use Rattle.asking_spec.specs.Evaluation.{evaluated, Asked, listed}
 use Rattle.tree_spec.specs.declared.Entry.TheVariants.{Stored}
@@ -21,24 +22,32 @@ use Rattle.trace_spec.specs.FirstRefusals.{Failure, refused, halted, Comes, AllP
 use Rattle.trace_spec.specs.Modules.{Config, Module, is_module, path_of, web_name, IsServable, file_name}
 use Rattle.trace_spec.specs.Questions.{Source, Question, of_module, of_request, Answer, Trail, answers, always}
 use Rattle.trace_spec.specs.Checks.{Before, with_source, opens, Wanted, wanted, with_request, follows, begun, rules}
-use Rattle.trace_spec.specs.Traces.{trace, result_of, state_of, traced, source, requests, specifiers, resolution, leads, targets, Reachable}
+use Rattle.trace_spec.specs.Traces.{trace, result_of, state_of, traced, source, requests, specifiers, resolution}
+use Rattle.trace_spec.specs.Traces.{leads, targets, Reachable}
 
 -- the modules of a trace are its levels, one behind another
 abbrev pub HasLevels : Type 0
-HasLevels = (sights : Sights) (config : Config) (all : Before) → traced sights config ≡ Ok all → Levels Module is_module (targets sights config) [] (the_page ∷ []) all.modules
+HasLevels =
+    (sights : Sights) (config : Config) (all : Before) → traced sights config ≡ Ok all
+    → Levels Module is_module (targets sights config) [] (the_page ∷ []) all.modules
 
 -- they are the modules that the page reaches by requests
 abbrev pub IsWhatIsReached : Type 0
-IsWhatIsReached = (sights : Sights) (config : Config) (all : Before) → traced sights config ≡ Ok all → (m : Module) → Contains all.modules m ↔ Reachable sights config (a_module m)
+IsWhatIsReached =
+    (sights : Sights) (config : Config) (all : Before) → traced sights config ≡ Ok all
+    → (m : Module) → Contains all.modules m ↔ Reachable sights config (a_module m)
 
 -- none of them stands there twice
 abbrev pub ModulesOnce : Type 0
 ModulesOnce =
-    (sights : Sights) (config : Config) (all : Before) → traced sights config ≡ Ok all → (i j : ℕ) (m : Module) → slice_get all.modules i ≡ Some m → slice_get all.modules j ≡ Some m → i ≡ j
+    (sights : Sights) (config : Config) (all : Before) → traced sights config ≡ Ok all → (i j : ℕ) (m : Module)
+    → slice_get all.modules i ≡ Some m → slice_get all.modules j ≡ Some m → i ≡ j
 
 -- they are at most 20,000
 abbrev pub FewModules : Type 0
-FewModules = (sights : Sights) (config : Config) (all : Before) → traced sights config ≡ Ok all → length all.modules ≤ limit_number Modules
+FewModules =
+    (sights : Sights) (config : Config) (all : Before) → traced sights config ≡ Ok all
+    → length all.modules ≤ limit_number Modules
 
 -- ---- the first refusal
 
@@ -52,8 +61,8 @@ pub record IsFirst (sights : Sights) (config : Config) (refusal : TraceFault) : 
   pub trail : Trail
   pub first : FirstFailure (answers sights) (rules config) tt why trail
 
--- there is a trace exactly where all visits pass, and else the refusal is the first: the visits before it pass, and so do the requests before
--- it in its own visit
+-- there is a trace exactly where all visits pass, and else the refusal is the first: the visits before it pass, and so
+-- do the requests before it in its own visit
 pub record Decides (sights : Sights) (config : Config) : Type 0 where
   pub passes : (all : Before) → traced sights config ≡ Ok all ↔ AllPassed (answers sights) (rules config) tt all tt
   pub refuses : (refusal : TraceFault) → traced sights config ≡ Err refusal ↔ IsFirst sights config refusal
@@ -79,7 +88,8 @@ with_above rules above = record {
 abbrev pub NeverOutOfRoom : Type 0
 NeverOutOfRoom =
     (sights : Sights) (config : Config) (above : TraceFault)
-    → evaluated (answers sights) tt (walk (with_above (rules config) above)) ≡ evaluated (answers sights) tt (trace config)
+    → evaluated (answers sights) tt (walk (with_above (rules config) above))
+    ≡ evaluated (answers sights) tt (trace config)
 
 -- ---- the order
 
@@ -122,7 +132,10 @@ opening_put sights before (a_module m) = with_source before (unwrap_or (source s
 -- visits are put into the tables one after another
 abbrev pub visits_put : Sights → Config → Before → List (Referrer Module) → Before
 visits_put sights config before [] = before
-visits_put sights config before (referrer ∷ more) = visits_put sights config (requests_put sights config referrer (opening_put sights before referrer) (specifiers sights config referrer)) more
+visits_put sights config before (referrer ∷ more) =
+    visits_put sights config
+    (requests_put sights config referrer (opening_put sights before referrer) (specifiers sights config referrer))
+    more
 
 -- what is asked as the visit of a referrer opens
 abbrev pub opening : Referrer Module → List Question
@@ -131,20 +144,24 @@ opening (a_module m) = of_module m.path ∷ []
 
 -- what is asked in these visits
 abbrev pub asked_in : Sights → Config → List (Referrer Module) → List Question
-asked_in sights config visits = flat_map (λ referrer. opening referrer ++ map (of_request (path_of config referrer)) (specifiers sights config referrer)) visits
+asked_in sights config visits =
+    flat_map
+    (λ referrer. opening referrer ++ map (of_request (path_of config referrer)) (specifiers sights config referrer))
+    visits
 
 abbrev pub visits_of : Before → List (Referrer Module)
 visits_of all = the_page ∷ map a_module all.modules
 
--- the tables hold the requests of the page and of the modules, in the order of the trace, and the source of each module at its place; and these
--- are the questions, each at its place
+-- the tables hold the requests of the page and of the modules, in the order of the trace, and the source of each
+-- module at its place; and these are the questions, each at its place
 pub record InOrder (sights : Sights) (config : Config) (all : Before) : Type 0 where
   pub tables : all ≡ visits_put sights config begun (visits_of all)
   pub sources : map Some all.sources ≡ map (source sights) all.modules
   pub asked : questions (always sights) (trace config) ≡ asked_in sights config (visits_of all)
 
 abbrev pub GoesInOrder : Type 0
-GoesInOrder = (sights : Sights) (config : Config) (all : Before) → traced sights config ≡ Ok all → InOrder sights config all
+GoesInOrder =
+    (sights : Sights) (config : Config) (all : Before) → traced sights config ≡ Ok all → InOrder sights config all
 
 -- ---- the order of a refusal
 
@@ -162,14 +179,16 @@ if_wanted question None = []
 if_wanted question (Some want) = question ∷ []
 
 abbrev pub asked_for : Config → Referrer Module → List ℕ → List Question
-asked_for config referrer specifier = if_wanted (of_request (path_of config referrer) specifier) (wanted config referrer specifier)
+asked_for config referrer specifier =
+    if_wanted (of_request (path_of config referrer) specifier) (wanted config referrer specifier)
 
-abbrev pub ComesTo : {X : Type 0} → Sights → Asking Question Answer (Result X TraceFault) → Result X TraceFault → Type 0
+abbrev pub ComesTo : {X : Type 0} → Sights → Asking Question Answer (Result X TraceFault) → Result X TraceFault
+    → Type 0
 ComesTo sights asking result = result_of (evaluated (answers sights) tt asking) ≡ result
 
 -- the opening of a visit passes, and so do the requests in front of this one, which is refused
-pub record RefusedRequest (sights : Sights) (config : Config) (before : Before) (referrer : Referrer Module) (refusal : TraceFault)
-    (front : List (List ℕ)) (specifier : List ℕ) : Type 0 where
+pub record RefusedRequest (sights : Sights) (config : Config) (before : Before) (referrer : Referrer Module)
+    (refusal : TraceFault) (front : List (List ℕ)) (specifier : List ℕ) : Type 0 where
   pub behind : List (List ℕ)
   pub split : specifiers sights config referrer ≡ front ++ specifier ∷ behind
   pub opened : Opened Before
@@ -179,15 +198,19 @@ pub record RefusedRequest (sights : Sights) (config : Config) (before : Before) 
   pub passed : ComesTo sights (followed (rules config) opened.after referrer front) (Ok tables)
   pub refused : ComesTo sights (follows config tables referrer specifier) (Err refusal)
 
--- where a visit is refused, and what was asked in it by then: what its opening asks, and then what the requests ask up to the one that is refused
-pub data RefusedAt (sights : Sights) (config : Config) (before : Before) (referrer : Referrer Module) (refusal : TraceFault) : List Question → Type 0 where
-  at_opening : ComesTo sights (opens config before referrer) (Err refusal) → RefusedAt sights config before referrer refusal (opening referrer)
-  at_request : (front : List (List ℕ)) (specifier : List ℕ) → RefusedRequest sights config before referrer refusal front specifier
+-- where a visit is refused, and what was asked in it by then: what its opening asks, and then what the requests ask up
+-- to the one that is refused
+pub data RefusedAt (sights : Sights) (config : Config) (before : Before) (referrer : Referrer Module)
+    (refusal : TraceFault) : List Question → Type 0 where
+  at_opening : ComesTo sights (opens config before referrer) (Err refusal)
+      → RefusedAt sights config before referrer refusal (opening referrer)
+  at_request : (front : List (List ℕ)) (specifier : List ℕ)
+      → RefusedRequest sights config before referrer refusal front specifier
       → RefusedAt sights config before referrer refusal
-          (opening referrer ++ map (of_request (path_of config referrer)) front ++ asked_for config referrer specifier)
+      (opening referrer ++ map (of_request (path_of config referrer)) front ++ asked_for config referrer specifier)
 
--- these visits pass, the visit of this referrer comes next in the order of the tables, and is refused; what was asked are the questions of
--- these visits, and then those of this one by then
+-- these visits pass, the visit of this referrer comes next in the order of the tables, and is refused; what was asked
+-- are the questions of these visits, and then those of this one by then
 pub record RefusedInOrder (sights : Sights) (config : Config) (refusal : TraceFault) : Type 0 where
   pub visits : List (Referrer Module)
   pub referrer : Referrer Module
@@ -203,12 +226,13 @@ pub record RefusedInOrder (sights : Sights) (config : Config) (refusal : TraceFa
 -- a refusal comes at its place too
 abbrev pub RefusesInOrder : Type 0
 RefusesInOrder =
-    (sights : Sights) (config : Config) (refusal : TraceFault) → traced sights config ≡ Err refusal → RefusedInOrder sights config refusal
+    (sights : Sights) (config : Config) (refusal : TraceFault) → traced sights config ≡ Err refusal
+    → RefusedInOrder sights config refusal
 
 -- ---- the sources
 
--- a module has this source: its path ends in `.mjs`; a file with the source's bytes stands there; and these bytes are UTF-8, and a text of the
--- plain form with the source's requests
+-- a module has this source: its path ends in `.mjs`; a file with the source's bytes stands there; and these bytes are
+-- UTF-8, and a text of the plain form with the source's requests
 pub record HasSource (sights : Sights) (m : Module) (own : Source) : Type 0 where
   pub stem : List ℕ
   pub named : m.path ≡ stem ++ codes ".mjs"
@@ -221,9 +245,10 @@ SourcesAreRead = (sights : Sights) (m : Module) (own : Source) → source sights
 
 -- ---- what a trace knows of its requests and needs
 
--- a request went through its checks: it is relative, and asks for the URL of a file; Node answers it with a module that is served at its web
--- name, which is no folder's; and the tables have its need
-pub record Passes (sights : Sights) (config : Config) (all : Before) (referrer : Referrer Module) (specifier : List ℕ) : Type 0 where
+-- a request went through its checks: it is relative, and asks for the URL of a file; Node answers it with a module
+-- that is served at its web name, which is no folder's; and the tables have its need
+pub record Passes (sights : Sights) (config : Config) (all : Before) (referrer : Referrer Module)
+    (specifier : List ℕ) : Type 0 where
   pub need : Need
   pub target : Module
   pub named : web_name config referrer ≡ Some need.referrer
@@ -242,10 +267,12 @@ pub record AllPass (sights : Sights) (config : Config) (all : Before) (referrer 
   pub pass : (specifier : List ℕ) → Contains specifiers specifier → Passes sights config all referrer specifier
 
 abbrev pub RequestsPass : Type 0
-RequestsPass = (sights : Sights) (config : Config) (all : Before) → traced sights config ≡ Ok all → (referrer : Referrer Module) → Reachable sights config referrer → AllPass sights config all referrer
+RequestsPass =
+    (sights : Sights) (config : Config) (all : Before) → traced sights config ≡ Ok all
+    → (referrer : Referrer Module) → Reachable sights config referrer → AllPass sights config all referrer
 
--- a need is that of a request of a referrer that is reached and has that web name: it is for what the request asks for, and names the module
--- to which Node leads it; neither name is a folder's
+-- a need is that of a request of a referrer that is reached and has that web name: it is for what the request asks
+-- for, and names the module to which Node leads it; neither name is a folder's
 pub record IsNeed (sights : Sights) (config : Config) (need : Need) : Type 0 where
   pub referrer : Referrer Module
   pub reached : Reachable sights config referrer
@@ -264,4 +291,5 @@ pub record NeedsAre (sights : Sights) (config : Config) (all : Before) : Type 0 
   pub no_clash : NoClash all.needs
 
 abbrev pub NeedsAreRequests : Type 0
-NeedsAreRequests = (sights : Sights) (config : Config) (all : Before) → traced sights config ≡ Ok all → NeedsAre sights config all
+NeedsAreRequests =
+    (sights : Sights) (config : Config) (all : Before) → traced sights config ≡ Ok all → NeedsAre sights config all

@@ -1,4 +1,5 @@
--- What the walk of a config asks: what a module asks for, and where a request leads. Each question is an asking over looks.
+-- What the walk of a config asks: what a module asks for, and where a request leads. Each question is an asking over
+-- looks.
 --     Question, Answer            the questions, and the answer to each
 --     Source                      the bytes of a module and its requests
 --     put question                the question as an asking over looks
@@ -30,8 +31,8 @@ pub record Source : Type 0 where
   pub bytes : List ℕ
   pub specifiers : List (List ℕ)
 
--- own: the source of the module at a path, or none where its file isn't of the form that is read; Node's answer for a specifier in the file at
--- a path
+-- own: the source of the module at a path, or none where its file isn't of the form that is read; Node's answer for a
+-- specifier in the file at a path
 abbrev pub Answer : Question → Type 0
 Answer (of_module path) = Option Source
 Answer (of_request parent specifier) = Resolution
@@ -45,7 +46,8 @@ as_read bytes (inr none) = None
 abbrev pub source_in : List ℕ → Option Entry → Option Source
 source_in path None = None
 source_in path (Some Directory) = None
-source_in path (Some (Stored bytes)) = if ends_with nat_eq path (codes ".mjs") && is_utf8 bytes then as_read bytes (reading_or_not bytes) else None
+source_in path (Some (Stored bytes)) =
+    if ends_with nat_eq path (codes ".mjs") && is_utf8 bytes then as_read bytes (reading_or_not bytes) else None
 
 abbrev pub put : (question : Question) → LookAsking (Answer question)
 put (of_module path) = ask path (λ found. answered (source_in path found))
@@ -59,7 +61,8 @@ Trail = Unit {0}
 abbrev pub within_limit : Option Entry → Trail → Ended (Option Entry) Trail LimitName
 within_limit None trail = ends None trail
 within_limit (Some Directory) trail = ends (Some Directory) trail
-within_limit (Some (Stored bytes)) trail = if nat_lt (limit_number File) (length bytes) then stopped File trail else ends (Some (Stored bytes)) trail
+within_limit (Some (Stored bytes)) trail =
+    if nat_lt (limit_number File) (length bytes) then stopped File trail else ends (Some (Stored bytes)) trail
 
 abbrev pub limited : Sights → Answers Trail LimitName (List ℕ) (λ path. Option Entry)
 limited sights trail path = within_limit (sights path) trail

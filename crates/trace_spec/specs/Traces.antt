@@ -5,7 +5,8 @@
 --     requests sights config referrer      what a referrer asks for, if it is of the form
 --     targets sights config referrer       the modules that Node answers for these requests
 --     Reachable sights config referrer     the page reaches it by requests
-use Rattle.std.specs.Prelude.{ℕ, List, [], Option, Some, None, Result, Err, filter_map, option_map, unwrap_or, if◌then◌else◌}
+use Rattle.std.specs.Prelude.{ℕ, List, [], Option, Some, None, Result, Err, filter_map, option_map, unwrap_or}
+use Rattle.std.specs.Prelude.{if◌then◌else◌}
 use Rattle.asking_spec.specs.Askings.{Asking, outcome}
 use Rattle.asking_spec.specs.Evaluation.{Ended, ends, stopped, evaluated}
 use Rattle.tree_spec.specs.declared.LimitName.{LimitName}
@@ -60,7 +61,8 @@ module_in (node.Refused why) = None
 
 -- own: no other specifier leads anywhere yet
 abbrev pub leads : Sights → Config → Referrer Module → List ℕ → Option Module
-leads sights config referrer specifier = if is_relative specifier then module_in (resolution sights config referrer specifier) else None
+leads sights config referrer specifier =
+    if is_relative specifier then module_in (resolution sights config referrer specifier) else None
 
 abbrev pub targets : Sights → Config → Referrer Module → List Module
 targets sights config referrer = filter_map (leads sights config referrer) (specifiers sights config referrer)

@@ -1,16 +1,18 @@
-//! The trace of a tree and a config: what the page reaches by requests, in order, or the first refusal. Definitions, and their laws as the
-//! contracts of functions that do nothing.
+//! The trace of a tree and a config: what the page reaches by requests, in order, or the first refusal. Definitions,
+//! and their laws as the contracts of functions that do nothing.
 #![tactic(auto)]
 
-ghost use Rattle.trace_spec.specs.Laws.{HasLevels, IsWhatIsReached, ModulesOnce, FewModules, FirstRefusalDecides, NeverOutOfRoom, GoesInOrder, RefusesInOrder, SourcesAreRead, RequestsPass, NeedsAreRequests};
+ghost use Rattle.trace_spec.specs.Laws.{HasLevels, IsWhatIsReached, ModulesOnce, FewModules};
+ghost use Rattle.trace_spec.specs.Laws.{FirstRefusalDecides, NeverOutOfRoom, GoesInOrder, RefusesInOrder};
+ghost use Rattle.trace_spec.specs.Laws.{SourcesAreRead, RequestsPass, NeedsAreRequests};
 
 use node_spec::Cause;
 use primitives::Text;
 use std::alloc::AllocError;
 use tree_spec::LimitName;
 
-/// Why there is no trace: its first refusal, with what is shown of it, or what ends the work on it. A referrer and a module are shown by path
-/// and suffix.
+/// Why there is no trace: its first refusal, with what is shown of it, or what ends the work on it. A referrer and a
+/// module are shown by path and suffix.
 #[derive(Debug, Drop)]
 pub enum TraceFault {
     /// The path isn't served at its web name, which is given where it has one.
