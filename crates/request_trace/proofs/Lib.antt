@@ -5,3 +5,4 @@ pub mod Meetings
 pub mod Visiting
 pub mod LeadLemmas
 pub mod LookLemmas
+pub mod SourceLemmas
