@@ -25,6 +25,8 @@ use Rattle.trace_spec.specs.Traces.{trace, traced, result_of, state_of}
 use Rattle.request_trace.specs.declared.lead.Lead.TheVariants.{Path, Nowhere}
 use Rattle.request_trace.specs.declared.looks.Seen.{Seen}
 use Rattle.request_trace.specs.declared.looks.Looks.{Looks}
+use Rattle.request_trace.specs.declared.tables.Tables.{Tables}
+use Rattle.request_trace.specs.Shown.{traced_of}
 use Rattle.request_trace.specs.Meeting.{Outside, fine, IsTold, Comes, Met, Known, Told}
 use Rattle.request_trace.specs.Walking.{IsGiven, IsOfWalk}
 use Rattle.request_trace.specs.Leads.{judged_there, asking_of}
@@ -158,9 +160,9 @@ unlisted_result (stopped limit state) = refl
 abbrev start : Known
 start = record { state = tt; asked = None }
 
-pub traces : (config : Config) (reference : ℕ) (before after : FolderState) (result : Result Before TraceFault) → Met (answers_of reference before) (trace config) result (answers_of reference after)
+pub traces : (config : Config) (reference other : ℕ) (before after : FolderState) (result : Result Before TraceFault) → Met (answers_of reference before) (trace config) result (answers_of other after)
     → IfErr result (IsOfWalk config) → Traces config before result after
-traces config reference before after result met kind = record {
+traces config reference other before after result met kind = record {
   is = by before.holds met.comes;
   looks = record {
       tree = (λ i. (met.keeps i).holds);
@@ -177,3 +179,11 @@ traces config reference before after result met kind = record {
     by None comes = tt
     by (Some tree) comes = λ told.
         sym (ap result_of (evaluated_listed (answers (get tree)) start (trace config))) ∙ (unlisted_result (evaluated (listed (answers (get tree))) start (trace config)) ∙ (comes told).is)
+
+-- the same of a state that is the same
+pub traces_moved : (config : Config) (before after other : FolderState) (result : Result Before TraceFault) → other ≡ after → Traces config before result after → Traces config before result other
+traces_moved config before after other result same is = subst (Traces config before result) (sym same) is
+
+pub traced_kind : (config : Config) (result : Result Tables TraceFault) → IfErr result (IsOfWalk config) → IfErr (traced_of result) (IsOfWalk config)
+traced_kind config (Ok tables) kind = tt
+traced_kind config (Err fault) kind = kind

@@ -9,7 +9,7 @@ ghost use Rattle.request_trace.specs.Shown.{source_of, answer_of};
 use crate::answerer::{Answerer, NodeAnswer, Source};
 use crate::lead::Lead;
 use crate::looks::{Looks, Seen};
-use crate::parents::{Parent, lead_from};
+use crate::parents::Parents;
 use crate::requests::requests_of;
 use node_spec::Cause;
 use primitives::{Bytes, Memory};
@@ -23,8 +23,8 @@ use web_url::Suffix;
 #[derive(Drop)]
 pub struct FolderAnswers<'a, F: Folder> {
     pub folder: &'a mut F,
-    pub looks: Looks,
-    pub last: Option<Parent>,
+    pub looks: &'a mut Looks,
+    pub parents: &'a mut Parents,
 }
 
 impl<'a, F: Folder> Answerer for FolderAnswers<'a, F> {
@@ -32,7 +32,7 @@ impl<'a, F: Folder> Answerer for FolderAnswers<'a, F> {
 
     ghost state = { λ answers. answers_of answers.folder.ghost_name (F.state answers.folder.now) };
 
-    ghost ready = { λ answers. KnowsFolder (F.state answers.folder.now) answers.looks };
+    ghost ready = { λ answers. KnowsFolder (F.state answers.folder.now) answers.looks.now };
 
     fn module(&mut self, alloc: Global, path: &Path) -> Result<Option<Source>, TraceFault> {
         let seen = self.looks.look(alloc, self.folder, path)?;
@@ -45,7 +45,7 @@ impl<'a, F: Folder> Answerer for FolderAnswers<'a, F> {
         parent: &Path,
         specifier: &str,
     ) -> Result<NodeAnswer, TraceFault> {
-        match lead_from(&mut self.last, alloc, parent, specifier)? {
+        match self.parents.lead(alloc, parent, specifier)? {
             Lead::Nowhere { cause } => Ok(NodeAnswer::Refused { cause }),
             Lead::Path {
                 path,

@@ -13,26 +13,38 @@ use web_url::{FileUrl, file_url};
 
 /// A file that makes requests, with its URL.
 #[derive(Drop)]
-pub struct Parent {
+struct Parent {
     path: Path,
     url: FileUrl,
     ghost named: { parse_alone (file_text path false) ≡ Some url },
 }
 
-/// Where a relative specifier leads in the file at a path. The URL of the file that asked last is kept.
-pub fn lead_from(
-    last: &mut Option<Parent>,
-    alloc: Global,
-    parent: &Path,
-    specifier: &str,
-) -> Result<Lead, Memory>
-    requires { is_relative specifier.now ≡ true }
-    ensures { IfOk result (λ lead. relative_resolution parent.now specifier.now ≡ asking_of lead) }
-{
-    let known = parent_at(alloc, last.take(), parent)?;
-    let lead = lead_of(alloc, &known.url, specifier)?;
-    *last = Some(known);
-    Ok(lead)
+/// The file that made the last request, so that its URL isn't made again for the next one.
+#[derive(Drop)]
+pub struct Parents {
+    last: Option<Parent>,
+}
+
+impl Parents {
+    pub fn new() -> Parents {
+        Parents { last: None }
+    }
+
+    /// Where a relative specifier leads in the file at a path.
+    pub fn lead(
+        &mut self,
+        alloc: Global,
+        parent: &Path,
+        specifier: &str,
+    ) -> Result<Lead, Memory>
+        requires { is_relative specifier.now ≡ true }
+        ensures { IfOk result (λ lead. relative_resolution parent.now specifier.now ≡ asking_of lead) }
+    {
+        let known = parent_at(alloc, self.last.take(), parent)?;
+        let lead = lead_of(alloc, &known.url, specifier)?;
+        self.last = Some(known);
+        Ok(lead)
+    }
 }
 
 fn parent_at(alloc: Global, last: Option<Parent>, path: &Path) -> Result<Parent, Memory>

@@ -16,7 +16,7 @@ returns-in_err-visit_page-clause-met g c =
     (walk_unpaged _ _ c.args.config.now (before_of c.new-tables.result) c.in_err-visit_page.field-0.0 (begun_is c.new-tables.result c.new-tables.ensures.modules c.new-tables.ensures.sources c.new-tables.ensures.needs c.new-tables.ensures.requests) (c.in_err-visit_page.ensures.met none))
 
 pub visit_modules-requires : goal.visit_modules-requires
-visit_modules-requires g c = record { few = c.in_ok-visit_page.ensures.grows.few (let e : length c.new-tables.result.modules.entries ≡ 0 = ap length c.new-tables.ensures.modules in omega (arith, e)) }
+visit_modules-requires g c = record { ready = c.in_ok-visit_page.ensures.ready; few = c.in_ok-visit_page.ensures.grows.few (let e : length c.new-tables.result.modules.entries ≡ 0 = ap length c.new-tables.ensures.modules in omega (arith, e)) }
 
 pub returns-in_err-visit_modules-clause-met : goal.returns-in_err-visit_modules-clause-met
 returns-in_err-visit_modules-clause-met g c =
