@@ -4,3 +4,5 @@ pub mod TableLemmas
 pub mod Meetings
 pub mod Visiting
 pub mod LeadLemmas
+pub mod LookLemmas
+pub mod SourceLemmas

@@ -56,6 +56,7 @@ pub met_then : {T Q : Type 0} {A : Q → Type 0} {X Y : Type 0} (before middle a
 met_then before middle after part next value result first rest = record {
   comes = comes_then before.told before.state middle.state after.state part next value result first.comes (subst (λ told. IfSome told (λ answers. IsTold result → Comes answers middle.state (next value) result after.state)) first.told rest.comes);
   told = rest.told ∙ first.told;
+  keeps = rest.keeps ∙ first.keeps;
   later = (let one = first.later in let two = rest.later in omega arith);
   cause = λ e. (let two = rest.cause e in let same : middle.faults ≡ before.faults = first.quiet (λ f. cc) in subst (λ n. Rose n after.faults) same two);
   quiet = λ ne. rest.quiet ne ∙ first.quiet (λ f. cc);
@@ -67,6 +68,7 @@ pub met_failed : {T Q : Type 0} {A : Q → Type 0} {X Y : Type 0} (before after 
 met_failed before after part next fault first = record {
   comes = comes_failed before.told before.state after.state part next fault first.comes;
   told = first.told;
+  keeps = first.keeps;
   later = first.later;
   cause = λ e. first.cause (let f : fault ≡ ReadFault = cc in ap Err f);
   quiet = λ ne. first.quiet (λ e. ne (let f : fault ≡ ReadFault = cc in ap Err f));
@@ -77,6 +79,7 @@ pub met_now : {T Q : Type 0} {A : Q → Type 0} {X : Type 0} (before : Outside T
 met_now before value result given = record {
   comes = comes_now before.told before.state value result given;
   told = refl;
+  keeps = refl;
   later = omega arith;
   cause = λ e. absurd (given.no_look e);
   quiet = λ ne. refl;
@@ -91,6 +94,7 @@ pub met_unfinished : {T Q : Type 0} {A : Q → Type 0} {X Y : Type 0} (before af
 met_unfinished before after part value whole first = record {
   comes = unfinished before.told before.state after.state whole;
   told = first.told;
+  keeps = first.keeps;
   later = first.later;
   cause = λ e. absurd (cc);
   quiet = λ ne. first.quiet (λ e. cc);
@@ -101,6 +105,7 @@ pub met_memory : {T Q : Type 0} {A : Q → Type 0} {X : Type 0} (before : Outsid
 met_memory before whole = record {
   comes = unfinished before.told before.state before.state whole;
   told = refl;
+  keeps = refl;
   later = omega arith;
   cause = λ e. absurd (cc);
   quiet = λ ne. refl;

@@ -24,7 +24,7 @@ use Rattle.request_trace.specs.declared.referrer.Referrer.{Referrer}
 use Rattle.request_trace.specs.declared.tables.Name.{Name}
 use Rattle.request_trace.specs.declared.tables.Tables.{Tables}
 use Rattle.request_trace.specs.Shown.{source_of, before_of, done}
-use Rattle.request_trace.specs.Walking.{IsReferrer, IsNamed, AllNamed, IsGiven, GrowsFew, NotBuilt, put_known}
+use Rattle.request_trace.specs.Walking.{IsReferrer, IsNamed, AllNamed, IsGiven, Grows, NotBuilt, put_known}
 
 -- ---- a module that is looked up
 
@@ -78,14 +78,22 @@ keys_known modules target known = sym (ap (λ ms. modules ++ ms) (cond-true (lis
 pub names_push : (config : Config) (old new : List (Module × Name)) (target : Module) (name : Name) → new ≡ old ++ (target, name) ∷ [] → IsNamed config target name → AllNamed config old → AllNamed config new
 names_push config old new target name e is all = subst (AllNamed config) (sym e) (All-push (λ (x : Module × Name). IsNamed config x.0 x.1) old (target, name) all is)
 
-pub grows_by_one : {X : Type 0} (old new : List X) (x : X) → length old < limit_number Modules → new ≡ old ++ x ∷ [] → GrowsFew old new
-grows_by_one old new x room e = record {
-  few = λ few. let n = ap length e in let m = length-append old (x ∷ []) in omega arith;
-  longer = let n = ap length e in let m = length-append old (x ∷ []) in omega arith;
+pub grows_by_one : (config : Config) (old new : Tables) (target : Module) (name : Name) → length old.modules.entries < limit_number Modules
+    → new.modules.entries ≡ old.modules.entries ++ (target, name) ∷ [] → new.sources ≡ old.sources → IsNamed config target name → Grows config 0 old new
+grows_by_one config old new target name room e sources is = record {
+  named = names_push config old.modules.entries new.modules.entries target name e is;
+  few = λ few. let n = ap length e in let m = length-append old.modules.entries ((target, name) ∷ []) in omega arith;
+  longer = let n = ap length e in let m = length-append old.modules.entries ((target, name) ∷ []) in omega arith;
+  sources = let n = ap (λ s. length s.items) sources in omega arith;
 }
 
-pub grows_not : {X : Type 0} (old new : List X) → new ≡ old → GrowsFew old new
-grows_not old new e = record { few = λ few. let n = ap length e in omega arith; longer = let n = ap length e in omega arith }
+same_grows : (config : Config) (old new : Tables) → new.modules ≡ old.modules → new.sources ≡ old.sources → Grows config 0 old new
+same_grows config old new modules sources = record {
+  named = λ all. subst (λ modules. AllNamed config modules.entries) (sym modules) all;
+  few = λ few. let n = ap (λ ms. length ms.entries) modules in omega arith;
+  longer = let n = ap (λ ms. length ms.entries) modules in omega arith;
+  sources = let n = ap (λ s. length s.items) sources in omega arith;
+}
 
 -- ---- the definitions' checks
 
@@ -163,6 +171,6 @@ named_put refusal old new want target found need name found_is need_is clear fre
     ∙ (needed_room refusal (before_of old) need target clear (λ f. omega (arith, room, keys)) ∙ ap Ok (sym (put_is old new need target name fresh modules sources needs requests))) in
     record { given = λ ne. is; no_look = λ e. cc }
 
-pub kept_named : (config : Config) (result : Result (Unit {0}) TraceFault) (old new : Tables) → new.modules ≡ old.modules → OnOk result (AllNamed config old.modules.entries → AllNamed config new.modules.entries)
-kept_named config (Ok unit) old new e = λ all. subst (λ modules. AllNamed config modules.entries) (sym e) all
-kept_named config (Err fault) old new e = tt
+pub grows_not : (config : Config) (result : Result (Unit {0}) TraceFault) (old new : Tables) → new.modules ≡ old.modules → new.sources ≡ old.sources → OnOk result (Grows config 0 old new)
+grows_not config (Ok unit) old new modules sources = same_grows config old new modules sources
+grows_not config (Err fault) old new modules sources = tt

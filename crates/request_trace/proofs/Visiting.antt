@@ -1,9 +1,9 @@
 -- Visits, and the walk over the table of modules.
-use Rattle.std.proofs.Common.{◌≡◌, ◌≢◌, ◌≤◌, ◌<◌, ◌+◌, ◌-◌, ℕ, zero, suc, true, false, List, [], ◌∷◌, ◌++◌, length, Option, Some, None, Result, Ok, Err, IfErr, refl, sym, ap, ◌∙◌, subst, arith}
-use Rattle.std.specs.Prelude.{slice_get, map}
+use Rattle.std.proofs.Common.{◌≡◌, ◌≢◌, ◌≤◌, ◌<◌, ◌+◌, ◌-◌, ℕ, zero, suc, true, false, List, [], ◌∷◌, ◌++◌, length, length-append, Option, Some, None, Result, Ok, Err, IfErr, refl, sym, ap, ◌∙◌, subst, arith}
+use Rattle.std.specs.Prelude.{slice_get, map, OnOk}
 use Rattle.std.specs.Map.{keys_of}
 use Rattle.std.specs.Result.{IsErrAnd}
-use Rattle.std.proofs.lemmas.List.{map-append}
+use Rattle.std.proofs.lemmas.List.{map-append, length-map}
 use Rattle.std.proofs.lemmas.List.Elements.{All-head, All-tail}
 use Rattle.std.proofs.lemmas.Option.{slice_get_past}
 use Rattle.tree_spec.specs.declared.LimitName.TheVariants.{Modules}
@@ -24,7 +24,9 @@ use Rattle.request_trace.specs.declared.tables.Name.{Name}
 use Rattle.request_trace.specs.declared.tables.Tables.{Tables}
 use Rattle.request_trace.specs.Meeting.{AnswererState, fine, Met}
 use Rattle.request_trace.specs.Shown.{source_of, before_of}
-use Rattle.request_trace.specs.Walking.{IsReferrer, IsNamed, AllNamed, IsGiven, GrowsFew, IsOfPutting, IsOfWalk, IsPageFault}
+use Rattle.request_trace.specs.Walking.{IsReferrer, IsNamed, AllNamed, IsGiven, Grows, IsOfPutting, IsOfWalk, IsPageFault}
+use Rattle.request_trace.specs.Tracing.{IsWhole}
+use Rattle.request_trace.proofs.TableLemmas.{keys_of-length}
 use Rattle.request_trace.proofs.Meetings.{met_then, met_failed, met_now, met_memory, Left}
 
 -- ---- results that are handed on
@@ -55,8 +57,48 @@ page_kind config (RequestNotBuilt referrer specifier) is = λ look memory. tt
 page_kind config (ModuleNotBuilt m) is = λ look memory. tt
 page_kind config (Limit which) is = λ look memory. absurd (let e = is.is memory in cc)
 
-pub grows_on : {A : Type 0} (old middle new : List A) → GrowsFew old middle → GrowsFew middle new → GrowsFew old new
-grows_on old middle new one two = record { few = λ few. two.few (one.few few); longer = (let a = one.longer in let b = two.longer in omega arith) }
+-- ---- how the tables grow
+
+pub grows_begin : (config : Config) (tables : Tables) → Grows config 0 tables tables
+grows_begin config tables = record { named = λ all. all; few = λ few. few; longer = omega arith; sources = omega arith }
+
+pub grows_on : (config : Config) (some others : ℕ) (old middle new : Tables) → Grows config some old middle → Grows config others middle new → Grows config (some + others) old new
+grows_on config some others old middle new one two = record {
+  named = λ all. two.named (one.named all);
+  few = λ few. two.few (one.few few);
+  longer = (let a = one.longer in let b = two.longer in omega arith);
+  sources = (let a = one.sources in let b = two.sources in omega arith);
+}
+
+by_visit : (config : Config) (tables pushed new : Tables) (source : Source) → pushed.modules ≡ tables.modules → pushed.sources.items ≡ tables.sources.items ++ source ∷ []
+    → Grows config 0 pushed new → Grows config 1 tables new
+by_visit config tables pushed new source modules sources grows =
+    let count : length pushed.sources.items ≡ length tables.sources.items + 1 = ap length sources ∙ length-append tables.sources.items (source ∷ []) in
+    let same : length pushed.modules.entries ≡ length tables.modules.entries = ap (λ ms. length ms.entries) modules in
+    record {
+      named = λ all. grows.named (subst (λ ms. AllNamed config ms.entries) (sym modules) all);
+      few = λ few. grows.few (omega (arith, same, few));
+      longer = (let a = grows.longer in omega (arith, same, a));
+      sources = (let a = grows.sources in omega (arith, count, a));
+    }
+
+pub grows_by_visit : (config : Config) (result : Result (Unit {0}) TraceFault) (tables pushed new : Tables) (source : Source) → pushed.modules ≡ tables.modules → pushed.sources.items ≡ tables.sources.items ++ source ∷ []
+    → OnOk result (Grows config 0 pushed new) → OnOk result (Grows config 1 tables new)
+grows_by_visit config (Ok unit) tables pushed new source modules sources grows = by_visit config tables pushed new source modules sources grows
+grows_by_visit config (Err fault) tables pushed new source modules sources grows = tt
+
+-- the tables behind the page's visit and those of all modules
+pub whole_by : (config : Config) (empty paged tables : Tables) → empty.modules.entries ≡ [] → empty.sources.items ≡ []
+    → Grows config 0 empty paged → Grows config (length tables.modules.entries) paged tables → IsWhole (before_of tables)
+whole_by config empty paged tables modules sources page all =
+    let none : length empty.modules.entries ≡ 0 = ap length modules in
+    let unread : length empty.sources.items ≡ 0 = ap length sources in
+    let keys = keys_of-length tables.modules.entries in
+    let reads = length-map tables.sources.items source_of in
+    record {
+      visited = (let a = page.sources in let b = all.sources in omega (arith, unread, keys, reads, a, b));
+      few = (let few = all.few (page.few (omega (arith, none))) in omega (arith, few, keys));
+    }
 
 -- ---- the page's visit
 

@@ -3,4 +3,5 @@ pub mod Meeting
 pub mod Shown
 pub mod Walking
 pub mod Leads
+pub mod Looking
 pub mod Tracing

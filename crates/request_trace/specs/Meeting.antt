@@ -1,5 +1,6 @@
 -- What is known of answers from outside, and what a call that asks for them comes to.
---     Outside T Q A                    the answers, where they are told; the state that they see; how many looks failed
+--     Outside T Q A                    the answers, where they are told; the state that they see; how many looks failed; what stays as it is
+--     Kept                             what looks leave as it is
 --     fine asking                      an asking whose value is `Ok`
 --     Met before asking result after   the call comes to what the asking comes to, unless a look fails or memory is wanting
 --     Told, Known                      the answers to the questions of a walk, and what they see
@@ -9,15 +10,23 @@ use Rattle.asking_spec.specs.Evaluation.{Answers, evaluated, Asked}
 use Rattle.tree_spec.specs.declared.LimitName.{LimitName}
 use Rattle.tree_spec.specs.declared.Entry.{Entry}
 use Rattle.tree_spec.specs.Counts.{Rose}
+use Rattle.tree_spec.specs.Trees.{Tree}
 use Rattle.trace_spec.specs.declared.TraceFault.{TraceFault}
 use Rattle.trace_spec.specs.declared.TraceFault.TheVariants.{ReadFault, Memory}
 use Rattle.trace_spec.specs.Questions.{Question, Answer, Trail}
 use Rattle.trace_spec.specs.Traces.{result_of, state_of}
 
+-- the reference to what is outside, what that holds where it is told, and how many writes failed
+pub record Kept : Type 0 where
+  pub reference : ℕ
+  pub holds : Option Tree
+  pub writes : ℕ
+
 pub record Outside (T Q : Type 0) (A : Q → Type 0) : Type 0 where
   pub told : Option (Answers T LimitName Q A)
   pub state : T
   pub faults : ℕ
+  pub keeps : Kept
 
 abbrev pub fine : {Q : Type 0} {A : Q → Type 0} {X : Type 0} → Asking Q A X → Asking Q A (Result X TraceFault)
 fine asking = and_then asking (λ value. answered (Ok value))
@@ -33,6 +42,7 @@ pub record Comes {T Q X : Type 0} {A : Q → Type 0} (answers : Answers T LimitN
 pub record Met {T Q X : Type 0} {A : Q → Type 0} (before : Outside T Q A) (asking : Asking Q A (Result X TraceFault)) (result : Result X TraceFault) (after : Outside T Q A) : Type 0 where
   pub comes : IfSome before.told (λ answers. IsTold result → Comes answers before.state asking result after.state)
   pub told : after.told ≡ before.told
+  pub keeps : after.keeps ≡ before.keeps
   pub later : before.faults ≤ after.faults
   pub cause : result ≡ Err ReadFault → Rose before.faults after.faults
   pub quiet : result ≢ Err ReadFault → after.faults ≡ before.faults

@@ -1,6 +1,7 @@
 -- What the parts of the walk keep and give.
 --     IsReferrer config referrer value      the code's referrer is this one
 --     AllNamed config entries               each module stands with its web name, which is no folder's, and the text of that
+--     Grows config visits old new           the tables grow by so many visits, and keep few modules, each with its name
 --     IsGiven definition result             a part gives what the definition says, unless memory is wanting
 use Rattle.std.specs.Prelude.{◌≡◌, ◌≢◌, ◌≤◌, ◌+◌, ◌++◌, ⊤, ℕ, List, length, [], Option, Some, None, Result, Ok, Err, All, if◌then◌else◌}
 use Rattle.std.specs.List.{list_any}
@@ -17,6 +18,7 @@ use Rattle.trace_spec.specs.Walking as spec
 use Rattle.trace_spec.specs.Modules.{Config, Module, path_of, suffix_of, web_name, served_name, file_name}
 use Rattle.request_trace.specs.declared.referrer.Referrer.{Referrer}
 use Rattle.request_trace.specs.declared.tables.Name.{Name}
+use Rattle.request_trace.specs.declared.tables.Tables.{Tables}
 
 pub record IsReferrer (config : Config) (referrer : spec.Referrer Module) (value : Referrer) : Type 0 where
   pub named : web_name config referrer ≡ Some value.name
@@ -36,10 +38,12 @@ pub record IsGiven {X : Type 0} (definition result : Result X TraceFault) : Type
   pub given : result ≢ Err Memory → definition ≡ result
   pub no_look : result ≢ Err ReadFault
 
--- the table of modules grows, and keeps few
-pub record GrowsFew {A : Type 0} (old new : List A) : Type 0 where
-  pub few : length old ≤ limit_number Modules → length new ≤ limit_number Modules
-  pub longer : length old ≤ length new
+-- so many visits put their sources into the tables, and leave the modules few and named
+pub record Grows (config : Config) (visits : ℕ) (old new : Tables) : Type 0 where
+  pub named : AllNamed config old.modules.entries → AllNamed config new.modules.entries
+  pub few : length old.modules.entries ≤ limit_number Modules → length new.modules.entries ≤ limit_number Modules
+  pub longer : length old.modules.entries ≤ length new.modules.entries
+  pub sources : length new.sources.items ≡ length old.sources.items + visits
 
 -- a request that wants what isn't built
 abbrev pub NotBuilt : Referrer → List ℕ → TraceFault

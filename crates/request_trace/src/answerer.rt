@@ -1,6 +1,7 @@
-ghost use Rattle.std.specs.Prelude.{◌≡◌, IfErr};
+ghost use Rattle.std.specs.Prelude.{◌≡◌, true, IfErr, OnOk};
 ghost use Rattle.asking_spec.specs.Askings.{ask, answered};
 ghost use Rattle.trace_spec.specs.Questions.{of_module, of_request};
+ghost use Rattle.url_spec.specs.Specifiers.{is_relative};
 ghost use Rattle.request_trace.specs.Meeting.{AnswererState, Met, fine};
 ghost use Rattle.request_trace.specs.Shown.{sources, resolutions};
 ghost use Rattle.request_trace.specs.Walking.{IsOfAnswers};
@@ -31,21 +32,29 @@ pub enum NodeAnswer {
 
 /// What answers the questions of a walk.
 pub trait Answerer {
-    /// The answers and what they see, where they are told, and how many looks failed.
+    /// The answers and what they see, where they are told; how many looks failed; and what stays as it is.
     ghost state: { Self → AnswererState };
+
+    /// What it knows of earlier answers is right.
+    ghost ready: { Self → Type 0 };
 
     /// What the module at a path asks for; None where its file isn't of a form that asks for anything.
     fn module(&mut self, alloc: Global, path: &Path) -> Result<Option<Source>, TraceFault>
+        requires ready { ready self.old }
         ensures met { Met (state self.old) (fine (ask (of_module path.now) answered)) (sources result) (state self.new) }
+        ensures ready { OnOk result (ready self.new) }
         ensures kind { IfErr result IsOfAnswers };
 
-    /// Where a specifier in the file at a path leads.
+    /// Where a relative specifier in the file at a path leads.
     fn request(
         &mut self,
         alloc: Global,
         parent: &Path,
         specifier: &str,
     ) -> Result<NodeAnswer, TraceFault>
+        requires ready { ready self.old }
+        requires relative { is_relative specifier.now ≡ true }
         ensures met { Met (state self.old) (fine (ask (of_request parent.now specifier.now) answered)) (resolutions result) (state self.new) }
+        ensures ready { OnOk result (ready self.new) }
         ensures kind { IfErr result IsOfAnswers };
 }

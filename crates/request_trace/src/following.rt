@@ -1,9 +1,10 @@
-ghost use Rattle.std.specs.Prelude.{◌≡◌, ◌≢◌, ◌++◌, ℕ, List, Option, Some, Err, option_map, IfOk, IfErr, OnOk};
+ghost use Rattle.std.specs.Prelude.{◌≡◌, ◌≢◌, ◌++◌, ℕ, List, Option, Some, Err, true, option_map, IfOk, IfErr, IfSome, OnOk};
+ghost use Rattle.url_spec.specs.Specifiers.{is_relative};
 ghost use Rattle.trace_spec.specs.Modules as spec;
 ghost use Rattle.trace_spec.specs.Walking.{Referrer as Referring};
 ghost use Rattle.trace_spec.specs.Checks.{wanted_by, refused_by, follows};
 ghost use Rattle.request_trace.specs.Meeting.{Met};
-ghost use Rattle.request_trace.specs.Walking.{IsReferrer, AllNamed, GrowsFew, IsOfPutting, NotBuilt, wants};
+ghost use Rattle.request_trace.specs.Walking.{IsReferrer, AllNamed, Grows, IsOfPutting, NotBuilt, wants};
 ghost use Rattle.request_trace.specs.Shown.{before_of, done};
 
 use crate::answerer::{Answerer, NodeAnswer};
@@ -26,10 +27,11 @@ pub fn follow<A: Answerer>(
     referrer: &Referrer,
     specifier: &str,
 ) -> Result<(), TraceFault>
+    requires ready { A.ready answerer.old }
     ensures met { (r : Referring spec.Module) → IsReferrer config.now r referrer.now → AllNamed config.now tables.old.modules.entries → Met (A.state answerer.old) (follows config.now (before_of tables.old) r specifier.now) (done result tables.new) (A.state answerer.new) }
-    ensures named { OnOk result (AllNamed config.now tables.old.modules.entries → AllNamed config.now tables.new.modules.entries) }
-    ensures grows { OnOk result (GrowsFew tables.old.modules.entries tables.new.modules.entries) }
+    ensures grows { OnOk result (Grows config.now 0 tables.old tables.new) }
     ensures kind { IfErr result IsOfPutting }
+    ensures ready { OnOk result (A.ready answerer.new) }
 {
     let Some(asked) = asked_of(alloc, &referrer.name, specifier)? else {
         return Err(not_built(alloc, referrer, specifier));
@@ -45,7 +47,8 @@ pub fn follow<A: Answerer>(
 
 // What a relative specifier of a referrer asks for; None where it isn't relative, has no URL, or has that of a folder.
 fn asked_of(alloc: Global, referrer: &WebUrl, specifier: &str) -> Result<Option<WebUrl>, Memory>
-    ensures { IfOk result (λ found. wanted_by specifier.now (Some referrer.now) ≡ option_map (wants referrer.now) found) }
+    ensures wanted { IfOk result (λ found. wanted_by specifier.now (Some referrer.now) ≡ option_map (wants referrer.now) found) }
+    ensures relative { IfOk result (λ found. IfSome found (λ url. is_relative specifier.now ≡ true)) }
 {
     if !is_relative(specifier) {
         return Ok(None);

@@ -4,10 +4,13 @@
 
 mod answerer;
 mod config;
+mod folder_answers;
 mod folder_trace;
 mod following;
 mod lead;
+mod looks;
 mod module;
+mod parents;
 mod referrer;
 mod requests;
 mod tables;

@@ -11,7 +11,7 @@ ghost use Rattle.trace_spec.specs.Modules as spec;
 ghost use Rattle.trace_spec.specs.Modules.{file_name};
 ghost use Rattle.trace_spec.specs.Walking.{Referrer as Referring};
 ghost use Rattle.trace_spec.specs.Checks.{Wanted, named, led};
-ghost use Rattle.request_trace.specs.Walking.{IsReferrer, AllNamed, IsGiven, GrowsFew, IsOfPutting, NotBuilt, put_known};
+ghost use Rattle.request_trace.specs.Walking.{IsReferrer, AllNamed, IsGiven, Grows, IsOfPutting, NotBuilt, put_known};
 ghost use Rattle.request_trace.specs.Shown.{before_of, done};
 
 use crate::answerer::Source;
@@ -102,8 +102,7 @@ impl Tables {
         target: Module,
     ) -> Result<(), TraceFault>
         ensures put { (r : Referring spec.Module) → IsReferrer config.now r referrer.now → AllNamed config.now self.old.modules.entries → IsGiven (led config.now (before_of self.old) r specifier.now (record { referrer = referrer.now.name; asked = asked }) (node.Resolved target.path target.suffix)) (done result self.new) }
-        ensures named { OnOk result (AllNamed config.now self.old.modules.entries → AllNamed config.now self.new.modules.entries) }
-        ensures grows { OnOk result (GrowsFew self.old.modules.entries self.new.modules.entries) }
+        ensures grows { OnOk result (Grows config.now 0 self.old self.new) }
         ensures kind { IfErr result IsOfPutting }
     {
         match known_text(&self.modules, alloc, &target)? {
@@ -123,6 +122,7 @@ impl Tables {
     ) -> Result<(), TraceFault>
         ensures put { IsGiven (put_known (NotBuilt referrer.now specifier.now) (before_of self.old) (record { referrer = referrer.now.text; asked = asked; target = text })) (done result self.new) }
         ensures modules { self.new.modules ≡ self.old.modules }
+        ensures sources { self.new.sources ≡ self.old.sources }
         ensures kind { IfErr result IsOfPutting }
     {
         let need = need_of(alloc, referrer, asked, text)?;
@@ -145,8 +145,7 @@ impl Tables {
     ) -> Result<(), TraceFault>
         requires { list_any (spec.is_module target) (keys self.old.modules) ≡ false }
         ensures put { IsGiven (named (NotBuilt referrer.now specifier.now) (before_of self.old) (record { referrer = referrer.now.text; asked = asked }) target (file_name config.now target)) (done result self.new) }
-        ensures named { OnOk result (AllNamed config.now self.old.modules.entries → AllNamed config.now self.new.modules.entries) }
-        ensures grows { OnOk result (GrowsFew self.old.modules.entries self.new.modules.entries) }
+        ensures grows { OnOk result (Grows config.now 0 self.old self.new) }
         ensures kind { IfErr result IsOfPutting }
     {
         let Some(name) = name_of(alloc, config, &target)? else {

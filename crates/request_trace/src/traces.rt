@@ -1,6 +1,8 @@
 ghost use Rattle.std.specs.Prelude.{◌≡◌, ◌≤◌, length, slice_get, option_map, option_and_then, option_copied};
 ghost use Rattle.tree_spec.specs.declared.LimitName.TheVariants.{Modules};
 ghost use Rattle.tree_spec.specs.Limits.{limit_number};
+ghost use Rattle.request_trace.specs.Shown.{before_of};
+ghost use Rattle.request_trace.specs.Tracing.{IsWhole};
 
 use crate::tables::Tables;
 use need_table::Needs;
@@ -26,6 +28,14 @@ impl Model for Trace {
 }
 
 impl Trace {
+    /// The trace that these tables hold.
+    pub(crate) fn of(tables: Tables) -> Trace
+        requires { IsWhole (before_of tables) }
+        ensures { result ≡ before_of tables }
+    {
+        Trace { tables }
+    }
+
     /// The needs, each at its first place.
     pub fn needs(&self) -> &Needs
         ensures { result.now ≡ self.now.needs }

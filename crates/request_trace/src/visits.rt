@@ -9,7 +9,8 @@ ghost use Rattle.trace_spec.specs.Traces.{trace};
 ghost use Rattle.trace_spec.specs.Modules.{served_name};
 ghost use Rattle.url_spec.specs.WebNames.{web};
 ghost use Rattle.request_trace.specs.Meeting.{Met};
-ghost use Rattle.request_trace.specs.Walking.{IsReferrer, AllNamed, IsGiven, GrowsFew, IsOfPutting, IsOfWalk, IsPageFault};
+ghost use Rattle.request_trace.specs.Walking.{IsReferrer, AllNamed, IsGiven, Grows, IsOfPutting, IsOfWalk, IsPageFault};
+ghost use Rattle.request_trace.specs.Tracing.{IsWhole};
 ghost use Rattle.request_trace.specs.Shown.{before_of, done, traced_of};
 
 use crate::answerer::{Answerer, Source};
@@ -30,8 +31,10 @@ pub fn walk<A: Answerer>(
     answerer: &mut A,
     config: &Config,
 ) -> Result<Tables, TraceFault>
+    requires ready { A.ready answerer.old }
     ensures met { Met (A.state answerer.old) (trace config.now) (traced_of result) (A.state answerer.new) }
     ensures named { IfOk result (λ tables. AllNamed config.now tables.modules.entries) }
+    ensures whole { IfOk result (λ tables. IsWhole (before_of tables)) }
     ensures kind { IfErr result (IsOfWalk config.now) }
 {
     let mut tables = Tables::new(alloc);
@@ -47,10 +50,11 @@ fn visit_page<A: Answerer>(
     config: &Config,
     tables: &mut Tables,
 ) -> Result<(), TraceFault>
+    requires ready { A.ready answerer.old }
     ensures met { AllNamed config.now tables.old.modules.entries → Met (A.state answerer.old) (visited (rules config.now) (before_of tables.old) the_page) (done result tables.new) (A.state answerer.new) }
-    ensures named { OnOk result (AllNamed config.now tables.old.modules.entries → AllNamed config.now tables.new.modules.entries) }
-    ensures grows { OnOk result (GrowsFew tables.old.modules.entries tables.new.modules.entries) }
+    ensures grows { OnOk result (Grows config.now 0 tables.old tables.new) }
     ensures kind { IfErr result (IsOfWalk config.now) }
+    ensures ready { OnOk result (A.ready answerer.new) }
 {
     let referrer = page_referrer(alloc, config)?;
     follow_all(alloc, answerer, config, tables, &referrer, config.entries())
@@ -107,10 +111,11 @@ fn follow_all<A: Answerer>(
     referrer: &Referrer,
     specifiers: &[Text],
 ) -> Result<(), TraceFault>
+    requires ready { A.ready answerer.old }
     ensures met { (r : Referring spec.Module) → IsReferrer config.now r referrer.now → AllNamed config.now tables.old.modules.entries → Met (A.state answerer.old) (followed (rules config.now) (before_of tables.old) r specifiers.now) (done result tables.new) (A.state answerer.new) }
-    ensures named { OnOk result (AllNamed config.now tables.old.modules.entries → AllNamed config.now tables.new.modules.entries) }
-    ensures grows { OnOk result (GrowsFew tables.old.modules.entries tables.new.modules.entries) }
+    ensures grows { OnOk result (Grows config.now 0 tables.old tables.new) }
     ensures kind { IfErr result IsOfPutting }
+    ensures ready { OnOk result (A.ready answerer.new) }
 {
     let mut rest = specifiers;
     while let Some((first, others)) = rest.split_first() {
@@ -127,10 +132,12 @@ fn visit_modules<A: Answerer>(
     config: &Config,
     tables: &mut Tables,
 ) -> Result<(), TraceFault>
+    requires ready { A.ready answerer.old }
     requires few { length tables.old.modules.entries ≤ limit_number Modules }
     ensures met { AllNamed config.now tables.old.modules.entries → Met (A.state answerer.old) (walked (rules config.now) (suc (limit_number Modules)) (before_of tables.old) 0) (done result tables.new) (A.state answerer.new) }
-    ensures named { OnOk result (AllNamed config.now tables.old.modules.entries → AllNamed config.now tables.new.modules.entries) }
+    ensures grows { OnOk result (Grows config.now (length tables.new.modules.entries) tables.old tables.new) }
     ensures kind { IfErr result IsOfPutting }
+    ensures ready { OnOk result (A.ready answerer.new) }
 {
     let mut place = 0;
     while place < tables.modules.len() {
@@ -148,11 +155,12 @@ fn visit<A: Answerer>(
     tables: &mut Tables,
     place: usize,
 ) -> Result<(), TraceFault>
+    requires ready { A.ready answerer.old }
     requires within { place < length tables.old.modules.entries }
     ensures met { (m : spec.Module) → slice_get (keys tables.old.modules) place ≡ Some m → AllNamed config.now tables.old.modules.entries → Met (A.state answerer.old) (visited (rules config.now) (before_of tables.old) (a_module m)) (done result tables.new) (A.state answerer.new) }
-    ensures named { OnOk result (AllNamed config.now tables.old.modules.entries → AllNamed config.now tables.new.modules.entries) }
-    ensures grows { OnOk result (GrowsFew tables.old.modules.entries tables.new.modules.entries) }
+    ensures grows { OnOk result (Grows config.now 1 tables.old tables.new) }
     ensures kind { IfErr result IsOfPutting }
+    ensures ready { OnOk result (A.ready answerer.new) }
 {
     let (module, name) = tables.modules.get_index(place).unwrap();
     let referrer = referrer_of(alloc, module, name)?;
@@ -167,10 +175,11 @@ fn visit_module<A: Answerer>(
     tables: &mut Tables,
     referrer: &Referrer,
 ) -> Result<(), TraceFault>
+    requires ready { A.ready answerer.old }
     ensures met { (m : spec.Module) → IsReferrer config.now (a_module m) referrer.now → AllNamed config.now tables.old.modules.entries → Met (A.state answerer.old) (visited (rules config.now) (before_of tables.old) (a_module m)) (done result tables.new) (A.state answerer.new) }
-    ensures named { OnOk result (AllNamed config.now tables.old.modules.entries → AllNamed config.now tables.new.modules.entries) }
-    ensures grows { OnOk result (GrowsFew tables.old.modules.entries tables.new.modules.entries) }
+    ensures grows { OnOk result (Grows config.now 1 tables.old tables.new) }
     ensures kind { IfErr result IsOfPutting }
+    ensures ready { OnOk result (A.ready answerer.new) }
 {
     let Some(source) = answerer.module(alloc, &referrer.path)? else {
         return Err(module_not_built(alloc, referrer));

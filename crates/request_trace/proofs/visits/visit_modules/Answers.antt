@@ -4,13 +4,14 @@ use Rattle.trace_spec.specs.Walking.{a_module, visited, walked}
 use Rattle.trace_spec.specs.Checks.{rules}
 use Rattle.request_trace.specs.Meeting.{Met}
 use Rattle.request_trace.specs.Shown.{before_of, done}
+use Rattle.request_trace.specs.Walking.{Grows}
 use Rattle.request_trace.proofs.TableLemmas.{keys_of-length}
 use Rattle.request_trace.proofs.Meetings.{left_begins, left_goes, left_fails, met_now, given_same}
-use Rattle.request_trace.proofs.Visiting.{handed, at_index, next_visit, no_visit}
+use Rattle.request_trace.proofs.Visiting.{handed, at_index, grows_begin, grows_on, next_visit, no_visit}
 use Rattle.request_trace.proofs.visits.visit_modules.Goals as goal
 
 pub loop-place-init : goal.loop-place-init
-loop-place-init g c = record { left = λ all. left_begins _ _; named = λ all. all; few = c.requires.few; within = omega arith }
+loop-place-init g c = record { left = λ all. left_begins _ _; grows = grows_begin _ _; ready = c.requires.ready; few = c.requires.few; within = omega arith }
 
 pub returns-in_err-visit-clause-met : goal.returns-in_err-visit-clause-met
 returns-in_err-visit-clause-met g c = λ all.
@@ -19,7 +20,7 @@ returns-in_err-visit-clause-met g c = λ all.
     subst (λ v. Met (g.A.Answerer.state c.args.answerer.now) (walked (rules c.args.config.now) 20001 (before_of c.args.tables.now) 0) (done v c.visit.new.tables) (g.A.Answerer.state c.visit.new.answerer)) (sym (handed c.from_residual.result c.in_err-visit.field-0.0 c.from_residual.ensures.1))
     (left_fails _ _ _ _ (visited (rules c.args.config.now) (before_of c.loop-place.tables) (a_module at.0)) _ c.in_err-visit.field-0.0
     (next_visit _ _ _ c.args.config.now (before_of c.loop-place.tables) c.loop-place.place at.0 (omega (arith, c.loop-place.invariant.within, c.loop-place.invariant.few)) at.1 (c.loop-place.invariant.left all))
-    (c.in_err-visit.ensures.met at.0 at.1 (c.loop-place.invariant.named all)))
+    (c.in_err-visit.ensures.met at.0 at.1 (c.loop-place.invariant.grows.named all)))
 
 pub loop-place-preserved : goal.loop-place-preserved
 loop-place-preserved g c =
@@ -28,8 +29,9 @@ loop-place-preserved g c =
     record {
       left = λ all. left_goes _ _ _ _ (visited (rules c.args.config.now) (before_of c.loop-place.tables) (a_module at.0)) _ (before_of c.visit.new.tables)
           (next_visit _ _ _ c.args.config.now (before_of c.loop-place.tables) c.loop-place.place at.0 (omega (arith, c.loop-place.invariant.within, c.loop-place.invariant.few)) at.1 (c.loop-place.invariant.left all))
-          (c.in_ok-visit.ensures.met at.0 at.1 (c.loop-place.invariant.named all));
-      named = λ all. c.in_ok-visit.ensures.named (c.loop-place.invariant.named all);
+          (c.in_ok-visit.ensures.met at.0 at.1 (c.loop-place.invariant.grows.named all));
+      grows = grows_on _ c.loop-place.place 1 _ _ _ c.loop-place.invariant.grows c.in_ok-visit.ensures.grows;
+      ready = c.in_ok-visit.ensures.ready;
       few = c.in_ok-visit.ensures.grows.few c.loop-place.invariant.few;
       within = (let e = c.len.ensures.len in let m = c.in_ok-visit.ensures.grows.longer in omega (arith, e, m, c.loop-place-test.true));
     }
@@ -39,3 +41,8 @@ returns-clause-met g c = λ all.
     let keys = keys_of-length c.loop-place.tables.modules.entries in
     (no_visit _ _ _ c.args.config.now (before_of c.loop-place.tables) c.loop-place.place (omega (arith, c.loop-place.invariant.within, c.loop-place.invariant.few)) (let e = c.len.ensures.len in omega (arith, e, keys, c.loop-place-test.false)) (c.loop-place.invariant.left all)).completes (Ok (before_of c.loop-place.tables)) _
     (met_now _ (Ok (before_of c.loop-place.tables)) (Ok (before_of c.loop-place.tables)) (given_same _))
+
+pub returns-clause-grows : goal.returns-clause-grows
+returns-clause-grows g c =
+    let at : c.loop-place.place ≡ length c.loop-place.tables.modules.entries = (let e = c.len.ensures.len in omega (arith, e, c.loop-place.invariant.within, c.loop-place-test.false)) in
+    subst (λ n. Grows c.args.config.now n c.args.tables.now c.loop-place.tables) at c.loop-place.invariant.grows

@@ -2,14 +2,15 @@ use Rattle.std.proofs.Common.{◌≤◌, ◌-◌, length}
 use Rattle.trace_spec.specs.Walking.{walked}
 use Rattle.trace_spec.specs.Checks.{rules}
 use Rattle.request_trace.specs.Shown.{before_of}
-use Rattle.request_trace.specs.Walking.{AllNamed}
+use Rattle.request_trace.specs.Walking.{AllNamed, Grows}
 use Rattle.request_trace.proofs.Meetings.{Left}
 use Rattle.request_trace.proofs.visits.visit_modules.Given as goal
 
 abbrev pub invariant-loop-place : goal.invariant-loop-place
 invariant-loop-place g l = record {
   left : AllNamed l.config l.fn.tables.modules.entries → Left (g.A.Answerer.state l.fn.answerer) (walked (rules l.config) 20001 (before_of l.fn.tables) 0) (g.A.Answerer.state l.answerer) (walked (rules l.config) (20001 - l.place) (before_of l.tables) l.place);
-  named : AllNamed l.config l.fn.tables.modules.entries → AllNamed l.config l.tables.modules.entries;
+  grows : Grows l.config l.place l.fn.tables l.tables;
+  ready : g.A.Answerer.ready l.answerer;
   few : length l.tables.modules.entries ≤ 20000;
   within : l.place ≤ length l.tables.modules.entries;
 }

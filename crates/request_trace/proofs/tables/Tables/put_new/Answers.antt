@@ -3,7 +3,7 @@ use Rattle.std.specs.Prelude.{IfSome}
 use Rattle.trace_spec.specs.Modules.{file_name}
 use Rattle.request_trace.specs.declared.tables.Name.{Name}
 use Rattle.request_trace.specs.Walking.{NotBuilt}
-use Rattle.request_trace.proofs.TableLemmas.{named_full, named_put, names_push}
+use Rattle.request_trace.proofs.TableLemmas.{named_full, named_put, grows_by_one}
 use Rattle.request_trace.proofs.tables.Tables.put_new.Goals as goal
 
 pub returns-in_err-put_module-clause-put : goal.returns-in_err-put_module-clause-put
@@ -23,7 +23,8 @@ returns-clause-put c =
     (c.in_ok-need.ensures ∙ (λ i. record { referrer = c.args.referrer.now.text; asked = c.asked.view_is i; target = (c.in_ok-copy.ensures ∙ text) i }))
     added.0 c.requires c.in_ok-put_module.ensures.put.0 c.in_ok-put_module.ensures.put.1 refl added.1 c.in_ok-self.ensures
 
-pub returns-clause-named : goal.returns-clause-named
-returns-clause-named c = λ all.
-    names_push c.args.config.now c.args.self.now.modules.entries c.put_module.new.modules.entries c.args.target c.in-Some.name c.in_ok-put_module.ensures.put.1
-    (record { is = c.in_ok-name.ensures.name ∙ ap (option_map (λ (n : Name). n.url)) c.in-Some.is; text = subst (λ f. IfSome f (λ (n : Name). n.text ≡ n.url)) c.in-Some.is c.in_ok-name.ensures.text }) all
+pub returns-clause-grows : goal.returns-clause-grows
+returns-clause-grows c =
+    grows_by_one c.args.config.now c.args.self.now (record { modules = c.put_module.new.modules; sources = c.args.self.now.sources; needs = c.add_need.new.needs; requests = c.in_ok-self.field-0 }) c.args.target c.in-Some.name
+    c.in_ok-put_module.ensures.put.0 c.in_ok-put_module.ensures.put.1 refl
+    (record { is = c.in_ok-name.ensures.name ∙ ap (option_map (λ (n : Name). n.url)) c.in-Some.is; text = subst (λ f. IfSome f (λ (n : Name). n.text ≡ n.url)) c.in-Some.is c.in_ok-name.ensures.text })
