@@ -37,7 +37,7 @@ handed (Err other) fault is = ap Err is
 
 pub putting_kind : (config : Config) (fault : TraceFault) → IsOfPutting fault → IsOfWalk config fault
 putting_kind config (Unservable path url) is = absurd is
-putting_kind config (Refused referrer specifier why) is = λ look memory. tt
+putting_kind config (Refused referrer specifier why) is = λ look memory. is
 putting_kind config (RequestNotBuilt referrer specifier) is = λ look memory. tt
 putting_kind config (ModuleNotBuilt m) is = λ look memory. tt
 putting_kind config (Limit which) is = λ look memory. is
@@ -52,7 +52,7 @@ pub page_kind : (config : Config) (fault : TraceFault) → IsPageFault config fa
 page_kind config Memory is = λ look memory. absurd (memory refl)
 page_kind config ReadFault is = absurd (is.no_look refl)
 page_kind config (Unservable path url) is = λ look memory. (let e = is.is memory in ((cc), (cc), is.unserved memory))
-page_kind config (Refused referrer specifier why) is = λ look memory. tt
+page_kind config (Refused referrer specifier why) is = λ look memory. absurd (let e = is.is memory in cc)
 page_kind config (RequestNotBuilt referrer specifier) is = λ look memory. tt
 page_kind config (ModuleNotBuilt m) is = λ look memory. tt
 page_kind config (Limit which) is = λ look memory. absurd (let e = is.is memory in cc)

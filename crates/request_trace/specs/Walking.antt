@@ -9,6 +9,7 @@ use Rattle.tree_spec.specs.declared.LimitName.TheVariants.{Modules}
 use Rattle.tree_spec.specs.Limits.{limit_number}
 use Rattle.layout_spec.specs.declared.Need.{Need}
 use Rattle.layout_spec.specs.Needs.{clashes, with_need}
+use Rattle.node_spec.specs.declared.Cause.TheVariants.{NotFound}
 use Rattle.trace_spec.specs.declared.TraceFault.{TraceFault}
 use Rattle.trace_spec.specs.declared.TraceFault.TheVariants.{Unservable, Refused, RequestNotBuilt, ModuleNotBuilt, Limit, ReadFault, Memory}
 use Rattle.trace_spec.specs.Kinds.{IsTraceLimit, IsOfTrace}
@@ -66,7 +67,7 @@ IsOfAnswers Memory = ⊤
 -- what a request that leads to a module can be refused for
 abbrev pub IsOfPutting : TraceFault → Type 0
 IsOfPutting (Unservable path url) = ⊥
-IsOfPutting (Refused referrer specifier why) = ⊤
+IsOfPutting (Refused referrer specifier why) = why ≡ NotFound
 IsOfPutting (RequestNotBuilt referrer specifier) = ⊤
 IsOfPutting (ModuleNotBuilt m) = ⊤
 IsOfPutting (Limit which) = IsTraceLimit which
