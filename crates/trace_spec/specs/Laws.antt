@@ -189,6 +189,7 @@ abbrev pub asked_for : Config → Referrer Module → List ℕ → List Question
 asked_for config referrer specifier =
     if_wanted (of_request (path_of config referrer) specifier) (wanted config referrer specifier)
 
+-- what an opening or the checks of a request come to, where a limit that stops them refuses
 abbrev pub ComesTo : {X : Type 0} → Sights → Asking Question Answer (Result X TraceFault) → Result X TraceFault
     → Type 0
 ComesTo sights asking result = result_of (evaluated (answers sights) tt asking) ≡ result
