@@ -1,6 +1,6 @@
 -- What evaluations come to.
 use Rattle.std.specs.Prelude.{◌≡◌, ◌++◌, ◌∷◌, [], List, Option, Some, None, Result, Ok, Err, refl}
-use Rattle.std.proofs.Common.{sym, ap, ◌∙◌, append_assoc, append-nil}
+use Rattle.std.proofs.Common.{sym, ap, ◌∙◌, subst, append_assoc, append-nil}
 use Rattle.asking_spec.specs.Askings.{Asking, answered, ask, outcome, questions, and_then, on_ok, and_ok, through}
 use Rattle.asking_spec.specs.Evaluation.{Ended, ends, stopped, then_ended, Answers, evaluated, Asked, with_asked}
 use Rattle.asking_spec.specs.Evaluation.{keep_asked, listed, unlisted, AreAlways}
@@ -124,6 +124,31 @@ evaluated_listed answers before (answered value) = refl
 evaluated_listed answers before (ask question next) =
     listed_by answers (with_asked before.asked (question ∷ [])) question next
     (λ answer middle. evaluated_listed answers middle (next answer)) (answers before.state question)
+
+-- ---- stops
+
+-- what holds of each stop of an answer holds of each stop of an evaluation
+stops_by : {T S Q : Type 0} {A : Q → Type 0} {X : Type 0} (Is : S → Type 0) (answers : Answers T S Q A)
+    (question : Q) (next : A question → Asking Q A X) (stop : S) (after : T)
+    → ((answer : A question) (middle : T) → evaluated answers middle (next answer) ≡ stopped stop after → Is stop)
+    → (first : Ended (A question) T S) → ((other : S) (middle : T) → first ≡ stopped other middle → Is other)
+    → then_ended first (λ answer middle. evaluated answers middle (next answer)) ≡ stopped stop after → Is stop
+stops_by Is answers question next stop after rest (ends answer middle) are e = rest answer middle e
+stops_by Is answers question next stop after rest (stopped other middle) are e =
+    let same : other ≡ stop = cc in
+    subst Is same (are other middle refl)
+
+pub evaluated_stops : {T S Q : Type 0} {A : Q → Type 0} {X : Type 0} (Is : S → Type 0) (answers : Answers T S Q A)
+    → ((state after : T) (question : Q) (stop : S) → answers state question ≡ stopped stop after → Is stop)
+    → (state after : T) (asking : Asking Q A X) (stop : S) → evaluated answers state asking ≡ stopped stop after
+    → Is stop
+evaluated_stops Is answers are state after (answered value) stop e = absurd (cc)
+evaluated_stops Is answers are state after (ask question next) stop e =
+    stops_by Is answers question next stop after
+    (λ answer middle f. evaluated_stops Is answers are middle after (next answer) stop f)
+    (answers state question) (λ other middle f. are state middle question other f) e
+
+-- ---- outcomes
 
 -- where an evaluation ends, it comes to the outcome of the answers that are always given
 ends_by : {T S Q : Type 0} {A : Q → Type 0} {X : Type 0} (answers : Answers T S Q A)

@@ -9,3 +9,4 @@ pub mod Steps
 pub mod Sources
 pub mod Traces
 pub mod RefusalOrder
+pub mod RefusalKinds

@@ -21,6 +21,7 @@ use Rattle.trace_spec.specs.Levels.{Levels}
 use Rattle.trace_spec.specs.FirstRefusals.{Failure, refused, halted, Comes, AllPassed, FirstFailure}
 use Rattle.trace_spec.specs.Modules.{Config, Module, is_module, path_of, web_name, IsServable, file_name}
 use Rattle.trace_spec.specs.Questions.{Source, Question, of_module, of_request, Answer, Trail, answers, always}
+use Rattle.trace_spec.specs.Kinds.{IsOfTrace}
 use Rattle.trace_spec.specs.Checks.{Before, with_source, opens, Wanted, wanted, with_request, follows, begun, rules}
 use Rattle.trace_spec.specs.Traces.{trace, result_of, state_of, traced, source, requests, specifiers, resolution}
 use Rattle.trace_spec.specs.Traces.{leads, targets, Reachable}
@@ -69,6 +70,12 @@ pub record Decides (sights : Sights) (config : Config) : Type 0 where
 
 abbrev pub FirstRefusalDecides : Type 0
 FirstRefusalDecides = (sights : Sights) (config : Config) → Decides sights config
+
+-- whatever the tree holds, a refusal is of a kind that a trace of this config can end with
+abbrev pub RefusesByKind : Type 0
+RefusesByKind =
+    (sights : Sights) (config : Config) (refusal : TraceFault) → traced sights config ≡ Err refusal
+    → IsOfTrace config refusal
 
 -- ---- room for the visits
 
@@ -182,6 +189,7 @@ abbrev pub asked_for : Config → Referrer Module → List ℕ → List Question
 asked_for config referrer specifier =
     if_wanted (of_request (path_of config referrer) specifier) (wanted config referrer specifier)
 
+-- what an opening or the checks of a request come to, where a limit that stops them refuses
 abbrev pub ComesTo : {X : Type 0} → Sights → Asking Question Answer (Result X TraceFault) → Result X TraceFault
     → Type 0
 ComesTo sights asking result = result_of (evaluated (answers sights) tt asking) ≡ result
@@ -198,6 +206,11 @@ pub record RefusedRequest (sights : Sights) (config : Config) (before : Before) 
   pub passed : ComesTo sights (followed (rules config) opened.after referrer front) (Ok tables)
   pub refused : ComesTo sights (follows config tables referrer specifier) (Err refusal)
 
+-- what is asked in a visit from its opening to a request, by the specifiers in front of it
+abbrev pub asked_up_to : Config → Referrer Module → List (List ℕ) → List ℕ → List Question
+asked_up_to config referrer front specifier =
+    opening referrer ++ map (of_request (path_of config referrer)) front ++ asked_for config referrer specifier
+
 -- where a visit is refused, and what was asked in it by then: what its opening asks, and then what the requests ask up
 -- to the one that is refused
 pub data RefusedAt (sights : Sights) (config : Config) (before : Before) (referrer : Referrer Module)
@@ -206,8 +219,7 @@ pub data RefusedAt (sights : Sights) (config : Config) (before : Before) (referr
       → RefusedAt sights config before referrer refusal (opening referrer)
   at_request : (front : List (List ℕ)) (specifier : List ℕ)
       → RefusedRequest sights config before referrer refusal front specifier
-      → RefusedAt sights config before referrer refusal
-      (opening referrer ++ map (of_request (path_of config referrer)) front ++ asked_for config referrer specifier)
+      → RefusedAt sights config before referrer refusal (asked_up_to config referrer front specifier)
 
 -- these visits pass, the visit of this referrer comes next in the order of the tables, and is refused; what was asked
 -- are the questions of these visits, and then those of this one by then

@@ -3,8 +3,8 @@
 #![tactic(auto)]
 
 ghost use Rattle.trace_spec.specs.Laws.{HasLevels, IsWhatIsReached, ModulesOnce, FewModules};
-ghost use Rattle.trace_spec.specs.Laws.{FirstRefusalDecides, NeverOutOfRoom, GoesInOrder, RefusesInOrder};
-ghost use Rattle.trace_spec.specs.Laws.{SourcesAreRead, RequestsPass, NeedsAreRequests};
+ghost use Rattle.trace_spec.specs.Laws.{FirstRefusalDecides, RefusesByKind, NeverOutOfRoom, GoesInOrder};
+ghost use Rattle.trace_spec.specs.Laws.{RefusesInOrder, SourcesAreRead, RequestsPass, NeedsAreRequests};
 
 use node_spec::Cause;
 use primitives::Text;
@@ -79,6 +79,11 @@ pub fn few_modules()
 /// There is a trace exactly where all visits pass; else the refusal is that of the first check that isn't passed.
 pub fn first_refusal_decides()
     ensures { FirstRefusalDecides }
+{}
+
+/// A refusal is of a kind that a trace of this config can end with.
+pub fn refuses_by_kind()
+    ensures { RefusesByKind }
 {}
 
 /// A trace never ends for want of room for its visits.
