@@ -47,16 +47,16 @@ keeps_one : (old new : Looks) (path : List ℕ) (seen : Seen) (entry : Option En
     → ((other : List ℕ) → map.get bytes_eq new.seen other ≡ cond (bytes_eq path other) (Some seen) (map.get bytes_eq old.seen other)) → entry_of seen ≡ entry → Keeps old path entry new
 keeps_one old new path seen entry updates shows = record {
   knows = λ sights knows is. record {
-      each = λ other found same.
-          ⊎_elim
-          (λ here.
-          let e : Some found ≡ Some seen = sym same ∙ (updates other ∙ cond-true (bytes_eq path other) (Some seen) _ here) in
-          let f : found ≡ seen = cc in
-          let p : path ≡ other = (bytes_eq-Decides path other).0 here in
-          subst (λ q. limited sights tt q ≡ ends (entry_of found) tt) p (is ∙ ap (λ x. ends x tt) (sym (ap entry_of f ∙ shows))))
-          (λ there. knows.each other found (sym (cond-false (bytes_eq path other) (Some seen) _ there) ∙ (sym (updates other) ∙ same)))
-          (cases_Bool (bytes_eq path other));
-    };
+    each = λ other found same.
+        ⊎_elim
+        (λ here.
+        let e : Some found ≡ Some seen = sym same ∙ (updates other ∙ cond-true (bytes_eq path other) (Some seen) _ here) in
+        let f : found ≡ seen = cc in
+        let p : path ≡ other = (bytes_eq-Decides path other).0 here in
+        subst (λ q. limited sights tt q ≡ ends (entry_of found) tt) p (is ∙ ap (λ x. ends x tt) (sym (ap entry_of f ∙ shows))))
+        (λ there. knows.each other found (sym (cond-false (bytes_eq path other) (Some seen) _ there) ∙ (sym (updates other) ∙ same)))
+        (cases_Bool (bytes_eq path other));
+  };
 }
 
 pub keeps_ok : {E : Type 0} (old new : Looks) (path : List ℕ) (seen : Seen) (entry : Option Entry) (result : Result (Unit {0}) E) → entry_of seen ≡ entry
@@ -165,12 +165,12 @@ pub traces : (config : Config) (reference other : ℕ) (before after : FolderSta
 traces config reference other before after result met kind = record {
   is = by before.holds met.comes;
   looks = record {
-      tree = (λ i. (met.keeps i).holds);
-      writes = (λ i. (met.keeps i).writes);
-      later = met.later;
-      cause = met.cause;
-      quiet = met.quiet;
-    };
+    tree = (λ i. (met.keeps i).holds);
+    writes = (λ i. (met.keeps i).writes);
+    later = met.later;
+    cause = met.cause;
+    quiet = met.quiet;
+  };
   kind = kind;
 }
   where

@@ -25,8 +25,8 @@ pub no_source : (path bytes : List ℕ) → ((specifiers : List (List ℕ)) → 
 no_source path bytes none =
     elim (cases_Bool (ends_with nat_eq path (codes ".mjs") && is_utf8 bytes)) [
       | inl both ↦
-        let utf8 = IsUtf8-from_is_utf8 bytes (and_parts _ _ both).1 in
-        cond-true _ (as_read bytes (reading_or_not bytes)) None both ∙ no_reading bytes (λ specifiers plain. none specifiers (record { utf8 = utf8; plain = plain })) (reading_or_not bytes)
+          let utf8 = IsUtf8-from_is_utf8 bytes (and_parts _ _ both).1 in
+          cond-true _ (as_read bytes (reading_or_not bytes)) None both ∙ no_reading bytes (λ specifiers plain. none specifiers (record { utf8 = utf8; plain = plain })) (reading_or_not bytes)
       | inr other ↦ cond-false _ (as_read bytes (reading_or_not bytes)) None other
     ]
 

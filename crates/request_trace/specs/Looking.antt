@@ -47,17 +47,17 @@ kept_of reference state = record { reference = reference; holds = state.holds; w
 -- own: without a reference
 abbrev pub looks_of : FolderState → LookState
 looks_of state = record {
-    told = option_map (λ tree. limited (get tree)) state.holds;
-    state = tt;
-    faults = state.look_faults;
-    keeps = kept_of 0 state;
-  }
+  told = option_map (λ tree. limited (get tree)) state.holds;
+  state = tt;
+  faults = state.look_faults;
+  keeps = kept_of 0 state;
+}
 
 -- own: without a list of the questions
 abbrev pub answers_of : ℕ → FolderState → AnswererState
 answers_of reference state = record {
-    told = option_map (λ tree. listed (answers (get tree))) state.holds;
-    state = record { state = tt; asked = None };
-    faults = state.look_faults;
-    keeps = kept_of reference state;
-  }
+  told = option_map (λ tree. listed (answers (get tree))) state.holds;
+  state = record { state = tt; asked = None };
+  faults = state.look_faults;
+  keeps = kept_of reference state;
+}

@@ -14,6 +14,8 @@ mod parents;
 mod referrer;
 mod requests;
 mod tables;
+#[cfg(test)]
+mod tests;
 mod traces;
 mod visits;
 
