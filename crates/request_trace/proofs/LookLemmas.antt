@@ -6,18 +6,18 @@ use Rattle.std.specs.FinMap.{get}
 use Rattle.std.proofs.lemmas.Bool.{cases_Bool, cond-true, cond-false}
 use Rattle.std.proofs.lemmas.Slice.Eq.{bytes_eq-Decides}
 use Rattle.asking_spec.specs.Askings.{Asking, answered, ask}
-use Rattle.asking_spec.specs.Evaluation.{Ended, ends, stopped, then_ended, evaluated, unlisted, listed, keep_asked, Asked}
+use Rattle.asking_spec.specs.Evaluation.{Ended, ends, stopped, then_ended, evaluated, unlisted, listed, keep_asked}
 use Rattle.asking_spec.proofs.EvaluationLemmas.{evaluated_then, evaluated_listed}
 use Rattle.tree_spec.specs.declared.Entry.{Entry}
 use Rattle.tree_spec.specs.declared.LimitName.{LimitName}
 use Rattle.tree_spec.specs.Trees.{Tree}
-use Rattle.tree_spec.specs.States.{FolderState, OnlyLooks}
+use Rattle.tree_spec.specs.States.{FolderState}
 use Rattle.tree_spec.specs.LookAskings.{Sights, LookAsking, look_at}
 use Rattle.node_spec.specs.declared.Cause.{Cause}
 use Rattle.node_spec.specs.Resolution as node
 use Rattle.node_spec.specs.RelativeResolution.{relative_resolution}
 use Rattle.trace_spec.specs.declared.TraceFault.{TraceFault}
-use Rattle.trace_spec.specs.declared.TraceFault.TheVariants.{Limit, ReadFault, Memory}
+use Rattle.trace_spec.specs.declared.TraceFault.TheVariants.{Memory}
 use Rattle.trace_spec.specs.Modules.{Config}
 use Rattle.trace_spec.specs.Questions.{Source, Question, of_module, of_request, Answer, Trail, source_in, put, limited, answers}
 use Rattle.trace_spec.specs.Checks.{Before}
@@ -27,12 +27,12 @@ use Rattle.request_trace.specs.declared.looks.Seen.{Seen}
 use Rattle.request_trace.specs.declared.looks.Looks.{Looks}
 use Rattle.request_trace.specs.declared.tables.Tables.{Tables}
 use Rattle.request_trace.specs.Shown.{traced_of}
-use Rattle.request_trace.specs.Meeting.{Outside, fine, IsTold, Comes, Met, Known, Told}
+use Rattle.request_trace.specs.Meeting.{fine, IsTold, Comes, Met, Known}
 use Rattle.request_trace.specs.Walking.{IsGiven, IsOfWalk}
 use Rattle.request_trace.specs.Leads.{judged_there, asking_of}
-use Rattle.request_trace.specs.Looking.{entry_of, Knows, Keeps, KnowsFolder, kept_of, looks_of, answers_of}
+use Rattle.request_trace.specs.Looking.{entry_of, Knows, Keeps, KnowsFolder, looks_of, answers_of}
 use Rattle.request_trace.specs.Tracing.{Traces}
-use Rattle.request_trace.proofs.Meetings.{met_then, met_failed, met_now, met_unfinished, met_memory, given_same}
+use Rattle.request_trace.proofs.Meetings.{met_then, met_failed, met_now, met_unfinished, given_same}
 
 -- ---- looks that are kept
 

@@ -1,5 +1,5 @@
 -- The source of a module's file.
-use Rattle.std.proofs.Common.{◌≡◌, ℕ, Bool, true, List, Option, Some, None, refl, sym, ap, ◌∙◌, codes, nat_eq}
+use Rattle.std.proofs.Common.{◌≡◌, ℕ, true, List, Some, None, refl, ◌∙◌, codes, nat_eq}
 use Rattle.std.specs.Prelude.{◌&&◌, ◌⊎◌}
 use Rattle.std.specs.Str.{is_utf8}
 use Rattle.std.specs.List.{ends_with}
@@ -10,7 +10,7 @@ use Rattle.tree_spec.specs.declared.Entry.TheVariants.{Stored}
 use Rattle.module_spec.specs.PlainForm.{IsPlain, Requests}
 use Rattle.module_spec.proofs.PlainReadings.{HasReading, NoReading, reading_or_not}
 use Rattle.module_spec.proofs.Readings.{one_reading}
-use Rattle.trace_spec.specs.Questions.{Source, as_read, source_in}
+use Rattle.trace_spec.specs.Questions.{as_read, source_in}
 
 no_reading : (bytes : List ℕ) → ((specifiers : List (List ℕ)) → IsPlain bytes specifiers → ⊥) → (read : HasReading bytes ⊎ NoReading bytes) → as_read bytes read ≡ None
 no_reading bytes none (inl reading) = absurd (none reading.specifiers reading.plain)

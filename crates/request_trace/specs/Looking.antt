@@ -4,7 +4,7 @@
 --     Keeps old path entry new       one more look is kept
 --     looks_of state                 the looks at a folder in this state
 --     answers_of reference state     the answers to a walk's questions by looks behind this reference
-use Rattle.std.specs.Prelude.{◌≡◌, ◌++◌, ℕ, List, Option, Some, None, option_map, Result, IfSome, bytes_eq}
+use Rattle.std.specs.Prelude.{◌≡◌, ℕ, List, Option, Some, None, option_map, Result, IfSome, bytes_eq}
 use Rattle.std.specs.FinMap.{get}
 use Rattle.std.specs.HashMap as map
 use Rattle.asking_spec.specs.Evaluation.{ends, listed}

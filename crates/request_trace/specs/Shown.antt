@@ -1,5 +1,5 @@
 -- What the code's values stand for.
-use Rattle.std.specs.Prelude.{ℕ, List, Option, Some, None, option_map, map, Result, Ok, Err}
+use Rattle.std.specs.Prelude.{Option, option_map, map, Result, Ok, Err}
 use Rattle.indexmap.specs.IndexMap.{keys}
 use Rattle.node_spec.specs.Resolution as node
 use Rattle.trace_spec.specs.declared.TraceFault.{TraceFault}

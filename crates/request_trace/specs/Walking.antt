@@ -3,7 +3,7 @@
 --     AllNamed config entries               each module stands with its web name, which is no folder's, and the text of that
 --     Grows config visits old new           the tables grow by so many visits, and keep few modules, each with its name
 --     IsGiven definition result             a part gives what the definition says, unless memory is wanting
-use Rattle.std.specs.Prelude.{◌≡◌, ◌≢◌, ◌≤◌, ◌+◌, ◌++◌, ⊤, ℕ, List, length, [], Option, Some, None, Result, Ok, Err, All, if◌then◌else◌}
+use Rattle.std.specs.Prelude.{◌≡◌, ◌≢◌, ◌≤◌, ◌+◌, ◌++◌, ⊤, ℕ, List, length, [], Some, None, Result, Ok, Err, All, if◌then◌else◌}
 use Rattle.std.specs.List.{list_any}
 use Rattle.tree_spec.specs.declared.LimitName.TheVariants.{Modules}
 use Rattle.tree_spec.specs.Limits.{limit_number}
