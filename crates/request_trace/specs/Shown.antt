@@ -30,7 +30,12 @@ resolutions result = shown_by answer_of result
 
 -- the tables of a walk
 abbrev pub before_of : Tables → Before
-before_of tables = record { modules = keys tables.modules; sources = map source_of tables.sources.items; needs = tables.needs; requests = tables.requests }
+before_of tables = record {
+  modules = keys tables.modules;
+  sources = map source_of tables.sources.items;
+  needs = tables.needs;
+  requests = tables.requests;
+}
 
 -- a call's result, with what the tables hold then
 abbrev pub done : Result (Unit {0}) TraceFault → Tables → Result Before TraceFault

@@ -16,7 +16,8 @@ static FILES: [(&str, &str); 5] = [
     ("/note.txt", "import \"./gone.mjs\";"),
 ];
 
-/// An entry, and the modules of the trace with their requests, the needs, and the number of requests; or the first refusal.
+/// An entry, and the modules of the trace with their requests, the needs, and the number of requests; or the first
+/// refusal.
 static CASES: [(&str, &str); 3] = [
     (
         "./app.mjs",
