@@ -1,8 +1,8 @@
 -- Where a relative specifier leads.
-use Rattle.std.proofs.Common.{◌≡◌, ℕ, Bool, true, false, List, Option, Some, None, refl, sym, ap, ◌∙◌, subst}
-use Rattle.std.specs.Prelude.{◌&&◌, MatchOption}
+use Rattle.std.proofs.Common.{◌≡◌, ℕ, Bool, true, false, List, Option, Some, None, refl, sym, ap, ◌∙◌}
+use Rattle.std.specs.Prelude.{◌&&◌}
 use Rattle.std.specs.Str.{is_utf8}
-use Rattle.std.proofs.lemmas.Bool.{cond-true, cond-false, true≢false, cases_Bool, and_parts}
+use Rattle.std.proofs.lemmas.Bool.{cond-true, cond-false, cases_Bool, and_parts}
 use Rattle.std.proofs.lemmas.Str.{IsUtf8-from_is_utf8}
 use mathlib.Core.Logic.{inl, inr}
 use Rattle.asking_spec.specs.Askings.{answered, ask}
@@ -17,8 +17,7 @@ use Rattle.node_spec.specs.Resolution as node
 use Rattle.node_spec.specs.Resolution.{is_folder_path}
 use Rattle.node_spec.specs.RelativeResolution.{named_path, judged, judged_at, url_judged, joined_judged}
 use Rattle.node_spec.proofs.RelativeLemmas.{names_pass}
-use Rattle.request_trace.specs.declared.lead.Lead.{Lead}
-use Rattle.request_trace.specs.declared.lead.Lead.TheVariants.{Path, Nowhere}
+use Rattle.request_trace.specs.declared.lead.Lead.TheVariants.{Path}
 use Rattle.request_trace.specs.Leads.{judged_there, asking_of}
 
 named_some : (url path : List ℕ) → NamesPath (url_path url) path → named_path url ≡ Some path

@@ -1,7 +1,7 @@
 -- One call after another: what a whole asking comes to, by what its parts come to.
 --     Left before whole middle rest      whatever the rest comes to from here, the whole comes to
-use Rattle.std.proofs.Common.{◌≡◌, ◌≢◌, ◌≤◌, ℕ, Option, Some, None, Result, Ok, Err, IfSome, refl, sym, ap, ◌∙◌, subst, arith}
-use Rattle.asking_spec.specs.Askings.{Asking, answered, ask, and_then, on_ok, and_ok}
+use Rattle.std.proofs.Common.{◌≡◌, Option, Some, None, Result, Ok, Err, IfSome, refl, ap, ◌∙◌, subst, arith}
+use Rattle.asking_spec.specs.Askings.{Asking, answered, and_ok}
 use Rattle.asking_spec.specs.Evaluation.{Ended, ends, stopped, Answers, evaluated}
 use Rattle.asking_spec.proofs.EvaluationLemmas.{ends_then, refused_then, stopped_then}
 use Rattle.tree_spec.specs.declared.LimitName.{LimitName}
@@ -9,7 +9,7 @@ use Rattle.tree_spec.specs.Counts.{Rose}
 use Rattle.trace_spec.specs.declared.TraceFault.{TraceFault}
 use Rattle.trace_spec.specs.declared.TraceFault.TheVariants.{ReadFault, Memory, Limit}
 use Rattle.trace_spec.specs.Traces.{result_of, state_of}
-use Rattle.request_trace.specs.Meeting.{Outside, fine, IsTold, Comes, Met}
+use Rattle.request_trace.specs.Meeting.{Outside, IsTold, Comes, Met}
 use Rattle.request_trace.specs.Walking.{IsGiven}
 
 ended_ok : {X T : Type 0} (end : Ended (Result X TraceFault) T LimitName) (value : X) (after : T) → result_of end ≡ Ok value → state_of end ≡ after → end ≡ ends (Ok value) after

@@ -1,6 +1,6 @@
 -- What is put into the tables of a walk.
-use Rattle.std.proofs.Common.{◌≡◌, ◌≢◌, ◌≤◌, ◌<◌, ◌+◌, ℕ, Bool, true, false, List, [], ◌∷◌, ◌++◌, length, Option, Some, None, Result, Ok, Err, All, refl, sym, ap, ◌∙◌, subst, arith, append-nil, length-append, nat_lt, bytes_eq}
-use Rattle.std.specs.Prelude.{◌⊎◌, ◌||◌, suc, map, is_some, if◌then◌else◌, OnOk}
+use Rattle.std.proofs.Common.{◌≡◌, ◌≢◌, ◌≤◌, ◌<◌, ◌+◌, ℕ, Bool, true, false, List, [], ◌∷◌, ◌++◌, length, Option, Some, None, Result, Ok, Err, refl, sym, ap, ◌∙◌, subst, arith, append-nil, length-append, nat_lt}
+use Rattle.std.specs.Prelude.{◌||◌, suc, map, is_some, OnOk}
 use Rattle.std.specs.Result.{IsErrAnd}
 use mathlib.Core.Logic.{inl, inr}
 use Rattle.std.specs.List.{list_any}
@@ -17,7 +17,7 @@ use Rattle.trace_spec.specs.declared.TraceFault.{TraceFault}
 use Rattle.trace_spec.specs.declared.TraceFault.TheVariants.{RequestNotBuilt, Limit, ReadFault, Memory}
 use Rattle.trace_spec.specs.Walking.{new_modules}
 use Rattle.trace_spec.specs.Walking as walking
-use Rattle.trace_spec.specs.Modules.{Config, Module, is_module, file_name, shown}
+use Rattle.trace_spec.specs.Modules.{Config, Module, is_module, file_name}
 use Rattle.trace_spec.specs.Checks.{Before, Wanted, with_request, has_room, placed, needed, named, led}
 use Rattle.trace_spec.proofs.Lists.{same_module}
 use Rattle.request_trace.specs.declared.referrer.Referrer.{Referrer}

@@ -1,18 +1,17 @@
 -- Visits, and the walk over the table of modules.
-use Rattle.std.proofs.Common.{◌≡◌, ◌≢◌, ◌≤◌, ◌<◌, ◌+◌, ◌-◌, ℕ, zero, suc, true, false, List, [], ◌∷◌, ◌++◌, length, length-append, Option, Some, None, Result, Ok, Err, IfErr, refl, sym, ap, ◌∙◌, subst, arith}
+use Rattle.std.proofs.Common.{◌≡◌, ◌≢◌, ◌≤◌, ◌<◌, ◌+◌, ◌-◌, ℕ, zero, suc, List, [], ◌∷◌, ◌++◌, length, length-append, Option, Some, None, Result, Ok, Err, IfErr, refl, sym, ap, ◌∙◌, subst, arith}
 use Rattle.std.specs.Prelude.{slice_get, map, OnOk}
 use Rattle.std.specs.Map.{keys_of}
 use Rattle.std.specs.Result.{IsErrAnd}
 use Rattle.std.proofs.lemmas.List.{map-append, length-map}
 use Rattle.std.proofs.lemmas.List.Elements.{All-head, All-tail}
 use Rattle.std.proofs.lemmas.Option.{slice_get_past}
-use Rattle.tree_spec.specs.declared.LimitName.TheVariants.{Modules}
 use Rattle.asking_spec.specs.Askings.{Asking, answered, ask, on_ok, and_ok}
 use Rattle.url_spec.specs.WebNames.{web}
 use Rattle.trace_spec.specs.declared.TraceFault.{TraceFault}
 use Rattle.trace_spec.specs.declared.TraceFault.TheVariants.{Unservable, Refused, RequestNotBuilt, ModuleNotBuilt, Limit, ReadFault, Memory}
 use Rattle.trace_spec.specs.Walking.{the_page, a_module, followed, visited, walked, where_some}
-use Rattle.trace_spec.specs.Modules.{Config, Module, served_name, file_name}
+use Rattle.trace_spec.specs.Modules.{Config, Module, served_name}
 use Rattle.trace_spec.specs.Questions as spec
 use Rattle.trace_spec.specs.Questions.{Question, Answer, of_module}
 use Rattle.trace_spec.specs.Checks.{Before, begun, opens, page_opened, with_source, module_opened, rules}

@@ -14,7 +14,8 @@ use Rattle.request_trace.specs.declared.lead.Lead.TheVariants.{Path, Nowhere}
 abbrev pub judged_there : List ℕ → Bool → List ℕ → Option Entry → node.Answer
 judged_there path folder_only suffix None = node.Refused NotFound
 judged_there path folder_only suffix (Some Directory) = node.Refused DirectoryImport
-judged_there path folder_only suffix (Some (Stored bytes)) = if folder_only then node.Refused NotFound else node.Resolved path suffix
+judged_there path folder_only suffix (Some (Stored bytes)) =
+    if folder_only then node.Refused NotFound else node.Resolved path suffix
 
 abbrev pub asking_of : Lead → LookAsking node.Answer
 asking_of (Path path folder_only suffix) = ask path (λ found. answered (judged_there path folder_only suffix found))

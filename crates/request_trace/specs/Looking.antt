@@ -4,7 +4,7 @@
 --     Keeps old path entry new       one more look is kept
 --     looks_of state                 the looks at a folder in this state
 --     answers_of reference state     the answers to a walk's questions by looks behind this reference
-use Rattle.std.specs.Prelude.{◌≡◌, ◌++◌, ℕ, List, Option, Some, None, option_map, Result, IfSome, bytes_eq}
+use Rattle.std.specs.Prelude.{◌≡◌, ℕ, List, Option, Some, None, option_map, Result, IfSome, bytes_eq}
 use Rattle.std.specs.FinMap.{get}
 use Rattle.std.specs.HashMap as map
 use Rattle.asking_spec.specs.Evaluation.{ends, listed}
@@ -47,17 +47,17 @@ kept_of reference state = record { reference = reference; holds = state.holds; w
 -- own: without a reference
 abbrev pub looks_of : FolderState → LookState
 looks_of state = record {
-    told = option_map (λ tree. limited (get tree)) state.holds;
-    state = tt;
-    faults = state.look_faults;
-    keeps = kept_of 0 state;
-  }
+  told = option_map (λ tree. limited (get tree)) state.holds;
+  state = tt;
+  faults = state.look_faults;
+  keeps = kept_of 0 state;
+}
 
 -- own: without a list of the questions
 abbrev pub answers_of : ℕ → FolderState → AnswererState
 answers_of reference state = record {
-    told = option_map (λ tree. listed (answers (get tree))) state.holds;
-    state = record { state = tt; asked = None };
-    faults = state.look_faults;
-    keeps = kept_of reference state;
-  }
+  told = option_map (λ tree. listed (answers (get tree))) state.holds;
+  state = record { state = tt; asked = None };
+  faults = state.look_faults;
+  keeps = kept_of reference state;
+}

@@ -1,8 +1,10 @@
 -- What is known of answers from outside, and what a call that asks for them comes to.
---     Outside T Q A                    the answers, where they are told; the state that they see; how many looks failed; what stays as it is
+--     Outside T Q A                    the answers, where they are told; the state that they see; how many looks
+--                                      failed; what stays as it is
 --     Kept                             what looks leave as it is
 --     fine asking                      an asking whose value is `Ok`
---     Met before asking result after   the call comes to what the asking comes to, unless a look fails or memory is wanting
+--     Met before asking result after   the call comes to what the asking comes to, unless a look fails or memory is
+--                                      wanting
 --     Told, Known                      the answers to the questions of a walk, and what they see
 use Rattle.std.specs.Prelude.{◌≡◌, ◌≢◌, ◌≤◌, ℕ, List, Option, Result, Ok, Err, IfSome}
 use Rattle.asking_spec.specs.Askings.{Asking, answered, and_then}
@@ -35,11 +37,13 @@ fine asking = and_then asking (λ value. answered (Ok value))
 abbrev pub IsTold : {X : Type 0} → Result X TraceFault → Type 0
 IsTold result = (result ≢ Err ReadFault) × (result ≢ Err Memory)
 
-pub record Comes {T Q X : Type 0} {A : Q → Type 0} (answers : Answers T LimitName Q A) (before : T) (asking : Asking Q A (Result X TraceFault)) (result : Result X TraceFault) (after : T) : Type 0 where
+pub record Comes {T Q X : Type 0} {A : Q → Type 0} (answers : Answers T LimitName Q A) (before : T)
+    (asking : Asking Q A (Result X TraceFault)) (result : Result X TraceFault) (after : T) : Type 0 where
   pub is : result_of (evaluated answers before asking) ≡ result
   pub leaves : state_of (evaluated answers before asking) ≡ after
 
-pub record Met {T Q X : Type 0} {A : Q → Type 0} (before : Outside T Q A) (asking : Asking Q A (Result X TraceFault)) (result : Result X TraceFault) (after : Outside T Q A) : Type 0 where
+pub record Met {T Q X : Type 0} {A : Q → Type 0} (before : Outside T Q A) (asking : Asking Q A (Result X TraceFault))
+    (result : Result X TraceFault) (after : Outside T Q A) : Type 0 where
   pub comes : IfSome before.told (λ answers. IsTold result → Comes answers before.state asking result after.state)
   pub told : after.told ≡ before.told
   pub keeps : after.keeps ≡ before.keeps

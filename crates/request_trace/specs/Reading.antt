@@ -17,7 +17,8 @@ pub record Skips (text rest : List ℕ) : Type 0 where
   pub front : SkipsTo text rest
   pub longest : BeginsUnspaced rest
 
--- what was found, and what stands for the rest, stand for the whole; and the whole is of the form only where the rest is
+-- what was found, and what stands for the rest, stand for the whole; and the whole is of the form only where the
+-- rest is
 pub record Completes (whole : List ℕ) (found : List (List ℕ)) (rest : List ℕ) : Type 0 where
   pub done : (more : List (List ℕ)) → IsPlain rest more → IsPlain whole (found ++ more)
   pub fails : ((more : List (List ℕ)) → IsPlain rest more → ⊥) → (all : List (List ℕ)) → IsPlain whole all → ⊥

@@ -1,5 +1,5 @@
 -- What the code's values stand for.
-use Rattle.std.specs.Prelude.{ℕ, List, Option, Some, None, option_map, map, Result, Ok, Err}
+use Rattle.std.specs.Prelude.{Option, option_map, map, Result, Ok, Err}
 use Rattle.indexmap.specs.IndexMap.{keys}
 use Rattle.node_spec.specs.Resolution as node
 use Rattle.trace_spec.specs.declared.TraceFault.{TraceFault}
@@ -30,7 +30,12 @@ resolutions result = shown_by answer_of result
 
 -- the tables of a walk
 abbrev pub before_of : Tables → Before
-before_of tables = record { modules = keys tables.modules; sources = map source_of tables.sources.items; needs = tables.needs; requests = tables.requests }
+before_of tables = record {
+  modules = keys tables.modules;
+  sources = map source_of tables.sources.items;
+  needs = tables.needs;
+  requests = tables.requests;
+}
 
 -- a call's result, with what the tables hold then
 abbrev pub done : Result (Unit {0}) TraceFault → Tables → Result Before TraceFault

@@ -20,7 +20,8 @@ pub record IsWhole (tables : Before) : Type 0 where
   pub few : length tables.modules ≤ limit_number Modules
 
 -- own: unless a look fails or memory is wanting, the result is the definition's for the tree that the folder holds
-pub record Traces (config : Config) (before : FolderState) (result : Result Before TraceFault) (after : FolderState) : Type 0 where
+pub record Traces (config : Config) (before : FolderState) (result : Result Before TraceFault)
+    (after : FolderState) : Type 0 where
   pub is : IfSome before.holds (λ tree. IsTold result → traced (get tree) config ≡ result)
   pub looks : OnlyLooks before after (result ≡ Err ReadFault)
   pub kind : IfErr result (IsOfWalk config)

@@ -1,9 +1,11 @@
 -- What the parts of the walk keep and give.
 --     IsReferrer config referrer value      the code's referrer is this one
---     AllNamed config entries               each module stands with its web name, which is no folder's, and the text of that
+--     AllNamed config entries               each module stands with its web name, which is no folder's, and the text
+--                                           of that
 --     Grows config visits old new           the tables grow by so many visits, and keep few modules, each with its name
 --     IsGiven definition result             a part gives what the definition says, unless memory is wanting
-use Rattle.std.specs.Prelude.{◌≡◌, ◌≢◌, ◌≤◌, ◌+◌, ◌++◌, ⊤, ℕ, List, length, [], Option, Some, None, Result, Ok, Err, All, if◌then◌else◌}
+use Rattle.std.specs.Prelude.{◌≡◌, ◌≢◌, ◌≤◌, ◌+◌, ◌++◌, ⊤, ℕ, List, length, [], Some, None, Result, Ok, Err, All}
+use Rattle.std.specs.Prelude.{if◌then◌else◌}
 use Rattle.std.specs.List.{list_any}
 use Rattle.tree_spec.specs.declared.LimitName.TheVariants.{Modules}
 use Rattle.tree_spec.specs.Limits.{limit_number}
@@ -11,7 +13,8 @@ use Rattle.layout_spec.specs.declared.Need.{Need}
 use Rattle.layout_spec.specs.Needs.{clashes, with_need}
 use Rattle.node_spec.specs.declared.Cause.TheVariants.{NotFound}
 use Rattle.trace_spec.specs.declared.TraceFault.{TraceFault}
-use Rattle.trace_spec.specs.declared.TraceFault.TheVariants.{Unservable, Refused, RequestNotBuilt, ModuleNotBuilt, Limit, ReadFault, Memory}
+use Rattle.trace_spec.specs.declared.TraceFault.TheVariants.{Unservable, Refused, RequestNotBuilt, ModuleNotBuilt}
+use Rattle.trace_spec.specs.declared.TraceFault.TheVariants.{Limit, ReadFault, Memory}
 use Rattle.trace_spec.specs.Kinds.{IsTraceLimit, IsOfTrace}
 use Rattle.url_spec.specs.WebNames.{web}
 use Rattle.trace_spec.specs.Checks.{Before, Wanted}
@@ -76,7 +79,13 @@ IsOfPutting Memory = ⊤
 
 -- a need of a module that is known is put into the tables
 abbrev pub put_known : TraceFault → Before → Need → Result Before TraceFault
-put_known refusal before need = if list_any (clashes need) before.needs then Err refusal else Ok (record { modules = before.modules; sources = before.sources; needs = with_need before.needs need; requests = before.requests + 1 })
+put_known refusal before need = if list_any (clashes need) before.needs then Err refusal
+    else Ok (record {
+      modules = before.modules;
+      sources = before.sources;
+      needs = with_need before.needs need;
+      requests = before.requests + 1;
+    })
 
 -- what a walk can be refused for, but for looks that fail and want of memory
 abbrev pub IsOfWalk : Config → TraceFault → Type 0

@@ -41,7 +41,8 @@ pub trait Answerer {
     /// What the module at a path asks for; None where its file isn't of a form that asks for anything.
     fn module(&mut self, alloc: Global, path: &Path) -> Result<Option<Source>, TraceFault>
         requires ready { ready self.old }
-        ensures met { Met (state self.old) (fine (ask (of_module path.now) answered)) (sources result) (state self.new) }
+        ensures met { Met (state self.old) (fine (ask (of_module path.now) answered)) (sources result)
+            (state self.new) }
         ensures ready { OnOk result (ready self.new) }
         ensures kind { IfErr result IsOfAnswers };
 
@@ -54,7 +55,8 @@ pub trait Answerer {
     ) -> Result<NodeAnswer, TraceFault>
         requires ready { ready self.old }
         requires relative { is_relative specifier.now ≡ true }
-        ensures met { Met (state self.old) (fine (ask (of_request parent.now specifier.now) answered)) (resolutions result) (state self.new) }
+        ensures met { Met (state self.old) (fine (ask (of_request parent.now specifier.now) answered))
+            (resolutions result) (state self.new) }
         ensures ready { OnOk result (ready self.new) }
         ensures kind { IfErr result IsOfAnswers };
 }

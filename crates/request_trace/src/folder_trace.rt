@@ -14,11 +14,7 @@ use trace_spec::TraceFault;
 use tree_model::Folder;
 
 /// The trace of a folder and a config, or its first refusal. No path is looked at twice.
-pub fn trace<F: Folder>(
-    alloc: Global,
-    folder: &mut F,
-    config: &Config,
-) -> Result<Trace, TraceFault>
+pub fn trace<F: Folder>(alloc: Global, folder: &mut F, config: &Config) -> Result<Trace, TraceFault>
     ensures { Traces config.now (F.state folder.old) result (F.state folder.new) }
 {
     let tables = tables_of(alloc, folder, config)?;

@@ -1,4 +1,5 @@
-ghost use Rattle.std.specs.Prelude.{◌≡◌, ◌≢◌, ◌++◌, ℕ, List, Option, Some, Err, true, option_map, IfOk, IfErr, IfSome, OnOk};
+ghost use Rattle.std.specs.Prelude.{◌≡◌, ◌≢◌, ◌++◌, ℕ, List, Option, Some, Err, true, option_map, IfOk, IfErr};
+ghost use Rattle.std.specs.Prelude.{IfSome, OnOk};
 ghost use Rattle.url_spec.specs.Specifiers.{is_relative};
 ghost use Rattle.trace_spec.specs.Modules as spec;
 ghost use Rattle.trace_spec.specs.Walking.{Referrer as Referring};
@@ -28,7 +29,10 @@ pub fn follow<A: Answerer>(
     specifier: &str,
 ) -> Result<(), TraceFault>
     requires ready { A.ready answerer.old }
-    ensures met { (r : Referring spec.Module) → IsReferrer config.now r referrer.now → AllNamed config.now tables.old.modules.entries → Met (A.state answerer.old) (follows config.now (before_of tables.old) r specifier.now) (done result tables.new) (A.state answerer.new) }
+    ensures met { (r : Referring spec.Module) → IsReferrer config.now r referrer.now
+        → AllNamed config.now tables.old.modules.entries
+        → Met (A.state answerer.old) (follows config.now (before_of tables.old) r specifier.now)
+        (done result tables.new) (A.state answerer.new) }
     ensures grows { OnOk result (Grows config.now 0 tables.old tables.new) }
     ensures kind { IfErr result IsOfPutting }
     ensures ready { OnOk result (A.ready answerer.new) }
@@ -47,7 +51,8 @@ pub fn follow<A: Answerer>(
 
 // What a relative specifier of a referrer asks for; None where it isn't relative, has no URL, or has that of a folder.
 fn asked_of(alloc: Global, referrer: &WebUrl, specifier: &str) -> Result<Option<WebUrl>, Memory>
-    ensures wanted { IfOk result (λ found. wanted_by specifier.now (Some referrer.now) ≡ option_map (wants referrer.now) found) }
+    ensures wanted { IfOk result (λ found. wanted_by specifier.now (Some referrer.now)
+        ≡ option_map (wants referrer.now) found) }
     ensures relative { IfOk result (λ found. IfSome found (λ url. is_relative specifier.now ≡ true)) }
 {
     if !is_relative(specifier) {
@@ -64,7 +69,8 @@ fn asked_of(alloc: Global, referrer: &WebUrl, specifier: &str) -> Result<Option<
 
 // The refusal of a request that Node refuses.
 fn refused(alloc: Global, referrer: &Referrer, specifier: &str, cause: Cause) -> TraceFault
-    ensures is { result ≢ TraceFault.Memory → result ≡ refused_by cause (referrer.now.path ++ referrer.now.suffix) specifier.now }
+    ensures is { result ≢ TraceFault.Memory
+        → result ≡ refused_by cause (referrer.now.path ++ referrer.now.suffix) specifier.now }
     ensures no_look { result ≢ TraceFault.ReadFault }
     ensures kind { IsOfPutting result }
 {
@@ -83,7 +89,8 @@ fn refused(alloc: Global, referrer: &Referrer, specifier: &str, cause: Cause) ->
 
 // Nothing stands where a request leads.
 fn not_found(alloc: Global, referrer: &Referrer, specifier: &str) -> TraceFault
-    ensures is { result ≢ TraceFault.Memory → result ≡ TraceFault.Refused (referrer.now.path ++ referrer.now.suffix) specifier.now Cause.NotFound }
+    ensures is { result ≢ TraceFault.Memory
+        → result ≡ TraceFault.Refused (referrer.now.path ++ referrer.now.suffix) specifier.now Cause.NotFound }
     ensures no_look { result ≢ TraceFault.ReadFault }
     ensures kind { IsOfPutting result }
 {

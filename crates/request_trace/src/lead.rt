@@ -48,7 +48,8 @@ pub fn lead_of(alloc: Global, parent: &FileUrl, specifier: &str) -> Result<Lead,
 
 #[tactic(auto, using(crate::proofs::LeadLemmas::places))]
 fn lead_to(place: Place) -> Lead
-    ensures { (url : List ℕ) → IsPlace url place.path place.folder_only place.escaped place.suffix → url_judged url ≡ asking_of result }
+    ensures { (url : List ℕ) → IsPlace url place.path place.folder_only place.escaped place.suffix
+        → url_judged url ≡ asking_of result }
 {
     let Place {
         path,

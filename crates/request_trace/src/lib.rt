@@ -1,5 +1,5 @@
-//! The trace of a folder and a config: what the page reaches by requests, in order, or its first refusal. The walk asks an answerer what a module
-//! asks for and where a request leads, and knows no folder.
+//! The trace of a folder and a config: what the page reaches by requests, in order, or its first refusal. The walk asks
+//! an answerer what a module asks for and where a request leads, and knows no folder; `trace` answers by looks at one.
 #![tactic(auto)]
 
 mod answerer;
@@ -14,6 +14,8 @@ mod parents;
 mod referrer;
 mod requests;
 mod tables;
+#[cfg(test)]
+mod tests;
 mod traces;
 mod visits;
 

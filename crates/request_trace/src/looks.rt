@@ -58,7 +58,8 @@ impl Looks {
         path: &Path,
     ) -> Result<Seen, TraceFault>
         requires knows { KnowsFolder (F.state folder.old) self.old }
-        ensures met { Met (looks_of (F.state folder.old)) (fine (look_at path.now)) (entries result) (looks_of (F.state folder.new)) }
+        ensures met { Met (looks_of (F.state folder.old)) (fine (look_at path.now)) (entries result)
+            (looks_of (F.state folder.new)) }
         ensures knows { OnOk result (KnowsFolder (F.state folder.new) self.new) }
         ensures kind { IfErr result IsOfAnswers }
     {
@@ -70,7 +71,8 @@ impl Looks {
 
     // What is known of a path.
     fn known(&self, path: &Path) -> Result<Option<Seen>, Memory>
-        ensures { IfOk result (λ found. option_map entry_of found ≡ option_map entry_of (map.get bytes_eq self.now.seen path.now)) }
+        ensures { IfOk result (λ found. option_map entry_of found
+            ≡ option_map entry_of (map.get bytes_eq self.now.seen path.now)) }
     {
         match self.seen.get(path) {
             None => Ok(None),
@@ -86,7 +88,8 @@ impl Looks {
         path: &Path,
     ) -> Result<Seen, TraceFault>
         requires knows { KnowsFolder (F.state folder.old) self.old }
-        ensures met { Met (looks_of (F.state folder.old)) (fine (look_at path.now)) (entries result) (looks_of (F.state folder.new)) }
+        ensures met { Met (looks_of (F.state folder.old)) (fine (look_at path.now)) (entries result)
+            (looks_of (F.state folder.new)) }
         ensures knows { OnOk result (KnowsFolder (F.state folder.new) self.new) }
         ensures kind { IfErr result IsOfAnswers }
     {
@@ -105,7 +108,9 @@ impl Looks {
 }
 
 fn insert(looks: &mut HashMap<Path, Seen>, path: Path, seen: Seen) -> Result<(), Memory>
-    ensures { OnOk result ((other : List ℕ) → map.get bytes_eq looks.new other ≡ (if bytes_eq path other then Some seen else map.get bytes_eq looks.old other)) }
+    ensures { OnOk result ((other : List ℕ)
+        → map.get bytes_eq looks.new other
+        ≡ (if bytes_eq path other then Some seen else map.get bytes_eq looks.old other)) }
 {
     looks.insert(path, seen)?;
     Ok(())
@@ -113,7 +118,8 @@ fn insert(looks: &mut HashMap<Path, Seen>, path: Path, seen: Seen) -> Result<(),
 
 // What stands at a path of the folder, by a look at it.
 fn seen_at<F: Folder>(alloc: Global, folder: &mut F, path: &Path) -> Result<Seen, TraceFault>
-    ensures met { Met (looks_of (F.state folder.old)) (fine (look_at path.now)) (entries result) (looks_of (F.state folder.new)) }
+    ensures met { Met (looks_of (F.state folder.old)) (fine (look_at path.now)) (entries result)
+        (looks_of (F.state folder.new)) }
     ensures kind { IfErr result IsOfAnswers }
 {
     match folder.look(alloc, path, MOST_FILE_BYTES) {

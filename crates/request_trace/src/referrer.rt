@@ -5,7 +5,8 @@ use std::alloc::Global;
 use tree_model::Path;
 use web_url::{Suffix, WebUrl};
 
-/// The page or a module as it makes requests: its web name, the text of that, which its needs share, its path, and its suffix.
+/// The page or a module as it makes requests: its web name, the text of that, which its needs share, its path, and
+/// its suffix.
 #[derive(Drop)]
 pub struct Referrer {
     pub name: WebUrl,

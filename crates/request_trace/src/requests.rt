@@ -1,4 +1,5 @@
-ghost use Rattle.std.specs.Prelude.{◌≡◌, ◌≢◌, ◌<◌, ◌≤◌, ◌↔◌, ◌++◌, ◌∷◌, List, ℕ, length, codes, All, IsTrue, IfOk, IfSome, MatchOption};
+ghost use Rattle.std.specs.Prelude.{◌≡◌, ◌≢◌, ◌<◌, ◌≤◌, ◌↔◌, ◌++◌, ◌∷◌, List, ℕ, length, codes, All, IsTrue, IfOk};
+ghost use Rattle.std.specs.Prelude.{IfSome, MatchOption};
 ghost use Rattle.module_spec.specs.PlainForm.{IsSpace, IsPlainByte, IsStatement, Requests};
 ghost use Rattle.request_trace.specs.Reading.{Skips};
 
@@ -7,7 +8,9 @@ use std::alloc::Global;
 
 /// The specifiers that a module of these bytes asks for, in order; None where it isn't of the plain form.
 pub fn requests_of(alloc: Global, bytes: &[u8]) -> Result<Option<Listed<Text>>, Memory>
-    ensures { IfOk result (λ found. MatchOption found ((specifiers : List (List ℕ)) → Requests bytes.now specifiers → ⊥) (λ specifiers. Requests bytes.now specifiers)) }
+    ensures { IfOk result (λ found. MatchOption found
+        ((specifiers : List (List ℕ)) → Requests bytes.now specifiers → ⊥)
+        (λ specifiers. Requests bytes.now specifiers)) }
 {
     let Ok(text) = std::str::from_utf8(bytes) else {
         return Ok(None);
@@ -26,7 +29,8 @@ pub fn requests_of(alloc: Global, bytes: &[u8]) -> Result<Option<Listed<Text>>, 
 
 // The specifier of the statement at the front, and what stands behind the statement.
 fn statement(text: &str) -> Option<(&str, &str)>
-    ensures { MatchOption result ((specifier rest : List ℕ) → IsStatement text.now specifier rest → ⊥) (λ found. IsStatement text.now found.0.now found.1.now) }
+    ensures { MatchOption result ((specifier rest : List ℕ) → IsStatement text.now specifier rest → ⊥)
+        (λ found. IsStatement text.now found.0.now found.1.now) }
 {
     let Some(after) = after_word(text) else {
         return None;
@@ -48,13 +52,15 @@ fn statement(text: &str) -> Option<(&str, &str)>
 
 // What stands before the first quote, and behind it.
 fn at_quote(text: &str) -> Option<(&str, &str)>
-    ensures { MatchOption result ((front back : List ℕ) → text.now ≢ front ++ 34 ∷ back) (λ found. (text.now ≡ found.0.now ++ 34 ∷ found.1.now) × All (λ b. b ≢ 34) found.0.now) }
+    ensures { MatchOption result ((front back : List ℕ) → text.now ≢ front ++ 34 ∷ back)
+        (λ found. (text.now ≡ found.0.now ++ 34 ∷ found.1.now) × All (λ b. b ≢ 34) found.0.now) }
 {
     text.split_once('"')
 }
 
 fn after_word(text: &str) -> Option<&str>
-    ensures { MatchOption result ((rest : List ℕ) → text.now ≢ codes "import" ++ rest) (λ rest. text.now ≡ codes "import" ++ rest.now) }
+    ensures { MatchOption result ((rest : List ℕ) → text.now ≢ codes "import" ++ rest)
+        (λ rest. text.now ≡ codes "import" ++ rest.now) }
 {
     text.strip_prefix("import")
 }
@@ -81,7 +87,8 @@ fn skip_space(text: &str) -> &str
 }
 
 fn after_space(text: &str) -> Option<&str>
-    ensures { MatchOption result ((b : ℕ) (rest : List ℕ) → text.now ≡ b ∷ rest → IsSpace b → ⊥) (λ rest. (b : ℕ) × IsSpace b × (text.now ≡ b ∷ rest.now)) }
+    ensures { MatchOption result ((b : ℕ) (rest : List ℕ) → text.now ≡ b ∷ rest → IsSpace b → ⊥)
+        (λ rest. (b : ℕ) × IsSpace b × (text.now ≡ b ∷ rest.now)) }
 {
     if let Some(rest) = after_char(text, ' ') {
         return Some(rest);

@@ -1,4 +1,5 @@
-ghost use Rattle.std.specs.Prelude.{◌≡◌, ◌≢◌, ◌≤◌, ◌<◌, ◌+◌, ◌++◌, ◌∷◌, [], ℕ, List, Option, Some, None, Ok, Err, true, false, length, slice_get, option_map, IfOk, IfErr, IfSome, OnOk, OnErr};
+ghost use Rattle.std.specs.Prelude.{◌≡◌, ◌≢◌, ◌≤◌, ◌<◌, ◌+◌, ◌++◌, ◌∷◌, [], ℕ, List, Option, Some, None, Ok, Err};
+ghost use Rattle.std.specs.Prelude.{true, false, length, slice_get, option_map, IfOk, IfErr, IfSome, OnOk, OnErr};
 ghost use Rattle.std.specs.List.{list_any};
 ghost use Rattle.indexmap.specs.IndexMap.{keys};
 ghost use Rattle.tree_spec.specs.declared.LimitName.TheVariants.{Modules};
@@ -33,8 +34,8 @@ pub struct Name {
     pub text: Text,
 }
 
-/// The tables of a walk: the modules in trace order with their names, the sources of those that had their visits, the needs, and the number of
-/// requests.
+/// The tables of a walk: the modules in trace order with their names, the sources of those that had their visits, the
+/// needs, and the number of requests.
 #[derive(Drop)]
 pub struct Tables {
     pub modules: IndexMap<Module, Name>,
@@ -90,8 +91,8 @@ fn ends_in_slash(text: &str) -> bool
 }
 
 impl Tables {
-    /// Puts a request that leads to this module into the tables: its need, unless it clashes with one before it, and its module, unless there are
-    /// too many.
+    /// Puts a request that leads to this module into the tables: its need, unless it clashes with one before it, and
+    /// its module, unless there are too many.
     pub fn put(
         &mut self,
         alloc: Global,
@@ -101,7 +102,11 @@ impl Tables {
         asked: WebUrl,
         target: Module,
     ) -> Result<(), TraceFault>
-        ensures put { (r : Referring spec.Module) → IsReferrer config.now r referrer.now → AllNamed config.now self.old.modules.entries → IsGiven (led config.now (before_of self.old) r specifier.now (record { referrer = referrer.now.name; asked = asked }) (node.Resolved target.path target.suffix)) (done result self.new) }
+        ensures put { (r : Referring spec.Module) → IsReferrer config.now r referrer.now
+            → AllNamed config.now self.old.modules.entries
+            → IsGiven (led config.now (before_of self.old) r specifier.now
+            (record { referrer = referrer.now.name; asked = asked }) (node.Resolved target.path target.suffix))
+            (done result self.new) }
         ensures grows { OnOk result (Grows config.now 0 self.old self.new) }
         ensures kind { IfErr result IsOfPutting }
     {
@@ -120,7 +125,8 @@ impl Tables {
         asked: WebUrl,
         text: Text,
     ) -> Result<(), TraceFault>
-        ensures put { IsGiven (put_known (NotBuilt referrer.now specifier.now) (before_of self.old) (record { referrer = referrer.now.text; asked = asked; target = text })) (done result self.new) }
+        ensures put { IsGiven (put_known (NotBuilt referrer.now specifier.now) (before_of self.old)
+            (record { referrer = referrer.now.text; asked = asked; target = text })) (done result self.new) }
         ensures modules { self.new.modules ≡ self.old.modules }
         ensures sources { self.new.sources ≡ self.old.sources }
         ensures kind { IfErr result IsOfPutting }
@@ -144,7 +150,9 @@ impl Tables {
         target: Module,
     ) -> Result<(), TraceFault>
         requires { list_any (spec.is_module target) (keys self.old.modules) ≡ false }
-        ensures put { IsGiven (named (NotBuilt referrer.now specifier.now) (before_of self.old) (record { referrer = referrer.now.text; asked = asked }) target (file_name config.now target)) (done result self.new) }
+        ensures put { IsGiven (named (NotBuilt referrer.now specifier.now) (before_of self.old)
+            (record { referrer = referrer.now.text; asked = asked }) target (file_name config.now target))
+            (done result self.new) }
         ensures grows { OnOk result (Grows config.now 0 self.old self.new) }
         ensures kind { IfErr result IsOfPutting }
     {
@@ -167,9 +175,13 @@ fn known_text(
     alloc: Global,
     target: &Module,
 ) -> Result<Option<Text>, Memory>
-    ensures unknown { IfOk result (λ found. found ≡ None → list_any (spec.is_module target.now) (keys modules.now) ≡ false) }
-    ensures known { IfOk result (λ found. IfSome found (λ text. list_any (spec.is_module target.now) (keys modules.now) ≡ true)) }
-    ensures text { IfOk result (λ found. IfSome found (λ text. (config : spec.Config) → AllNamed config modules.now.entries → file_name config target.now ≡ Some text)) }
+    ensures unknown { IfOk result (λ found. found ≡ None
+        → list_any (spec.is_module target.now) (keys modules.now) ≡ false) }
+    ensures known { IfOk result (λ found. IfSome found
+        (λ text. list_any (spec.is_module target.now) (keys modules.now) ≡ true)) }
+    ensures text { IfOk result (λ found. IfSome found
+        (λ text. (config : spec.Config) → AllNamed config modules.now.entries
+        → file_name config target.now ≡ Some text)) }
 {
     match modules.get(target) {
         None => Ok(None),
@@ -200,7 +212,8 @@ fn shared_text(alloc: Global, url: WebUrl, other: &Text) -> Result<Text, Memory>
 
 // Adds a need; false where it clashes with another one.
 fn add_need(needs: &mut Needs, need: Need) -> Result<bool, Memory>
-    ensures added { result ≡ Ok true → (list_any (clashes need) needs.old ≡ false) × (needs.new ≡ with_need needs.old need) }
+    ensures added { result ≡ Ok true → (list_any (clashes need) needs.old ≡ false)
+        × (needs.new ≡ with_need needs.old need) }
     ensures clash { result ≡ Ok false → list_any (clashes need) needs.old ≡ true }
 {
     match needs.add(need) {
@@ -218,8 +231,10 @@ fn put_module(
     name: Name,
 ) -> Result<(), TraceFault>
     requires { list_any (spec.is_module target) (keys modules.old) ≡ false }
-    ensures put { OnOk result ((length modules.old.entries < limit_number Modules) × (modules.new.entries ≡ modules.old.entries ++ (target, name) ∷ [])) }
-    ensures full { IfErr result (λ fault. fault ≢ TraceFault.Memory → (fault ≡ TraceFault.Limit Modules) × (limit_number Modules ≤ length modules.old.entries)) }
+    ensures put { OnOk result ((length modules.old.entries < limit_number Modules)
+        × (modules.new.entries ≡ modules.old.entries ++ (target, name) ∷ [])) }
+    ensures full { IfErr result (λ fault. fault ≢ TraceFault.Memory → (fault ≡ TraceFault.Limit Modules)
+        × (limit_number Modules ≤ length modules.old.entries)) }
 {
     if modules.len() >= MOST_MODULES {
         return Err(TraceFault::Limit {

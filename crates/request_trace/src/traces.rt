@@ -101,7 +101,8 @@ impl Trace {
 
     /// What the module at a place asks for in its request with this number, counted from 0.
     pub fn request(&self, place: usize, number: usize) -> Option<&str>
-        ensures { option_copied result ≡ option_and_then (λ source. slice_get source.specifiers number) (slice_get self.now.sources place) }
+        ensures { option_copied result ≡ option_and_then (λ source. slice_get source.specifiers number)
+            (slice_get self.now.sources place) }
     {
         match self.tables.sources.get(place) {
             None => None,

@@ -1,4 +1,5 @@
-ghost use Rattle.std.specs.Prelude.{◌≡◌, ◌≢◌, ◌≤◌, ◌<◌, ◌++◌, ◌∷◌, ℕ, List, [], length, Option, Some, Ok, Err, slice_get, suc, IfOk, IfErr, OnOk};
+ghost use Rattle.std.specs.Prelude.{◌≡◌, ◌≢◌, ◌≤◌, ◌<◌, ◌++◌, ◌∷◌, ℕ, List, [], length, Option, Some, Ok, Err};
+ghost use Rattle.std.specs.Prelude.{slice_get, suc, IfOk, IfErr, OnOk};
 ghost use Rattle.indexmap.specs.IndexMap.{keys};
 ghost use Rattle.tree_spec.specs.declared.LimitName.TheVariants.{Modules};
 ghost use Rattle.tree_spec.specs.Limits.{limit_number};
@@ -51,7 +52,9 @@ fn visit_page<A: Answerer>(
     tables: &mut Tables,
 ) -> Result<(), TraceFault>
     requires ready { A.ready answerer.old }
-    ensures met { AllNamed config.now tables.old.modules.entries → Met (A.state answerer.old) (visited (rules config.now) (before_of tables.old) the_page) (done result tables.new) (A.state answerer.new) }
+    ensures met { AllNamed config.now tables.old.modules.entries
+        → Met (A.state answerer.old) (visited (rules config.now) (before_of tables.old) the_page)
+        (done result tables.new) (A.state answerer.new) }
     ensures grows { OnOk result (Grows config.now 0 tables.old tables.new) }
     ensures kind { IfErr result (IsOfWalk config.now) }
     ensures ready { OnOk result (A.ready answerer.new) }
@@ -63,7 +66,8 @@ fn visit_page<A: Answerer>(
 // The page as it makes requests, where it can be served.
 fn page_referrer(alloc: Global, config: &Config) -> Result<Referrer, TraceFault>
     ensures is { IfOk result (IsReferrer config.now the_page) }
-    ensures served { IfOk result (λ referrer. served_name config.now.base config.now.page (web config.now.base config.now.page []) ≡ Some referrer.name) }
+    ensures served { IfOk result (λ referrer. served_name config.now.base config.now.page
+        (web config.now.base config.now.page []) ≡ Some referrer.name) }
     ensures unserved { IfErr result (IsPageFault config.now) }
 {
     let suffix = Suffix::none(alloc);
@@ -112,7 +116,10 @@ fn follow_all<A: Answerer>(
     specifiers: &[Text],
 ) -> Result<(), TraceFault>
     requires ready { A.ready answerer.old }
-    ensures met { (r : Referring spec.Module) → IsReferrer config.now r referrer.now → AllNamed config.now tables.old.modules.entries → Met (A.state answerer.old) (followed (rules config.now) (before_of tables.old) r specifiers.now) (done result tables.new) (A.state answerer.new) }
+    ensures met { (r : Referring spec.Module) → IsReferrer config.now r referrer.now
+        → AllNamed config.now tables.old.modules.entries
+        → Met (A.state answerer.old) (followed (rules config.now) (before_of tables.old) r specifiers.now)
+        (done result tables.new) (A.state answerer.new) }
     ensures grows { OnOk result (Grows config.now 0 tables.old tables.new) }
     ensures kind { IfErr result IsOfPutting }
     ensures ready { OnOk result (A.ready answerer.new) }
@@ -134,7 +141,9 @@ fn visit_modules<A: Answerer>(
 ) -> Result<(), TraceFault>
     requires ready { A.ready answerer.old }
     requires few { length tables.old.modules.entries ≤ limit_number Modules }
-    ensures met { AllNamed config.now tables.old.modules.entries → Met (A.state answerer.old) (walked (rules config.now) (suc (limit_number Modules)) (before_of tables.old) 0) (done result tables.new) (A.state answerer.new) }
+    ensures met { AllNamed config.now tables.old.modules.entries
+        → Met (A.state answerer.old) (walked (rules config.now) (suc (limit_number Modules))
+        (before_of tables.old) 0) (done result tables.new) (A.state answerer.new) }
     ensures grows { OnOk result (Grows config.now (length tables.new.modules.entries) tables.old tables.new) }
     ensures kind { IfErr result IsOfPutting }
     ensures ready { OnOk result (A.ready answerer.new) }
@@ -157,7 +166,10 @@ fn visit<A: Answerer>(
 ) -> Result<(), TraceFault>
     requires ready { A.ready answerer.old }
     requires within { place < length tables.old.modules.entries }
-    ensures met { (m : spec.Module) → slice_get (keys tables.old.modules) place ≡ Some m → AllNamed config.now tables.old.modules.entries → Met (A.state answerer.old) (visited (rules config.now) (before_of tables.old) (a_module m)) (done result tables.new) (A.state answerer.new) }
+    ensures met { (m : spec.Module) → slice_get (keys tables.old.modules) place ≡ Some m
+        → AllNamed config.now tables.old.modules.entries
+        → Met (A.state answerer.old) (visited (rules config.now) (before_of tables.old) (a_module m))
+        (done result tables.new) (A.state answerer.new) }
     ensures grows { OnOk result (Grows config.now 1 tables.old tables.new) }
     ensures kind { IfErr result IsOfPutting }
     ensures ready { OnOk result (A.ready answerer.new) }
@@ -176,7 +188,10 @@ fn visit_module<A: Answerer>(
     referrer: &Referrer,
 ) -> Result<(), TraceFault>
     requires ready { A.ready answerer.old }
-    ensures met { (m : spec.Module) → IsReferrer config.now (a_module m) referrer.now → AllNamed config.now tables.old.modules.entries → Met (A.state answerer.old) (visited (rules config.now) (before_of tables.old) (a_module m)) (done result tables.new) (A.state answerer.new) }
+    ensures met { (m : spec.Module) → IsReferrer config.now (a_module m) referrer.now
+        → AllNamed config.now tables.old.modules.entries
+        → Met (A.state answerer.old) (visited (rules config.now) (before_of tables.old) (a_module m))
+        (done result tables.new) (A.state answerer.new) }
     ensures grows { OnOk result (Grows config.now 1 tables.old tables.new) }
     ensures kind { IfErr result IsOfPutting }
     ensures ready { OnOk result (A.ready answerer.new) }
@@ -220,7 +235,8 @@ fn referrer_of(alloc: Global, module: &Module, name: &Name) -> Result<Referrer, 
 
 // The refusal of a module whose text isn't built.
 fn module_not_built(alloc: Global, referrer: &Referrer) -> TraceFault
-    ensures is { result ≢ TraceFault.Memory → result ≡ TraceFault.ModuleNotBuilt (referrer.now.path ++ referrer.now.suffix) }
+    ensures is { result ≢ TraceFault.Memory
+        → result ≡ TraceFault.ModuleNotBuilt (referrer.now.path ++ referrer.now.suffix) }
     ensures no_look { result ≢ TraceFault.ReadFault }
     ensures kind { IsOfPutting result }
 {

@@ -1,5 +1,4 @@
-use Rattle.std.proofs.Common.{◌≡◌, ℕ, List, Option, Some, None, MatchOption, refl, sym, ap, ◌∙◌, subst}
-use Rattle.trace_spec.specs.Questions.{Source}
+use Rattle.std.proofs.Common.{◌≡◌, Some, sym, ap, ◌∙◌, subst}
 use Rattle.module_spec.specs.PlainForm.{Requests}
 use Rattle.request_trace.proofs.SourceLemmas.{no_source, the_source}
 use Rattle.request_trace.proofs.folder_answers.source_of_file.Goals as goal

@@ -1,6 +1,5 @@
 use Rattle.std.proofs.Common.{◌∙◌}
 use Rattle.indexmap.proofs.CallerLemmas.{insert_entry-new}
-use Rattle.trace_spec.specs.Modules.{is_module}
 use Rattle.request_trace.proofs.TableLemmas.{none_found}
 use Rattle.request_trace.proofs.tables.insert.Goals as goal
 

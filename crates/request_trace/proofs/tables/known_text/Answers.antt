@@ -1,5 +1,4 @@
 use Rattle.std.proofs.Common.{Some, ◌∙◌, ap, sym}
-use Rattle.trace_spec.specs.Modules.{is_module}
 use Rattle.request_trace.proofs.TableLemmas.{not_among, is_among, text_of}
 use Rattle.request_trace.proofs.tables.known_text.Goals as goal
 

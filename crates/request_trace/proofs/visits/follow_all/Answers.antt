@@ -1,4 +1,4 @@
-use Rattle.std.proofs.Common.{◌≡◌, ℕ, List, [], ◌∷◌, length, Ok, Err, refl, sym, subst, arith}
+use Rattle.std.proofs.Common.{◌≡◌, List, [], ◌∷◌, length, Ok, refl, sym, subst, arith}
 use Rattle.trace_spec.specs.Walking.{followed}
 use Rattle.trace_spec.specs.Checks.{rules, follows}
 use Rattle.request_trace.specs.Meeting.{Met}

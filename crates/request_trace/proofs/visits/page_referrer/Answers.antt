@@ -1,4 +1,3 @@
-use Rattle.std.proofs.Common.{◌∙◌}
 use Rattle.request_trace.proofs.Names.{page_served, page_fault}
 use Rattle.request_trace.proofs.visits.page_referrer.Goals as goal
 

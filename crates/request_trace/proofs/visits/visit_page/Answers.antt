@@ -1,4 +1,4 @@
-use Rattle.std.proofs.Common.{Err, sym, subst}
+use Rattle.std.proofs.Common.{sym, subst}
 use Rattle.trace_spec.specs.Walking.{the_page, visited}
 use Rattle.trace_spec.specs.Checks.{rules}
 use Rattle.request_trace.specs.Meeting.{Met}

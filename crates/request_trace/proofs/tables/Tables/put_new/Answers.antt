@@ -1,4 +1,4 @@
-use Rattle.std.proofs.Common.{◌≡◌, Ok, ◌∙◌, refl, ap, sym, subst, option_map}
+use Rattle.std.proofs.Common.{◌≡◌, Ok, ◌∙◌, refl, ap, subst, option_map}
 use Rattle.std.specs.Prelude.{IfSome}
 use Rattle.trace_spec.specs.Modules.{file_name}
 use Rattle.request_trace.specs.declared.tables.Name.{Name}
