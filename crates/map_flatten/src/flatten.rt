@@ -5,9 +5,9 @@ ghost use Rattle.scope_builder.specs.Lists.{Lists};
 ghost use Rattle.layout_spec.specs.Layout as definition;
 ghost use Rattle.map_flatten.specs.Grouped.{scopes_of, listed_scope};
 
-use scope_builder::{Layout, Mappings, Scopes};
 use need_table::{Need, Needs};
 use primitives::{Memory, Text};
+use scope_builder::{Layout, Mappings, Scopes};
 use std::alloc::Global;
 use std::collections::BTreeMap;
 
