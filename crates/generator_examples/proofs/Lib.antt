@@ -1,1 +1,5 @@
-pub mod Computed
+pub mod Known
+pub mod Reading
+pub mod Growing
+pub mod Commands
+pub mod Evaluated
