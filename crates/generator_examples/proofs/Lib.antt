@@ -3,3 +3,4 @@ pub mod Reading
 pub mod Growing
 pub mod Commands
 pub mod Evaluated
+pub mod WorkedExamples
