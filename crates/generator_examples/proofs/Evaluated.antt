@@ -1,6 +1,6 @@
 -- The traces of the sites, by computation.
 use Rattle.std.proofs.Common.{◌≡◌, refl, ◌∙◌}
-use Rattle.std.specs.Prelude.{List, [], ◌∷◌, codes, Ok, Err}
+use Rattle.std.specs.Prelude.{List, [], ◌∷◌, codes, Err}
 use Rattle.std.specs.Char.{encode_utf8}
 use Rattle.std.specs.Str.{is_utf8, chars}
 use Rattle.std.specs.FinMap.{get}
@@ -14,9 +14,9 @@ use Rattle.url_spec.specs.FileUrls.{file_text, names_host, url_path, spelled_pat
 use Rattle.node_spec.specs.declared.Cause.TheVariants.{NotFound}
 use Rattle.trace_spec.specs.declared.TraceFault.TheVariants.{Refused, RequestNotBuilt}
 use Rattle.trace_spec.specs.Traces.{traced}
-use Rattle.generator_examples.specs.Sites.{texts, based, tree_of, spelling, spelling_all, levels, levels_all, site, site_all, missing, clashing}
+use Rattle.generator_examples.specs.Sites.{texts, based, page_text, tree_of, spelling, spelling_all, levels, levels_all, site, site_all, missing, clashing}
 use Rattle.generator_examples.specs.Examples.{IsTraced}
-use Rattle.generator_examples.proofs.Known.{Known, files_of, told_trace, known_trace}
+use Rattle.generator_examples.proofs.Known.{Known, known_trace}
 use Rattle.generator_examples.proofs.Reading.{a_folder, a_module, an_other, nothing_more, a_line}
 
 abbrev known_levels : List Known
@@ -37,7 +37,7 @@ spelling_traced = known_trace known_spelling (based "https://app.test/" ("./app.
 
 abbrev known_site : List Known
 unfolding is_utf8 chars encode_utf8
-known_site = a_folder (codes "/") ∷ an_other (codes "/index.html") (codes "<!doctype html>\n") refl ∷ a_module (codes "/app") (10 ∷ []) (texts ("./lib/greet.mjs" ∷ "./pages/home.mjs" ∷ "./pages/[id].mjs" ∷ [])) a_line refl ∷ a_folder (codes "/lib") ∷ a_module (codes "/lib/greet") (10 ∷ []) (texts ("./words.mjs" ∷ [])) a_line refl ∷ a_module (codes "/lib/words") [] [] nothing_more refl ∷ a_folder (codes "/pages") ∷ a_module (codes "/pages/[id]") (10 ∷ []) (texts ("../lib/greet.mjs" ∷ [])) a_line refl ∷ a_module (codes "/pages/home") (10 ∷ []) (texts ("../lib/greet.mjs" ∷ "./[id].mjs" ∷ [])) a_line refl ∷ []
+known_site = a_folder (codes "/") ∷ an_other (codes "/index.html") page_text refl ∷ a_module (codes "/app") (10 ∷ []) (texts ("./lib/greet.mjs" ∷ "./pages/home.mjs" ∷ "./pages/[id].mjs" ∷ [])) a_line refl ∷ a_folder (codes "/lib") ∷ a_module (codes "/lib/greet") (10 ∷ []) (texts ("./words.mjs" ∷ [])) a_line refl ∷ a_module (codes "/lib/words") [] [] nothing_more refl ∷ a_folder (codes "/pages") ∷ a_module (codes "/pages/[id]") (10 ∷ []) (texts ("../lib/greet.mjs" ∷ [])) a_line refl ∷ a_module (codes "/pages/home") (10 ∷ []) (texts ("../lib/greet.mjs" ∷ "./[id].mjs" ∷ [])) a_line refl ∷ []
 
 pub site_traced : IsTraced site (based "https://app.test/" ("./app.mjs" ∷ [])) site_all
 unfolding as_url web file_text escaped holds_escape percent_encode_byte percent_decode names_host url_path spelled_path parse_alone parse_against text_of url_on_literals is_utf8 chars encode_utf8
@@ -58,4 +58,3 @@ known_clashing = a_folder (codes "/") ∷ a_module (codes "/m") [] (texts ("../a
 pub clashing_traced : traced (get (tree_of clashing)) (based "https://app.test/app/" ("./m.mjs" ∷ [])) ≡ Err (RequestNotBuilt (codes "/m.mjs") (codes "./x.mjs"))
 unfolding as_url web file_text escaped holds_escape percent_encode_byte percent_decode names_host url_path spelled_path parse_alone parse_against text_of url_on_literals is_utf8 chars encode_utf8
 clashing_traced = known_trace known_clashing (based "https://app.test/app/" ("./m.mjs" ∷ [])) ∙ refl
-

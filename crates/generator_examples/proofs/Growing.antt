@@ -1,6 +1,6 @@
 -- Files make a tree where each is put into a folder that stands before it.
 use Rattle.std.proofs.Common.{◌≡◌, ◌≢◌, refl, ap, sym, ◌∙◌}
-use Rattle.std.specs.Prelude.{◌&&◌, ◌-◌, ℕ, Bool, true, false, cond, List, [], ◌∷◌, length, take, drop, codes, bytes_eq, Option, Some, None, if◌then◌else◌}
+use Rattle.std.specs.Prelude.{◌&&◌, ◌-◌, ℕ, Bool, true, false, cond, List, [], ◌∷◌, length, take, codes, bytes_eq, Option, Some, None, if◌then◌else◌}
 use Rattle.std.specs.FinMap.{get, insert}
 use Rattle.std.proofs.lemmas.Bool.{and_parts}
 use Rattle.std.proofs.lemmas.Slice.Eq.{bytes_eq-Decides}
@@ -74,8 +74,7 @@ below : (parent path : List ℕ) → is_below parent path ≡ true → IsPath pa
 below parent path e =
     let third = and_parts _ (bytes_eq path (joined parent (name_of path))) e in
     let second = and_parts _ (is_segment (name_of path)) third.0 in
-    let first = and_parts (is_path path) (is_path parent) second.0 in
-    (
+    let first = and_parts (is_path path) (is_path parent) second.0 in (
       path_by_test path first.0,
       record { name = name_of path; segment = segment_by_test (name_of path) second.1; is_path = path_by_test parent first.1; text = (bytes_eq-Decides _ _).0 third.1 },
     )

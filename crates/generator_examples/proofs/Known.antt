@@ -1,13 +1,10 @@
 -- Traces of files that are written out, by computation: what stands for whether a text is of the plain form is a proof, so the sources are given,
 -- and shown to be those of the files.
 use Rattle.std.proofs.Common.{◌≡◌, refl, ap, sym, ◌∙◌, subst}
-use Rattle.std.specs.Prelude.{◌&&◌, ℕ, Bool, true, false, cond, List, [], ◌∷◌, ◌++◌, All, map, length, nat_lt, nat_eq, codes, Option, Some, None, Result}
-use Rattle.std.specs.List.{list_all, ends_with}
+use Rattle.std.specs.Prelude.{ℕ, Bool, true, false, cond, List, [], ◌∷◌, map, Option, Some, None, Result}
 use Rattle.std.specs.FinMap.{get}
-use Rattle.std.specs.Str.{is_utf8}
 use Rattle.asking_spec.specs.Evaluation.{Ended, ends, then_ended, Answers, evaluated}
 use Rattle.tree_spec.specs.declared.Entry.{Entry}
-use Rattle.tree_spec.specs.declared.Entry.TheVariants.{Stored, Directory}
 use Rattle.tree_spec.specs.declared.LimitName.{LimitName}
 use Rattle.tree_spec.specs.LookAskings.{Sights}
 use Rattle.import_map_spec.proofs.Entries.{same_key, same_key_is}

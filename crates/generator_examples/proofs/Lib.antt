@@ -1,6 +1,7 @@
 pub mod Known
 pub mod Reading
 pub mod Growing
-pub mod Commands
+pub mod Words
+pub mod Counting
 pub mod Evaluated
 pub mod WorkedExamples

@@ -1,7 +1,7 @@
 -- Files whose sources are known.
 --     a_folder, a_module, an_other      a folder; a module of the plain form, written out; any other file
 use Rattle.std.proofs.Common.{◌≡◌, refl, ap, ◌∙◌, inl, inr}
-use Rattle.std.specs.Prelude.{◌&&◌, ◌==◌, not, nat_le, nat_lt, nat_eq, ℕ, Bool, true, false, List, [], ◌∷◌, ◌++◌, All, length, codes, Option, Some, None}
+use Rattle.std.specs.Prelude.{◌&&◌, ◌==◌, not, nat_le, nat_lt, ℕ, Bool, true, false, List, [], ◌∷◌, ◌++◌, All, length, codes, Option, Some, None}
 use Rattle.std.specs.List.{list_all}
 use Rattle.std.specs.Str.{is_utf8}
 use Rattle.std.proofs.lemmas.Bool.{and_parts, eqb-false, not-true, leb-true, cond-false}
@@ -77,7 +77,7 @@ module_source stem end specifiers spaces e =
     let outer = and_parts _ (not (nat_lt (limit_number File) (length bytes))) e in
     let inner = and_parts (list_all (list_all stands_for_itself) specifiers) (is_utf8 bytes) outer.0 in
     let read = (sources_are_read (λ path. Some (Stored bytes)) (record { path = stem ++ codes ".mjs"; suffix = [] }) own).1
-        (record { stem = stem; named = refl; stored = refl; asks = record { utf8 = IsUtf8-from_is_utf8 bytes inner.1; plain = written end specifiers spaces inner.0 } }) in
+    (record { stem = stem; named = refl; stored = refl; asks = record { utf8 = IsUtf8-from_is_utf8 bytes inner.1; plain = written end specifiers spaces inner.0 } }) in
     file_found (stem ++ codes ".mjs") bytes (Some own) (not-true _ outer.1) read
 
 abbrev pub a_module : (stem end : List ℕ) (specifiers : List (List ℕ)) → All IsSpace end → is_module (statements end specifiers) specifiers ≡ true → Known

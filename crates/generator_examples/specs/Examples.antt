@@ -1,12 +1,12 @@
 -- Worked examples of generation.
---     IsTraced files config all       the trace of these files
+--     IsTraced files config all       the tables of the trace of these files
 --     IsMapped files config text      the files have a map with this text, which serves
---     Ends files base asked status line after      how the command with this base and these entries ends
---     Trees, TraceExamples, MapExamples, EndExamples      what is shown
+--     Ends files base asked status line after      how a command ends: its status, its line, and the files that it leaves
+--     with_map files text             the files, with the map beside them
+--     Trees, TraceExamples, MapExamples, EndExamples      that the sites are trees; their traces; their maps; how commands end
 use Rattle.std.specs.Prelude.{◌≡◌, ℕ, List, [], ◌∷◌, ◌++◌, codes, Ok}
 use Prim.Native.String.{String}
 use Rattle.std.specs.FinMap.{get}
-use Rattle.tree_spec.specs.declared.Entry.TheVariants.{Stored}
 use Rattle.tree_spec.specs.Trees.{Tree, IsTree}
 use Rattle.trace_spec.specs.Modules.{Config}
 use Rattle.trace_spec.specs.Checks.{Before}
@@ -14,7 +14,7 @@ use Rattle.trace_spec.specs.Traces.{traced}
 use Rattle.generator_spec.specs.Generation.{Generates}
 use Rattle.generator_spec.specs.Headline.{Serves}
 use Rattle.generator_spec.specs.Outcome.{Outcome}
-use Rattle.generator_examples.specs.Sites.{Files, tree_of, based, links, levels, levels_all, spelling, spelling_all, spelling_map, site, site_all, site_map, missing, clashing}
+use Rattle.generator_examples.specs.Sites.{Files, tree_of, file, based, links, levels, levels_all, spelling, spelling_all, spelling_map, site, site_all, site_map, missing, clashing}
 
 abbrev pub IsTraced : Files → Config → Before → Type 0
 IsTraced files config all = traced (get (tree_of files)) config ≡ Ok all
@@ -29,11 +29,11 @@ Ends files base asked status line after =
 
 -- the files make trees: their paths are paths, and their parents are folders
 pub record Trees : Type 0 where
-  pub levels : IsTree (tree_of levels)
-  pub spelling : IsTree (tree_of spelling)
-  pub site : IsTree (tree_of site)
-  pub missing : IsTree (tree_of missing)
-  pub clashing : IsTree (tree_of clashing)
+  pub of_levels : IsTree (tree_of levels)
+  pub of_spelling : IsTree (tree_of spelling)
+  pub of_site : IsTree (tree_of site)
+  pub of_missing : IsTree (tree_of missing)
+  pub of_clashing : IsTree (tree_of clashing)
 
 pub record TraceExamples : Type 0 where
   pub by_levels : IsTraced levels (based "https://app.test/" ("./app.mjs" ∷ [])) levels_all
@@ -44,11 +44,17 @@ pub record MapExamples : Type 0 where
   pub two_spellings : IsMapped spelling (based "https://app.test/" ("./app.mjs" ∷ [])) spelling_map
   pub of_site : IsMapped site (based "https://app.test/" ("./app.mjs" ∷ [])) site_map
 
+-- the files, with the map beside them
+abbrev pub with_map : Files → List ℕ → Files
+with_map files text = files ++ file "/importmap.json" text ∷ []
+
 pub record EndExamples : Type 0 where
-  -- the map is written beside the files
-  pub written :
+  pub two_spellings :
       Ends spelling "https://app.test/" ("./app.mjs" ∷ []) 0 "ok: 2 modules, 2 requests, 1 mappings\n"
-      (spelling ++ (codes "/importmap.json", Stored spelling_map) ∷ [])
+      (with_map spelling spelling_map)
+  pub of_site :
+      Ends site "https://app.test/" ("./app.mjs" ∷ []) 0 "ok: 5 modules, 8 requests, 2 mappings\n"
+      (with_map site site_map)
   pub second_entry :
       Ends missing "https://app.test/" ("./a.mjs" ∷ "./b.mjs" ∷ []) 1
       "refused: NotFound from \"/b.mjs\" for \"./q.mjs\"\n" missing
