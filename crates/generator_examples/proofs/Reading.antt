@@ -1,7 +1,9 @@
 -- Files whose sources are known.
---     a_folder, a_module, an_other      a folder; a module of the plain form, written out; any other file
+--     a_folder path; of_one_line stem asked, of_lines stem asked; an_other path bytes      a folder; a module that asks for these
+--         specifiers, by statements on one line or on a line each; any other file
 use Rattle.std.proofs.Common.{◌≡◌, refl, ap, ◌∙◌, inl, inr}
 use Rattle.std.specs.Prelude.{◌&&◌, ◌==◌, not, nat_le, nat_lt, ℕ, Bool, true, false, List, [], ◌∷◌, ◌++◌, All, length, codes, Option, Some, None}
+use Prim.Native.String.{String}
 use Rattle.std.specs.List.{list_all}
 use Rattle.std.specs.Str.{is_utf8}
 use Rattle.std.proofs.lemmas.Bool.{and_parts, eqb-false, not-true, leb-true, cond-false}
@@ -15,6 +17,7 @@ use Rattle.module_spec.specs.PlainForm.{IsSpace, IsPlainByte, IsPlain}
 use Rattle.module_spec.specs.PlainForm.IsPlain.{nothing, space, statement}
 use Rattle.trace_spec.proofs.Sources.{sources_are_read}
 use Rattle.trace_spec.specs.Questions.{Source, Trail, source_in}
+use Rattle.generator_examples.specs.Sites.{texts}
 use Rattle.generator_examples.proofs.Known.{Known, module_found}
 
 -- ---- texts of the plain form
@@ -61,11 +64,11 @@ pub file_found : (path bytes : List ℕ) (source : Option Source) → nat_lt (li
 file_found path bytes source small is trail =
     ap (λ end. then_ended end (λ entry after. ends (source_in path entry) after)) (cond-false _ (stopped File trail) (ends (Some (Stored bytes)) trail) small) ∙ ap (λ found. ends found trail) is
 
-abbrev pub a_folder : List ℕ → Known
-a_folder path = record { path = path; entry = Directory; source = None; is = λ trail. refl }
+abbrev pub a_folder : String → Known
+a_folder path = record { path = codes path; entry = Directory; source = None; is = λ trail. refl }
 
-abbrev pub an_other : (path bytes : List ℕ) → nat_lt (limit_number File) (length bytes) ≡ false → Known
-an_other path bytes small = record { path = path; entry = Stored bytes; source = source_in path (Some (Stored bytes)); is = file_found path bytes _ small refl }
+abbrev pub an_other : (path : String) (bytes : List ℕ) → nat_lt (limit_number File) (length bytes) ≡ false → Known
+an_other path bytes small = record { path = codes path; entry = Stored bytes; source = source_in (codes path) (Some (Stored bytes)); is = file_found (codes path) bytes _ small refl }
 
 abbrev pub is_module : List ℕ → List (List ℕ) → Bool
 is_module bytes specifiers = list_all (list_all stands_for_itself) specifiers && is_utf8 bytes && not (nat_lt (limit_number File) (length bytes))
@@ -87,3 +90,9 @@ a_module stem end specifiers spaces e = record {
   source = Some (record { bytes = statements end specifiers; specifiers = specifiers });
   is = module_source stem end specifiers spaces e;
 }
+
+abbrev pub of_one_line : (stem : String) (asked : List String) → is_module (statements [] (texts asked)) (texts asked) ≡ true → Known
+of_one_line stem asked e = a_module (codes stem) [] (texts asked) nothing_more e
+
+abbrev pub of_lines : (stem : String) (asked : List String) → is_module (statements (10 ∷ []) (texts asked)) (texts asked) ≡ true → Known
+of_lines stem asked e = a_module (codes stem) (10 ∷ []) (texts asked) a_line e

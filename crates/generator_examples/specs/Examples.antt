@@ -1,9 +1,10 @@
 -- Worked examples of generation.
 --     IsTraced files config all       the tables of the trace of these files
 --     IsMapped files config text      the files have a map with this text, which serves
---     Ends files base asked status line after      how a command ends: its status, its line, and the files that it leaves
+--     Ends files base asked status line after      how a command ends: its status, its line, the files that it leaves
 --     with_map files text             the files, with the map beside them
---     Trees, TraceExamples, MapExamples, EndExamples      that the sites are trees; their traces; their maps; how commands end
+--     Trees, TraceExamples, MapExamples      that the sites are trees; their traces; their maps
+--     EndExamples                     how commands end
 use Rattle.std.specs.Prelude.{◌≡◌, ℕ, List, [], ◌∷◌, ◌++◌, codes, Ok}
 use Prim.Native.String.{String}
 use Rattle.std.specs.FinMap.{get}
@@ -16,13 +17,16 @@ use Rattle.generator_spec.specs.Headline.{Serves}
 use Rattle.generator_spec.specs.Outcome.{Outcome}
 use Rattle.generator_examples.specs.Sites.{Files, tree_of, file, based, links, levels, levels_all, spelling, spelling_all, spelling_map, site, site_all, site_map, missing, clashing}
 
+-- own: nothing is refused, and these are the tables of the trace
 abbrev pub IsTraced : Files → Config → Before → Type 0
 IsTraced files config all = traced (get (tree_of files)) config ≡ Ok all
 
+-- own: a map with this text is generated, and it serves
 pub record IsMapped (files : Files) (config : Config) (text : List ℕ) : Type 0 where
   pub generates : Generates (tree_of files) config text
   pub serves : Serves (tree_of files) config text
 
+-- own: the command with this base and these entries ends so, and leaves these files
 abbrev pub Ends : Files → String → List String → ℕ → String → Files → Type 0
 Ends files base asked status line after =
     Outcome (links base asked) (tree_of files) status (codes line) (tree_of after)
@@ -62,7 +66,8 @@ pub record EndExamples : Type 0 where
       Ends clashing "https://app.test/app/" ("./m.mjs" ∷ []) 9 "not built: from \"/m.mjs\" for \"./x.mjs\"\n" clashing
   -- whatever the tree
   pub no_base :
-      (tree : Tree) → Outcome (links "ftp://h/" ("./app.mjs" ∷ [])) tree 2 (codes "words: BadBase \"ftp://h/\"\n") tree
+      (tree : Tree)
+      → Outcome (links "ftp://h/" ("./app.mjs" ∷ [])) tree 2 (codes "words: BadBase \"ftp://h/\"\n") tree
 
 abbrev pub WorkedExamples : Type 0
 WorkedExamples = Trees × TraceExamples × MapExamples × EndExamples
