@@ -1,1 +1,7 @@
-pub mod Computed
+pub mod Known
+pub mod Reading
+pub mod Growing
+pub mod Words
+pub mod Counting
+pub mod Evaluated
+pub mod WorkedExamples

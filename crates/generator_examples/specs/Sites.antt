@@ -1,30 +1,228 @@
-use Rattle.std.specs.Prelude.{◌≡◌, ℕ, List, [], ◌∷◌, map, codes, Ok}
+-- Small sites that are written out, with what must come of them, typed by hand.
+--     Files, tree_of files      paths with what stands there, and the tree of them
+--     folder path, file path bytes      one of them
+--     lines written             a text of these lines
+--     based base asked          the config with this base and these entries, and the page `/index.html`
+--     links base asked          the words of a command line with this base and these entries
+--     module_at path            the module of a file
+--     source bytes asked        the source with these bytes, which asks for these specifiers
+--     levels, spelling, site, missing, clashing      the sites
+--     levels_all, spelling_all, site_all      the tables of their traces
+--     spelling_map, site_map    the texts of their maps
+use Rattle.std.specs.Prelude.{ℕ, List, [], ◌∷◌, ◌++◌, map, codes}
 use Prim.Native.String.{String}
 use Rattle.tree_spec.specs.declared.Entry.{Entry}
 use Rattle.tree_spec.specs.declared.Entry.TheVariants.{Stored, Directory}
+use Rattle.tree_spec.specs.Trees.{Tree}
+use Rattle.import_map_spec.specs.WrittenMaps.{map_of}
+use Rattle.layout_spec.specs.WorkedExamples.{need}
 use Rattle.trace_spec.specs.Modules.{Config, Module}
+use Rattle.trace_spec.specs.Questions.{Source}
 use Rattle.trace_spec.specs.Checks.{Before}
 
+-- own: the list of a tree's entries
 abbrev pub Files : Type 0
 Files = List (List ℕ × Entry)
+
+abbrev pub tree_of : Files → Tree
+tree_of files = map_of files
 
 abbrev pub folder : String → List ℕ × Entry
 folder path = (codes path, Directory)
 
-abbrev pub file : String → String → List ℕ × Entry
-file path text = (codes path, Stored (codes text))
+abbrev pub file : String → List ℕ → List ℕ × Entry
+file path bytes = (codes path, Stored bytes)
+
+abbrev pub lines : List String → List ℕ
+lines [] = []
+lines (line ∷ more) = codes line ++ (10 ∷ lines more)
+
+abbrev pub texts : List String → List (List ℕ)
+texts written = map (λ (text : String). codes text) written
 
 abbrev pub based : String → List String → Config
-based base asked = record { base = codes base; page = codes "/index.html"; entries = map (λ (entry : String). codes entry) asked }
+based base asked = record { base = codes base; page = codes "/index.html"; entries = texts asked }
+
+abbrev pub links : String → List String → List (List ℕ)
+links base asked = texts ("link" ∷ "--base" ∷ base ∷ asked)
+
+abbrev pub module_at : String → Module
+module_at path = record { path = codes path; suffix = [] }
+
+abbrev pub source : List ℕ → List String → Source
+source bytes asked = record { bytes = bytes; specifiers = texts asked }
+
+-- ---- a module of the second level is asked for again by one before it, behind a module of the third
+
+abbrev pub app_text : List ℕ
+app_text = codes "import \"./a.mjs\";import \"./b.mjs\";"
+
+abbrev pub a_text : List ℕ
+a_text = codes "import \"./c.mjs\";import \"./b.mjs\";"
+
+abbrev pub levels : Files
+levels = folder "/" ∷ file "/app.mjs" app_text ∷ file "/a.mjs" a_text ∷ file "/b.mjs" [] ∷ file "/c.mjs" [] ∷ []
+
+abbrev pub levels_all : Before
+levels_all = record {
+  modules = module_at "/app.mjs" ∷ module_at "/a.mjs" ∷ module_at "/b.mjs" ∷ module_at "/c.mjs" ∷ [];
+  sources =
+      source app_text ("./a.mjs" ∷ "./b.mjs" ∷ [])
+      ∷ source a_text ("./c.mjs" ∷ "./b.mjs" ∷ [])
+      ∷ source [] []
+      ∷ source [] []
+      ∷ [];
+  needs =
+      need "https://app.test/index.html" "https://app.test/app.mjs" "https://app.test/app.mjs"
+      ∷ need "https://app.test/app.mjs" "https://app.test/a.mjs" "https://app.test/a.mjs"
+      ∷ need "https://app.test/app.mjs" "https://app.test/b.mjs" "https://app.test/b.mjs"
+      ∷ need "https://app.test/a.mjs" "https://app.test/c.mjs" "https://app.test/c.mjs"
+      ∷ need "https://app.test/a.mjs" "https://app.test/b.mjs" "https://app.test/b.mjs"
+      ∷ [];
+  requests = 5;
+}
+
+-- ---- one file under two spellings: `%62` is `b`
+
+abbrev pub spelled_text : List ℕ
+spelled_text = codes "import \"./a%62.mjs\";"
 
 abbrev pub spelling : Files
-spelling = folder "/" ∷ file "/app.mjs" "import \"./a%62.mjs\";" ∷ file "/ab.mjs" "" ∷ []
+spelling = folder "/" ∷ file "/app.mjs" spelled_text ∷ file "/ab.mjs" [] ∷ []
 
 abbrev pub spelling_all : Before
 spelling_all = record {
-  modules = record { path = codes "/app.mjs"; suffix = [] } ∷ record { path = codes "/ab.mjs"; suffix = [] } ∷ [];
-  sources = record { bytes = codes "import \"./a%62.mjs\";"; specifiers = codes "./a%62.mjs" ∷ [] } ∷ record { bytes = []; specifiers = [] } ∷ [];
-  needs = record { referrer = codes "https://app.test/index.html"; asked = codes "https://app.test/app.mjs"; target = codes "https://app.test/app.mjs" }
-    ∷ record { referrer = codes "https://app.test/app.mjs"; asked = codes "https://app.test/a%62.mjs"; target = codes "https://app.test/ab.mjs" } ∷ [];
+  modules = module_at "/app.mjs" ∷ module_at "/ab.mjs" ∷ [];
+  sources = source spelled_text ("./a%62.mjs" ∷ []) ∷ source [] [] ∷ [];
+  needs =
+      need "https://app.test/index.html" "https://app.test/app.mjs" "https://app.test/app.mjs"
+      ∷ need "https://app.test/app.mjs" "https://app.test/a%62.mjs" "https://app.test/ab.mjs"
+      ∷ [];
   requests = 2;
 }
+
+abbrev pub spelling_map : List ℕ
+spelling_map =
+    lines
+    ("{"
+    ∷ "  \"imports\": {},"
+    ∷ "  \"scopes\": {"
+    ∷ "    \"https://app.test/app.mjs\": {"
+    ∷ "      \"https://app.test/a%62.mjs\": \"https://app.test/ab.mjs\""
+    ∷ "    }"
+    ∷ "  }"
+    ∷ "}"
+    ∷ [])
+
+-- ---- the site of the repository's examples: a URL escapes the name of a file
+
+abbrev pub page_text : List ℕ
+page_text =
+    lines
+    ("<!doctype html>"
+    ∷ "<html lang=\"en\">"
+    ∷ "<head>"
+    ∷ "<meta charset=\"utf-8\">"
+    ∷ "<title>A page of modules</title>"
+    ∷ "</head>"
+    ∷ "<body>"
+    ∷ "<p>This page loads its modules as they lie on disk.</p>"
+    ∷ "<script type=\"module\">import \"./app.mjs\";</script>"
+    ∷ "</body>"
+    ∷ "</html>"
+    ∷ [])
+
+abbrev pub site_app_text : List ℕ
+site_app_text =
+    lines
+    ("import \"./lib/greet.mjs\";" ∷ "import \"./pages/home.mjs\";" ∷ "import \"./pages/[id].mjs\";" ∷ [])
+
+abbrev pub greet_text : List ℕ
+greet_text = lines ("import \"./words.mjs\";" ∷ [])
+
+abbrev pub id_text : List ℕ
+id_text = lines ("import \"../lib/greet.mjs\";" ∷ [])
+
+abbrev pub home_text : List ℕ
+home_text = lines ("import \"../lib/greet.mjs\";" ∷ "import \"./[id].mjs\";" ∷ [])
+
+abbrev pub site : Files
+site =
+    folder "/"
+    ∷ file "/index.html" page_text
+    ∷ file "/app.mjs" site_app_text
+    ∷ folder "/lib"
+    ∷ file "/lib/greet.mjs" greet_text
+    ∷ file "/lib/words.mjs" []
+    ∷ folder "/pages"
+    ∷ file "/pages/[id].mjs" id_text
+    ∷ file "/pages/home.mjs" home_text
+    ∷ []
+
+abbrev pub site_all : Before
+site_all = record {
+  modules =
+      module_at "/app.mjs"
+      ∷ module_at "/lib/greet.mjs"
+      ∷ module_at "/pages/home.mjs"
+      ∷ module_at "/pages/[id].mjs"
+      ∷ module_at "/lib/words.mjs"
+      ∷ [];
+  sources =
+      source site_app_text ("./lib/greet.mjs" ∷ "./pages/home.mjs" ∷ "./pages/[id].mjs" ∷ [])
+      ∷ source greet_text ("./words.mjs" ∷ [])
+      ∷ source home_text ("../lib/greet.mjs" ∷ "./[id].mjs" ∷ [])
+      ∷ source id_text ("../lib/greet.mjs" ∷ [])
+      ∷ source [] []
+      ∷ [];
+  needs =
+      need "https://app.test/index.html" "https://app.test/app.mjs" "https://app.test/app.mjs"
+      ∷ need "https://app.test/app.mjs" "https://app.test/lib/greet.mjs" "https://app.test/lib/greet.mjs"
+      ∷ need "https://app.test/app.mjs" "https://app.test/pages/home.mjs" "https://app.test/pages/home.mjs"
+      ∷ need "https://app.test/app.mjs" "https://app.test/pages/[id].mjs" "https://app.test/pages/%5Bid%5D.mjs"
+      ∷ need "https://app.test/lib/greet.mjs" "https://app.test/lib/words.mjs" "https://app.test/lib/words.mjs"
+      ∷ need "https://app.test/pages/home.mjs" "https://app.test/lib/greet.mjs" "https://app.test/lib/greet.mjs"
+      ∷ need "https://app.test/pages/home.mjs" "https://app.test/pages/[id].mjs" "https://app.test/pages/%5Bid%5D.mjs"
+      ∷ need "https://app.test/pages/%5Bid%5D.mjs" "https://app.test/lib/greet.mjs" "https://app.test/lib/greet.mjs"
+      ∷ [];
+  requests = 8;
+}
+
+abbrev pub site_map : List ℕ
+site_map =
+    lines
+    ("{"
+    ∷ "  \"imports\": {},"
+    ∷ "  \"scopes\": {"
+    ∷ "    \"https://app.test/app.mjs\": {"
+    ∷ "      \"https://app.test/pages/[id].mjs\": \"https://app.test/pages/%5Bid%5D.mjs\""
+    ∷ "    },"
+    ∷ "    \"https://app.test/pages/home.mjs\": {"
+    ∷ "      \"https://app.test/pages/[id].mjs\": \"https://app.test/pages/%5Bid%5D.mjs\""
+    ∷ "    }"
+    ∷ "  }"
+    ∷ "}"
+    ∷ [])
+
+-- ---- what is refused
+
+-- the second entry asks for a file that isn't there. The first asks for a text that isn't a module's, but the visit of
+-- that one would come behind the second entry's
+abbrev pub missing : Files
+missing =
+    folder "/"
+    ∷ file "/a.mjs" (codes "import \"./c.mjs\";")
+    ∷ file "/b.mjs" (codes "import \"./q.mjs\";")
+    ∷ file "/c.mjs" (codes "x")
+    ∷ []
+
+-- under the base `https://app.test/app/` both specifiers have the URL `https://app.test/app/x.mjs`, and Node leads them
+-- to two files
+abbrev pub clashing : Files
+clashing =
+    folder "/"
+    ∷ file "/m.mjs" (codes "import \"../app/x.mjs\";import \"./x.mjs\";")
+    ∷ file "/x.mjs" []
+    ∷ folder "/app"
+    ∷ file "/app/x.mjs" []
+    ∷ []

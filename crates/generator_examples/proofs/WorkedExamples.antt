@@ -1,0 +1,119 @@
+-- The worked examples.
+use Rattle.std.proofs.Common.{◌≡◌, refl, sym, ap, ◌∙◌}
+use Rattle.std.specs.Prelude.{◌+◌, ℕ, List, [], ◌∷◌, drop, codes, Some, None}
+use Prim.Native.String.{String}
+use Rattle.std.specs.Fmt.{digits}
+use Rattle.url.proofs.OnLiterals.{url_on_literals}
+use Rattle.tree_spec.specs.declared.Entry.TheVariants.{Stored}
+use Rattle.tree_spec.specs.Trees.{IsTree, Places}
+use Rattle.tree_spec.proofs.Placings.{in_root}
+use Rattle.std.specs.FinMap.{insert}
+use Rattle.url_spec.specs.Bases.{base_of}
+use Rattle.url_spec.specs.Parsing.{text_of, parse_alone}
+use Rattle.layout_spec.proofs.examples.LaidLists.{listed_layout, layout_listed}
+use Rattle.layout_spec.proofs.examples.PrintedLists.{listed_text, lists_text}
+use Rattle.layout_spec.specs.Counting.{mapping_count}
+use Rattle.layout_spec.specs.Layout.{layout}
+use Rattle.layout_spec.specs.PrintedMap.{map_text}
+use Rattle.trace_spec.specs.Modules.{Config}
+use Rattle.trace_spec.specs.Checks.{Before}
+use Rattle.generator_spec.specs.declared.Refusal.TheVariants.{BadBase}
+use Rattle.generator_spec.proofs.MapPaths.{map_in_root}
+use Rattle.generator_spec.proofs.PageNames.{page_of_words_is_file}
+use Rattle.generator_spec.specs.Generation.{Generates}
+use Rattle.generator_spec.specs.Lines.{counts_line}
+use Rattle.generator_spec.specs.Outcome.Outcome.{words_refused, trace_refused, done}
+use Rattle.generator_spec.specs.Words.{IsConfigOf}
+use Rattle.generator_spec.specs.Words.RefusesWords.{bad_base}
+use Rattle.soundness.proofs.Sound.{sound}
+use Rattle.generator_examples.specs.Sites.{Files, tree_of, based, links, levels, spelling, spelling_all, spelling_map, site, site_all, site_map, missing, clashing}
+use Rattle.generator_examples.specs.Examples.{IsTraced, IsMapped, with_map, Trees, TraceExamples, MapExamples, EndExamples, WorkedExamples}
+use Rattle.generator_examples.proofs.Growing.{grown}
+use Rattle.generator_examples.proofs.Words.{is_link, gives}
+use Rattle.generator_examples.proofs.Counting.{Mappings, counted, counts}
+use Rattle.generator_examples.proofs.Evaluated.{levels_traced, spelling_traced, site_traced, missing_traced, clashing_traced}
+
+trees : Trees
+trees = record {
+  of_levels = grown (drop 1 levels) refl;
+  of_spelling = grown (drop 1 spelling) refl;
+  of_site = grown (drop 1 site) refl;
+  of_missing = grown (drop 1 missing) refl;
+  of_clashing = grown (drop 1 clashing) refl;
+}
+
+trace_examples : TraceExamples
+trace_examples = record { by_levels = levels_traced; two_spellings = spelling_traced; of_site = site_traced }
+
+-- ---- configs
+
+app_gives : IsConfigOf (links "https://app.test/" ("./app.mjs" ∷ [])) (based "https://app.test/" ("./app.mjs" ∷ []))
+unfolding base_of parse_alone text_of url_on_literals
+app_gives = gives "https://app.test/" ("./app.mjs" ∷ []) refl refl refl
+
+missing_gives : IsConfigOf (links "https://app.test/" ("./a.mjs" ∷ "./b.mjs" ∷ [])) (based "https://app.test/" ("./a.mjs" ∷ "./b.mjs" ∷ []))
+unfolding base_of parse_alone text_of url_on_literals
+missing_gives = gives "https://app.test/" ("./a.mjs" ∷ "./b.mjs" ∷ []) refl refl refl
+
+clashing_gives : IsConfigOf (links "https://app.test/app/" ("./m.mjs" ∷ [])) (based "https://app.test/app/" ("./m.mjs" ∷ []))
+unfolding base_of parse_alone text_of url_on_literals
+clashing_gives = gives "https://app.test/app/" ("./m.mjs" ∷ []) refl refl refl
+
+ftp_is_none : base_of (codes "ftp://h/") ≡ None
+unfolding base_of parse_alone text_of url_on_literals
+ftp_is_none = refl
+
+-- ---- maps
+
+abbrev generated : (words : List (List ℕ)) (files : Files) (config : Config) (all : Before) (text : List ℕ) → IsConfigOf words config → IsTraced files config all → listed_text (listed_layout all.needs) ≡ text → Generates (tree_of files) config text
+generated words files config all text is is_traced e = record {
+  page_is_file = page_of_words_is_file words config is;
+  all = all;
+  is_traced = is_traced;
+  text = sym (ap map_text (layout_listed all.needs) ∙ (lists_text (listed_layout all.needs) ∙ e));
+}
+
+mapped : (files : Files) (config : Config) (text : List ℕ) → Generates (tree_of files) config text → IsMapped files config text
+mapped files config text is = record { generates = is; serves = sound (tree_of files) config text is }
+
+abbrev spelling_generates : Generates (tree_of spelling) (based "https://app.test/" ("./app.mjs" ∷ [])) spelling_map
+spelling_generates = generated _ spelling _ spelling_all spelling_map app_gives spelling_traced refl
+
+abbrev site_generates : Generates (tree_of site) (based "https://app.test/" ("./app.mjs" ∷ [])) site_map
+site_generates = generated _ site _ site_all site_map app_gives site_traced refl
+
+map_examples : MapExamples
+map_examples = record { two_spellings = mapped spelling _ spelling_map spelling_generates; of_site = mapped site _ site_map site_generates }
+
+-- ---- ends
+
+abbrev mapping : String → String → Mappings
+mapping asked target = (codes asked, Some (codes target)) ∷ []
+
+spelling_mappings : mapping_count (layout spelling_all.needs) ≡ 1
+spelling_mappings =
+    ap mapping_count (layout_listed spelling_all.needs)
+    ∙ (counts (listed_layout spelling_all.needs).scopes ∙ (λ i. counted (mapping "https://app.test/a%62.mjs" "https://app.test/ab.mjs") i + 0))
+
+-- one mapping in each of two scopes
+site_mappings : mapping_count (layout site_all.needs) ≡ 2
+site_mappings =
+    let one : Mappings = mapping "https://app.test/pages/[id].mjs" "https://app.test/pages/%5Bid%5D.mjs" in
+    ap mapping_count (layout_listed site_all.needs) ∙ (counts (listed_layout site_all.needs).scopes ∙ (λ i. counted one i + (counted one i + 0)))
+
+-- the map stands in the root
+placed : (files : Files) (text : List ℕ) → IsTree (tree_of files) → insert (tree_of files) (codes "/importmap.json") (Stored text) ≡ tree_of (with_map files text) → Places (tree_of files) (codes "/importmap.json") (Stored text) (tree_of (with_map files text))
+placed files text is same = (in_root (tree_of files) (codes "/importmap.json") (Stored text) (tree_of (with_map files text)) is map_in_root).1 (sym same)
+
+end_examples : EndExamples
+unfolding digits
+end_examples = record {
+  two_spellings = done _ spelling_map app_gives spelling_generates refl (sym (ap (counts_line 2 2) spelling_mappings)) (placed spelling spelling_map trees.of_spelling refl);
+  of_site = done _ site_map app_gives site_generates refl (sym (ap (counts_line 5 8) site_mappings)) (placed site site_map trees.of_site refl);
+  second_entry = trace_refused _ _ missing_gives missing_traced refl refl refl;
+  two_targets = trace_refused _ _ clashing_gives clashing_traced refl refl refl;
+  no_base = λ tree. words_refused (BadBase (codes "ftp://h/")) (bad_base (codes "ftp://h/") _ (is_link "ftp://h/" ("./app.mjs" ∷ []) refl) ftp_is_none) refl refl refl;
+}
+
+pub worked_examples : WorkedExamples
+worked_examples = (trees, trace_examples, map_examples, end_examples)
