@@ -1,5 +1,5 @@
--- Traces of files that are written out, by computation: what stands for whether a text is of the plain form is a proof, so the sources are given,
--- and shown to be those of the files.
+-- Traces of files that are written out, by computation. Whether a text is of the plain form is told by a proof, which
+-- doesn't compute: so the sources are given, and shown to be those of the files.
 use Rattle.std.proofs.Common.{◌≡◌, refl, ap, sym, ◌∙◌, subst}
 use Rattle.std.specs.Prelude.{ℕ, Bool, true, false, cond, List, [], ◌∷◌, map, Option, Some, None, Result}
 use Rattle.std.specs.FinMap.{get}

@@ -1,7 +1,7 @@
 -- Small sites that are written out, with what must come of them, typed by hand.
 --     Files, tree_of files      paths with what stands there, and the tree of them
 --     folder path, file path bytes      one of them
---     lines written             a text of these lines
+--     lines written, texts written      a text of these lines; these texts
 --     based base asked          the config with this base and these entries, and the page `/index.html`
 --     links base asked          the words of a command line with this base and these entries
 --     module_at path            the module of a file

@@ -1,4 +1,5 @@
-//! Worked examples of generation: small sites with their traces, their maps and how commands on them end, typed by hand.
+//! Worked examples of generation: small sites, with their traces, their maps and how commands on them end, typed by
+//! hand.
 #![tactic(auto)]
 
 ghost use Rattle.generator_examples.specs.Examples.{WorkedExamples};
