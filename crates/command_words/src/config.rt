@@ -1,7 +1,8 @@
-ghost use Rattle.std.specs.Prelude.{◌≡◌, Err, IfOk, map, string_bytes};
+ghost use Rattle.std.specs.Prelude.{◌≡◌, Err, IfOk};
 ghost use Rattle.generator_spec.specs.declared.Refusal.{Refusal};
 ghost use Rattle.generator_spec.specs.declared.Refusal.TheVariants as refusal;
 ghost use Rattle.generator_spec.specs.Words.{IsConfigOf, RefusesWords};
+ghost use Rattle.command_words.specs.Splitting.{texts};
 
 use crate::words::{distinct, link_words};
 use generator_spec::Refusal;
@@ -36,8 +37,8 @@ impl From<AllocError> for WordsFault {
 
 /// The config that the words give.
 pub fn config_of(alloc: Global, words: &[String]) -> Result<Config, WordsFault>
-    ensures config { IfOk result (IsConfigOf (map string_bytes words.now)) }
-    ensures refused { (why : Refusal) → result ≡ Err (WordsFault.Refused why) → RefusesWords (map string_bytes words.now) why }
+    ensures config { IfOk result (IsConfigOf (texts words.now)) }
+    ensures refused { (why : Refusal) → result ≡ Err (WordsFault.Refused why) → RefusesWords (texts words.now) why }
 {
     let Some((base, entries)) = link_words(words) else {
         return Err(WordsFault::Refused {

@@ -1,5 +1,6 @@
-ghost use Rattle.std.specs.Prelude.{◌≡◌, ◌↔◌, ◌++◌, ◌∷◌, [], List, ℕ, All, IsTrue, IfOk, MatchOption, map, string_bytes};
+ghost use Rattle.std.specs.Prelude.{◌≡◌, ◌↔◌, ◌∷◌, [], All, IsTrue, IfOk, MatchOption, string_bytes};
 ghost use Rattle.generator_spec.specs.Words.{IsEntry, IsLink, once_onto};
+ghost use Rattle.command_words.specs.Splitting.{texts, NoWord, NoWordAfter, NoLink};
 
 use indexmap::IndexSet;
 use primitives::{Listed, Memory, Text};
@@ -7,7 +8,8 @@ use std::alloc::Global;
 
 /// The base and the entries of words that are `link --base BASE` and entries; None where they aren't.
 pub fn link_words(words: &[String]) -> Option<(&str, &[String])>
-    ensures { MatchOption result ((base : List ℕ) (entries : List (List ℕ)) → IsLink (map string_bytes words.now) base entries → ⊥) (λ found. IsLink (map string_bytes words.now) found.0.now (map string_bytes found.1.now)) }
+    ensures { MatchOption result (NoLink (texts words.now))
+        (λ found. IsLink (texts words.now) found.0.now (texts found.1.now)) }
 {
     let Some(after_command) = after_word(words, "link") else {
         return None;
@@ -25,14 +27,16 @@ pub fn link_words(words: &[String]) -> Option<(&str, &[String])>
 }
 
 fn first_word(words: &[String]) -> Option<(&str, &[String])>
-    ensures { MatchOption result ((first : List ℕ) (rest : List (List ℕ)) → map string_bytes words.now ≡ first ∷ rest → ⊥) (λ found. map string_bytes words.now ≡ found.0.now ∷ map string_bytes found.1.now) }
+    ensures { MatchOption result (NoWord (texts words.now))
+        (λ found. texts words.now ≡ found.0.now ∷ texts found.1.now) }
 {
     let (first, rest) = words.split_first()?;
     Some((first.as_str(), rest))
 }
 
 fn after_word<'a>(words: &'a [String], word: &str) -> Option<&'a [String]>
-    ensures { MatchOption result ((rest : List (List ℕ)) → map string_bytes words.now ≡ word.now ∷ rest → ⊥) (λ rest. map string_bytes words.now ≡ word.now ∷ map string_bytes rest.now) }
+    ensures { MatchOption result (NoWordAfter (texts words.now) word.now)
+        (λ rest. texts words.now ≡ word.now ∷ texts rest.now) }
 {
     let (first, rest) = words.split_first()?;
     if first.as_str() != word {
@@ -58,7 +62,7 @@ fn is_entry(word: &str) -> bool
 
 /// The entries, equal ones once.
 pub fn distinct(alloc: Global, entries: &[String]) -> Result<Listed<Text>, Memory>
-    ensures { IfOk result (λ texts. texts ≡ once_onto [] (map string_bytes entries.now)) }
+    ensures { IfOk result (λ found. found ≡ once_onto [] (texts entries.now)) }
 {
     let mut seen = IndexSet::new(alloc);
     for entry in entries {

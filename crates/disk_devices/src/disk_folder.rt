@@ -59,7 +59,12 @@ impl<'a, R> DiskFolder<'a, R> {
 impl<'a, R: Files> Folder for DiskFolder<'a, R> {
     ghost use Rattle.std.proofs.Common.{rules};
 
-    ghost state = { λ folder. record { holds = None; asked = None; look_faults = folder.look_faults; write_faults = folder.write_faults } };
+    ghost state = { λ folder. record {
+      holds = None;
+      asked = None;
+      look_faults = folder.look_faults;
+      write_faults = folder.write_faults;
+    } };
 
     ghost told = { Prim.search rules };
 

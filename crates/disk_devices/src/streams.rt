@@ -32,7 +32,8 @@ impl<R: Read> Source for StdSource<R> {
     ghost state = { λ source. record { left = None; faults = source.faults } };
 
     fn take(&mut self, into: &mut [u8]) -> Result<usize, Failed>
-        ensures taken { IfOk result (λ count. Consumes (R.remaining self.old.input) (R.remaining self.new.input) (take count into.new)) }
+        ensures taken { IfOk result
+            (λ count. Consumes (R.remaining self.old.input) (R.remaining self.new.input) (take count into.new)) }
         ensures within { IfOk result (λ count. count ≤ length into.old) }
         ensures behind { IfOk result (λ count. drop count into.new ≡ drop count into.old) }
         ensures untouched { OnErr result (into.new ≡ into.old) }

@@ -15,4 +15,6 @@ pub record HasMap (layout : Layout) (integrity : List (List ℕ × List ℕ)) : 
 
 -- own law: lists in key order, whose scopes are in key order, are the entries of a map
 abbrev pub SomeMap : Type 0
-SomeMap = (layout : Layout) (integrity : List (List ℕ × List ℕ)) → InKeyOrder layout.imports → InKeyOrder layout.scopes → AllByRecursion (λ scope. InKeyOrder scope.1) layout.scopes → InKeyOrder integrity → HasMap layout integrity
+SomeMap =
+    (layout : Layout) (integrity : List (List ℕ × List ℕ)) → InKeyOrder layout.imports → InKeyOrder layout.scopes
+    → AllByRecursion (λ scope. InKeyOrder scope.1) layout.scopes → InKeyOrder integrity → HasMap layout integrity

@@ -9,8 +9,8 @@ mod tests;
 
 pub use keyed::{Keyed, Layout, Mappings, Scopes};
 
-/// Lists in the order of their keys, with scopes in the order of theirs, are the entries of a map; so what is said of each map
-/// whose entries they are is said of one.
+/// Lists in the order of their keys, with scopes in the order of theirs, are the entries of a map; so what is said of
+/// each map whose entries they are is said of one.
 pub fn some_map()
     ensures { SomeMap }
 {}
