@@ -1,7 +1,4 @@
-ghost use Rattle.std.specs.Prelude.{◌≡◌, length, IfOk};
-ghost use Rattle.layout_spec.specs.PrintedMap.{map_text};
-ghost use Rattle.layout_spec.specs.Counting.{mapping_count};
-ghost use Rattle.layout_spec.specs.Layout as definition;
+ghost use Rattle.std.specs.Prelude.{IfOk};
 ghost use Rattle.generation.specs.Generating.{Generating, IsMapOf};
 
 use map_flatten::{layout, mappings};
@@ -43,10 +40,11 @@ fn map_of(alloc: Global, trace: &Trace) -> Result<Generated, Memory>
         Ok(map) => map,
         Err(PrintFault::Memory) => return Err(AllocError),
     };
+    let mappings = mappings(&layout).ok_or(AllocError)?;
     Ok(Generated {
         map,
         modules: trace.len(),
         requests: trace.request_count(),
-        mappings: mappings(&layout).ok_or(AllocError)?,
+        mappings,
     })
 }

@@ -12,29 +12,34 @@ use Rattle.trace_spec.specs.Modules.{Config}
 use Rattle.trace_spec.specs.Traces.{traced}
 use Rattle.generator_spec.specs.declared.Refusal.{Refusal}
 use Rattle.generator_spec.specs.declared.Refusal.TheVariants as refusal
-use Rattle.generator_spec.proofs.PageNames.{page_is_file}
+use Rattle.generator_spec.proofs.PageNames.{page_of_words_is_file}
 use Rattle.generator_spec.specs.Words.{IsConfigOf, RefusesWords}
 use Rattle.generator_spec.specs.Lines.{status_of, line_of, counts_line, memory_line, read_fault_line}
 use Rattle.generator_spec.specs.Outcome.{Outcome}
 use Rattle.generator_spec.specs.Outcome.Outcome.{words_refused, trace_refused, done}
 use Rattle.generator_spec.specs.Ending.{IsMapWritten, IsGenerated, Linked, IsCounted, Shaped, Says, Ends, EndsAs, TellsRefusal}
-use Rattle.generator_spec.specs.Ending.Shaped as shaped
-use Rattle.generator_spec.specs.Ending.Says as says
-use Rattle.generator_spec.specs.Ending.Ends as ends
+use Rattle.generator_spec.specs.Ending.{Shaped as shaped, Says as says, Ends as ends}
 use Rattle.soundness.proofs.Sound.{sound}
 use Rattle.generation.specs.declared.generated.Generated.{Generated}
 use Rattle.generation.specs.Generating as generation
 use Rattle.generation.specs.Generating.{Generating}
-use Rattle.generator_core.specs.Writing.{SaysWrite, Writes}
-use Rattle.generator_core.specs.Writing.SaysWrite as writes
+use Rattle.generator_core.specs.Writing.{SaysWrite, TellsFault, Writes, TellsFault as tells}
+use Rattle.generator_core.specs.Writing.{SaysWrite as writes}
 
-if_some : {A : Type 0} {P Q : A → Type 0} (told : Option A) → ((x : A) → P x → Q x) → IfSome told P → IfSome told Q
+pub if_some : {A : Type 0} {P Q : A → Type 0} (told : Option A) → ((x : A) → P x → Q x) → IfSome told P → IfSome told Q
 if_some None f h = h
 if_some (Some x) f h = f x h
 
 if_two : {A : Type 0} {P Q R : A → Type 0} (told : Option A) → ((x : A) → P x → Q x → R x) → IfSome told P → IfSome told Q → IfSome told R
 if_two None f h k = h
 if_two (Some x) f h k = f x h k
+
+pub written_is : (tree : Tree) (bytes slice path : List ℕ) (told : Option Tree) → ((after : Tree) × (told ≡ Some after) × Places tree path (Stored slice) after) → path ≡ codes "/importmap.json" → slice ≡ bytes → IsMapWritten tree bytes told
+written_is tree bytes slice path told written p s = record {
+  after = written.0;
+  is_told = written.1;
+  placed = subst (λ b. Places tree (codes "/importmap.json") (Stored b) written.0) s (subst (λ q. Places tree q (Stored slice) written.0) p written.2);
+}
 
 -- ---- statuses
 
@@ -126,7 +131,7 @@ module _ (words : List (List ℕ)) (config : Config) (is_config : IsConfigOf wor
   untold : before.holds ≡ None → after.holds ≡ None
   untold none = is.looks.tree ∙ none
 
-  pub trace_end : (why : TraceFault) → found ≡ Err why → why ≢ fault.ReadFault → why ≢ fault.Memory → TellsRefusal (refusal.Trace why) out out_after result → out.faults ≤ out_after.faults → EndsAs words before after out out_after result
+  trace_end : (why : TraceFault) → found ≡ Err why → why ≢ fault.ReadFault → why ≢ fault.Memory → TellsRefusal (refusal.Trace why) out out_after result → out.faults ≤ out_after.faults → EndsAs words before after out out_after result
   trace_end why e read memory (inl told) more =
       let here : Generating config before (Err why) after = subst (λ r. Generating config before r after) e is in
       ends_as words before after out out_after result (status_of (refusal.Trace why)) (line_of (refusal.Trace why)) untold
@@ -134,11 +139,16 @@ module _ (words : List (List ℕ)) (config : Config) (is_config : IsConfigOf wor
       told is.looks.later writes_later more
   trace_end why e read memory (inr lacks) more = memory_ends words before after out out_after result is.looks.tree (apart why e read) is.looks.writes lacks more
 
-  pub read_end : found ≡ Err fault.ReadFault → Ends 4 read_fault_line out out_after result → out.faults ≤ out_after.faults → EndsAs words before after out out_after result
+  read_end : found ≡ Err fault.ReadFault → Ends 4 read_fault_line out out_after result → out.faults ≤ out_after.faults → EndsAs words before after out out_after result
   read_end e told more = ends_as words before after out out_after result 4 read_fault_line untold (says.read_fault config is_config refl refl is.looks.tree (is.looks.cause e) is.looks.writes) told is.looks.later writes_later more
 
-  pub memory_end : found ≡ Err fault.Memory → Ends 8 memory_line out out_after result → out.faults ≤ out_after.faults → EndsAs words before after out out_after result
+  memory_end : found ≡ Err fault.Memory → Ends 8 memory_line out out_after result → out.faults ≤ out_after.faults → EndsAs words before after out out_after result
   memory_end e told more = memory_ends words before after out out_after result is.looks.tree (apart fault.Memory e (λ same. cc)) is.looks.writes told more
+
+  pub fault_end : (why : TraceFault) → found ≡ Err why → TellsFault why out out_after result → out.faults ≤ out_after.faults → EndsAs words before after out out_after result
+  fault_end why e (tells.failed_look read told) more = read_end (e ∙ ap Err read) told more
+  fault_end why e (tells.memory lack told) more = memory_end (e ∙ ap Err lack) told more
+  fault_end why e (tells.refused read memory told) more = trace_end why e read memory told more
 
 -- ---- a map that is written
 
@@ -147,7 +157,7 @@ generated_told : (words : List (List ℕ)) (config : Config) (generated : Genera
 generated_told words config generated told is_config found = if_some told (λ tree is. record {
   config = config;
   is_config = is_config;
-  generates = record { page_is_file = page_is_file words config is_config; all = is.all; is_traced = is.is_traced; text = is.is_map.map };
+  generates = record { page_is_file = page_of_words_is_file words config is_config; all = is.all; is_traced = is.is_traced; text = is.is_map.map };
   says = λ i. counts_line (is.is_map.modules i) (is.is_map.requests i) (is.is_map.mappings i);
 }) found
 
@@ -159,10 +169,10 @@ written_told : (words : List (List ℕ)) (bytes line : List ℕ) (told after : O
 written_told words bytes line told after generated written = if_two told (λ tree is wrote. (wrote.after, done is.config bytes is.is_config is.generates refl is.says wrote.placed, wrote.is_told)) generated written
 
 module _ (words : List (List ℕ)) (config : Config) (is_config : IsConfigOf words config) (before middle after : FolderState) (out out_after : SinkState) (result : ℕ) (generated : Generated) (is : Generating config before (Ok generated) middle) (wrote : Writes generated middle after out out_after result) where
-  bytes : List ℕ
+  abbrev bytes : List ℕ
   bytes = generated.map.items
 
-  done_here : List ℕ
+  abbrev done_here : List ℕ
   done_here = counts_line generated.modules generated.requests generated.mappings
 
   quiet : middle.look_faults ≡ before.look_faults

@@ -2,7 +2,8 @@ ghost use Rattle.std.specs.Prelude.{◌≡◌, ◌≤◌, List, ℕ};
 ghost use Rattle.generator_spec.specs.declared.Refusal.{Refusal};
 ghost use Rattle.generator_spec.specs.Words.{IsConfigOf, RefusesWords};
 ghost use Rattle.generator_spec.specs.Ending.{Ends, EndsAs, TellsRefusal};
-ghost use Rattle.generator_core.specs.Writing.{Writes, texts};
+ghost use Rattle.command_words.specs.Splitting.{texts};
+ghost use Rattle.generator_core.specs.Writing.{TellsFault, Writes};
 
 use command_words::{WordsFault, config_of};
 use generation::{Generated, generate};
@@ -30,7 +31,9 @@ pub fn run<F: Folder, I: Source, O: Sink, L: Ledger>(
     out: &mut O,
     _steps: &mut Steps<L>,
 ) -> u8
-    ensures end { EndsAs (texts words.now) (F.state folder.old) (F.state folder.new) (O.state out.old) (O.state out.new) result }
+    ensures end {
+        EndsAs (texts words.now) (F.state folder.old) (F.state folder.new) (O.state out.old) (O.state out.new) result
+    }
     ensures words { (why : Refusal) → RefusesWords (texts words.now) why → folder.new ≡ folder.old }
     ensures input { _input.new ≡ _input.old }
     ensures steps { _steps.new ≡ _steps.old }
@@ -44,13 +47,14 @@ pub fn run<F: Folder, I: Source, O: Sink, L: Ledger>(
 
 // `link`: generates, writes the map and says so.
 fn link<F: Folder, O: Sink>(alloc: Global, folder: &mut F, config: &Config, out: &mut O) -> u8
-    ensures { (words : List (List ℕ)) → IsConfigOf words config.now → EndsAs words (F.state folder.old) (F.state folder.new) (O.state out.old) (O.state out.new) result }
+    ensures {
+        (words : List (List ℕ)) → IsConfigOf words config.now
+            → EndsAs words (F.state folder.old) (F.state folder.new) (O.state out.old) (O.state out.new) result
+    }
 {
     match generate(alloc, folder, config) {
         Ok(generated) => finish(alloc, folder, &generated, out),
-        Err(TraceFault::ReadFault) => tell(out, read_fault_line(), READ_FAULT),
-        Err(TraceFault::Memory) => tell(out, memory_line(), MEMORY),
-        Err(fault) => refuse(alloc, &Refusal::Trace { fault }, out),
+        Err(fault) => stop(alloc, fault, out),
     }
 }
 
@@ -61,7 +65,9 @@ fn finish<F: Folder, O: Sink>(
     generated: &Generated,
     out: &mut O,
 ) -> u8
-    ensures { Writes generated.now (F.state folder.old) (F.state folder.new) (O.state out.old) (O.state out.new) result }
+    ensures {
+        Writes generated.now (F.state folder.old) (F.state folder.new) (O.state out.old) (O.state out.new) result
+    }
 {
     let Ok(line) = done_line(
         alloc,
@@ -79,6 +85,18 @@ fn finish<F: Folder, O: Sink>(
     match folder.write(&path, generated.map.as_slice()) {
         Ok(()) => tell(out, line.as_slice(), DONE),
         Err(_) => tell(out, write_fault_line(), WRITE_FAULT),
+    }
+}
+
+// Says why there is no trace.
+fn stop<O: Sink>(alloc: Global, fault: TraceFault, out: &mut O) -> u8
+    ensures tells { TellsFault fault (O.state out.old) (O.state out.new) result }
+    ensures later { (O.state out.old).faults ≤ (O.state out.new).faults }
+{
+    match fault {
+        TraceFault::ReadFault => tell(out, read_fault_line(), READ_FAULT),
+        TraceFault::Memory => tell(out, memory_line(), MEMORY),
+        refused => refuse(alloc, &Refusal::Trace { fault: refused }, out),
     }
 }
 
