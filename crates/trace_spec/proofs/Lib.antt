@@ -10,3 +10,4 @@ pub mod Sources
 pub mod Traces
 pub mod RefusalOrder
 pub mod RefusalKinds
+pub mod NeedLemmas

@@ -1,13 +1,10 @@
 -- The laws of a config's trace, by what its steps do.
-use Rattle.std.specs.Prelude.{◌≡◌, ◌≤◌, ◌↔◌, ◌&&◌, ◌||◌, ◌⊎◌, not, ℕ, true, false, List, [], ◌∷◌, ◌++◌, length, map}
-use Rattle.std.specs.Prelude.{Option, Some, None, option_map, Result, Ok, Err, unwrap_or, bytes_eq, nat_lt, Contains}
-use Rattle.std.specs.List.{list_any}
+use Rattle.std.specs.Prelude.{◌≡◌, ◌≤◌, ◌↔◌, ◌||◌, ℕ, true, false, List, [], ◌∷◌, ◌++◌, length, map}
+use Rattle.std.specs.Prelude.{Option, Some, None, option_map, Result, Ok, Err, unwrap_or, nat_lt, Contains}
 use Rattle.std.proofs.Common.{refl, sym, ap, ◌∙◌, subst, arith, length-append, append_assoc, append-nil}
 use mathlib.Core.Logic.{inl, inr}
-use Rattle.std.proofs.lemmas.Bool.{cases_Bool, cond-true, cond-false, true≢false, ltb-true, and_parts}
-use Rattle.std.proofs.lemmas.Slice.Eq.{bytes_eq-Decides}
-use Rattle.std.proofs.lemmas.List.Elements.{Contains-append_left, Contains-push, Contains-push_cases}
-use Rattle.std.proofs.lemmas.Map.Views.{Contains-from_any}
+use Rattle.std.proofs.lemmas.Bool.{cond-true, ltb-true}
+use Rattle.std.proofs.lemmas.List.Elements.{Contains-append_left}
 use Rattle.asking_spec.specs.Askings.{outcome}
 use Rattle.asking_spec.specs.Evaluation.{Ended, ends, stopped, evaluated}
 use Rattle.asking_spec.proofs.EvaluationLemmas.{ends_outcome}
@@ -19,7 +16,7 @@ use Rattle.url_spec.specs.Specifiers.{ends_in_slash}
 use Rattle.url_spec.specs.Specifiers.{is_relative, as_url}
 use Rattle.node_spec.specs.Resolution as node
 use Rattle.layout_spec.specs.declared.Need.{Need}
-use Rattle.layout_spec.specs.Needs.{is_need, with_need, clashes, NoClash}
+use Rattle.layout_spec.specs.Needs.{NoClash}
 use Rattle.layout_spec.proofs.Contained.{contains_none, contains_here, contains_there}
 use Rattle.layout_spec.proofs.CountedNeeds.{same_need}
 use Rattle.trace_spec.specs.declared.TraceFault.{TraceFault}
@@ -36,7 +33,8 @@ use Rattle.trace_spec.specs.Laws.{HasLevels, IsWhatIsReached, ModulesOnce, FewMo
 use Rattle.trace_spec.specs.Laws.{FirstRefusalDecides, NeverOutOfRoom, no_module, no_source, target_of, need_of}
 use Rattle.trace_spec.specs.Laws.{request_put, requests_put, opening_put, visits_put, opening, visits_of, InOrder}
 use Rattle.trace_spec.specs.Laws.{GoesInOrder, Passes, AllPass, RequestsPass, NeedsAre, NeedsAreRequests}
-use Rattle.trace_spec.proofs.Lists.{none_by_test, same_module, AreOnce, new_module, once_more}
+use Rattle.trace_spec.proofs.Lists.{same_module, AreOnce, new_module, once_more}
+use Rattle.trace_spec.proofs.NeedLemmas.{with_need_old, with_need_new, with_need_cases, no_clash_more}
 use Rattle.trace_spec.proofs.Steps.{answers_always, traced_outcome, file_name_parts, opens_is, Leaves, opens_leaves}
 use Rattle.trace_spec.proofs.Steps.{Fits, Follows, follows_is}
 use Rattle.trace_spec.proofs.WalkModules.{LeadsBy, walk_has_levels, walk_is_reached}
@@ -232,75 +230,6 @@ module _ (sights : Sights) (config : Config) where
     each : (need : Need) → Contains before.needs need → IsOf before need
     no_clash : NoClash before.needs
     once : AreOnce before.modules
-
-  need_by_test : (one other : Need) → is_need one other ≡ true → one ≡ other
-  need_by_test one other e =
-      let outer = and_parts _ _ e in
-      let inner = and_parts _ _ outer.0 in
-      same_need one other ((bytes_eq-Decides _ _).0 inner.0) ((bytes_eq-Decides _ _).0 inner.1)
-      ((bytes_eq-Decides _ _).0 outer.1)
-
-  with_need_old : (needs : List Need) (need other : Need) → Contains needs other
-      → Contains (with_need needs need) other
-  with_need_old needs need other c =
-      elim (cases_Bool (list_any (is_need need) needs)) [
-        | inl known ↦ subst (λ ns. Contains ns other) (sym (cond-true _ needs (needs ++ need ∷ []) known)) c
-        | inr new ↦
-            subst (λ ns. Contains ns other) (sym (cond-false _ needs (needs ++ need ∷ []) new))
-            (Contains-append_left needs (need ∷ []) other c)
-      ]
-
-  with_need_new : (needs : List Need) (need : Need) → Contains (with_need needs need) need
-  with_need_new needs need =
-      elim (cases_Bool (list_any (is_need need) needs)) [
-        | inl known ↦
-            subst (λ ns. Contains ns need) (sym (cond-true _ needs (needs ++ need ∷ []) known))
-            (Contains-from_any need_by_test need needs known)
-        | inr new ↦
-            subst (λ ns. Contains ns need) (sym (cond-false _ needs (needs ++ need ∷ []) new))
-            (Contains-push needs need)
-      ]
-
-  with_need_cases : (needs : List Need) (need other : Need) → Contains (with_need needs need) other
-      → Contains needs other ⊎ (need ≡ other)
-  with_need_cases needs need other c =
-      elim (cases_Bool (list_any (is_need need) needs)) [
-        | inl known ↦ inl (subst (λ ns. Contains ns other) (cond-true _ needs (needs ++ need ∷ []) known) c)
-        | inr new ↦
-            Contains-push_cases needs need other (subst (λ ns. Contains ns other)
-            (cond-false _ needs (needs ++ need ∷ []) new) c)
-      ]
-
-  -- a need that clashes with none agrees with each that asks the same
-  agrees : (needs : List Need) (need other : Need) → list_any (clashes need) needs ≡ false → Contains needs other
-      → other.referrer ≡ need.referrer → other.asked ≡ need.asked → other.target ≡ need.target
-  agrees needs need other clear c referrer asked =
-      let test : clashes need other ≡ false = none_by_test (clashes need) needs clear other c in
-      elim (cases_Bool (bytes_eq other.target need.target)) [
-        | inl same ↦ (bytes_eq-Decides _ _).0 same
-        | inr apart ↦
-            let same_referrer = (bytes_eq-Decides other.referrer need.referrer).1 referrer in
-            let same_asked = (bytes_eq-Decides other.asked need.asked).1 asked in
-            absurd (true≢false (sym (λ i. (same_referrer i && same_asked i) && ap not apart i) ∙ test))
-      ]
-
-  no_clash_more : (needs : List Need) (need : Need) → NoClash needs → list_any (clashes need) needs ≡ false
-      → NoClash (with_need needs need)
-  no_clash_more needs need no_clash clear one other c d referrer asked =
-      elim (with_need_cases needs need one c) [
-        | inl old ↦ elim (with_need_cases needs need other d) [
-          | inl old_too ↦ no_clash one other old old_too referrer asked
-          | inr new ↦
-              agrees needs need one clear old (referrer ∙ ap (λ n. n.referrer) (sym new))
-              (asked ∙ ap (λ n. n.asked) (sym new)) ∙ ap (λ n. n.target) new
-        ]
-        | inr new ↦ elim (with_need_cases needs need other d) [
-          | inl old_too ↦
-              ap (λ n. n.target) (sym new) ∙ sym (agrees needs need other clear old_too
-              (sym referrer ∙ ap (λ n. n.referrer) (sym new)) (sym asked ∙ ap (λ n. n.asked) (sym new)))
-          | inr new_too ↦ ap (λ n. n.target) (sym new ∙ new_too)
-        ]
-      ]
 
   visited_more : (referrer : Referrer Module) (modules more : List Module) → IsVisited modules referrer
       → IsVisited (modules ++ more) referrer
