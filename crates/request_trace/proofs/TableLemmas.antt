@@ -12,7 +12,7 @@ use Rattle.tree_spec.specs.declared.LimitName.TheVariants.{Modules}
 use Rattle.tree_spec.specs.Limits.{limit_number}
 use Rattle.node_spec.specs.Resolution as node
 use Rattle.layout_spec.specs.declared.Need.{Need}
-use Rattle.layout_spec.specs.Needs.{clashes, with_need}
+use Rattle.layout_spec.specs.Needs.{clashes, with_need, NoClash}
 use Rattle.trace_spec.specs.declared.TraceFault.{TraceFault}
 use Rattle.trace_spec.specs.declared.TraceFault.TheVariants.{RequestNotBuilt, Limit, ReadFault, Memory}
 use Rattle.trace_spec.specs.Walking.{new_modules}
@@ -79,20 +79,22 @@ pub names_push : (config : Config) (old new : List (Module × Name)) (target : M
 names_push config old new target name e is all = subst (AllNamed config) (sym e) (All-push (λ (x : Module × Name). IsNamed config x.0 x.1) old (target, name) all is)
 
 pub grows_by_one : (config : Config) (old new : Tables) (target : Module) (name : Name) → length old.modules.entries < limit_number Modules
-    → new.modules.entries ≡ old.modules.entries ++ (target, name) ∷ [] → new.sources ≡ old.sources → IsNamed config target name → Grows config 0 old new
-grows_by_one config old new target name room e sources is = record {
+    → new.modules.entries ≡ old.modules.entries ++ (target, name) ∷ [] → new.sources ≡ old.sources → (NoClash old.needs → NoClash new.needs) → IsNamed config target name → Grows config 0 old new
+grows_by_one config old new target name room e sources clear is = record {
   named = names_push config old.modules.entries new.modules.entries target name e is;
   few = λ few. let n = ap length e in let m = length-append old.modules.entries ((target, name) ∷ []) in omega arith;
   longer = let n = ap length e in let m = length-append old.modules.entries ((target, name) ∷ []) in omega arith;
   sources = let n = ap (λ s. length s.items) sources in omega arith;
+  clear = clear;
 }
 
-same_grows : (config : Config) (old new : Tables) → new.modules ≡ old.modules → new.sources ≡ old.sources → Grows config 0 old new
-same_grows config old new modules sources = record {
+same_grows : (config : Config) (old new : Tables) → new.modules ≡ old.modules → new.sources ≡ old.sources → (NoClash old.needs → NoClash new.needs) → Grows config 0 old new
+same_grows config old new modules sources clear = record {
   named = λ all. subst (λ modules. AllNamed config modules.entries) (sym modules) all;
   few = λ few. let n = ap (λ ms. length ms.entries) modules in omega arith;
   longer = let n = ap (λ ms. length ms.entries) modules in omega arith;
   sources = let n = ap (λ s. length s.items) sources in omega arith;
+  clear = clear;
 }
 
 -- ---- the definitions' checks
@@ -171,6 +173,7 @@ named_put refusal old new want target found need name found_is need_is clear fre
     ∙ (needed_room refusal (before_of old) need target clear (λ f. omega (arith, room, keys)) ∙ ap Ok (sym (put_is old new need target name fresh modules sources needs requests))) in
     record { given = λ ne. is; no_look = λ e. cc }
 
-pub grows_not : (config : Config) (result : Result (Unit {0}) TraceFault) (old new : Tables) → new.modules ≡ old.modules → new.sources ≡ old.sources → OnOk result (Grows config 0 old new)
-grows_not config (Ok unit) old new modules sources = same_grows config old new modules sources
-grows_not config (Err fault) old new modules sources = tt
+pub grows_not : (config : Config) (result : Result (Unit {0}) TraceFault) (old new : Tables) → new.modules ≡ old.modules → new.sources ≡ old.sources
+    → OnOk result (NoClash old.needs → NoClash new.needs) → OnOk result (Grows config 0 old new)
+grows_not config (Ok unit) old new modules sources clear = same_grows config old new modules sources clear
+grows_not config (Err fault) old new modules sources clear = tt

@@ -8,6 +8,8 @@ use Rattle.std.proofs.lemmas.List.Elements.{All-head, All-tail}
 use Rattle.std.proofs.lemmas.Option.{slice_get_past}
 use Rattle.asking_spec.specs.Askings.{Asking, answered, ask, on_ok, and_ok}
 use Rattle.url_spec.specs.WebNames.{web}
+use Rattle.layout_spec.specs.Needs.{NoClash}
+use Rattle.layout_spec.proofs.Contained.{contains_none}
 use Rattle.trace_spec.specs.declared.TraceFault.{TraceFault}
 use Rattle.trace_spec.specs.declared.TraceFault.TheVariants.{Unservable, Refused, RequestNotBuilt, ModuleNotBuilt, Limit, ReadFault, Memory}
 use Rattle.trace_spec.specs.Walking.{the_page, a_module, followed, visited, walked, where_some}
@@ -59,7 +61,7 @@ page_kind config (Limit which) is = λ look memory. absurd (let e = is.is memory
 -- ---- how the tables grow
 
 pub grows_begin : (config : Config) (tables : Tables) → Grows config 0 tables tables
-grows_begin config tables = record { named = λ all. all; few = λ few. few; longer = omega arith; sources = omega arith }
+grows_begin config tables = record { named = λ all. all; few = λ few. few; longer = omega arith; sources = omega arith; clear = λ clear. clear }
 
 pub grows_on : (config : Config) (some others : ℕ) (old middle new : Tables) → Grows config some old middle → Grows config others middle new → Grows config (some + others) old new
 grows_on config some others old middle new one two = record {
@@ -67,11 +69,12 @@ grows_on config some others old middle new one two = record {
   few = λ few. two.few (one.few few);
   longer = (let a = one.longer in let b = two.longer in omega arith);
   sources = (let a = one.sources in let b = two.sources in omega arith);
+  clear = λ clear. two.clear (one.clear clear);
 }
 
-by_visit : (config : Config) (tables pushed new : Tables) (source : Source) → pushed.modules ≡ tables.modules → pushed.sources.items ≡ tables.sources.items ++ source ∷ []
+by_visit : (config : Config) (tables pushed new : Tables) (source : Source) → pushed.modules ≡ tables.modules → pushed.sources.items ≡ tables.sources.items ++ source ∷ [] → pushed.needs ≡ tables.needs
     → Grows config 0 pushed new → Grows config 1 tables new
-by_visit config tables pushed new source modules sources grows =
+by_visit config tables pushed new source modules sources needs grows =
     let count : length pushed.sources.items ≡ length tables.sources.items + 1 = ap length sources ∙ length-append tables.sources.items (source ∷ []) in
     let same : length pushed.modules.entries ≡ length tables.modules.entries = ap (λ ms. length ms.entries) modules in
     record {
@@ -79,17 +82,18 @@ by_visit config tables pushed new source modules sources grows =
       few = λ few. grows.few (omega (arith, same, few));
       longer = (let a = grows.longer in omega (arith, same, a));
       sources = (let a = grows.sources in omega (arith, count, a));
+      clear = λ clear. grows.clear (subst NoClash (sym needs) clear);
     }
 
-pub grows_by_visit : (config : Config) (result : Result (Unit {0}) TraceFault) (tables pushed new : Tables) (source : Source) → pushed.modules ≡ tables.modules → pushed.sources.items ≡ tables.sources.items ++ source ∷ []
+pub grows_by_visit : (config : Config) (result : Result (Unit {0}) TraceFault) (tables pushed new : Tables) (source : Source) → pushed.modules ≡ tables.modules → pushed.sources.items ≡ tables.sources.items ++ source ∷ [] → pushed.needs ≡ tables.needs
     → OnOk result (Grows config 0 pushed new) → OnOk result (Grows config 1 tables new)
-grows_by_visit config (Ok unit) tables pushed new source modules sources grows = by_visit config tables pushed new source modules sources grows
-grows_by_visit config (Err fault) tables pushed new source modules sources grows = tt
+grows_by_visit config (Ok unit) tables pushed new source modules sources needs grows = by_visit config tables pushed new source modules sources needs grows
+grows_by_visit config (Err fault) tables pushed new source modules sources needs grows = tt
 
 -- the tables behind the page's visit and those of all modules
-pub whole_by : (config : Config) (empty paged tables : Tables) → empty.modules.entries ≡ [] → empty.sources.items ≡ []
+pub whole_by : (config : Config) (empty paged tables : Tables) → empty.modules.entries ≡ [] → empty.sources.items ≡ [] → empty.needs ≡ []
     → Grows config 0 empty paged → Grows config (length tables.modules.entries) paged tables → IsWhole (before_of tables)
-whole_by config empty paged tables modules sources page all =
+whole_by config empty paged tables modules sources needs page all =
     let none : length empty.modules.entries ≡ 0 = ap length modules in
     let unread : length empty.sources.items ≡ 0 = ap length sources in
     let keys = keys_of-length tables.modules.entries in
@@ -97,6 +101,7 @@ whole_by config empty paged tables modules sources page all =
     record {
       visited = (let a = page.sources in let b = all.sources in omega (arith, unread, keys, reads, a, b));
       few = (let few = all.few (page.few (omega (arith, none))) in omega (arith, few, keys));
+      clear = all.clear (page.clear (subst NoClash (sym needs) (λ one other c d. absurd (contains_none one c))));
     }
 
 -- ---- the page's visit

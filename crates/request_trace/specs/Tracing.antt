@@ -1,11 +1,12 @@
 -- The trace of a folder, and what each trace keeps.
---     IsWhole tables                         each module has its source, and there aren't too many
+--     IsWhole tables                         each module has its source, there aren't too many, and no two needs clash
 --     Traces config before result after      the trace of a folder and a config, or its first refusal
 use Rattle.std.specs.Prelude.{◌≡◌, ◌≤◌, length, Result, Err, IfSome, IfErr}
 use Rattle.std.specs.FinMap.{get}
 use Rattle.tree_spec.specs.declared.LimitName.TheVariants.{Modules}
 use Rattle.tree_spec.specs.Limits.{limit_number}
 use Rattle.tree_spec.specs.States.{FolderState, OnlyLooks}
+use Rattle.layout_spec.specs.Needs.{NoClash}
 use Rattle.trace_spec.specs.declared.TraceFault.{TraceFault}
 use Rattle.trace_spec.specs.declared.TraceFault.TheVariants.{ReadFault}
 use Rattle.trace_spec.specs.Modules.{Config}
@@ -18,6 +19,7 @@ use Rattle.request_trace.specs.Walking.{IsOfWalk}
 pub record IsWhole (tables : Before) : Type 0 where
   pub visited : length tables.sources ≡ length tables.modules
   pub few : length tables.modules ≤ limit_number Modules
+  pub clear : NoClash tables.needs
 
 -- own: unless a look fails or memory is wanting, the result is the definition's for the tree that the folder holds
 pub record Traces (config : Config) (before : FolderState) (result : Result Before TraceFault)

@@ -10,7 +10,7 @@ use Rattle.std.specs.List.{list_any}
 use Rattle.tree_spec.specs.declared.LimitName.TheVariants.{Modules}
 use Rattle.tree_spec.specs.Limits.{limit_number}
 use Rattle.layout_spec.specs.declared.Need.{Need}
-use Rattle.layout_spec.specs.Needs.{clashes, with_need}
+use Rattle.layout_spec.specs.Needs.{clashes, with_need, NoClash}
 use Rattle.node_spec.specs.declared.Cause.TheVariants.{NotFound}
 use Rattle.trace_spec.specs.declared.TraceFault.{TraceFault}
 use Rattle.trace_spec.specs.declared.TraceFault.TheVariants.{Unservable, Refused, RequestNotBuilt, ModuleNotBuilt}
@@ -42,12 +42,13 @@ pub record IsGiven {X : Type 0} (definition result : Result X TraceFault) : Type
   pub given : result ≢ Err Memory → definition ≡ result
   pub no_look : result ≢ Err ReadFault
 
--- so many visits put their sources into the tables, and leave the modules few and named
+-- so many visits put their sources into the tables, and leave the modules few and named and the needs without a clash
 pub record Grows (config : Config) (visits : ℕ) (old new : Tables) : Type 0 where
   pub named : AllNamed config old.modules.entries → AllNamed config new.modules.entries
   pub few : length old.modules.entries ≤ limit_number Modules → length new.modules.entries ≤ limit_number Modules
   pub longer : length old.modules.entries ≤ length new.modules.entries
   pub sources : length new.sources.items ≡ length old.sources.items + visits
+  pub clear : NoClash old.needs → NoClash new.needs
 
 -- a request that wants what isn't built
 abbrev pub NotBuilt : Referrer → List ℕ → TraceFault

@@ -7,7 +7,7 @@ ghost use Rattle.tree_spec.specs.Limits.{limit_number};
 ghost use Rattle.url_spec.specs.Specifiers.{ends_in_slash};
 ghost use Rattle.node_spec.specs.Resolution as node;
 ghost use Rattle.layout_spec.specs.declared.Need.{Need};
-ghost use Rattle.layout_spec.specs.Needs.{clashes, with_need};
+ghost use Rattle.layout_spec.specs.Needs.{clashes, with_need, NoClash};
 ghost use Rattle.trace_spec.specs.Modules as spec;
 ghost use Rattle.trace_spec.specs.Modules.{file_name};
 ghost use Rattle.trace_spec.specs.Walking.{Referrer as Referring};
@@ -129,6 +129,7 @@ impl Tables {
             (record { referrer = referrer.now.text; asked = asked; target = text })) (done result self.new) }
         ensures modules { self.new.modules ≡ self.old.modules }
         ensures sources { self.new.sources ≡ self.old.sources }
+        ensures clear { OnOk result (NoClash self.old.needs → NoClash self.new.needs) }
         ensures kind { IfErr result IsOfPutting }
     {
         let need = need_of(alloc, referrer, asked, text)?;

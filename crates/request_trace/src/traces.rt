@@ -1,6 +1,7 @@
 ghost use Rattle.std.specs.Prelude.{◌≡◌, ◌≤◌, length, slice_get, option_map, option_and_then, option_copied};
 ghost use Rattle.tree_spec.specs.declared.LimitName.TheVariants.{Modules};
 ghost use Rattle.tree_spec.specs.Limits.{limit_number};
+ghost use Rattle.layout_spec.specs.Needs.{NoClash};
 ghost use Rattle.request_trace.specs.Shown.{before_of};
 ghost use Rattle.request_trace.specs.Tracing.{IsWhole};
 
@@ -17,6 +18,7 @@ pub struct Trace {
 
 impl Model for Trace {
     ghost use Rattle.trace_spec.specs.Checks.{Before};
+    ghost use Rattle.layout_spec.specs.Needs.{NoClash};
     ghost use Rattle.request_trace.specs.Shown.{before_of};
     ghost use Rattle.request_trace.specs.Tracing.{IsWhole};
 
@@ -38,7 +40,8 @@ impl Trace {
 
     /// The needs, each at its first place.
     pub fn needs(&self) -> &Needs
-        ensures { result.now ≡ self.now.needs }
+        ensures needs { result.now ≡ self.now.needs }
+        ensures clear { NoClash self.now.needs }
     {
         &self.tables.needs
     }

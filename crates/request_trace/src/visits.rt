@@ -219,17 +219,17 @@ fn push_source(sources: &mut Vec<Source>, source: Source) -> Result<(), Memory>
 }
 
 // A module as it makes requests.
-fn referrer_of(alloc: Global, module: &Module, name: &Name) -> Result<Referrer, Memory>
+fn referrer_of(alloc: Global, target: &Module, name: &Name) -> Result<Referrer, Memory>
     ensures name { IfOk result (λ referrer. referrer.name ≡ name.now.url) }
     ensures text { IfOk result (λ referrer. referrer.text ≡ name.now.text) }
-    ensures path { IfOk result (λ referrer. referrer.path ≡ module.now.path) }
-    ensures suffix { IfOk result (λ referrer. referrer.suffix ≡ module.now.suffix) }
+    ensures path { IfOk result (λ referrer. referrer.path ≡ target.now.path) }
+    ensures suffix { IfOk result (λ referrer. referrer.suffix ≡ target.now.suffix) }
 {
     Ok(Referrer {
         name: name.url.copy(alloc)?,
         text: name.text.copy(alloc)?,
-        path: module.path().copy(alloc)?,
-        suffix: module.suffix().copy(alloc)?,
+        path: target.path().copy(alloc)?,
+        suffix: target.suffix().copy(alloc)?,
     })
 }
 

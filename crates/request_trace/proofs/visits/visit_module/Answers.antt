@@ -15,4 +15,4 @@ returns-clause-met g c = λ m is all.
 pub returns-clause-grows : goal.returns-clause-grows
 returns-clause-grows g c =
     let pushed : Tables = record { modules = c.args.tables.now.modules; sources = c.push_source.new.sources; needs = c.args.tables.now.needs; requests = c.args.tables.now.requests } in
-    grows_by_visit c.args.config.now c.follow_all.result c.args.tables.now pushed c.follow_all.new.tables c.in-Some.source refl c.in_ok-push_source.ensures c.follow_all.ensures.grows
+    grows_by_visit c.args.config.now c.follow_all.result c.args.tables.now pushed c.follow_all.new.tables c.in-Some.source refl c.in_ok-push_source.ensures refl c.follow_all.ensures.grows

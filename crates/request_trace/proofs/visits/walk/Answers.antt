@@ -41,4 +41,4 @@ returns-clause-named g c =
 
 pub returns-clause-whole : goal.returns-clause-whole
 returns-clause-whole g c =
-    whole_by c.args.config.now c.new-tables.result c.visit_page.new.tables c.visit_modules.new.tables c.new-tables.ensures.modules c.new-tables.ensures.sources c.in_ok-visit_page.ensures.grows c.in_ok-visit_modules.ensures.grows
+    whole_by c.args.config.now c.new-tables.result c.visit_page.new.tables c.visit_modules.new.tables c.new-tables.ensures.modules c.new-tables.ensures.sources c.new-tables.ensures.needs c.in_ok-visit_page.ensures.grows c.in_ok-visit_modules.ensures.grows

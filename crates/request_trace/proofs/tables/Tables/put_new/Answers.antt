@@ -1,6 +1,8 @@
-use Rattle.std.proofs.Common.{◌≡◌, Ok, ◌∙◌, refl, ap, subst, option_map}
+use Rattle.std.proofs.Common.{◌≡◌, Ok, ◌∙◌, refl, ap, subst, option_map, sym}
 use Rattle.std.specs.Prelude.{IfSome}
+use Rattle.layout_spec.specs.Needs.{NoClash}
 use Rattle.trace_spec.specs.Modules.{file_name}
+use Rattle.trace_spec.proofs.NeedLemmas.{no_clash_more}
 use Rattle.request_trace.specs.declared.tables.Name.{Name}
 use Rattle.request_trace.specs.Walking.{NotBuilt}
 use Rattle.request_trace.proofs.TableLemmas.{named_full, named_put, grows_by_one}
@@ -25,6 +27,8 @@ returns-clause-put c =
 
 pub returns-clause-grows : goal.returns-clause-grows
 returns-clause-grows c =
+    let added = c.in_ok-add_need.ensures.added (ap Ok c.if-not-branch.false) in
     grows_by_one c.args.config.now c.args.self.now (record { modules = c.put_module.new.modules; sources = c.args.self.now.sources; needs = c.add_need.new.needs; requests = c.in_ok-self.field-0 }) c.args.target c.in-Some.name
     c.in_ok-put_module.ensures.put.0 c.in_ok-put_module.ensures.put.1 refl
+    (λ clear. subst NoClash (sym added.1) (no_clash_more c.args.self.now.needs c.in_ok-need.need clear added.0))
     (record { is = c.in_ok-name.ensures.name ∙ ap (option_map (λ (n : Name). n.url)) c.in-Some.is; text = subst (λ f. IfSome f (λ (n : Name). n.text ≡ n.url)) c.in-Some.is c.in_ok-name.ensures.text })
