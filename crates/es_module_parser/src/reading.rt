@@ -1,4 +1,4 @@
-ghost use Rattle.std.specs.Prelude.{◌≡◌, ◌+◌, ◌&&◌, ◌==◌, not, Ok, IfOk, IfErr};
+ghost use Rattle.std.specs.Prelude.{◌≡◌, ◌+◌, ◌&&◌, ◌||◌, ◌==◌, not, bytes_eq, codes, Ok, IfOk, IfErr};
 ghost use Rattle.std.specs.Bool.{OnTrue};
 ghost use Rattle.module_spec.specs.Outlines.{ReadsOutline};
 ghost use Rattle.es_module_parser.specs.Faults.{IsFaultOf, lexical_fault};
@@ -10,7 +10,7 @@ use crate::expect::Seen;
 use crate::fault::OutlineFault;
 use crate::progress::Progress;
 use crate::requests::{Outline, Requests};
-use crate::terminals::is_word;
+use crate::terminals::is_name;
 use es_lexer::{LexFault, LexKind, Lexer};
 use module_spec::Kind;
 use primitives::{Listed, Steps};
@@ -32,6 +32,14 @@ fn is_top(plain: bool, depth: usize) -> bool
     plain && depth == 0
 }
 
+// Whether a text is one of the two words. Few tokens are as long as they are, so this is asked before the kind, which is
+// seldom foreseen.
+fn begins_declaration(text: &[u8]) -> bool
+    ensures { result ≡ (bytes_eq text.now (codes "import") || bytes_eq text.now (codes "export")) }
+{
+    text == b"import".as_slice() || text == b"export".as_slice()
+}
+
 // Between declarations a token that is neither of their words changes nothing.
 fn is_idle(progress: Progress, after: After, kind: Kind, text: &[u8]) -> bool
     ensures { OnTrue result (IsIdle progress after kind text.now) }
@@ -42,10 +50,7 @@ fn is_idle(progress: Progress, after: After, kind: Kind, text: &[u8]) -> bool
         Progress::Outside => match after {
             After::Import(_) => false,
             After::Dot => false,
-            After::Other => {
-                !is_word(kind, text, b"import".as_slice())
-                    && !is_word(kind, text, b"export".as_slice())
-            }
+            After::Other => !(begins_declaration(text) && is_name(kind)),
         },
     }
 }
