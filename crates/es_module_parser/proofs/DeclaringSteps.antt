@@ -1,6 +1,6 @@
 -- One token of what shows that a text is a module's.
-use Rattle.std.proofs.Common.{◌≡◌, ℕ, Bool, true, false, not, ◌&&◌, ◌||◌, ◌==◌, codes, List, [], ◌∷◌, if◌then◌else◌, refl}
-use Rattle.module_spec.specs.Places.{Placed, is_word, is_mark, is_top}
+use Rattle.std.proofs.Common.{◌≡◌, Bool, true, false, not, ◌&&◌, ◌||◌, ◌==◌, codes, List, [], ◌∷◌, if◌then◌else◌, refl}
+use Rattle.module_spec.specs.Places.{Placed, is_word, is_mark}
 use Rattle.module_spec.specs.Forms.{begins_expression, begins_word, begins_meta}
 use Rattle.module_spec.specs.Outlines.{declares}
 use Rattle.module_spec.proofs.Terminals.{one_word, word_is_name, name_no_mark}

@@ -5,11 +5,11 @@ use Rattle.std.proofs.lemmas.Bool.{ne_eqb}
 use Rattle.module_spec.specs.declared.request.Request.{Request}
 use Rattle.module_spec.specs.declared.request.ModuleFault.{ModuleFault}
 use Rattle.module_spec.specs.Places.{Placed, is_name, is_text, is_word, is_mark, is_top}
-use Rattle.module_spec.specs.Forms.{Form, further, module_specifier, from_clause, imported_binding, name_space_import, braces, second_binding, behind_default, import_declaration, begins_expression, behind_import, module_export_name, export_all, named_specifier, named_exports, is_exported, export_declaration}
+use Rattle.module_spec.specs.Forms.{Form, further, module_specifier, from_clause, imported_binding, name_space_import, braces, second_binding, behind_default, behind_import, module_export_name, export_all, named_specifier, named_exports, is_exported, export_declaration}
 use Rattle.module_spec.specs.Forms.Form.{wrong, none, alone, asks}
 use Rattle.module_spec.specs.Outlines.{Finding, found, findings, requests}
 use Rattle.module_spec.specs.Outlines.Finding.{wrong_form, specifier}
-use Rattle.module_spec.proofs.Terminals.{OneKind, one_kind, name_no_text, mark_no_word}
+use Rattle.module_spec.proofs.Terminals.{OneKind, one_kind, mark_no_word}
 use Rattle.module_spec.proofs.Terminals.OneKind.{a_name, a_text, a_mark, another}
 use Rattle.es_module_parser.specs.declared.expect.Expect.{Expect}
 use Rattle.es_module_parser.specs.declared.expect.Expect.TheVariants.{ImportDeclaration, BehindDefault, SecondBinding, NameSpaceImport, ImportedBinding, ImportBraces, FromClause, ModuleSpecifier, ExportDeclaration, ExportAll, ModuleExportName, ExportBraces, NamedExports, NamedSpecifier}
@@ -20,7 +20,7 @@ use Rattle.es_module_parser.specs.declared.progress.Progress.{Progress}
 use Rattle.es_module_parser.specs.declared.progress.Progress.TheVariants.{Outside, Inside, Broken}
 use Rattle.es_module_parser.specs.declared.progress.Next.{Next}
 use Rattle.es_module_parser.specs.declared.progress.Next.TheVariants.{Goes, Specifier}
-use Rattle.es_module_parser.specs.Progress.{turned, begun, may_begin, moved, moved_wrong, stepped}
+use Rattle.es_module_parser.specs.Progress.{turned, begun, moved, moved_wrong, stepped}
 
 -- a token as the parser sees it
 abbrev pub seen_of : Placed → Seen
@@ -258,7 +258,7 @@ begun_by t later so_far true d = ap (requests so_far) (found_none t (behind_impo
 begun_by t later so_far false true = ap (requests so_far) (found_none t (export_declaration later) (λ n. findings n later))
 begun_by t later so_far false false = refl
 
-begun_step : (t : Placed) (later : List Placed) (so_far : List Request) → requests so_far (findings None (t ∷ later)) ≡ settled (begun (seen_of t) t.text) so_far later
+pub begun_step : (t : Placed) (later : List Placed) (so_far : List Request) → requests so_far (findings None (t ∷ later)) ≡ settled (begun (seen_of t) t.text) so_far later
 begun_step t later so_far = begun_by t later so_far (is_top t && is_word t (codes "import")) (is_top t && is_word t (codes "export"))
 
 plain_case : (t : Placed) (later : List Placed) (so_far : List Request) (word : ℕ) (g : Form) → requests so_far (opened word None (further g) (λ a. found t a none (λ n. findings n later))) ≡ requests so_far (opened word None g (λ a. findings a later))

@@ -3,3 +3,4 @@ mod FormSteps
 mod DeclaringSteps
 mod TokensRead
 mod SomeOutline
+mod BracePartners

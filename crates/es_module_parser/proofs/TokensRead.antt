@@ -1,19 +1,17 @@
 -- The tokens so far, by what the parser keeps of them.
-use Rattle.std.proofs.Common.{◌≡◌, ◌<◌, ◌==◌, ◌&&◌, ◌||◌, not, ℕ, Bool, true, false, if◌then◌else◌, List, [], ◌∷◌, ◌++◌, length, reverse, Option, Some, None, Result, Ok, Err, refl, sym, ◌∙◌, ap, subst, slice_range, append_assoc, append-nil}
+use Rattle.std.proofs.Common.{◌≡◌, ◌<◌, ◌==◌, ◌&&◌, ◌||◌, not, codes, ℕ, Bool, true, false, if◌then◌else◌, List, [], ◌∷◌, ◌++◌, length, reverse, Option, Some, None, Result, Ok, Err, refl, sym, ◌∙◌, ap, subst, slice_range, append_assoc, append-nil}
 use Rattle.std.proofs.lemmas.Grind.{reverse_onto}
 use Rattle.module_spec.specs.declared.token.Token.{Token}
 use Rattle.module_spec.specs.declared.token.LexFault.{LexFault}
-use Rattle.module_spec.specs.declared.token.LexKind as lex_kinds
-use Rattle.module_spec.specs.declared.token.LexKind.TheVariants as lex_kind
 use Rattle.module_spec.specs.declared.request.Request.{Request}
 use Rattle.module_spec.specs.declared.request.ModuleFault as module_faults
 use Rattle.module_spec.specs.declared.request.ModuleFault.TheVariants.{Unreadable, TooDeep, TooManyRequests}
 use Rattle.module_spec.specs.Spellings.{hashbang_rest}
 use Rattle.module_spec.specs.Tokens.{Lexeme, Reaches, depth, is_property}
 use Rattle.module_spec.specs.Tokens.Reaches.{begin, go}
-use Rattle.module_spec.specs.Places.{Placed, placed, places, is_top}
+use Rattle.module_spec.specs.Places.{Placed, placed, places, is_top, is_word}
 use Rattle.module_spec.specs.StringValues.{string_value}
-use Rattle.module_spec.specs.Outlines.{Outline, ReadsOutline, requests, findings, declares, outline_of, outlined, most_requests, lexical_fault}
+use Rattle.module_spec.specs.Outlines.{ReadsOutline, requests, findings, declares, outline_of, outlined, most_requests, lexical_fault}
 use Rattle.module_spec.specs.Outlines.ReadsOutline.{all, fault}
 use Rattle.module_spec.proofs.TokenLaws.{one_reach}
 use Rattle.module_spec.proofs.Suffixes.{next_shorter}
@@ -22,15 +20,15 @@ use Rattle.es_module_parser.specs.declared.fault.OutlineFault.{OutlineFault}
 use Rattle.es_module_parser.specs.declared.expect.Seen.{Seen}
 use Rattle.es_module_parser.specs.declared.expect.Expect.TheVariants.{ImportDeclaration, BehindDefault, SecondBinding, NameSpaceImport, ImportedBinding, ImportBraces, FromClause, ModuleSpecifier, ExportDeclaration, ExportAll, ModuleExportName, ExportBraces, NamedExports, NamedSpecifier}
 use Rattle.es_module_parser.specs.declared.declaring.After.{After}
-use Rattle.es_module_parser.specs.declared.declaring.After.TheVariants.{Other}
+use Rattle.es_module_parser.specs.declared.declaring.After.TheVariants.{Other, Import}
 use Rattle.es_module_parser.specs.declared.progress.Progress.{Progress}
 use Rattle.es_module_parser.specs.declared.progress.Progress.TheVariants.{Outside, Inside, Broken}
 use Rattle.es_module_parser.specs.declared.progress.Next.{Next}
 use Rattle.es_module_parser.specs.declared.progress.Next.TheVariants.{Goes, Specifier}
 use Rattle.es_module_parser.specs.Faults as faults
-use Rattle.es_module_parser.specs.Progress.{stepped, progress_behind, requests_behind, ended}
+use Rattle.es_module_parser.specs.Progress.{IsIdle, word_is, stepped, progress_behind, requests_behind, ended}
 use Rattle.es_module_parser.specs.Declaring.{declares_now, after_token, declares_at_end}
-use Rattle.es_module_parser.proofs.FormSteps.{seen_of, settled, settled_next, step_settled, step_deep, Deep, DeepNext}
+use Rattle.es_module_parser.proofs.FormSteps.{seen_of, settled, settled_next, begun_step, step_settled, step_deep, Deep, DeepNext}
 use Rattle.es_module_parser.proofs.DeclaringSteps.{declares_from, declare_step, declared_at_end}
 
 pub record Reading (text : List ℕ) (lexer : List ℕ × List ℕ) (progress : Progress) (so_far : List Request) (after : After) (declared : Bool) : Type 0 where
@@ -183,4 +181,50 @@ read_on {text} {lexer} {progress} {so_far} {after} {declared} new n p more a now
           ∙ (ap (λ x. declared || x) (declare_step after t later)
           ∙ (or_assoc declared (declares_now after (seen_of t) t.text) (declares_from (after_token after (seen_of t) t.text) later)
           ∙ rw (now_is, after_is) refl)));
+    }
+
+-- ---- a token that changes nothing
+
+idle_begun : (top i x : Bool) (from : ℕ) → i ≡ false → x ≡ false → (if top && i then Inside ImportDeclaration from None else if top && x then Inside ExportDeclaration from None else Outside) ≡ Outside
+idle_begun true i x from e f = rw (e, f) refl
+idle_begun false i x from e f = refl
+
+idle_shows : (top x after : Bool) → x ≡ false → ((false || top && x) || after) ≡ after
+idle_shows true x after f = rw f refl
+idle_shows false x after f = refl
+
+idle_after : (plain top i : Bool) → i ≡ false → (if plain && i then Import top else Other) ≡ Other
+idle_after true top i e = rw e refl
+idle_after false top i e = refl
+
+pub idle_on : {text : List ℕ} {lexer : List ℕ × List ℕ} {progress : Progress} {so_far : List Request} {after : After} {declared : Bool} (new : List ℕ × List ℕ) (token : Token) (spelled : List ℕ)
+    → (r : Reading text lexer progress so_far after declared) → new.0 ≡ lexer.0 → NextIs text r.before lexer.1 (Ok (Some token)) new.1 → spelled ≡ slice_range text token.from token.to → IsIdle progress after token.kind spelled
+    → Reading text new progress so_far after declared
+idle_on {text} {lexer} {progress} {so_far} {after} {declared} new token spelled r e s f idle =
+    let t : Placed = placed (length text) r.before s.lexeme in
+    let spelled_is : spelled ≡ t.text = f ∙ s.slice in
+    let spells : (w : List ℕ) → word_is token.kind spelled w ≡ is_word t w = λ w. ap (λ (x : Token). word_is x.kind spelled w) s.told ∙ ap (λ (x : List ℕ). word_is t.token.kind x w) spelled_is in
+    let no_import : is_word t (codes "import") ≡ false = sym (spells (codes "import")) ∙ idle.no_import in
+    let no_export : is_word t (codes "export") ≡ false = sym (spells (codes "export")) ∙ idle.no_export in
+    record {
+      whole = e ∙ r.whole;
+      before = s.lexeme ∷ r.before;
+      reached = go r.reached s.next;
+      deep = subst (λ p. Deep p t.behind) (sym idle.outside) tt;
+      asking = λ later.
+          ap (λ (ts : List Placed). requests [] (findings None ts)) (turned_over (places (length text) r.before) t later)
+          ∙ (r.asking (t ∷ later)
+          ∙ (ap (λ p. settled p so_far (t ∷ later)) idle.outside
+          ∙ (begun_step t later so_far
+          ∙ (ap (λ p. settled p so_far later) (idle_begun (is_top t) (is_word t (codes "import")) (is_word t (codes "export")) t.token.from no_import no_export)
+          ∙ ap (λ p. settled p so_far later) (sym idle.outside)))));
+      declaring = λ later.
+          ap (λ (ts : List Placed). declares ts) (turned_over (places (length text) r.before) t later)
+          ∙ (r.declaring (t ∷ later)
+          ∙ ap (λ x. declared || x)
+          (ap (λ a. declares_from a (t ∷ later)) idle.other
+          ∙ (declare_step Other t later
+          ∙ (idle_shows (is_top t) (is_word t (codes "export")) (declares_from (after_token Other (seen_of t) t.text) later) no_export
+          ∙ (ap (λ a. declares_from a later) (idle_after t.plain (is_top t) (is_word t (codes "import")) no_import)
+          ∙ ap (λ a. declares_from a later) (sym idle.other))))));
     }

@@ -1,5 +1,5 @@
 -- How the parser finds out whether a text is a module's, from token to token.
-use Rattle.std.specs.Prelude.{ℕ, Bool, true, false, not, ◌&&◌, ◌||◌, List, codes, if◌then◌else◌}
+use Rattle.std.specs.Prelude.{ℕ, Bool, false, not, ◌&&◌, ◌||◌, List, codes, if◌then◌else◌}
 use Rattle.es_module_parser.specs.declared.expect.Seen.{Seen}
 use Rattle.es_module_parser.specs.declared.declaring.After.{After}
 use Rattle.es_module_parser.specs.declared.declaring.After.TheVariants.{Other, Import, Dot}

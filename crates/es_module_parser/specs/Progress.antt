@@ -1,5 +1,5 @@
 -- How the parser goes on from token to token. Each word says what a function of the code gives; the lemmas on them tie it to the forms.
-use Rattle.std.specs.Prelude.{ℕ, Bool, ◌&&◌, ◌||◌, ◌==◌, ◌++◌, [], ◌∷◌, length, bytes_eq, codes, List, if◌then◌else◌, Option, Some, None, slice_range}
+use Rattle.std.specs.Prelude.{◌≡◌, ℕ, Bool, false, ◌&&◌, ◌||◌, ◌==◌, ◌++◌, [], ◌∷◌, length, bytes_eq, codes, List, if◌then◌else◌, Option, Some, None, slice_range}
 use Rattle.module_spec.specs.declared.token.Kind.{Kind}
 use Rattle.module_spec.specs.declared.token.Token.{Token}
 use Rattle.module_spec.specs.declared.request.Request.{Request}
@@ -15,6 +15,8 @@ use Rattle.es_module_parser.specs.declared.expect.Turn.TheVariants as turns
 use Rattle.es_module_parser.specs.declared.expect.Seen.{Seen}
 use Rattle.es_module_parser.specs.declared.progress.Progress.{Progress}
 use Rattle.es_module_parser.specs.declared.progress.Progress.TheVariants.{Outside, Inside, Broken}
+use Rattle.es_module_parser.specs.declared.declaring.After.{After}
+use Rattle.es_module_parser.specs.declared.declaring.After.TheVariants.{Other}
 use Rattle.es_module_parser.specs.declared.progress.Next.{Next}
 use Rattle.es_module_parser.specs.declared.progress.Next.TheVariants.{Goes, Specifier}
 
@@ -162,3 +164,10 @@ abbrev pub ended : Progress → Option ModuleFault
 ended Outside = None
 ended (Inside e word inner) = or_inner (cut e word) inner
 ended (Broken fault) = Some fault
+
+-- between declarations, at a token that begins none
+pub record IsIdle (progress : Progress) (after : After) (kind : Kind) (text : List ℕ) : Type 0 where
+  pub outside : progress ≡ Outside
+  pub other : after ≡ Other
+  pub no_import : word_is kind text (codes "import") ≡ false
+  pub no_export : word_is kind text (codes "export") ≡ false

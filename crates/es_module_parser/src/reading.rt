@@ -1,14 +1,18 @@
-ghost use Rattle.std.specs.Prelude.{◌≡◌, ◌+◌, ◌&&◌, ◌==◌, not, Ok, IfOk, IfErr};
+ghost use Rattle.std.specs.Prelude.{◌≡◌, ◌+◌, ◌&&◌, ◌||◌, ◌==◌, not, bytes_eq, codes, Ok, IfOk, IfErr};
+ghost use Rattle.std.specs.Bool.{OnTrue};
 ghost use Rattle.module_spec.specs.Outlines.{ReadsOutline};
 ghost use Rattle.es_module_parser.specs.Faults.{IsFaultOf, lexical_fault};
 ghost use Rattle.es_module_parser.specs.Outlines.{as_outline};
+ghost use Rattle.es_module_parser.specs.Progress.{IsIdle};
 
 use crate::declaring::After;
 use crate::expect::Seen;
 use crate::fault::OutlineFault;
 use crate::progress::Progress;
 use crate::requests::{Outline, Requests};
+use crate::terminals::is_name;
 use es_lexer::{LexFault, LexKind, Lexer};
+use module_spec::Kind;
 use primitives::{Listed, Steps};
 use std::alloc::Global;
 use std::sync::ledger::Ledger;
@@ -26,6 +30,29 @@ fn is_top(plain: bool, depth: usize) -> bool
     ensures { result ≡ (plain && depth == 0) }
 {
     plain && depth == 0
+}
+
+// Whether a text is one of the two words. Few tokens are as long as they are, so this is asked before the kind, which is
+// seldom foreseen.
+fn begins_declaration(text: &[u8]) -> bool
+    ensures { result ≡ (bytes_eq text.now (codes "import") || bytes_eq text.now (codes "export")) }
+{
+    text == b"import".as_slice() || text == b"export".as_slice()
+}
+
+// Between declarations a token that is neither of their words changes nothing.
+fn is_idle(progress: Progress, after: After, kind: Kind, text: &[u8]) -> bool
+    ensures { OnTrue result (IsIdle progress after kind text.now) }
+{
+    match progress {
+        Progress::Inside(_, _, _) => false,
+        Progress::Broken(_) => false,
+        Progress::Outside => match after {
+            After::Import(_) => false,
+            After::Dot => false,
+            After::Other => !(begins_declaration(text) && is_name(kind)),
+        },
+    }
 }
 
 /// What the text asks for, or its first fault: one among its tokens goes before any other, and then the first in the
@@ -62,6 +89,9 @@ pub fn outline<L: Ledger>(
             },
             Ok(Some(token)) => {
                 let spelled = &bytes[token.from..token.to];
+                if is_idle(progress, after, token.kind, spelled) {
+                    continue;
+                }
                 let seen = Seen {
                     kind: token.kind,
                     from: token.from,

@@ -1,4 +1,4 @@
-use Rattle.std.proofs.Common.{rules, ◌≡◌, ◌∷◌, ◌∙◌, sym, ap, arith}
+use Rattle.std.proofs.Common.{◌∷◌, ◌∙◌, sym, ap, arith}
 use Rattle.std.specs.Str.{chars}
 use Rattle.es_module_parser.proofs.LiteralLemmas.{braced_part}
 use Rattle.es_module_parser.proofs.literals.braced_escape.Goals as goal

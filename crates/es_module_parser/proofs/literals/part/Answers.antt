@@ -1,4 +1,4 @@
-use Rattle.std.proofs.Common.{◌≡◌, ◌≤◌, ◌∷◌, ◌∙◌, List, length, sym, ap, subst}
+use Rattle.std.proofs.Common.{◌≤◌, ◌∷◌, ◌∙◌, length, sym, ap, subst}
 use Rattle.std.specs.Str.{chars}
 use Rattle.module_spec.specs.StringValues.{Element, escape, elements}
 use Rattle.es_module_parser.proofs.LiteralLemmas.{escaped_elements, escape_elements, length-drop_le}

@@ -1,6 +1,5 @@
-use Rattle.std.proofs.Common.{◌≡◌, ◌==◌, false, List, Some, sym, ap, ◌∙◌, subst}
+use Rattle.std.proofs.Common.{◌==◌, Some, sym, ap, ◌∙◌}
 use Rattle.std.specs.List.{list_any}
-use Rattle.std.specs.Str.{chars}
 use Rattle.module_spec.specs.StringValues as StringValues
 use Rattle.es_module_parser.specs.Literals.{inside_value}
 use Rattle.es_module_parser.proofs.LiteralLemmas.{plain_value}

@@ -1,7 +1,7 @@
 use Rattle.std.proofs.Common.{◌∙◌, List, ℕ, Ok, Err, Some, None, sym, ap, slice_range}
 use Rattle.module_spec.specs.StringValues.{string_value}
 use Rattle.es_module_parser.specs.Progress.{progress_behind, requests_behind}
-use Rattle.es_module_parser.proofs.TokensRead.{nothing_read, said, whole_read, fault_read, lexical_read, shorter, read_on}
+use Rattle.es_module_parser.proofs.TokensRead.{nothing_read, said, whole_read, fault_read, lexical_read, shorter, read_on, idle_on}
 use Rattle.es_module_parser.proofs.reading.outline.Goals as goal
 
 pub read-init : goal.read-init
@@ -17,6 +17,16 @@ returns-in-Some-clause-fault g c =
 pub returns-in-None-clause-outline : goal.returns-in-None-clause-outline
 returns-in-None-clause-outline g c =
     whole_read c.next.new.self.1 c.read.invariant (said (Ok None) c.next.new.self.1 c.read.invariant (rw c.in-Ok-None.field-0-is at c.in-Ok-None.ensures.next)) c.in-None.ensures c.of.result c.declares_at_end.result c.of.ensures c.declares_at_end.ensures
+
+pub read-smaller-then-is_idle : goal.read-smaller-then-is_idle
+read-smaller-then-is_idle g c = shorter c.next.new.self.1 c.in-Ok-Some.token c.read.invariant (said (Ok (Some c.in-Ok-Some.token)) c.next.new.self.1 c.read.invariant (rw c.in-Ok-Some.field-0-is at c.in-Ok-Some.ensures.next))
+
+pub read-preserved-then-is_idle : goal.read-preserved-then-is_idle
+read-preserved-then-is_idle g c =
+    idle_on c.next.new.self c.in-Ok-Some.token (slice_range c.as_bytes-bytes.result.now c.in-Ok-Some.token.from c.in-Ok-Some.token.to) c.read.invariant c.in-Ok-Some.ensures.text
+    (said (Ok (Some c.in-Ok-Some.token)) c.next.new.self.1 c.read.invariant (rw c.in-Ok-Some.field-0-is at c.in-Ok-Some.ensures.next))
+    (ap (λ (b : List ℕ). slice_range b c.in-Ok-Some.token.from c.in-Ok-Some.token.to) c.as_bytes-bytes.ensures.value)
+    c.if-is_idle.ensures
 
 pub read-smaller : goal.read-smaller
 read-smaller g c = shorter c.next.new.self.1 c.in-Ok-Some.token c.read.invariant (said (Ok (Some c.in-Ok-Some.token)) c.next.new.self.1 c.read.invariant (rw c.in-Ok-Some.field-0-is at c.in-Ok-Some.ensures.next))
