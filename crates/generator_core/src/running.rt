@@ -11,8 +11,8 @@ use generator_spec::Refusal;
 use primitives::Steps;
 use request_trace::Config;
 use run_texts::{
-    DONE, MEMORY, READ_FAULT, WRITE_FAULT, done_line, line_of, memory_line, read_fault_line, status_of,
-    write_fault_line,
+    DONE, MEMORY, READ_FAULT, WRITE_FAULT, done_line, line_of, memory_line, read_fault_line,
+    status_of, write_fault_line,
 };
 use std::alloc::Global;
 use std::sync::ledger::Ledger;
@@ -31,9 +31,7 @@ pub fn run<F: Folder, I: Source, O: Sink, L: Ledger>(
     out: &mut O,
     _steps: &mut Steps<L>,
 ) -> u8
-    ensures end {
-        EndsAs (texts words.now) (F.state folder.old) (F.state folder.new) (O.state out.old) (O.state out.new) result
-    }
+    ensures end { EndsAs (texts words.now) (F.state folder.old) (F.state folder.new) (O.state out.old) (O.state out.new) result }
     ensures words { (why : Refusal) → RefusesWords (texts words.now) why → folder.new ≡ folder.old }
     ensures input { _input.new ≡ _input.old }
     ensures steps { _steps.new ≡ _steps.old }
@@ -47,10 +45,8 @@ pub fn run<F: Folder, I: Source, O: Sink, L: Ledger>(
 
 // `link`: generates, writes the map and says so.
 fn link<F: Folder, O: Sink>(alloc: Global, folder: &mut F, config: &Config, out: &mut O) -> u8
-    ensures {
-        (words : List (List ℕ)) → IsConfigOf words config.now
-            → EndsAs words (F.state folder.old) (F.state folder.new) (O.state out.old) (O.state out.new) result
-    }
+    ensures { (words : List (List ℕ)) → IsConfigOf words config.now
+        → EndsAs words (F.state folder.old) (F.state folder.new) (O.state out.old) (O.state out.new) result }
 {
     match generate(alloc, folder, config) {
         Ok(generated) => finish(alloc, folder, &generated, out),
@@ -65,9 +61,7 @@ fn finish<F: Folder, O: Sink>(
     generated: &Generated,
     out: &mut O,
 ) -> u8
-    ensures {
-        Writes generated.now (F.state folder.old) (F.state folder.new) (O.state out.old) (O.state out.new) result
-    }
+    ensures { Writes generated.now (F.state folder.old) (F.state folder.new) (O.state out.old) (O.state out.new) result }
 {
     let Ok(line) = done_line(
         alloc,

@@ -28,8 +28,8 @@ named_none url no_separator none =
     let path : List ℕ = spelled_path (url_path url) in
     elim (cases_Bool (is_utf8 path && is_path path)) [
       | inl both ↦
-        let parts = and_parts _ _ both in
-        absurd (none path (record { no_separator = no_separator; spelled = refl; utf8 = IsUtf8-from_is_utf8 path parts.0; is_path = path_by_test path parts.1 }))
+          let parts = and_parts _ _ both in
+          absurd (none path (record { no_separator = no_separator; spelled = refl; utf8 = IsUtf8-from_is_utf8 path parts.0; is_path = path_by_test path parts.1 }))
       | inr lost ↦ cond-false _ (Some path) None lost
     ]
 

@@ -65,8 +65,8 @@ parts_slashed : (rest : List ℕ) → slashed (parts rest) ≡ 47 ∷ rest
 parts_slashed [] = refl
 parts_slashed (b ∷ rest) = elim (cases_Bool (b == 47)) [
   | inl same ↦
-    let is : b ≡ 47 = eqb-true b 47 same in
-    ap slashed (cond-true _ ([] ∷ parts rest) (with_first b (parts rest)) same) ∙ (ap (λ r. 47 ∷ r) (parts_slashed rest) ∙ ap (λ x. 47 ∷ x ∷ rest) (sym is))
+      let is : b ≡ 47 = eqb-true b 47 same in
+      ap slashed (cond-true _ ([] ∷ parts rest) (with_first b (parts rest)) same) ∙ (ap (λ r. 47 ∷ r) (parts_slashed rest) ∙ ap (λ x. 47 ∷ x ∷ rest) (sym is))
   | inr other ↦ ap slashed (cond-false _ ([] ∷ parts rest) (with_first b (parts rest)) other) ∙ with_first_slashed b (parts rest) rest (parts_slashed rest)
 ]
 
@@ -85,11 +85,11 @@ parts_behind : (rest name : List ℕ) → All (λ b. b ≢ 47) name → parts (r
 parts_behind [] name s = ap (λ ps. [] ∷ ps) (one_part name s)
 parts_behind (b ∷ rest) name s = elim (cases_Bool (b == 47)) [
   | inl same ↦
-    cond-true _ ([] ∷ parts (rest ++ 47 ∷ name)) (with_first b (parts (rest ++ 47 ∷ name))) same
-    ∙ (ap (λ ps. [] ∷ ps) (parts_behind rest name s) ∙ ap (λ ps. ps ++ name ∷ []) (sym (cond-true _ ([] ∷ parts rest) (with_first b (parts rest)) same)))
+      cond-true _ ([] ∷ parts (rest ++ 47 ∷ name)) (with_first b (parts (rest ++ 47 ∷ name))) same
+      ∙ (ap (λ ps. [] ∷ ps) (parts_behind rest name s) ∙ ap (λ ps. ps ++ name ∷ []) (sym (cond-true _ ([] ∷ parts rest) (with_first b (parts rest)) same)))
   | inr other ↦
-    cond-false _ ([] ∷ parts (rest ++ 47 ∷ name)) (with_first b (parts (rest ++ 47 ∷ name))) other
-    ∙ (ap (with_first b) (parts_behind rest name s) ∙ (with_first_behind b (parts rest) name rest (parts_slashed rest) ∙ ap (λ ps. ps ++ name ∷ []) (sym (cond-false _ ([] ∷ parts rest) (with_first b (parts rest)) other))))
+      cond-false _ ([] ∷ parts (rest ++ 47 ∷ name)) (with_first b (parts (rest ++ 47 ∷ name))) other
+      ∙ (ap (with_first b) (parts_behind rest name s) ∙ (with_first_behind b (parts rest) name rest (parts_slashed rest) ∙ ap (λ ps. ps ++ name ∷ []) (sym (cond-false _ ([] ∷ parts rest) (with_first b (parts rest)) other))))
 ]
 
 -- ---- a text that passes is a path
@@ -133,16 +133,16 @@ path_by_test (b ∷ rest) e =
     let short : length (b ∷ rest) ≤ 1024 = omega arith in
     elim (or_cases (bytes_eq rest []) _ inner.1) [
       | inl none ↦
-        let same : b ∷ rest ≡ codes "/" = (λ i. slash i ∷ (bytes_eq-Decides rest []).0 none i) in
-        record { depth = 0; segments = root (b ∷ rest) same; few = omega arith; short = short }
+          let same : b ∷ rest ≡ codes "/" = (λ i. slash i ∷ (bytes_eq-Decides rest []).0 none i) in
+          record { depth = 0; segments = root (b ∷ rest) same; few = omega arith; short = short }
       | inr some ↦
-        let names = and_parts (list_all is_segment (parts rest)) (nat_le (length (parts rest)) 64) some in
-        record {
-          depth = length (parts rest);
-          segments = below_root (parts rest) (b ∷ rest) (parts_slashed rest ∙ ap (λ x. x ∷ rest) (sym slash)) (λ f. cc) names.0;
-          few = leb-true _ _ names.1;
-          short = short;
-        }
+          let names = and_parts (list_all is_segment (parts rest)) (nat_le (length (parts rest)) 64) some in
+          record {
+            depth = length (parts rest);
+            segments = below_root (parts rest) (b ∷ rest) (parts_slashed rest ∙ ap (λ x. x ∷ rest) (sym slash)) (λ f. cc) names.0;
+            few = leb-true _ _ names.1;
+            short = short;
+          }
     ]
 
 -- ---- a path passes
@@ -190,12 +190,12 @@ has_parts : (depth : ℕ) (text : List ℕ) → HasDepth depth text → text ≢
 has_parts _ _ (root text e) deep = absurd (deep e)
 has_parts _ _ (child depth deeper parent name text has segment e same) deep = elim (cases_Bool (bytes_eq parent (codes "/"))) [
   | inl at ↦
-    let is_root : parent ≡ codes "/" = (bytes_eq-Decides parent (codes "/")).0 at in
-    let zero_deep : depth ≡ 0 = root_depth depth (subst (HasDepth depth) is_root has) in
-    subst (λ d. HasParts d text) (sym (e ∙ ap (λ d. d + 1) zero_deep)) (at_top name text segment (same ∙ ap (λ front. front ++ 47 ∷ name) (cond-true _ [] parent at)))
+      let is_root : parent ≡ codes "/" = (bytes_eq-Decides parent (codes "/")).0 at in
+      let zero_deep : depth ≡ 0 = root_depth depth (subst (HasDepth depth) is_root has) in
+      subst (λ d. HasParts d text) (sym (e ∙ ap (λ d. d + 1) zero_deep)) (at_top name text segment (same ∙ ap (λ front. front ++ 47 ∷ name) (cond-true _ [] parent at)))
   | inr other ↦
-    let apart_from : parent ≢ codes "/" = (λ f. true≢false (sym ((bytes_eq-Decides parent (codes "/")).1 f) ∙ other)) in
-    subst (λ d. HasParts d text) (sym e) (behind_parts depth parent name text (has_parts depth parent has apart_from) segment (same ∙ joined_deep parent name apart_from))
+      let apart_from : parent ≢ codes "/" = (λ f. true≢false (sym ((bytes_eq-Decides parent (codes "/")).1 f) ∙ other)) in
+      subst (λ d. HasParts d text) (sym e) (behind_parts depth parent name text (has_parts depth parent has apart_from) segment (same ∙ joined_deep parent name apart_from))
 ]
 
 or_right : (a b : Bool) → b ≡ true → (a || b) ≡ true
@@ -206,10 +206,10 @@ pub test_by_path : (text : List ℕ) → IsPath text → is_path text ≡ true
 test_by_path text is = elim (cases_Bool (bytes_eq text (codes "/"))) [
   | inl at ↦ ap is_path ((bytes_eq-Decides text (codes "/")).0 at)
   | inr other ↦
-    let has = has_parts is.depth text is.segments (λ f. true≢false (sym ((bytes_eq-Decides text (codes "/")).1 f) ∙ other)) in
-    let long : length text ≡ suc (length has.rest) = ap length has.whole in
-    let names : (list_all is_segment (parts has.rest) && nat_le (length (parts has.rest)) 64) ≡ true =
-    (λ i. has.passes i && le-leb (length (parts has.rest)) 64 (let c = has.count in let f = is.few in omega arith) i) in
-    let within : (bytes_eq has.rest [] || list_all is_segment (parts has.rest) && nat_le (length (parts has.rest)) 64) ≡ true = or_right _ _ names in
-    ap is_path has.whole ∙ (λ i. within i && le-leb (length has.rest) 1023 (let s = is.short in omega arith) i)
+      let has = has_parts is.depth text is.segments (λ f. true≢false (sym ((bytes_eq-Decides text (codes "/")).1 f) ∙ other)) in
+      let long : length text ≡ suc (length has.rest) = ap length has.whole in
+      let names : (list_all is_segment (parts has.rest) && nat_le (length (parts has.rest)) 64) ≡ true =
+      (λ i. has.passes i && le-leb (length (parts has.rest)) 64 (let c = has.count in let f = is.few in omega arith) i) in
+      let within : (bytes_eq has.rest [] || list_all is_segment (parts has.rest) && nat_le (length (parts has.rest)) 64) ≡ true = or_right _ _ names in
+      ap is_path has.whole ∙ (λ i. within i && le-leb (length has.rest) 1023 (let s = is.short in omega arith) i)
 ]
