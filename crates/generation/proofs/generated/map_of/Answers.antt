@@ -14,7 +14,7 @@ number_there P (Some other) number h e = let same : other ≡ number = cc in sub
 pub returns : goal.returns
 returns c =
     let needs : List Need = c.args.trace.now.needs in
-    let lists : Lists c.in_ok-layout.layout [] (definition.layout needs) = subst (λ ns. Lists c.in_ok-layout.layout [] (definition.layout ns)) c.needs.ensures c.in_ok-layout.ensures in
+    let lists : Lists c.in_ok-layout.layout [] (definition.layout needs) = subst (λ ns. Lists c.in_ok-layout.layout [] (definition.layout ns)) c.needs.ensures.needs c.in_ok-layout.ensures in
     let printed : Lists c.in_ok-layout.layout c.new.result (definition.layout needs) = subst (λ pairs. Lists c.in_ok-layout.layout pairs (definition.layout needs)) (sym c.new.ensures) lists in
     record {
       map = c.in-Ok.ensures (definition.layout needs) printed;
