@@ -33,6 +33,7 @@ check "build.sh" ./build.sh
 check "the example" example
 check "rows on disk" .ci/rows.sh
 check "a program that must not compile" .ci/must_not_compile.sh
+check "values that are dropped once" .ci/drops.sh
 check "the benchmark on small trees" bench/run.sh smoke
 echo "$passed passed, $failed failed"
 [ "$failed" = 0 ]

@@ -2,11 +2,14 @@
 //! often. Each answer is a sum that can be told beforehand.
 #![tactic(auto)]
 
+mod counted;
 mod plain;
 
+use counted::Counted;
 use plain::Plain;
 use slot_arena::{Slot, SlotArena};
 use std::alloc::{AllocError, Global};
+use std::cell::Cell;
 use std::{env, io};
 
 /// How many values are live while values come and go.
@@ -14,6 +17,9 @@ const LIVE: usize = 1_024;
 
 /// How many values are looked at.
 const SEEN: u64 = 200_000;
+
+/// How many values count their drops.
+const COUNTED: u64 = 200;
 
 /// As large as a module of the graph.
 type Value = [u64; 16];
@@ -114,6 +120,27 @@ fn held(alloc: Global, count: u64) -> Result<u64, AllocError> {
     }
 }
 
+/// Puts values in, takes every third out again and drops the arena; how many were dropped, and how many were put in. One
+/// that isn't put in for want of memory is dropped too. So many pieces of memory are taken and given back before.
+fn dropped(alloc: Global, before: u64) -> (u64, u64) {
+    for number in 0..before {
+        let _ = Box::new(alloc, number);
+    }
+    let drops = Cell::new(0);
+    let mut arena = SlotArena::new(alloc);
+    let mut put = 0u64;
+    for value in 0..COUNTED {
+        if let Some(slot) = insert(&mut arena, Counted::new(&drops)) {
+            put = put.wrapping_add(1);
+            if value % 3 == 0 {
+                drop(arena.remove(slot));
+            }
+        }
+    }
+    drop(arena);
+    (drops.get(), put)
+}
+
 fn main(rt: HostRuntime) -> io::Result<()> {
     let mut words = env::args(&rt)?;
     words.next();
@@ -128,6 +155,11 @@ fn main(rt: HostRuntime) -> io::Result<()> {
         "plain" => in_turn_plain(rt.alloc(), rounds)?,
         "looks" => looks(rt.alloc(), rounds)?,
         "held" => held(rt.alloc(), rounds)?,
+        "drops" => {
+            let (dropped, put) = dropped(rt.alloc(), rounds);
+            println!(rt; "{dropped} dropped, {put} put in")?;
+            return Ok(());
+        }
         _ => return Ok(()),
     };
     println!(rt; "{sum}")?;
