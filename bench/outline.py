@@ -7,22 +7,19 @@ node-es-module-lexer, where it is installed: the time of its parse alone, once, 
 """
 
 import os
-import resource
 import shutil
 import subprocess
 import sys
 import tempfile
 
+import measure
 import tokens
+from measure import HERE, SIZE, TRIES, say
 
-HERE = os.path.dirname(os.path.abspath(__file__))
-CRATES = os.path.join(HERE, "..", "crates")
-OUTLINE = os.path.join(CRATES, "outline_count", "out", "outline_count")
-TOKENS = os.path.join(CRATES, "token_count", "out", "token_count")
+OUTLINE = measure.program("outline_count")
+TOKENS = measure.program("token_count")
 PEER = "/usr/share/nodejs/es-module-lexer"
-SIZE = 16 * 1024 * 1024
 IMPORTS = 4000
-TRIES = 5
 # Bytes in a second, of ordinary code.
 SPEED = 100_000_000
 # The part of the pace at which tokens alone are read.
@@ -31,10 +28,6 @@ PACE = 0.9
 PEER_TIMES = 2
 # How much longer twice the text may take.
 GROWTH = 3
-# Below this a time says more about the machine than about the program.
-NOISE = 0.02
-
-failures = 0
 
 
 def code(size):
@@ -117,38 +110,11 @@ def many(size):
 HOSTILE = [words, names, long_names, nested, literal, escapes, braced_escapes, pairs, wide, digits, exports, metas, many]
 
 
-def say(passed, text):
-    global failures
-    if not passed:
-        failures += 1
-    print(f"{'PASS' if passed else 'FAIL'}  {text}", flush=True)
-
-
-def run(program, path):
-    """The processor seconds of one run, and the line that it printed."""
-    before = resource.getrusage(resource.RUSAGE_CHILDREN)
-    done = subprocess.run([program, path], capture_output=True, text=True, check=False)
-    after = resource.getrusage(resource.RUSAGE_CHILDREN)
-    seconds = after.ru_utime + after.ru_stime - before.ru_utime - before.ru_stime
-    return seconds, done.stdout.rstrip("\n")
-
-
-def written(shape, size, folder):
-    text, wanted = shape(size)
-    path = os.path.join(folder, "module.mjs")
-    with open(path, "w", encoding="utf-8", newline="") as file:
-        file.write(text)
-    return path, wanted
-
-
 def best(shape, size, folder):
     """The fewest seconds of a few runs over one text, where each is right, and the bytes of the text."""
-    path, wanted = written(shape, size, folder)
-    runs = [run(OUTLINE, path) for _ in range(TRIES)]
-    for _, line in runs:
-        if line != wanted:
-            say(False, f"{shape.__name__}: printed {line!r}, wanted {wanted!r}")
-    return min(seconds for seconds, _ in runs), os.path.getsize(path)
+    text, wanted = shape(size)
+    path, size = measure.written(folder, "module.mjs", text)
+    return measure.fewest(shape.__name__, [OUTLINE, path], wanted), size
 
 
 def peer(path):
@@ -166,15 +132,12 @@ def peer(path):
 
 def ordinary(folder):
     """Ordinary code: the pace, beside that of tokens alone, and beside the peer."""
-    path, wanted = written(code, SIZE, folder)
-    size = os.path.getsize(path)
+    text, wanted = code(SIZE)
+    path, size = measure.written(folder, "module.mjs", text)
     mine, lexing = [], []
     for _ in range(TRIES):
-        seconds, line = run(OUTLINE, path)
-        if line != wanted:
-            say(False, f"code: printed {line!r}, wanted {wanted!r}")
-        mine.append(seconds)
-        lexing.append(run(TOKENS, path)[0])
+        mine.append(measure.right("code", [OUTLINE, path], wanted))
+        lexing.append(measure.run([TOKENS, path])[0])
     seconds, alone = min(mine), min(lexing)
     say(size / seconds >= SPEED, f"ordinary code: {seconds:.3f} s for {size} bytes, {size / seconds / 1e6:.0f} MB/s, "
                                  f"at least {SPEED / 1e6:.0f}")
@@ -190,19 +153,16 @@ def ordinary(folder):
 def main():
     if sys.argv[1:]:
         sys.exit("usage: python3 -B bench/outline.py")
-    for program in (OUTLINE, TOKENS):
-        if not os.access(program, os.X_OK):
-            sys.exit(f"bench: there is no {os.path.relpath(program)}: run `rt run` in its crate first")
+    measure.need(OUTLINE, TOKENS)
     with tempfile.TemporaryDirectory(prefix="salimgub-outline-") as folder:
         ordinary(folder)
         for shape in HOSTILE:
             half, _ = best(shape, SIZE // 2, folder)
             whole, size = best(shape, SIZE, folder)
-            ratio = whole / max(half, NOISE)
+            ratio = measure.growth(half, whole)
             say(ratio <= GROWTH, f"{shape.__name__}: {whole:.3f} s for {size} bytes, {size / whole / 1e6:.0f} MB/s, "
                                  f"{ratio:.2f} times as long as for half of it, at most {GROWTH}")
-    print(f"{failures} failed" if failures else "all passed")
-    sys.exit(1 if failures else 0)
+    measure.finish()
 
 
 if __name__ == "__main__":

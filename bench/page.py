@@ -6,23 +6,17 @@ place of the map and writes the new page to memory. The line that it prints is c
 how the page is made.
 """
 
-import os
-import resource
-import subprocess
 import sys
 import tempfile
 
-HERE = os.path.dirname(os.path.abspath(__file__))
-PROGRAM = os.path.join(HERE, "..", "crates", "page_count", "out", "page_count")
-MIB = 1024 * 1024
-SIZE = 16 * MIB
-TRIES = 5
+import measure
+from measure import SIZE, say
+
+PROGRAM = measure.program("page_count")
 # Bytes in a second, of ordinary markup.
 SPEED = 150_000_000
 # How much longer twice the page may take.
 GROWTH = 2.5
-# Below this a time says more about the machine than about the program.
-NOISE = 0.02
 # What an injection adds to a page without an import map element.
 ELEMENT = len('<script type="importmap">{}</script>\n')
 
@@ -38,8 +32,6 @@ SECTION = """<section id="s{n}" class="card wide">
   <ul><li>one</li><li data-n='{n}' hidden>two</li></ul>
 </section>
 """
-
-failures = 0
 
 
 def ordinary(size):
@@ -133,43 +125,21 @@ HOSTILE = [less, open_comment, attribute, quotes, names, script_type, endless_sc
            near_comments, maps, tags, words]
 
 
-def say(passed, text):
-    global failures
-    if not passed:
-        failures += 1
-    print(f"{'PASS' if passed else 'FAIL'}  {text}", flush=True)
-
-
-def run(path, words_behind):
-    """The processor seconds of one run, and the line that it printed."""
-    before = resource.getrusage(resource.RUSAGE_CHILDREN)
-    done = subprocess.run([PROGRAM, path, *words_behind], capture_output=True, text=True, check=False)
-    after = resource.getrusage(resource.RUSAGE_CHILDREN)
-    seconds = after.ru_utime + after.ru_stime - before.ru_utime - before.ru_stime
-    return seconds, done.stdout.rstrip("\n")
-
-
 def best(shape, size, folder):
     """The fewest seconds of a few runs over one page, of counting and of injection, where each is right."""
     page, counted, injected = shape(size)
-    path = os.path.join(folder, "page.html")
-    with open(path, "w", encoding="utf-8", newline="") as file:
-        file.write(page)
-    fewest = []
-    for words_behind, wanted in [([], counted), (["inject"], injected)]:
-        runs = [run(path, words_behind) for _ in range(TRIES)]
-        for _, line in runs:
-            if line != wanted:
-                say(False, f"{shape.__name__}: printed {line!r}, wanted {wanted!r}")
-        fewest.append(min(seconds for seconds, _ in runs))
-    return fewest, os.path.getsize(path)
+    path, size = measure.written(folder, "page.html", page)
+    times = [
+        measure.fewest(shape.__name__, [PROGRAM, path], counted),
+        measure.fewest(shape.__name__, [PROGRAM, path, "inject"], injected),
+    ]
+    return times, size
 
 
 def main():
     if sys.argv[1:]:
         sys.exit("usage: python3 -B bench/page.py")
-    if not os.access(PROGRAM, os.X_OK):
-        sys.exit("bench: there is no crates/page_count/out/page_count: run `rt run` in crates/page_count first")
+    measure.need(PROGRAM)
     with tempfile.TemporaryDirectory(prefix="salimgub-page-") as folder:
         (floor, _), size = best(refused, SIZE, folder)
         print(f"      the file alone: {floor:.3f} s for {size} bytes")
@@ -181,10 +151,10 @@ def main():
         for shape in HOSTILE:
             half, _ = best(shape, SIZE // 2, folder)
             whole, _ = best(shape, SIZE, folder)
-            growth = max(max(two, NOISE) / max(one, NOISE) for one, two in zip(half, whole))
+            growth = max(measure.growth(one, two) for one, two in zip(half, whole))
             say(growth <= GROWTH, f"{shape.__name__}: {whole[0]:.3f} s, with a map {whole[1]:.3f} s, "
                                   f"{growth:.1f} times as long for twice the bytes, at most {GROWTH}")
-    sys.exit(1 if failures else 0)
+    measure.finish()
 
 
 if __name__ == "__main__":

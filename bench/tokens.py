@@ -5,24 +5,18 @@ all that this program does: it starts, reads the file, sees that it is UTF-8, an
 prints is checked, against counts that come from how the text is made.
 """
 
-import os
-import resource
-import subprocess
 import sys
 import tempfile
 
-HERE = os.path.dirname(os.path.abspath(__file__))
-PROGRAM = os.path.join(HERE, "..", "crates", "token_count", "out", "token_count")
-MIB = 1024 * 1024
-SIZE = 16 * MIB
+import measure
+from measure import SIZE, say
+
+PROGRAM = measure.program("token_count")
 DEPTH = 4096
-TRIES = 5
 # Bytes in a second, of ordinary code.
 SPEED = 100_000_000
 # How much longer twice the text may take.
 GROWTH = 3
-# Below this a time says more about the machine than about the program.
-NOISE = 0.02
 
 # Lines of ordinary code, each with the number of its tokens.
 CODE = [
@@ -45,8 +39,6 @@ CODE = [
     ('        return key => this.#state.has(key) || "nothing at " + key;\n', 16),
     ("    }}\n}}\n\n", 2),
 ]
-
-failures = 0
 
 
 def code(size):
@@ -156,40 +148,17 @@ HOSTILE = [opening, brackets, templates, expression, classes, comment, endless_c
            endless_escape, number, string, template, wide_space, marks]
 
 
-def say(passed, text):
-    global failures
-    if not passed:
-        failures += 1
-    print(f"{'PASS' if passed else 'FAIL'}  {text}", flush=True)
-
-
-def run(path):
-    """The processor seconds of one run, and the line that it printed."""
-    before = resource.getrusage(resource.RUSAGE_CHILDREN)
-    done = subprocess.run([PROGRAM, path], capture_output=True, text=True, check=False)
-    after = resource.getrusage(resource.RUSAGE_CHILDREN)
-    seconds = after.ru_utime + after.ru_stime - before.ru_utime - before.ru_stime
-    return seconds, done.stdout.rstrip("\n")
-
-
 def best(shape, size, folder):
     """The fewest seconds of a few runs over one text, where each is right, and the bytes of the text."""
     text, wanted = shape(size)
-    path = os.path.join(folder, "module.mjs")
-    with open(path, "w", encoding="utf-8", newline="") as file:
-        file.write(text)
-    runs = [run(path) for _ in range(TRIES)]
-    for _, line in runs:
-        if line != wanted:
-            say(False, f"{shape.__name__}: printed {line!r}, wanted {wanted!r}")
-    return min(seconds for seconds, _ in runs), os.path.getsize(path)
+    path, size = measure.written(folder, "module.mjs", text)
+    return measure.fewest(shape.__name__, [PROGRAM, path], wanted), size
 
 
 def main():
     if sys.argv[1:]:
         sys.exit("usage: python3 -B bench/tokens.py")
-    if not os.access(PROGRAM, os.X_OK):
-        sys.exit("bench: there is no crates/token_count/out/token_count: run `rt run` in crates/token_count first")
+    measure.need(PROGRAM)
     with tempfile.TemporaryDirectory(prefix="salimgub-tokens-") as folder:
         floor, size = best(refused, SIZE, folder)
         print(f"      the file alone: {floor:.3f} s for {size} bytes")
@@ -200,11 +169,10 @@ def main():
         for shape in HOSTILE:
             half, _ = best(shape, SIZE // 2, folder)
             whole, size = best(shape, SIZE, folder)
-            ratio = whole / max(half, NOISE)
+            ratio = measure.growth(half, whole)
             say(ratio <= GROWTH, f"{shape.__name__}: {whole:.3f} s for {size} bytes, {size / whole / 1e6:.0f} MB/s, "
                                  f"{ratio:.2f} times as long as for half of it, at most {GROWTH}")
-    print(f"{failures} failed" if failures else "all passed")
-    sys.exit(1 if failures else 0)
+    measure.finish()
 
 
 if __name__ == "__main__":

@@ -1,0 +1,75 @@
+"""What the measurements of single programs share: runs by processor time, files to read, and PASS or FAIL."""
+
+import os
+import resource
+import subprocess
+import sys
+
+HERE = os.path.dirname(os.path.abspath(__file__))
+MIB = 1024 * 1024
+SIZE = 16 * MIB
+TRIES = 5
+# Below this a time says more about the machine than about the program.
+NOISE = 0.02
+
+failures = 0
+
+
+def program(crate):
+    """The program of a crate, as `rt run` in its folder leaves it."""
+    return os.path.join(HERE, "..", "crates", crate, "out", crate)
+
+
+def need(*programs):
+    """Ends the script where one of these programs isn't there."""
+    for path in programs:
+        if not os.access(path, os.X_OK):
+            crate = os.path.basename(path)
+            sys.exit(f"bench: there is no crates/{crate}/out/{crate}: run `rt run` in crates/{crate} first")
+
+
+def say(passed, text):
+    global failures
+    if not passed:
+        failures += 1
+    print(f"{'PASS' if passed else 'FAIL'}  {text}", flush=True)
+
+
+def finish():
+    print(f"{failures} failed" if failures else "all passed")
+    sys.exit(1 if failures else 0)
+
+
+def run(command):
+    """The processor seconds of one run, and the line that it printed."""
+    before = resource.getrusage(resource.RUSAGE_CHILDREN)
+    done = subprocess.run(command, capture_output=True, text=True, check=False)
+    after = resource.getrusage(resource.RUSAGE_CHILDREN)
+    seconds = after.ru_utime + after.ru_stime - before.ru_utime - before.ru_stime
+    return seconds, done.stdout.rstrip("\n")
+
+
+def right(name, command, wanted):
+    """The processor seconds of one run, which has to print this line."""
+    seconds, line = run(command)
+    if line != wanted:
+        say(False, f"{name}: printed {line!r}, wanted {wanted!r}")
+    return seconds
+
+
+def fewest(name, command, wanted):
+    """The fewest seconds of a few runs, each of which has to print this line."""
+    return min(right(name, command, wanted) for _ in range(TRIES))
+
+
+def written(folder, name, text):
+    """The path of a new file with this text, and its number of bytes."""
+    path = os.path.join(folder, name)
+    with open(path, "w", encoding="utf-8", newline="") as file:
+        file.write(text)
+    return path, os.path.getsize(path)
+
+
+def growth(half, whole):
+    """How much longer twice the text takes; times below the noise count as the noise."""
+    return max(whole, NOISE) / max(half, NOISE)
