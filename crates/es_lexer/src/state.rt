@@ -200,7 +200,7 @@ pub(crate) fn change(stack: &mut Vec<Open>, last: Last, sort: Sort)
     match (opens(sort), closes(sort)) {
         (Some(_), Some(_)) => {}
         (Some(bracket), None) => {
-            let _ = stack.push(Open::behind(last, bracket));
+            stack.push_reserved(Open::behind(last, bracket));
         }
         (None, Some(_)) => {
             let _ = stack.pop();

@@ -14,10 +14,10 @@ use Rattle.module_spec.specs.Sorts.{opens, closes}
 use Rattle.module_spec.specs.Tokens.{Piece, piece, Lexeme, Next, next_at, next_from, unless_refused, refusal, is_template, opener, count, depth, IsNext, Reaches}
 use Rattle.module_spec.specs.Tokens.Next.{Ends, Faults, Gives}
 use Rattle.module_spec.specs.Tokens.IsNext.{next}
-use Rattle.module_spec.specs.Tokens.Reaches.{begin, go}
+use Rattle.module_spec.specs.Tokens.Reaches.{go}
 use Rattle.module_spec.specs.Brackets.{ArePartners, StaysOpen}
 use Rattle.module_spec.specs.Places.{Placed, placed, places, is_mark, is_punctuator_kind}
-use Rattle.module_spec.specs.Declarations.{UpToPartner, Braces}
+use Rattle.module_spec.specs.Declarations.{UpToPartner}
 use Rattle.module_spec.specs.Declarations.UpToPartner.{partner, inside}
 use Rattle.module_spec.specs.Declarations.Braces.{curly}
 use Rattle.module_spec.proofs.BracketLaws.{curly_partners}

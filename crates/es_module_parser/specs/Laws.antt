@@ -18,9 +18,11 @@ abbrev pub CurlyOpens : Type 0
 CurlyOpens = (text : List ℕ) (t : Lexeme) (before : List Lexeme) (rest : List ℕ)
     → Reaches text (t ∷ before) rest → t.text ≡ codes "{" → opens t.sort ≡ Some Curly
 
--- where the tokens `held` behind `inner`, with no bracket open before, are braces of a declaration, the last of them closes what the first opens
+-- where the tokens `held` stand behind `inner`, with no bracket open before, and are braces of a declaration, the last of
+-- them closes what the first opens; `to` is its number
 abbrev pub BracesArePartners : Type 0
 BracesArePartners = (text : List ℕ) (held inner : List Lexeme) (rest : List ℕ) (braces : List Placed) (to : ℕ)
     → Reaches text (held ++ inner) rest → depth inner ≡ 0 → Braces braces
-    → places (length text) (held ++ inner) ≡ reverse braces ++ places (length text) inner → suc to ≡ length (held ++ inner)
+    → places (length text) (held ++ inner) ≡ reverse braces ++ places (length text) inner
+    → suc to ≡ length (held ++ inner)
     → ArePartners (held ++ inner) (length inner) to
