@@ -26,3 +26,4 @@ pub mod PackageResolve
 pub mod PackageImportsResolve
 pub mod EsmFileFormat
 pub mod EsmResolve
+pub mod NodeExamples

@@ -4,6 +4,7 @@
 
 ghost use Rattle.node_spec.specs.Laws.{AnswersDetermine, ConditionsAreASet, DecidingCallIsLast, ExportsAskNothing, KeysAreInOrder, OneAnswer, OneChoice, OneOutcome, OneRecord, OneUnder, PatternMatchIsSlice, PatternMatchStands, PlacesBeginWithDotSlash, RecordNamesAreDistinct, SomeAnswer, SomeChoice, SomeOutcome, SomeOutcomeInTurn, SomeRecord};
 ghost use Rattle.node_spec.specs.WorkedExamples.{WorkedExamples};
+ghost use Rattle.node_spec.specs.NodeExamples.{NodeExamples};
 ghost use Rattle.node_spec.specs.PatternExamples.{PatternExamples};
 ghost use Rattle.node_spec.specs.RelativeResolution.{FindsRelative};
 ghost use Rattle.node_spec.specs.RecordExamples.{RecordExamples};
@@ -212,4 +213,10 @@ pub fn some_choice()
 #[tactic(auto, using(crate::proofs::examples::PatternExamples::pattern_examples))]
 pub fn pattern_examples()
     ensures { PatternExamples }
+{}
+
+/// Worked examples of specifiers.
+#[tactic(auto, using(crate::proofs::examples::NodeExamples::node_examples))]
+pub fn node_examples()
+    ensures { NodeExamples }
 {}

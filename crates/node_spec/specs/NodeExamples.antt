@@ -1,0 +1,260 @@
+-- Worked examples of Node's resolution, each proved by computation. The conditions are `browser` and `import`.
+--     Files, told files                paths with what stands there; what they tell
+--     file path text, folder path      one of them
+--     packed path json, with_files    a package's folder and its package.json; a site with these empty files
+--     answer_in files parent specifier      the answer for a specifier in the file at a path
+--     Gives, GivesFrom, Refuses, RefusesFrom      the answer is this file; it is this cause; from `/app.mjs`, or from another
+--         file
+--     Sees files specifier paths       the resolution has this footprint
+--     ExportExamples, OwnPackageExamples, ImportExamples, SpecifierExamples, FolderExamples, FootprintExamples
+--                                      the examples
+use Rattle.std.specs.Prelude.{◌≡◌, ℕ, List, [], ◌∷◌, ◌++◌, codes, map, bytes_eq, replicate, Option, Some, None, Result, Ok, Err, if◌then◌else◌}
+use Rattle.asking_spec.specs.Askings.{outcome}
+use Rattle.tree_spec.specs.LookAskings.{Sights, footprint}
+use Rattle.tree_spec.specs.declared.Entry.{Entry}
+use Rattle.tree_spec.specs.declared.Entry.TheVariants.{Stored, Directory}
+use Rattle.node_spec.specs.BuiltinNames.{texts}
+use Rattle.node_spec.specs.EsmResolve.{node}
+use Rattle.node_spec.specs.NodeAnswers.{Module, Refusal, by_cause, too_deep}
+use Rattle.node_spec.specs.declared.Cause.{Cause}
+use Rattle.node_spec.specs.declared.Cause.TheVariants.{Builtin, ExternalUrl, InvalidSpecifier, InvalidConfig, InvalidTarget, NotExported, ImportNotDefined, NotFound, DirectoryImport}
+use Prim.Native.String.{String}
+
+abbrev pub Files : Type 0
+Files = List (List ℕ × Entry)
+
+abbrev pub told : Files → Sights
+told [] path = None
+told (entry ∷ more) path = if bytes_eq entry.0 path then Some entry.1 else told more path
+
+abbrev pub file : String → List ℕ → List ℕ × Entry
+file path text = (codes path, Stored text)
+
+abbrev pub folder : String → List ℕ × Entry
+folder path = (codes path, Directory)
+
+abbrev pub packed : String → List ℕ → Files
+packed path json = folder path ∷ (codes path ++ codes "/package.json", Stored json) ∷ []
+
+abbrev pub empty_files : List String → Files
+empty_files paths = map (λ (path : String). file path []) paths
+
+-- the package `p` in the root's `node_modules`, with this package.json
+abbrev pub with_p : String → List String → Files
+with_p json paths = packed "/node_modules/p" (codes json) ++ empty_files paths
+
+abbrev pub conditions : List (List ℕ)
+conditions = texts ("browser" ∷ "import" ∷ [])
+
+abbrev pub answer_in : Files → String → String → Result Module Refusal
+answer_in files parent specifier = outcome (told files) (node conditions (codes parent) (codes specifier))
+
+abbrev pub GivesFrom : Files → String → String → String → Type 0
+GivesFrom files parent specifier path =
+    answer_in files parent specifier ≡ Ok (record { path = codes path; suffix = [] })
+
+abbrev pub RefusesFrom : Files → String → String → Cause → Type 0
+RefusesFrom files parent specifier cause = answer_in files parent specifier ≡ Err (by_cause cause)
+
+abbrev pub Gives : Files → String → String → Type 0
+Gives files specifier path = GivesFrom files "/app.mjs" specifier path
+
+abbrev pub Refuses : Files → String → Cause → Type 0
+Refuses files specifier cause = RefusesFrom files "/app.mjs" specifier cause
+
+abbrev pub Sees : Files → String → String → List String → Type 0
+Sees files parent specifier paths =
+    footprint (told files) (node conditions (codes parent) (codes specifier)) ≡ texts paths
+
+-- ---- exports
+
+abbrev pub repeated : Files
+repeated =
+    with_p "{\"exports\":{\"import\":\"./1.mjs\",\"default\":\"./2.mjs\",\"import\":\"./3.mjs\"}}"
+    ("/node_modules/p/1.mjs" ∷ "/node_modules/p/2.mjs" ∷ "/node_modules/p/3.mjs" ∷ [])
+
+abbrev pub patterns : Files
+patterns =
+    with_p "{\"exports\":{\"./a/*\":\"./1/*.mjs\",\"./a/b*\":\"./2/*.mjs\",\"./a/*.js\":\"./3/*.mjs\"}}"
+    ("/node_modules/p/1/bc.js.mjs" ∷ "/node_modules/p/2/c.js.mjs" ∷ "/node_modules/p/3/x.mjs" ∷ [])
+
+abbrev pub private : Files
+private =
+    with_p "{\"exports\":{\"./*\":\"./*.mjs\",\"./priv/*\":null}}"
+    ("/node_modules/p/a.mjs" ∷ "/node_modules/p/priv/x.mjs" ∷ [])
+
+abbrev pub conditional : Files
+conditional =
+    with_p "{\"exports\":{\"types\":\"./i.d.ts\",\"node\":\"./n.js\",\"browser\":\"./b.js\",\"default\":\"./d.js\"}}"
+    ("/node_modules/p/b.js" ∷ "/node_modules/p/d.js" ∷ [])
+
+-- Packages, nested conditions
+abbrev pub nested : Files
+nested =
+    with_p
+    "{\"exports\":{\"node\":{\"import\":\"./feature-node.mjs\",\"require\":\"./feature-node.cjs\"},\"default\":\"./feature.mjs\"}}"
+    ("/node_modules/p/feature.mjs" ∷ "/node_modules/p/feature-node.mjs" ∷ [])
+
+-- Packages, main entry point export and subpath exports
+abbrev pub subpaths : Files
+subpaths =
+    with_p
+    "{\"exports\":{\".\":\"./lib/index.js\",\"./submodule.js\":\"./src/submodule.js\",\"./feature.js\":{\"node\":\"./feature-node.js\",\"default\":\"./feature.js\"}}}"
+    ("/node_modules/p/lib/index.js" ∷ "/node_modules/p/src/submodule.js" ∷ "/node_modules/p/feature.js" ∷ "/node_modules/p/private-module.js" ∷ [])
+
+-- Packages, subpath patterns
+abbrev pub features : Files
+features =
+    with_p "{\"exports\":{\"./features/*.js\":\"./src/features/*.js\",\"./features/private-internal/*\":null}}"
+    ("/node_modules/p/src/features/x.js" ∷ "/node_modules/p/src/features/y/y.js" ∷ "/node_modules/p/src/features/private-internal/m.js" ∷ [])
+
+pub record ExportExamples : Type 0 where
+  -- a repeated key keeps its first place and takes its last value
+  pub repeated_key : Gives repeated "p" "/node_modules/p/3.mjs"
+  -- the longest base, and then the longest key
+  pub longest_base : Gives patterns "p/a/bc.js" "/node_modules/p/2/c.js.mjs"
+  pub longest_key : Gives patterns "p/a/x.js" "/node_modules/p/3/x.mjs"
+  pub any_name : Gives private "p/a" "/node_modules/p/a.mjs"
+  pub null_pattern : Refuses private "p/priv/x" NotExported
+  pub written_order : Gives conditional "p" "/node_modules/p/b.js"
+  pub nested_default : Gives nested "p" "/node_modules/p/feature.mjs"
+  pub main : Gives subpaths "p" "/node_modules/p/lib/index.js"
+  pub subpath : Gives subpaths "p/submodule.js" "/node_modules/p/src/submodule.js"
+  pub by_condition : Gives subpaths "p/feature.js" "/node_modules/p/feature.js"
+  pub not_named : Refuses subpaths "p/private-module.js" NotExported
+  pub pattern : Gives features "p/features/x.js" "/node_modules/p/src/features/x.js"
+  pub deep_pattern : Gives features "p/features/y/y.js" "/node_modules/p/src/features/y/y.js"
+  pub left_out : Refuses features "p/features/private-internal/m.js" NotExported
+  pub no_trailer : Refuses features "p/features/x" NotExported
+
+pub record ConfigExamples : Type 0 where
+  pub outside : Refuses (with_p "{\"exports\":\"../x\"}" []) "p" InvalidTarget
+  pub no_record : Refuses (with_p "{\"name\":" []) "p" InvalidConfig
+  pub mixed : Refuses (with_p "{\"exports\":{\".\":\"./i.mjs\",\"x\":\"./i.mjs\"}}" ("/node_modules/p/i.mjs" ∷ [])) "p" InvalidConfig
+  pub no_object : Refuses (with_p "[]" []) "p" InvalidConfig
+  pub index_key : Refuses (with_p "{\"exports\":{\"1\":\"./i.mjs\"}}" []) "p" InvalidConfig
+  pub a_number : Refuses (with_p "{\"exports\":1}" []) "p" NotExported
+  pub star_above : Refuses (with_p "{\"exports\":{\"./*\":\"./*\"}}" []) "p/a/../b" InvalidSpecifier
+  -- no file stands there
+  pub target_missing : Refuses (with_p "{\"exports\":\"./i.mjs\"}" []) "p" NotFound
+  pub deep :
+      answer_in (packed "/node_modules/p" (codes "{\"exports\":" ++ replicate 128 91)) "/app.mjs" "p" ≡ Err too_deep
+
+-- ---- the package itself
+
+abbrev pub own_name : Files
+own_name =
+    file "/package.json" (codes "{\"name\":\"me\",\"exports\":{\"./sub\":\"./s.mjs\"}}")
+    ∷ (packed "/node_modules/me" (codes "{\"exports\":{\"./sub\":\"./o.mjs\"}}")
+    ++ empty_files ("/s.mjs" ∷ "/node_modules/me/o.mjs" ∷ []))
+
+-- Packages, self-referencing a package using its name
+abbrev pub self_reference : Files
+self_reference =
+    file "/package.json" (codes "{\"name\":\"a-package\",\"exports\":{\".\":\"./index.mjs\",\"./foo.js\":\"./foo.js\"}}")
+    ∷ empty_files ("/index.mjs" ∷ "/foo.js" ∷ "/m.mjs" ∷ [])
+
+abbrev pub without_exports : Files
+without_exports =
+    file "/package.json" (codes "{\"name\":\"me\"}")
+    ∷ (packed "/node_modules/me" (codes "{\"exports\":\"./o.mjs\"}") ++ empty_files ("/node_modules/me/o.mjs" ∷ []))
+
+pub record OwnPackageExamples : Type 0 where
+  pub before_modules : Gives own_name "me/sub" "/s.mjs"
+  pub itself : Gives self_reference "a-package" "/index.mjs"
+  pub own_subpath : Gives self_reference "a-package/foo.js" "/foo.js"
+  pub own_private : Refuses self_reference "a-package/m.mjs" NotExported
+  pub no_exports : Gives without_exports "me" "/node_modules/me/o.mjs"
+  -- a folder `node_modules` ends the scope
+  pub not_from_within : GivesFrom own_name "/node_modules/q/x.mjs" "me/sub" "/node_modules/me/o.mjs"
+
+-- ---- imports
+
+abbrev pub with_fallback : Files
+with_fallback =
+    file "/package.json" (codes "{\"imports\":{\"#d\":[\"dep\",\"./fb.mjs\"]}}")
+    ∷ (packed "/node_modules/dep" (codes "{\"exports\":\"../x\"}") ++ empty_files ("/fb.mjs" ∷ []))
+
+-- Packages, subpath imports and subpath patterns
+abbrev pub internal : Files
+internal =
+    file "/package.json"
+    (codes "{\"imports\":{\"#dep\":{\"node\":\"dep-node-native\",\"default\":\"./dep-polyfill.js\"},\"#internal/*.js\":\"./src/internal/*.js\",\"#p\":\"p\",\"#gone\":[\"gone\",\"./dep-polyfill.js\"]}}")
+    ∷ with_p "{\"exports\":\"./p.mjs\"}" ("/dep-polyfill.js" ∷ "/src/internal/z.js" ∷ "/node_modules/p/p.mjs" ∷ [])
+
+pub record ImportExamples : Type 0 where
+  pub invalid_passed : Gives with_fallback "#d" "/fb.mjs"
+  pub by_condition : Gives internal "#dep" "/dep-polyfill.js"
+  pub pattern : Gives internal "#internal/z.js" "/src/internal/z.js"
+  pub a_package : Gives internal "#p" "/node_modules/p/p.mjs"
+  -- only a target that isn't well formed lets a list go on
+  pub missing_ends : Refuses internal "#gone" NotFound
+  pub not_defined : Refuses internal "#q" ImportNotDefined
+  pub no_scope : Refuses [] "#q" ImportNotDefined
+  pub mark_alone : Refuses internal "#" InvalidSpecifier
+  pub slash_behind : Refuses internal "#/a" InvalidSpecifier
+  pub final_slash : Refuses internal "#dep/" InvalidSpecifier
+
+-- ---- specifiers
+
+pub record SpecifierExamples : Type 0 where
+  pub builtin : Refuses [] "fs" Builtin
+  pub builtin_url : Refuses [] "node:fs" Builtin
+  pub builtin_path : Refuses [] "fs/promises" Builtin
+  pub external : Refuses [] "https://cdn.test/x.js" ExternalUrl
+  pub a_data_url : Refuses [] "data:text/javascript,0" ExternalUrl
+  pub scope_alone : Refuses [] "@x" InvalidSpecifier
+  pub percent : Refuses [] "a%b" InvalidSpecifier
+  pub dot : Refuses [] ".x" InvalidSpecifier
+  pub final_slash : Refuses [] "ui/" InvalidSpecifier
+  pub empty : Refuses [] "" InvalidSpecifier
+  pub host_fails : Refuses [] "//[" InvalidSpecifier
+  pub a_folder : Refuses (folder "/d" ∷ []) "./d" DirectoryImport
+  pub missing : Refuses [] "./q.mjs" NotFound
+  pub no_package : Refuses [] "gone" NotFound
+  pub beside : Gives (file "/b.mjs" [] ∷ []) "./b.mjs" "/b.mjs"
+  pub query :
+      answer_in (file "/foo.mjs" [] ∷ []) "/app.mjs" "./foo.mjs?query=1"
+      ≡ Ok (record { path = codes "/foo.mjs"; suffix = codes "?query=1" })
+
+-- ---- folders without exports
+
+abbrev pub with_main : Files
+with_main = with_p "{\"main\":\"lib\"}" ("/node_modules/p/lib/index.js" ∷ "/node_modules/p/index.js" ∷ "/node_modules/p/a/b.mjs" ∷ "/x.mjs" ∷ [])
+
+-- the package `c`, whose nearer folder is empty
+abbrev pub nearer : Files
+nearer =
+    folder "/lib/node_modules/c" ∷ (packed "/node_modules/c" (codes "{\"exports\":\"./c.mjs\"}")
+    ++ empty_files ("/node_modules/c/c.mjs" ∷ []))
+
+abbrev pub scoped : Files
+scoped = packed "/a/node_modules/@s/p" (codes "{}") ++ empty_files ("/a/node_modules/@s/p/x.mjs" ∷ [])
+
+pub record FolderExamples : Type 0 where
+  -- the nearer folder decides
+  pub nearest_decides : RefusesFrom nearer "/lib/m.mjs" "c" NotFound
+  pub from_root : Gives nearer "c" "/node_modules/c/c.mjs"
+  pub main : Gives with_main "p" "/node_modules/p/lib/index.js"
+  pub below : Gives with_main "p/a/b.mjs" "/node_modules/p/a/b.mjs"
+  pub leaves : Refuses with_main "p/../../x.mjs" InvalidSpecifier
+  pub index : Gives (with_p "{}" ("/node_modules/p/index.js" ∷ [])) "p" "/node_modules/p/index.js"
+  pub no_index : Refuses (with_p "{}" []) "p" NotFound
+  pub scoped_name : GivesFrom scoped "/a/b/m.mjs" "@s/p/x.mjs" "/a/node_modules/@s/p/x.mjs"
+
+pub record FootprintExamples : Type 0 where
+  pub from_root :
+      Sees nearer "/app.mjs" "c"
+      ("/package.json" ∷ "/node_modules/c" ∷ "/node_modules/c/package.json" ∷ "/node_modules/c/c.mjs" ∷ [])
+  pub from_below :
+      Sees nearer "/lib/m.mjs" "c"
+      ("/lib/package.json" ∷ "/package.json" ∷ "/lib/node_modules/c" ∷ "/lib/node_modules/c/package.json" ∷ "/lib/node_modules/c/index.js" ∷ "/lib/node_modules/c/index.json" ∷ "/lib/node_modules/c/index.node" ∷ [])
+  pub within_modules : Sees [] "/node_modules/q/m.mjs" "c" ("/node_modules/q/package.json" ∷ "/node_modules/q/node_modules/c" ∷ "/node_modules/node_modules/c" ∷ "/node_modules/c" ∷ [])
+  pub relative : Sees [] "/app.mjs" "./b.mjs" ("/b.mjs" ∷ [])
+  pub builtin : Sees [] "/app.mjs" "fs" []
+  pub own : Sees own_name "/app.mjs" "me/sub" ("/package.json" ∷ "/s.mjs" ∷ [])
+
+abbrev pub NodeExamples : Type 0
+NodeExamples =
+    ExportExamples × ConfigExamples × OwnPackageExamples × ImportExamples × SpecifierExamples × FolderExamples
+    × FootprintExamples
