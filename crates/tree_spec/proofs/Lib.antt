@@ -6,3 +6,6 @@ pub mod Placings
 pub mod RootAlone
 pub mod OneLook
 pub mod DecidedTrees
+pub mod Footprints
+pub mod LimitedLooks
+pub mod FolderLemmas
