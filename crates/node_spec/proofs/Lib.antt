@@ -13,3 +13,6 @@ pub mod PatternOrder
 pub mod PatternChoice
 pub mod examples
 pub mod RelativeLemmas
+pub mod NearestFolders
+pub mod RecordLooks
+pub mod NodeLemmas

@@ -26,4 +26,5 @@ pub mod PackageResolve
 pub mod PackageImportsResolve
 pub mod EsmFileFormat
 pub mod EsmResolve
+pub mod NodeLaws
 pub mod NodeExamples

@@ -8,7 +8,7 @@
 --     Sees files specifier paths       the resolution has this footprint
 --     ExportExamples, OwnPackageExamples, ImportExamples, SpecifierExamples, FolderExamples, FootprintExamples
 --                                      the examples
-use Rattle.std.specs.Prelude.{◌≡◌, ℕ, List, [], ◌∷◌, ◌++◌, codes, map, bytes_eq, replicate, Option, Some, None, Result, Ok, Err, if◌then◌else◌}
+use Rattle.std.specs.Prelude.{◌≡◌, ℕ, List, [], ◌∷◌, ◌++◌, codes, map, bytes_eq, replicate, Some, None, Result, Ok, Err, if◌then◌else◌}
 use Rattle.asking_spec.specs.Askings.{outcome}
 use Rattle.tree_spec.specs.LookAskings.{Sights, footprint}
 use Rattle.tree_spec.specs.declared.Entry.{Entry}

@@ -5,7 +5,7 @@
 --     first_key asked keys      of the keys that match, the one that no other precedes
 --     pattern_match asked found      what stands for `*`, where the key is a pattern
 use Rattle.std.specs.Prelude.{◌==◌, ◌&&◌, ◌||◌, ◌-◌, not, ℕ, nat_le, nat_lt, nat_eq, Bool, true, false, List, [], ◌∷◌, take, drop, length, filter, bytes_eq, if◌then◌else◌, Option, Some, None}
-use Rattle.std.specs.List.{ends_with, prefix_len}
+use Rattle.std.specs.List.{ends_with}
 use Rattle.url_spec.specs.Specifiers.{begins}
 use Rattle.node_spec.specs.PatternKeys.{KeyMatch, Itself, PatternMatch}
 
@@ -18,14 +18,13 @@ abbrev pub star_count : List ℕ → ℕ
 star_count text = length (filter (λ b. b == 42) text)
 
 -- what stands before the first `*`, and what stands behind it
-abbrev pub base_length : List ℕ → ℕ
-base_length key = prefix_len (λ b. not (b == 42)) key
-
 abbrev pub pattern_base : List ℕ → List ℕ
-pattern_base key = take (base_length key) key
+pattern_base [] = []
+pattern_base (b ∷ text) = if b == 42 then [] else b ∷ pattern_base text
 
 abbrev pub pattern_trailer : List ℕ → List ℕ
-pattern_trailer key = drop 1 (drop (base_length key) key)
+pattern_trailer [] = []
+pattern_trailer (b ∷ text) = if b == 42 then text else pattern_trailer text
 
 -- PACKAGE_IMPORTS_EXPORTS_RESOLVE, "If matchKey starts with but is not equal to patternBase"
 abbrev pub fits : List ℕ → List ℕ → List ℕ → List ℕ → Bool
