@@ -16,3 +16,4 @@ pub mod RelativeLemmas
 pub mod NearestFolders
 pub mod RecordLooks
 pub mod NodeLemmas
+pub mod TargetOutcomes

@@ -29,8 +29,9 @@ pattern_trailer (b ∷ text) = if b == 42 then text else pattern_trailer text
 -- PACKAGE_IMPORTS_EXPORTS_RESOLVE, "If matchKey starts with but is not equal to patternBase"
 abbrev pub fits : List ℕ → List ℕ → List ℕ → List ℕ → Bool
 fits asked key base trailer =
-    begins asked base && not (bytes_eq asked base)
-    && (length trailer == 0 || ends_with nat_eq asked trailer && nat_le (length key) (length asked))
+    begins asked base
+    && (not (bytes_eq asked base)
+    && (bytes_eq trailer [] || (ends_with nat_eq asked trailer && nat_le (length key) (length asked))))
 
 abbrev pub pattern_at : List ℕ → List ℕ → List ℕ → List ℕ → Option KeyMatch
 pattern_at asked key base trailer =

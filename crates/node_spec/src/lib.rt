@@ -5,7 +5,7 @@
 ghost use Rattle.node_spec.specs.Laws.{AnswersDetermine, ConditionsAreASet, DecidingCallIsLast, ExportsAskNothing, KeysAreInOrder, OneAnswer, OneChoice, OneOutcome, OneRecord, OneUnder, PatternMatchIsSlice, PatternMatchStands, PlacesBeginWithDotSlash, RecordNamesAreDistinct, SomeAnswer, SomeChoice, SomeOutcome, SomeOutcomeInTurn, SomeRecord};
 ghost use Rattle.node_spec.specs.WorkedExamples.{WorkedExamples};
 ghost use Rattle.node_spec.specs.NodeExamples.{NodeExamples};
-ghost use Rattle.node_spec.specs.NodeLaws.{OneNode, SomeNode, SameNode, SameFormat, RelativeNode, OneNearest, FindsPackageScope, FindsPackageFolder, FindsRecord, OneRecordAt, RecordIsRead};
+ghost use Rattle.node_spec.specs.NodeLaws.{OneNode, SomeNode, SameNode, SameFormat, RelativeNode, OneNearest, FindsPackageScope, FindsPackageFolder, FindsRecord, OneRecordAt, RecordIsRead, FindsTarget, ExportsLookAtNothing};
 ghost use Rattle.node_spec.specs.PatternExamples.{PatternExamples};
 ghost use Rattle.node_spec.specs.RelativeResolution.{FindsRelative};
 ghost use Rattle.node_spec.specs.RecordExamples.{RecordExamples};
@@ -283,4 +283,15 @@ pub fn one_record_at()
 #[tactic(auto, using(crate::proofs::RecordLooks::record_is_read))]
 pub fn record_is_read()
     ensures { RecordIsRead }
+{}
+
+/// A target comes to what it comes to by its calls, where these are answered as its bare texts are.
+pub fn finds_target<X>()
+    ensures { FindsTarget X }
+{}
+
+/// A target in `exports` needs no look.
+#[tactic(auto, using(crate::proofs::TargetOutcomes::exports_look_at_nothing))]
+pub fn exports_look_at_nothing()
+    ensures { ExportsLookAtNothing }
 {}
