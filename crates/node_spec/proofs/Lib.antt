@@ -17,3 +17,4 @@ pub mod NearestFolders
 pub mod RecordLooks
 pub mod NodeLemmas
 pub mod TargetOutcomes
+pub mod KeyChoice
