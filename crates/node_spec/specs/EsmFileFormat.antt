@@ -12,29 +12,29 @@ use Rattle.node_spec.specs.Records.{Record}
 use Rattle.node_spec.specs.declared.PackageKind.{PackageKind}
 use Rattle.node_spec.specs.declared.PackageKind.TheVariants as kind
 
--- own: `detected`: the file's own text decides. `of_bad_config`: the package.json of its scope isn't well formed
+-- own: `IsDetected`: the file's own text decides. `HasBadConfig`: the package.json of its scope isn't well formed
 pub data Format : Type 0 where
-  esm : Format
-  detected : Format
-  commonjs : Format
-  json : Format
-  addon : Format
-  of_bad_config : Format
-  other : Format
+  IsModule : Format
+  IsDetected : Format
+  IsCommonJs : Format
+  IsJson : Format
+  IsAddon : Format
+  HasBadConfig : Format
+  IsOther : Format
 
 abbrev pub format_of_kind : PackageKind → Format
-format_of_kind kind.Module = esm
-format_of_kind kind.CommonJs = commonjs
-format_of_kind kind.Unstated = detected
+format_of_kind kind.Module = IsModule
+format_of_kind kind.CommonJs = IsCommonJs
+format_of_kind kind.Unstated = IsDetected
 
 abbrev pub format_by_record : Result (Option Record) Refusal → Result Format Refusal
-format_by_record (Ok None) = Ok detected
+format_by_record (Ok None) = Ok IsDetected
 format_by_record (Ok (Some of_scope)) = Ok (format_of_kind of_scope.kind)
-format_by_record (Err (by_cause cause)) = Ok of_bad_config
+format_by_record (Err (by_cause cause)) = Ok HasBadConfig
 format_by_record (Err too_deep) = Err too_deep
 
 abbrev pub format_in : Option (List ℕ) → Resolving Format
-format_in None = gives detected
+format_in None = gives IsDetected
 format_in (Some scope) = and_then (record_at scope) (λ held. answered (format_by_record held))
 
 -- the name of the file has this ending
@@ -44,9 +44,9 @@ has_ending path ending = ends_with nat_eq path ending
 -- own: a name without an ending, or with another one, is none of these
 abbrev pub file_format : List ℕ → Resolving Format
 file_format path =
-    if has_ending path (codes ".mjs") then gives esm
-    else if has_ending path (codes ".cjs") then gives commonjs
-    else if has_ending path (codes ".json") then gives json
-    else if has_ending path (codes ".node") then gives addon
+    if has_ending path (codes ".mjs") then gives IsModule
+    else if has_ending path (codes ".cjs") then gives IsCommonJs
+    else if has_ending path (codes ".json") then gives IsJson
+    else if has_ending path (codes ".node") then gives IsAddon
     else if has_ending path (codes ".js") then and_then (package_scope (folder_of path)) format_in
-    else gives other
+    else gives IsOther

@@ -14,6 +14,7 @@ use Rattle.tree_spec.specs.LookAskings.{Sights, footprint}
 use Rattle.tree_spec.specs.declared.Entry.{Entry}
 use Rattle.tree_spec.specs.declared.Entry.TheVariants.{Stored, Directory}
 use Rattle.node_spec.specs.BuiltinNames.{texts}
+use Rattle.node_spec.specs.EsmFileFormat.{Format, IsModule, IsDetected, IsCommonJs, IsJson, IsAddon, HasBadConfig, IsOther, file_format}
 use Rattle.node_spec.specs.EsmResolve.{node}
 use Rattle.node_spec.specs.NodeAnswers.{Module, Refusal, by_cause, too_deep}
 use Rattle.node_spec.specs.declared.Cause.{Cause}
@@ -127,6 +128,10 @@ pub record ExportExamples : Type 0 where
   pub left_out : Refuses features "p/features/private-internal/m.js" NotExported
   pub no_trailer : Refuses features "p/features/x" NotExported
 
+-- READ_PACKAGE_JSON is read before a package is looked for: a broken one refuses every bare specifier of its scope
+abbrev pub broken_scope : Files
+broken_scope = file "/package.json" (codes "{") ∷ with_p "{\"exports\":\"./i.mjs\"}" ("/node_modules/p/i.mjs" ∷ [])
+
 pub record ConfigExamples : Type 0 where
   pub outside : Refuses (with_p "{\"exports\":\"../x\"}" []) "p" InvalidTarget
   pub no_record : Refuses (with_p "{\"name\":" []) "p" InvalidConfig
@@ -137,6 +142,8 @@ pub record ConfigExamples : Type 0 where
   pub star_above : Refuses (with_p "{\"exports\":{\"./*\":\"./*\"}}" []) "p/a/../b" InvalidSpecifier
   -- no file stands there
   pub target_missing : Refuses (with_p "{\"exports\":\"./i.mjs\"}" []) "p" NotFound
+  pub broken_above : Refuses broken_scope "p" InvalidConfig
+  pub broken_relative : Gives broken_scope "./node_modules/p/i.mjs" "/node_modules/p/i.mjs"
   pub deep :
       answer_in (packed "/node_modules/p" (codes "{\"exports\":" ++ replicate 128 91)) "/app.mjs" "p" ≡ Err too_deep
 
@@ -208,6 +215,14 @@ pub record SpecifierExamples : Type 0 where
   pub dot : Refuses [] ".x" InvalidSpecifier
   pub final_slash : Refuses [] "ui/" InvalidSpecifier
   pub empty : Refuses [] "" InvalidSpecifier
+  pub backslash : Refuses [] "a\\b" InvalidSpecifier
+  pub empty_part : Refuses [] "@x//y" InvalidSpecifier
+  pub dots_part : Refuses [] "@x/../y" InvalidSpecifier
+  pub mark_inside : Refuses [] "a?b" InvalidSpecifier
+  pub file_url : Refuses [] "file:///opt/nodejs/config.js" ExternalUrl
+  pub escaped_slash : Refuses [] "./b%2Fc.mjs" InvalidSpecifier
+  pub file_slash : Refuses (file "/b.mjs" [] ∷ []) "./b.mjs/" NotFound
+  pub folder_slash : Refuses (folder "/d" ∷ []) "./d/" DirectoryImport
   pub host_fails : Refuses [] "//[" InvalidSpecifier
   pub a_folder : Refuses (folder "/d" ∷ []) "./d" DirectoryImport
   pub missing : Refuses [] "./q.mjs" NotFound
@@ -240,6 +255,13 @@ pub record FolderExamples : Type 0 where
   pub leaves : Refuses with_main "p/../../x.mjs" InvalidSpecifier
   pub index : Gives (with_p "{}" ("/node_modules/p/index.js" ∷ [])) "p" "/node_modules/p/index.js"
   pub no_index : Refuses (with_p "{}" []) "p" NotFound
+  pub main_query :
+      answer_in (with_p "{\"main\":\"m.mjs?a\"}" ("/node_modules/p/m.mjs" ∷ [])) "/app.mjs" "p"
+      ≡ Ok (record { path = codes "/node_modules/p/m.mjs"; suffix = codes "?a" })
+  pub main_slash : Gives (with_p "{\"main\":\"m.mjs/\"}" ("/node_modules/p/m.mjs" ∷ "/node_modules/p/index.js" ∷ [])) "p" "/node_modules/p/index.js"
+  pub main_no_text : Gives (with_p "{\"main\":1}" ("/node_modules/p/index.json" ∷ [])) "p" "/node_modules/p/index.json"
+  pub no_package_json : Gives (folder "/node_modules/p" ∷ file "/node_modules/p/a.mjs" [] ∷ []) "p/a.mjs" "/node_modules/p/a.mjs"
+  pub below_missing : Refuses with_main "p/b.mjs" NotFound
   pub scoped_name : GivesFrom scoped "/a/b/m.mjs" "@s/p/x.mjs" "/a/node_modules/@s/p/x.mjs"
 
 pub record FootprintExamples : Type 0 where
@@ -254,7 +276,41 @@ pub record FootprintExamples : Type 0 where
   pub builtin : Sees [] "/app.mjs" "fs" []
   pub own : Sees own_name "/app.mjs" "me/sub" ("/package.json" ∷ "/s.mjs" ∷ [])
 
+-- ---- formats
+
+abbrev pub HasFormat : Files → String → Format → Type 0
+HasFormat files path format = outcome (told files) (file_format (codes path)) ≡ Ok format
+
+-- Packages, package.json and file extensions: `/` has type module, and a package below it no type
+abbrev pub typed : Files
+typed =
+    file "/package.json" (codes "{\"type\":\"module\"}")
+    ∷ (packed "/node_modules/commonjs-package" (codes "{\"type\":\"commonjs\"}")
+    ++ packed "/node_modules/untyped" (codes "{\"type\":\"other\"}") ++ packed "/node_modules/broken" (codes "[]"))
+
+pub record FormatExamples : Type 0 where
+  pub of_type : HasFormat typed "/my-app.js" IsModule
+  pub by_folder_above : HasFormat typed "/startup/init.js" IsModule
+  pub of_commonjs : HasFormat typed "/node_modules/commonjs-package/src/index.js" IsCommonJs
+  pub always_module : HasFormat typed "/node_modules/commonjs-package/index.mjs" IsModule
+  pub always_commonjs : HasFormat typed "/my-app.cjs" IsCommonJs
+  pub other_type : HasFormat typed "/node_modules/untyped/index.js" IsDetected
+  -- the scope doesn't reach below a folder `node_modules`
+  pub no_scope : HasFormat typed "/node_modules/bare/index.js" IsDetected
+  pub no_record : HasFormat [] "/x.js" IsDetected
+  pub bad_record : HasFormat typed "/node_modules/broken/index.js" HasBadConfig
+  pub of_json : HasFormat typed "/data.json" IsJson
+  pub of_addon : HasFormat typed "/a.node" IsAddon
+  pub no_ending : HasFormat typed "/bin" IsOther
+  pub other_ending : HasFormat typed "/a.wasm" IsOther
+  pub dot_first : HasFormat typed "/.cjs" IsCommonJs
+  pub case_counts : HasFormat typed "/a.MJS" IsOther
+  pub looks :
+      footprint (told typed) (file_format (codes "/node_modules/commonjs-package/src/index.js"))
+      ≡ texts ("/node_modules/commonjs-package/src/package.json" ∷ "/node_modules/commonjs-package/package.json" ∷ [])
+  pub looks_at_nothing : footprint (told typed) (file_format (codes "/my-app.cjs")) ≡ []
+
 abbrev pub NodeExamples : Type 0
 NodeExamples =
     ExportExamples × ConfigExamples × OwnPackageExamples × ImportExamples × SpecifierExamples × FolderExamples
-    × FootprintExamples
+    × FootprintExamples × FormatExamples
