@@ -18,3 +18,4 @@ pub mod RecordLooks
 pub mod NodeLemmas
 pub mod TargetOutcomes
 pub mod KeyChoice
+pub mod TargetsFollowed

@@ -26,5 +26,6 @@ pub mod PackageResolve
 pub mod PackageImportsResolve
 pub mod EsmFileFormat
 pub mod EsmResolve
+pub mod TargetCalls
 pub mod NodeLaws
 pub mod NodeExamples

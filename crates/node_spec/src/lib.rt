@@ -7,6 +7,7 @@ ghost use Rattle.node_spec.specs.WorkedExamples.{WorkedExamples};
 ghost use Rattle.node_spec.specs.NodeExamples.{NodeExamples};
 ghost use Rattle.node_spec.specs.NodeLaws.{OneNode, SomeNode, SameNode, SameFormat, RelativeNode, OneNearest, FindsPackageScope, FindsPackageFolder, FindsRecord, OneRecordAt, RecordIsRead, FindsTarget, ExportsLookAtNothing, FindsKey};
 ghost use Rattle.node_spec.specs.PatternExamples.{PatternExamples};
+ghost use Rattle.node_spec.specs.TargetCalls.{FollowsTarget};
 ghost use Rattle.node_spec.specs.RelativeResolution.{FindsRelative};
 ghost use Rattle.node_spec.specs.RecordExamples.{RecordExamples};
 ghost use Rattle.node_spec.specs.TargetExamples.{TargetExamples};
@@ -299,4 +300,10 @@ pub fn exports_look_at_nothing()
 /// The key that is taken is the choice among the keys, and where none is taken, none matches.
 pub fn finds_key()
     ensures { FindsKey }
+{}
+
+/// What a target comes to by calls that are answered one after another, in a state that they change, is what it comes to
+/// as an asking.
+pub fn follows_target<T, S, X>()
+    ensures { FollowsTarget T S X }
 {}
