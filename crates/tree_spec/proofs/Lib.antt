@@ -9,3 +9,4 @@ pub mod DecidedTrees
 pub mod Footprints
 pub mod LimitedLooks
 pub mod FolderLemmas
+pub mod LookExamples

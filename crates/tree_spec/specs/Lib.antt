@@ -8,3 +8,4 @@ pub mod FoldersAbove
 pub mod Counts
 pub mod States
 pub mod Laws
+pub mod LookExamples

@@ -1,4 +1,5 @@
 ghost use Rattle.tree_spec.specs.Laws.{OneLook, OneParent, OnePlacing, PlacingKeepsTree, PlacingInFolder, PlacingInRoot, RootAlone};
+ghost use Rattle.tree_spec.specs.LookExamples.{LookExamples};
 ghost use Rattle.tree_spec.specs.Laws.{SameByFootprint, SameLimited, FirstLimitStops, EndsCounted, FoldersClimb, FolderIsParent};
 
 /// A path has one parent.
@@ -64,4 +65,10 @@ pub fn folders_climb()
 /// The folder in which a path stands is its parent.
 pub fn folder_is_parent()
     ensures { FolderIsParent }
+{}
+
+/// Worked examples of looks with limits, and of folders.
+#[tactic(auto, using(crate::proofs::LookExamples::look_examples))]
+pub fn look_examples()
+    ensures { LookExamples }
 {}

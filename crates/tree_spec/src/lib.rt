@@ -5,8 +5,8 @@ mod laws;
 mod limits;
 
 pub use laws::{
-    ends_counted, first_limit_stops, folder_is_parent, folders_climb, one_look, one_parent,
-    one_placing, placing_in_folder, placing_in_root, placing_keeps_tree, root_alone,
+    ends_counted, first_limit_stops, folder_is_parent, folders_climb, look_examples, one_look,
+    one_parent, one_placing, placing_in_folder, placing_in_root, placing_keeps_tree, root_alone,
     same_by_footprint, same_limited,
 };
 pub use limits::{
