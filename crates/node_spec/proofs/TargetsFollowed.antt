@@ -89,12 +89,12 @@ module _ {T S X : Type 0} (answers : LookAnswers T S) (bares : Bares X) where
             ∙ (ap (λ b. run middle (cond b (and_then (more value) next) (answered (came first value)))) p
             ∙ (evaluated_then answers middle (more value) next
             ∙ (ap (behind next) (two middle value end h) ∙ brings_twice first rest end))))
-          )
+            )
         | first_stops stop after g s ↦ (
             evaluated_then answers now (item last) (after_item more)
             ∙ (ap (behind (after_item more)) (one now last (stopped stop after) g)
             ∙ ap (brings (last_of first rest)) (sym s))
-          )
+            )
       ]
 
   decided_end : (more : Option X → LookAsking (Came X)) (out : Outcome) → is_passed out ≡ false → (end : End)
@@ -102,8 +102,8 @@ module _ {T S X : Type 0} (answers : LookAnswers T S) (bares : Bares X) where
   decided_end more out p (stopped stop after) = refl
   decided_end more out p (ends value after) =
       ap (λ b. run after (cond b
-          (and_then (more value) (λ later. answered (came (last_of out later.out) later.last)))
-          (answered (came out value)))) p
+      (and_then (more value) (λ later. answered (came (last_of out later.out) later.last)))
+      (answered (came out value)))) p
 
   item_decided : (asked : List Call) (item more : Option X → LookAsking (Came X)) (out : Outcome)
       → is_passed out ≡ false → Comes asked item out
@@ -120,11 +120,11 @@ module _ {T S X : Type 0} (answers : LookAnswers T S) (bares : Bares X) where
         | both middle value g h ↦ (
             evaluated_then answers now (member last) (after_member more)
             ∙ (ap (behind (after_member more)) (one now last (ends value middle) g) ∙ two middle value end h)
-          )
+            )
         | first_stops stop after g s ↦ (
             evaluated_then answers now (member last) (after_member more)
             ∙ (ap (behind (after_member more)) (one now last (stopped stop after) g) ∙ ap (brings out) (sym s))
-          )
+            )
       ]
 
   defined_end : (more : Option X → LookAsking (Came X)) (out : Outcome) → is_undefined out ≡ false → (end : End)

@@ -16,7 +16,8 @@ index_files = codes "index.js" ∷ codes "index.json" ∷ codes "index.node" ∷
 
 abbrev pub main_ends : List (List ℕ)
 main_ends =
-    [] ∷ codes ".js" ∷ codes ".json" ∷ codes ".node" ∷ codes "/index.js" ∷ codes "/index.json" ∷ codes "/index.node" ∷ []
+    [] ∷ codes ".js" ∷ codes ".json" ∷ codes ".node"
+    ∷ codes "/index.js" ∷ codes "/index.json" ∷ codes "/index.node" ∷ []
 
 abbrev pub main_files : Option (List ℕ) → List (List ℕ)
 main_files None = index_files

@@ -12,8 +12,8 @@ use Rattle.tree_spec.specs.LookAskings.{LookAsking}
 use Rattle.node_spec.specs.Resolution.{Answer, Resolved, Refused}
 use Rattle.node_spec.specs.declared.Cause.{Cause}
 
--- own: `too_deep`: a package.json that is read on the way has more open brackets than a reader takes. That is a limit and
--- none of the causes
+-- own: `too_deep`: a package.json that is read on the way has more open brackets than a reader takes. That is a limit
+-- and none of the causes
 pub data Refusal : Type 0 where
   by_cause : Cause → Refusal
   too_deep : Refusal

@@ -1,13 +1,15 @@
 -- Worked examples of Node's resolution, each proved by computation. The conditions are `browser` and `import`.
 --     Files, told files                paths with what stands there; what they tell
 --     file path text, folder path      one of them
---     packed path json, with_files    a package's folder and its package.json; a site with these empty files
+--     packed path json, empty_files paths      a package's folder with its package.json; files without bytes
+--     with_p written names             the package `p` with this package.json and these files
 --     answer_in files parent specifier      the answer for a specifier in the file at a path
---     Gives, GivesFrom, Refuses, RefusesFrom      the answer is this file; it is this cause; from `/app.mjs`, or from another
---         file
---     Sees files specifier paths       the resolution has this footprint
---     ExportExamples, OwnPackageExamples, ImportExamples, SpecifierExamples, FolderExamples, FootprintExamples
---                                      the examples
+--     GivesFrom files parent specifier path, RefusesFrom files parent specifier cause      it is this file; this cause
+--     Gives, Refuses                   the same from `/app.mjs`
+--     Sees files parent specifier paths      the resolution has this footprint
+--     HasFormat files path format      the file has this format
+--     ExportExamples, ConfigExamples, OwnPackageExamples, ImportExamples, SpecifierExamples, FolderExamples,
+--         FootprintExamples, FormatExamples      the examples
 use Rattle.std.specs.Prelude.{◌≡◌, ℕ, List, [], ◌∷◌, ◌++◌, codes, map, bytes_eq, replicate, Some, None, Result, Ok, Err, if◌then◌else◌}
 use Rattle.asking_spec.specs.Askings.{outcome}
 use Rattle.tree_spec.specs.LookAskings.{Sights, footprint}
@@ -40,9 +42,19 @@ packed path json = folder path ∷ (codes path ++ codes "/package.json", Stored 
 abbrev pub empty_files : List String → Files
 empty_files paths = map (λ (path : String). file path []) paths
 
--- the package `p` in the root's `node_modules`, with this package.json
+-- these texts, one behind another
+abbrev pub whole : List String → List ℕ
+whole [] = []
+whole (text ∷ more) = codes text ++ whole more
+
+-- the package `p` in the root's `node_modules`: its package.json, and empty files with these names
+abbrev pub with_text : List String → List String → Files
+with_text written names =
+    packed "/node_modules/p" (whole written)
+    ++ map (λ (name : String). (codes "/node_modules/p/" ++ codes name, Stored [])) names
+
 abbrev pub with_p : String → List String → Files
-with_p json paths = packed "/node_modules/p" (codes json) ++ empty_files paths
+with_p written names = with_text (written ∷ []) names
 
 abbrev pub conditions : List (List ℕ)
 conditions = texts ("browser" ∷ "import" ∷ [])
@@ -72,42 +84,44 @@ Sees files parent specifier paths =
 abbrev pub repeated : Files
 repeated =
     with_p "{\"exports\":{\"import\":\"./1.mjs\",\"default\":\"./2.mjs\",\"import\":\"./3.mjs\"}}"
-    ("/node_modules/p/1.mjs" ∷ "/node_modules/p/2.mjs" ∷ "/node_modules/p/3.mjs" ∷ [])
+    ("1.mjs" ∷ "2.mjs" ∷ "3.mjs" ∷ [])
 
 abbrev pub patterns : Files
 patterns =
     with_p "{\"exports\":{\"./a/*\":\"./1/*.mjs\",\"./a/b*\":\"./2/*.mjs\",\"./a/*.js\":\"./3/*.mjs\"}}"
-    ("/node_modules/p/1/bc.js.mjs" ∷ "/node_modules/p/2/c.js.mjs" ∷ "/node_modules/p/3/x.mjs" ∷ [])
+    ("1/bc.js.mjs" ∷ "2/c.js.mjs" ∷ "3/x.mjs" ∷ [])
 
 abbrev pub private : Files
 private =
     with_p "{\"exports\":{\"./*\":\"./*.mjs\",\"./priv/*\":null}}"
-    ("/node_modules/p/a.mjs" ∷ "/node_modules/p/priv/x.mjs" ∷ [])
+    ("a.mjs" ∷ "priv/x.mjs" ∷ [])
 
 abbrev pub conditional : Files
 conditional =
     with_p "{\"exports\":{\"types\":\"./i.d.ts\",\"node\":\"./n.js\",\"browser\":\"./b.js\",\"default\":\"./d.js\"}}"
-    ("/node_modules/p/b.js" ∷ "/node_modules/p/d.js" ∷ [])
+    ("b.js" ∷ "d.js" ∷ [])
 
 -- Packages, nested conditions
 abbrev pub nested : Files
 nested =
-    with_p
-    "{\"exports\":{\"node\":{\"import\":\"./feature-node.mjs\",\"require\":\"./feature-node.cjs\"},\"default\":\"./feature.mjs\"}}"
-    ("/node_modules/p/feature.mjs" ∷ "/node_modules/p/feature-node.mjs" ∷ [])
+    with_text
+    ("{\"exports\":{\"node\":{\"import\":\"./feature-node.mjs\",\"require\":\"./feature-node.cjs\"},"
+    ∷ "\"default\":\"./feature.mjs\"}}" ∷ [])
+    ("feature.mjs" ∷ "feature-node.mjs" ∷ [])
 
 -- Packages, main entry point export and subpath exports
 abbrev pub subpaths : Files
 subpaths =
-    with_p
-    "{\"exports\":{\".\":\"./lib/index.js\",\"./submodule.js\":\"./src/submodule.js\",\"./feature.js\":{\"node\":\"./feature-node.js\",\"default\":\"./feature.js\"}}}"
-    ("/node_modules/p/lib/index.js" ∷ "/node_modules/p/src/submodule.js" ∷ "/node_modules/p/feature.js" ∷ "/node_modules/p/private-module.js" ∷ [])
+    with_text
+    ("{\"exports\":{\".\":\"./lib/index.js\",\"./submodule.js\":\"./src/submodule.js\","
+    ∷ "\"./feature.js\":{\"node\":\"./feature-node.js\",\"default\":\"./feature.js\"}}}" ∷ [])
+    ("lib/index.js" ∷ "src/submodule.js" ∷ "feature.js" ∷ "private-module.js" ∷ [])
 
 -- Packages, subpath patterns
 abbrev pub features : Files
 features =
     with_p "{\"exports\":{\"./features/*.js\":\"./src/features/*.js\",\"./features/private-internal/*\":null}}"
-    ("/node_modules/p/src/features/x.js" ∷ "/node_modules/p/src/features/y/y.js" ∷ "/node_modules/p/src/features/private-internal/m.js" ∷ [])
+    ("src/features/x.js" ∷ "src/features/y/y.js" ∷ "src/features/private-internal/m.js" ∷ [])
 
 pub record ExportExamples : Type 0 where
   -- a repeated key keeps its first place and takes its last value
@@ -130,12 +144,13 @@ pub record ExportExamples : Type 0 where
 
 -- READ_PACKAGE_JSON is read before a package is looked for: a broken one refuses every bare specifier of its scope
 abbrev pub broken_scope : Files
-broken_scope = file "/package.json" (codes "{") ∷ with_p "{\"exports\":\"./i.mjs\"}" ("/node_modules/p/i.mjs" ∷ [])
+broken_scope = file "/package.json" (codes "{") ∷ with_p "{\"exports\":\"./i.mjs\"}" ("i.mjs" ∷ [])
 
 pub record ConfigExamples : Type 0 where
   pub outside : Refuses (with_p "{\"exports\":\"../x\"}" []) "p" InvalidTarget
   pub no_record : Refuses (with_p "{\"name\":" []) "p" InvalidConfig
-  pub mixed : Refuses (with_p "{\"exports\":{\".\":\"./i.mjs\",\"x\":\"./i.mjs\"}}" ("/node_modules/p/i.mjs" ∷ [])) "p" InvalidConfig
+  pub mixed :
+      Refuses (with_p "{\"exports\":{\".\":\"./i.mjs\",\"x\":\"./i.mjs\"}}" ("i.mjs" ∷ [])) "p" InvalidConfig
   pub no_object : Refuses (with_p "[]" []) "p" InvalidConfig
   pub index_key : Refuses (with_p "{\"exports\":{\"1\":\"./i.mjs\"}}" []) "p" InvalidConfig
   pub a_number : Refuses (with_p "{\"exports\":1}" []) "p" NotExported
@@ -158,7 +173,8 @@ own_name =
 -- Packages, self-referencing a package using its name
 abbrev pub self_reference : Files
 self_reference =
-    file "/package.json" (codes "{\"name\":\"a-package\",\"exports\":{\".\":\"./index.mjs\",\"./foo.js\":\"./foo.js\"}}")
+    file "/package.json"
+    (codes "{\"name\":\"a-package\",\"exports\":{\".\":\"./index.mjs\",\"./foo.js\":\"./foo.js\"}}")
     ∷ empty_files ("/index.mjs" ∷ "/foo.js" ∷ "/m.mjs" ∷ [])
 
 abbrev pub without_exports : Files
@@ -186,8 +202,11 @@ with_fallback =
 abbrev pub internal : Files
 internal =
     file "/package.json"
-    (codes "{\"imports\":{\"#dep\":{\"node\":\"dep-node-native\",\"default\":\"./dep-polyfill.js\"},\"#internal/*.js\":\"./src/internal/*.js\",\"#p\":\"p\",\"#gone\":[\"gone\",\"./dep-polyfill.js\"]}}")
-    ∷ with_p "{\"exports\":\"./p.mjs\"}" ("/dep-polyfill.js" ∷ "/src/internal/z.js" ∷ "/node_modules/p/p.mjs" ∷ [])
+    (whole
+    ("{\"imports\":{\"#dep\":{\"node\":\"dep-node-native\",\"default\":\"./dep-polyfill.js\"},"
+    ∷ "\"#internal/*.js\":\"./src/internal/*.js\",\"#p\":\"p\",\"#gone\":[\"gone\",\"./dep-polyfill.js\"]}}" ∷ []))
+    ∷ (with_p "{\"exports\":\"./p.mjs\"}" ("p.mjs" ∷ [])
+    ++ empty_files ("/dep-polyfill.js" ∷ "/src/internal/z.js" ∷ []))
 
 pub record ImportExamples : Type 0 where
   pub invalid_passed : Gives with_fallback "#d" "/fb.mjs"
@@ -235,7 +254,8 @@ pub record SpecifierExamples : Type 0 where
 -- ---- folders without exports
 
 abbrev pub with_main : Files
-with_main = with_p "{\"main\":\"lib\"}" ("/node_modules/p/lib/index.js" ∷ "/node_modules/p/index.js" ∷ "/node_modules/p/a/b.mjs" ∷ "/x.mjs" ∷ [])
+with_main =
+    with_p "{\"main\":\"lib\"}" ("lib/index.js" ∷ "index.js" ∷ "a/b.mjs" ∷ []) ++ empty_files ("/x.mjs" ∷ [])
 
 -- the package `c`, whose nearer folder is empty
 abbrev pub nearer : Files
@@ -253,14 +273,15 @@ pub record FolderExamples : Type 0 where
   pub main : Gives with_main "p" "/node_modules/p/lib/index.js"
   pub below : Gives with_main "p/a/b.mjs" "/node_modules/p/a/b.mjs"
   pub leaves : Refuses with_main "p/../../x.mjs" InvalidSpecifier
-  pub index : Gives (with_p "{}" ("/node_modules/p/index.js" ∷ [])) "p" "/node_modules/p/index.js"
+  pub index : Gives (with_p "{}" ("index.js" ∷ [])) "p" "/node_modules/p/index.js"
   pub no_index : Refuses (with_p "{}" []) "p" NotFound
   pub main_query :
-      answer_in (with_p "{\"main\":\"m.mjs?a\"}" ("/node_modules/p/m.mjs" ∷ [])) "/app.mjs" "p"
+      answer_in (with_p "{\"main\":\"m.mjs?a\"}" ("m.mjs" ∷ [])) "/app.mjs" "p"
       ≡ Ok (record { path = codes "/node_modules/p/m.mjs"; suffix = codes "?a" })
-  pub main_slash : Gives (with_p "{\"main\":\"m.mjs/\"}" ("/node_modules/p/m.mjs" ∷ "/node_modules/p/index.js" ∷ [])) "p" "/node_modules/p/index.js"
-  pub main_no_text : Gives (with_p "{\"main\":1}" ("/node_modules/p/index.json" ∷ [])) "p" "/node_modules/p/index.json"
-  pub no_package_json : Gives (folder "/node_modules/p" ∷ file "/node_modules/p/a.mjs" [] ∷ []) "p/a.mjs" "/node_modules/p/a.mjs"
+  pub main_slash : Gives (with_p "{\"main\":\"m.mjs/\"}" ("m.mjs" ∷ "index.js" ∷ [])) "p" "/node_modules/p/index.js"
+  pub main_no_text : Gives (with_p "{\"main\":1}" ("index.json" ∷ [])) "p" "/node_modules/p/index.json"
+  pub no_package_json :
+      Gives (folder "/node_modules/p" ∷ file "/node_modules/p/a.mjs" [] ∷ []) "p/a.mjs" "/node_modules/p/a.mjs"
   pub below_missing : Refuses with_main "p/b.mjs" NotFound
   pub scoped_name : GivesFrom scoped "/a/b/m.mjs" "@s/p/x.mjs" "/a/node_modules/@s/p/x.mjs"
 
@@ -270,8 +291,12 @@ pub record FootprintExamples : Type 0 where
       ("/package.json" ∷ "/node_modules/c" ∷ "/node_modules/c/package.json" ∷ "/node_modules/c/c.mjs" ∷ [])
   pub from_below :
       Sees nearer "/lib/m.mjs" "c"
-      ("/lib/package.json" ∷ "/package.json" ∷ "/lib/node_modules/c" ∷ "/lib/node_modules/c/package.json" ∷ "/lib/node_modules/c/index.js" ∷ "/lib/node_modules/c/index.json" ∷ "/lib/node_modules/c/index.node" ∷ [])
-  pub within_modules : Sees [] "/node_modules/q/m.mjs" "c" ("/node_modules/q/package.json" ∷ "/node_modules/q/node_modules/c" ∷ "/node_modules/node_modules/c" ∷ "/node_modules/c" ∷ [])
+      ("/lib/package.json" ∷ "/package.json" ∷ "/lib/node_modules/c" ∷ "/lib/node_modules/c/package.json"
+      ∷ "/lib/node_modules/c/index.js" ∷ "/lib/node_modules/c/index.json" ∷ "/lib/node_modules/c/index.node" ∷ [])
+  pub within_modules :
+      Sees [] "/node_modules/q/m.mjs" "c"
+      ("/node_modules/q/package.json" ∷ "/node_modules/q/node_modules/c"
+      ∷ "/node_modules/node_modules/c" ∷ "/node_modules/c" ∷ [])
   pub relative : Sees [] "/app.mjs" "./b.mjs" ("/b.mjs" ∷ [])
   pub builtin : Sees [] "/app.mjs" "fs" []
   pub own : Sees own_name "/app.mjs" "me/sub" ("/package.json" ∷ "/s.mjs" ∷ [])

@@ -1,6 +1,6 @@
 -- What a package exports (Node.js, ECMAScript modules: PACKAGE_EXPORTS_RESOLVE).
---     exported conditions folder subpath exports      the URL that the package at a folder gives for a subpath, which is
---         `.` or begins with `./`
+--     exported conditions folder subpath exports      the URL that the package at a folder gives for a subpath, which
+--         is `.` or begins with `./`
 use Rattle.std.specs.Prelude.{◌&&◌, not, ℕ, Bool, false, List, codes, bytes_eq, if◌then◌else◌, None}
 use Rattle.std.specs.List.{list_any, list_all}
 use Rattle.json_spec.specs.Value.{Json, a_null, a_bool, a_number, a_text, a_list, an_object, Members}

@@ -1,7 +1,7 @@
 -- A package target as an asking (Node.js, ECMAScript modules: PACKAGE_TARGET_RESOLVE). What a target is judged by, and
 -- what it comes to when its bare texts are answered, stands in PackageTargets.
 --     Bares X                          how bare texts are answered, and what a target makes of such an answer
---     Came X                           what a target comes to, with the full answer of the bare text that was asked for last
+--     Came X                           what a target comes to, and the full answer to the bare text that was asked last
 --     target_comes bares rules target last      the target as an asking, where `last` is the answer so far
 --     no_bares                         of a target in `exports`, which asks for none
 --     target_url folder nothing came   the URL in the package at a folder; `nothing` where the target gives nothing

@@ -1,5 +1,6 @@
 -- A target's calls, one after another, each answered by the asking for its text.
---     Followed answers bares now last asked end      these calls lead from a state to this end; `last` is the answer so far
+--     Followed answers bares now last asked end      these calls lead from a state to this end; `last` is the answer so
+--         far
 --     brings out end            the target's outcome, where the calls end so
 --     FollowsTarget T S X       what a target comes to by its calls is what it comes to as an asking
 use Rattle.std.specs.Prelude.{◌≡◌, ℕ, List, [], ◌∷◌, Option, Some}

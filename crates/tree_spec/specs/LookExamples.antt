@@ -1,5 +1,5 @@
--- Worked examples of looks with limits and of folders, each proved by computation. At most two paths may be looked at, a
--- file may have three bytes, and all files together four.
+-- Worked examples of looks with limits and of folders, each proved by computation. At most two paths may be looked at,
+-- a file may have three bytes, and all files together four.
 --     told path                 what stands there
 --     trail paths size question      the trail with these
 --     Ends before paths after, Stops before paths name after      looks at these paths end so

@@ -56,8 +56,8 @@ seen_first trail path found = record {
   question = with_seen trail.question path;
 }
 
--- own: at a new path the number of paths is judged before the look, then the file, then all files together. A file above
--- the limit is refused at each look, also at a path that was counted
+-- own: at a new path the number of paths is judged before the look, then the file, then all files together. A file
+-- above the limit is refused at each look, also at a path that was counted
 abbrev pub counted : LookLimits → Trail → List ℕ → Option Entry → Result Trail LimitName
 counted limits trail path found =
     if is_seen path trail.paths
