@@ -19,3 +19,4 @@ pub mod NodeLemmas
 pub mod TargetOutcomes
 pub mod KeyChoice
 pub mod TargetsFollowed
+pub mod TargetsAnswered

@@ -7,7 +7,7 @@ ghost use Rattle.node_spec.specs.WorkedExamples.{WorkedExamples};
 ghost use Rattle.node_spec.specs.NodeExamples.{NodeExamples};
 ghost use Rattle.node_spec.specs.NodeLaws.{OneNode, SomeNode, SameNode, SameFormat, RelativeNode, OneNearest, FindsPackageScope, FindsPackageFolder, FindsRecord, OneRecordAt, RecordIsRead, FindsTarget, ExportsLookAtNothing, FindsKey};
 ghost use Rattle.node_spec.specs.PatternExamples.{PatternExamples};
-ghost use Rattle.node_spec.specs.TargetCalls.{FollowsTarget};
+ghost use Rattle.node_spec.specs.TargetCalls.{FollowsTarget, TargetAnswered};
 ghost use Rattle.node_spec.specs.RelativeResolution.{FindsRelative};
 ghost use Rattle.node_spec.specs.RecordExamples.{RecordExamples};
 ghost use Rattle.node_spec.specs.TargetExamples.{TargetExamples};
@@ -306,4 +306,9 @@ pub fn finds_key()
 /// as an asking.
 pub fn follows_target<T, S, X>()
     ensures { FollowsTarget T S X }
+{}
+
+/// An object that was asked for a target's bare texts keeps what the target comes to as an asking.
+pub fn target_answered<T, S, X>()
+    ensures { TargetAnswered T S X }
 {}
