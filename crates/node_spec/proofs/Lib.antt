@@ -20,3 +20,4 @@ pub mod TargetOutcomes
 pub mod KeyChoice
 pub mod TargetsFollowed
 pub mod TargetsAnswered
+pub mod NodeConditions

@@ -12,6 +12,7 @@ use Rattle.url_spec.specs.Specifiers.{is_relative}
 use Rattle.node_spec.specs.BareCalls.{Tells}
 use Rattle.node_spec.specs.EsmFileFormat.{file_format}
 use Rattle.node_spec.specs.EsmResolve.{node, Resolves}
+use Rattle.node_spec.specs.Laws.{IsSameSet}
 use Rattle.node_spec.specs.LookupPackageScope.{package_scope, IsPackageScope}
 use Rattle.node_spec.specs.Nearest.{Search, IsNearest}
 use Rattle.node_spec.specs.NodeAnswers.{Module, Refusal, as_node}
@@ -123,3 +124,12 @@ abbrev pub ExportsLookAtNothing : Type 0
 ExportsLookAtNothing =
     (sights : Sights) (rules : Rules) (folder : List ℕ) (nothing : Cause) (target : Json) → rules.is_imports ≡ false
     → looks sights (package_target no_bares rules folder nothing target) ≡ []
+
+-- ---- conditions
+
+-- own law: conditions are a set: neither their order nor how often one is named changes what is looked at and what comes
+-- of it
+abbrev pub NodeConditionsAreASet : Type 0
+NodeConditionsAreASet =
+    (some other : List (List ℕ)) (parent specifier : List ℕ) → IsSameSet some other
+    → node some parent specifier ≡ node other parent specifier

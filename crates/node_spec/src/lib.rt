@@ -5,7 +5,7 @@
 ghost use Rattle.node_spec.specs.Laws.{AnswersDetermine, ConditionsAreASet, DecidingCallIsLast, ExportsAskNothing, KeysAreInOrder, OneAnswer, OneChoice, OneOutcome, OneRecord, OneUnder, PatternMatchIsSlice, PatternMatchStands, PlacesBeginWithDotSlash, RecordNamesAreDistinct, SomeAnswer, SomeChoice, SomeOutcome, SomeOutcomeInTurn, SomeRecord};
 ghost use Rattle.node_spec.specs.WorkedExamples.{WorkedExamples};
 ghost use Rattle.node_spec.specs.NodeExamples.{NodeExamples};
-ghost use Rattle.node_spec.specs.NodeLaws.{OneNode, SomeNode, SameNode, SameFormat, RelativeNode, OneNearest, FindsPackageScope, FindsPackageFolder, FindsRecord, OneRecordAt, RecordIsRead, FindsTarget, ExportsLookAtNothing, FindsKey};
+ghost use Rattle.node_spec.specs.NodeLaws.{OneNode, SomeNode, SameNode, SameFormat, RelativeNode, OneNearest, FindsPackageScope, FindsPackageFolder, FindsRecord, OneRecordAt, RecordIsRead, FindsTarget, ExportsLookAtNothing, FindsKey, NodeConditionsAreASet};
 ghost use Rattle.node_spec.specs.PatternExamples.{PatternExamples};
 ghost use Rattle.node_spec.specs.TargetCalls.{FollowsTarget, TargetAnswered};
 ghost use Rattle.node_spec.specs.RelativeResolution.{FindsRelative};
@@ -311,4 +311,9 @@ pub fn follows_target<T, S, X>()
 /// An object that was asked for a target's bare texts keeps what the target comes to as an asking.
 pub fn target_answered<T, S, X>()
     ensures { TargetAnswered T S X }
+{}
+
+/// Conditions are a set in the whole of Node's resolution.
+pub fn node_conditions_are_a_set()
+    ensures { NodeConditionsAreASet }
 {}
