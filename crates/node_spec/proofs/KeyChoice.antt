@@ -1,9 +1,9 @@
 -- The key that is taken, as a function, is the choice among the keys.
-use Rattle.std.proofs.Common.{◌≡◌, ◌≢◌, ◌≤◌, ◌<◌, ◌+◌, ◌-◌, ◌==◌, ◌⊎◌, ℕ, zero, suc, nat_le, nat_lt, nat_eq, List, [], ◌∷◌, ◌++◌, length, Bool, true, false, Option, Some, None, bytes_eq, refl, sym, ap, ◌∙◌, subst, inl, inr, arith}
+use Rattle.std.proofs.Common.{◌≡◌, ◌≢◌, ◌≤◌, ◌<◌, ◌-◌, ◌==◌, ◌⊎◌, ℕ, suc, nat_le, nat_lt, nat_eq, List, [], ◌∷◌, ◌++◌, length, Bool, true, false, Option, Some, None, bytes_eq, refl, sym, ap, ◌∙◌, subst, inl, inr, arith}
 use Rattle.std.specs.Bool.{Decides}
 use Rattle.std.specs.List.{ends_with}
-use Rattle.std.specs.Prelude.{◌&&◌, ◌||◌, not, cond, All, Contains, MatchOption}
-use Rattle.std.proofs.lemmas.Bool.{cond-true, cond-false, and_parts, or_parts, cases_Bool, eqb-true, eqb-false, true≢false, not-true}
+use Rattle.std.specs.Prelude.{◌&&◌, ◌||◌, not, cond, Contains, MatchOption}
+use Rattle.std.proofs.lemmas.Bool.{cond-false, and_parts, cases_Bool, eqb-true, eqb-false, true≢false}
 use Rattle.std.proofs.lemmas.Bool.Decides.{Decides-eqb, Decides-ltb, leb_tells}
 use Rattle.std.proofs.lemmas.List.Elements.{All-nil, All-cons, Contains-push_cases, Contains-append_cases, Contains-append_left, Contains-append_right, Contains-push}
 use Rattle.std.proofs.lemmas.Slice.Eq.{bytes_eq-Decides, starts_is, ends_is}

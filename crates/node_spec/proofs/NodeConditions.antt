@@ -1,9 +1,9 @@
 -- Conditions are a set in the whole of Node's resolution.
-use Rattle.std.proofs.Common.{◌≡◌, ℕ, Bool, true, false, List, [], ◌∷◌, Option, Some, None, Result, Ok, Err, refl, sym, ap, ◌∙◌}
+use Rattle.std.proofs.Common.{◌≡◌, ℕ, Bool, true, false, List, [], Option, Some, None, Result, Ok, Err, refl, ap, ◌∙◌}
 use Rattle.std.specs.Prelude.{◌&&◌, ◌||◌, not, bytes_eq, codes, cond}
 use Rattle.std.specs.List.{list_all}
 use Rattle.std.proofs.Math.Path.{fun_ext}
-use Rattle.asking_spec.specs.Askings.{Asking, answered, and_then, on_ok, and_ok}
+use Rattle.asking_spec.specs.Askings.{and_then, on_ok, and_ok}
 use Rattle.json_spec.specs.Value.{Json, a_null, a_bool, a_number, a_text, a_list, an_object, Items, no_items, an_item, Members, no_members, a_member}
 use Rattle.tree_spec.specs.FoldersAbove.{folder_of}
 use Rattle.tree_spec.specs.LookAskings.{LookAsking}
@@ -11,17 +11,17 @@ use Rattle.url_spec.specs.Schemes.{scheme_of}
 use Rattle.url_spec.specs.Specifiers.{begins, is_relative, ends_in_slash}
 use Rattle.node_spec.specs.BuiltinNames.{is_builtin}
 use Rattle.node_spec.proofs.ConditionSets.{tried_alike}
-use Rattle.node_spec.specs.EsmResolve.{judged, no_url, by_scheme, specifier_url, node}
+use Rattle.node_spec.specs.EsmResolve.{judged, no_url, by_scheme}
 use Rattle.node_spec.specs.Laws.{IsSameSet}
 use Rattle.node_spec.specs.LookupPackageScope.{package_scope}
 use Rattle.node_spec.specs.NodeAnswers.{Url, Refusal, Resolving}
 use Rattle.node_spec.specs.NodeLaws.{NodeConditionsAreASet}
-use Rattle.node_spec.specs.PackageExportsResolve.{is_dotted, is_mixed_object, has_dotted, export_rules, main_target, export_paths, main_export, subpath_export, exported}
+use Rattle.node_spec.specs.PackageExportsResolve.{is_dotted, is_mixed_object, has_dotted, main_export, subpath_export, exported}
 use Rattle.node_spec.specs.PackageImportsExportsResolve.{Subpaths, at_key, by_key, keys_of}
-use Rattle.node_spec.specs.PackageImportsResolve.{bares_from, import_paths, imported, imported_in, imported_at, imports_resolve}
-use Rattle.node_spec.specs.PackageResolve.{package_folder, by_files, by_record, in_folder, in_modules, by_name, split_at, name_length, lacks_name, is_package_name, package_resolve}
+use Rattle.node_spec.specs.PackageImportsResolve.{bares_from, imported, imported_in, imported_at, imports_resolve}
+use Rattle.node_spec.specs.PackageResolve.{package_folder, by_record, in_folder, in_modules, by_name, split_at, name_length, lacks_name, is_package_name, package_resolve}
 use Rattle.node_spec.specs.PackageSelfResolve.{Subpath, is_null, has_name, self_in, self_at, self_or}
-use Rattle.node_spec.specs.PackageTargetResolve.{Bares, Came, Found, after_item, after_member, target_comes, items_come, members_come, no_bares, target_url, package_target, judge_bare}
+use Rattle.node_spec.specs.PackageTargetResolve.{Bares, Found, after_item, after_member, target_comes, items_come, members_come, no_bares, target_url, package_target, judge_bare}
 use Rattle.node_spec.specs.PackageTargets.{Rules, has_index_key, is_tried}
 use Rattle.node_spec.specs.PatternKeyCompare.{KeyFound, first_key, pattern_match}
 use Rattle.node_spec.specs.ReadPackageJson.{record_at}
@@ -80,8 +80,8 @@ module _ (some other : List (List ℕ)) (same : IsSameSet some other) where
         ≡ members_come bares (rules other star imports) (a_member key value more) last
     member_step key value more last e f =
         ap (λ b. cond b (and_then (target_comes bares (rules some star imports) value last)
-            (after_member (λ l. members_come bares (rules some star imports) more l)))
-            (members_come bares (rules some star imports) more last)) (tried_alike some other key same)
+        (after_member (λ l. members_come bares (rules some star imports) more l)))
+        (members_come bares (rules some star imports) more last)) (tried_alike some other key same)
         ∙ same_both (is_tried other key) _ _ _ _
         (then_same (target_comes bares (rules some star imports) value last)
         (target_comes bares (rules other star imports) value last)

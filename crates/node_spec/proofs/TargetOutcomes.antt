@@ -1,16 +1,15 @@
 -- What a target comes to as an asking is what it comes to by its calls; a target in `exports` needs no look.
-use Rattle.std.proofs.Common.{◌≡◌, ℕ, List, [], ◌∷◌, ◌++◌, Bool, true, false, Option, Some, None, Ok, Err, refl, sym, ap, ◌∙◌, subst}
-use Rattle.std.specs.Prelude.{codes, if◌then◌else◌, cond}
-use Rattle.std.proofs.lemmas.Bool.{true≢false, cases_Bool}
+use Rattle.std.proofs.Common.{◌≡◌, ℕ, List, [], ◌++◌, Bool, true, false, Option, Some, None, refl, sym, ap, ◌∙◌, subst}
+use Rattle.std.specs.Prelude.{codes, cond}
 use Rattle.asking_spec.proofs.AskingLemmas.{outcome_then, questions_then}
 use Rattle.asking_spec.specs.Askings.{answered, outcome, and_then}
 use Rattle.json_spec.specs.Value.{Json, a_null, a_bool, a_number, a_text, a_list, an_object, Items, no_items, an_item, Members, no_members, a_member}
 use Rattle.tree_spec.specs.LookAskings.{Sights, LookAsking, looks}
 use Rattle.url_spec.specs.Specifiers.{begins}
 use Rattle.node_spec.proofs.DecidingCall.{never_package}
-use Rattle.node_spec.proofs.SomeOutcome.{Found, silent, behind, found_once, found_text, found_first, found_last, found, found_items, found_members, sound, told}
+use Rattle.node_spec.proofs.SomeOutcome.{Found, silent, behind, found_text, found_first, found_last, found, found_items, found_members, sound, told}
 use Rattle.node_spec.specs.FileLooks.{url_in, check_url}
-use Rattle.node_spec.specs.NodeLaws.{IsTargetOutcome, FindsTarget, ExportsLookAtNothing}
+use Rattle.node_spec.specs.NodeLaws.{FindsTarget, ExportsLookAtNothing}
 use Rattle.node_spec.specs.PackageTargetResolve.{Bares, Came, came, bare_comes, text_comes, after_item, after_member, target_comes, items_come, members_come, no_bares, target_url, last_found, package_target}
 use Rattle.node_spec.specs.PackageTargetResolve as resolve
 use Rattle.node_spec.specs.PackageTargets.{Rules, ResolvesTarget, with_match, names_package, has_index_key, is_tried, is_undefined, is_passed, last_of}

@@ -1,15 +1,14 @@
 -- What an object that was asked for a target's bare texts knows behind the calls.
-use Rattle.std.proofs.Common.{◌≡◌, ◌≢◌, ℕ, Bool, true, false, List, [], ◌∷◌, ◌++◌, Option, Some, None, refl, sym, ap, ◌∙◌, subst}
+use Rattle.std.proofs.Common.{◌≡◌, ℕ, true, false, List, [], ◌∷◌, ◌++◌, Some, None, refl, sym, ap, ◌∙◌, subst}
 use Rattle.std.specs.Prelude.{All, ⊤}
 use Rattle.std.proofs.lemmas.List.Elements.{All-head, All-tail}
-use Rattle.asking_spec.specs.Evaluation.{ends, stopped, evaluated}
-use Rattle.json_spec.specs.Value.{Json}
+use Rattle.asking_spec.specs.Evaluation.{ends, stopped}
 use Rattle.node_spec.proofs.DecidingCall.{deciding_call_is_last}
 use Rattle.node_spec.proofs.TargetsFollowed.{follows_target}
 use Rattle.node_spec.specs.BareCalls.{WasInvalid, IsDecided, by_found, by_stop, by_target}
-use Rattle.node_spec.specs.PackageTargetResolve.{Bares, target_comes}
-use Rattle.node_spec.specs.PackageTargets.{Rules, Call, ResolvesTarget}
-use Rattle.node_spec.specs.TargetCalls.{LookAnswers, Followed, no_call, a_call, a_stop, Answerer, GivesBare, a_value, a_limit, a_loss, Calls, IsTargetAnswer, TargetAnswered}
+use Rattle.node_spec.specs.PackageTargetResolve.{Bares}
+use Rattle.node_spec.specs.PackageTargets.{Call}
+use Rattle.node_spec.specs.TargetCalls.{LookAnswers, Followed, no_call, a_call, a_stop, Answerer, GivesBare, a_value, a_limit, a_loss, Calls, TargetAnswered}
 use Rattle.node_spec.specs.declared.BareAnswer.{BareAnswer}
 use Rattle.node_spec.specs.declared.BareAnswer.TheVariants as bare_answer
 use Rattle.node_spec.specs.declared.Outcome.{Outcome}
@@ -108,7 +107,9 @@ target_answered answers bares rules target before asked out after free r calls =
           follows_target answers bares rules target asked out r before.state before.last (ends after.last after.state)
           (followed.value kept none);
       limit = λ stop kept some.
-          let found = followed.limit stop kept some in
-          (found.0, follows_target answers bares rules target asked out r before.state before.last (stopped stop found.0)
-          found.1);
+          let found = followed.limit stop kept some in (
+            found.0,
+            follows_target answers bares rules target asked out r before.state before.last (stopped stop found.0)
+                found.1,
+          );
     }

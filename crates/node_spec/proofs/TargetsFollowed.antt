@@ -1,14 +1,14 @@
 -- What a target comes to by its calls, one after another, is what it comes to as an asking.
-use Rattle.std.proofs.Common.{◌≡◌, ℕ, Bool, true, false, List, [], ◌∷◌, ◌++◌, Option, Some, None, refl, sym, ap, ◌∙◌, subst}
-use Rattle.std.specs.Prelude.{codes, cond, if◌then◌else◌}
+use Rattle.std.proofs.Common.{◌≡◌, ℕ, true, false, List, [], ◌∷◌, ◌++◌, Option, Some, refl, sym, ap, ◌∙◌}
+use Rattle.std.specs.Prelude.{cond}
 use Rattle.std.proofs.lemmas.Bool.{cond-true, cond-false}
 use Rattle.asking_spec.proofs.EvaluationLemmas.{evaluated_then}
 use Rattle.asking_spec.specs.Askings.{answered, and_then}
 use Rattle.asking_spec.specs.Evaluation.{Ended, ends, stopped, then_ended, evaluated}
-use Rattle.json_spec.specs.Value.{Json, a_null, a_bool, a_number, a_text, a_list, an_object, Items, no_items, an_item, Members, no_members, a_member}
+use Rattle.json_spec.specs.Value.{Json, an_object, Items, an_item, Members, a_member}
 use Rattle.tree_spec.specs.LookAskings.{LookAsking}
 use Rattle.node_spec.specs.PackageTargetResolve.{Bares, Came, came, bare_comes, text_comes, after_item, after_member, target_comes, items_come, members_come}
-use Rattle.node_spec.specs.PackageTargets.{Rules, Call, own_outcome, names_package, with_match, bare_outcome, ResolvesText, is_undefined, is_passed, last_of, ResolvesTarget, ResolvesMembers, ResolvesItems}
+use Rattle.node_spec.specs.PackageTargets.{Rules, Call, own_outcome, with_match, bare_outcome, ResolvesText, is_undefined, is_passed, last_of, ResolvesTarget, ResolvesMembers, ResolvesItems}
 use Rattle.node_spec.specs.PackageTargets.ResolvesItems.{no_item, decided, passed}
 use Rattle.node_spec.specs.PackageTargets.ResolvesMembers.{no_member, untried, defined, undefined}
 use Rattle.node_spec.specs.PackageTargets.ResolvesTarget.{text_target, index_key, object_target, empty_list, list_target, null_target, bool_target, number_target}

@@ -4,7 +4,7 @@
 --     trail paths size question      the trail with these
 --     Ends before paths after, Stops before paths name after      looks at these paths end so
 --     LimitExamples, FootprintExamples, FolderExamples      the examples
-use Rattle.std.specs.Prelude.{◌≡◌, ℕ, List, [], ◌∷◌, codes, map, bytes_eq, replicate, Option, Some, None, if◌then◌else◌}
+use Rattle.std.specs.Prelude.{◌≡◌, ℕ, List, [], ◌∷◌, codes, map, bytes_eq, replicate, Some, None, if◌then◌else◌}
 use Rattle.asking_spec.specs.Evaluation.{ends, stopped, evaluated}
 use Rattle.tree_spec.specs.FoldersAbove.{folders_from, folder_of}
 use Rattle.tree_spec.specs.LookAskings.{Sights, look_at_each, footprint}
