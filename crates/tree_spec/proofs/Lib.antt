@@ -10,3 +10,4 @@ pub mod Footprints
 pub mod LimitedLooks
 pub mod FolderLemmas
 pub mod LookExamples
+pub mod FootprintSets

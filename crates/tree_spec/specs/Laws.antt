@@ -1,11 +1,12 @@
 -- The laws of paths, trees, looks and askings over looks. Each is the contract of a function of this crate.
 use Rattle.std.specs.FinMap.{get, insert}
-use Rattle.std.specs.Prelude.{◌≡◌, ℕ, List, ◌≢◌, Some, ◌↔◌, codes}
+use Rattle.std.specs.List.{IsDistinct}
+use Rattle.std.specs.Prelude.{◌≡◌, ◌++◌, ℕ, List, [], ◌≢◌, Some, ◌↔◌, codes, bytes_eq}
 use Rattle.asking_spec.specs.Askings.{outcome}
 use Rattle.asking_spec.specs.Evaluation.{ends, stopped, evaluated}
 use Rattle.asking_spec.specs.Laws.{AgreesOn}
 use Rattle.tree_spec.specs.FoldersAbove.{folders_from, folder_of, Climbs}
-use Rattle.tree_spec.specs.LookAskings.{Sights, LookAsking, looks, footprint}
+use Rattle.tree_spec.specs.LookAskings.{Sights, LookAsking, looks, is_seen, noted, footprint}
 use Rattle.tree_spec.specs.LookLimits.{LookLimits, Trail, limited, IsFirstLimit, Counts}
 use Rattle.tree_spec.specs.Looks.{IsLook}
 use Rattle.tree_spec.specs.Paths.{IsParent, IsPath}
@@ -99,3 +100,18 @@ FoldersClimb = (path : List ℕ) → IsPath path → Climbs path (folders_from p
 -- a path stands in its parent
 abbrev pub FolderIsParent : Type 0
 FolderIsParent = (parent path : List ℕ) → IsParent parent path → folder_of path ≡ parent
+
+-- own: a footprint has each path at which an asking looks once, and no other
+pub record IsFootprintOf {X : Type 0} (sights : Sights) (asking : LookAsking X) : Type 0 where
+  pub distinct : IsDistinct bytes_eq (footprint sights asking)
+  pub same_paths :
+      (path : List ℕ) → is_seen path (footprint sights asking) ≡ is_seen path (looks sights asking)
+
+abbrev pub FootprintIsSet : Type 0 → Type 0
+FootprintIsSet X = (sights : Sights) (asking : LookAsking X) → IsFootprintOf sights asking
+
+-- the footprints of askings are joined as their looks are: to note all looks of an asking is to note its footprint
+pub record FootprintsJoin : Type 0 where
+  pub one_after_another :
+      (seen front back : List (List ℕ)) → noted seen (front ++ back) ≡ noted (noted seen front) back
+  pub by_footprint : (seen paths : List (List ℕ)) → noted seen (noted [] paths) ≡ noted seen paths

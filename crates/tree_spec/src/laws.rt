@@ -1,6 +1,6 @@
 ghost use Rattle.tree_spec.specs.Laws.{OneLook, OneParent, OnePlacing, PlacingKeepsTree, PlacingInFolder, PlacingInRoot, RootAlone};
 ghost use Rattle.tree_spec.specs.LookExamples.{LookExamples};
-ghost use Rattle.tree_spec.specs.Laws.{SameByFootprint, SameLimited, FirstLimitStops, EndsCounted, FoldersClimb, FolderIsParent};
+ghost use Rattle.tree_spec.specs.Laws.{FootprintIsSet, FootprintsJoin, SameByFootprint, SameLimited, FirstLimitStops, EndsCounted, FoldersClimb, FolderIsParent};
 
 /// A path has one parent.
 pub fn one_parent()
@@ -71,4 +71,15 @@ pub fn folder_is_parent()
 #[tactic(auto, using(crate::proofs::LookExamples::look_examples))]
 pub fn look_examples()
     ensures { LookExamples }
+{}
+
+/// A footprint has each path of the looks once, and no other.
+pub fn footprint_is_set<X>()
+    ensures { FootprintIsSet X }
+{}
+
+/// Footprints are joined as looks are.
+#[tactic(auto, using(crate::proofs::FootprintSets::footprints_join))]
+pub fn footprints_join()
+    ensures { FootprintsJoin }
 {}
