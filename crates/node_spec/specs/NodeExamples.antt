@@ -9,7 +9,7 @@
 --     Sees files parent specifier paths      the resolution has this footprint
 --     HasFormat files path format      the file has this format
 --     ExportExamples, ConfigExamples, OwnPackageExamples, ImportExamples, SpecifierExamples, FolderExamples,
---         FootprintExamples, FormatExamples      the examples
+--         FootprintExamples, FormatExamples, OwnRuleExamples      the examples
 use Rattle.std.specs.Prelude.{◌≡◌, ℕ, List, [], ◌∷◌, ◌++◌, codes, map, bytes_eq, replicate, Some, None, Result, Ok, Err, if◌then◌else◌}
 use Rattle.asking_spec.specs.Askings.{outcome}
 use Rattle.tree_spec.specs.LookAskings.{Sights, footprint}
@@ -335,7 +335,39 @@ pub record FormatExamples : Type 0 where
       ≡ texts ("/node_modules/commonjs-package/src/package.json" ∷ "/node_modules/commonjs-package/package.json" ∷ [])
   pub looks_at_nothing : footprint (told typed) (file_format (codes "/my-app.cjs")) ≡ []
 
+-- ---- where running Node is known to differ, or the rules are the project's own
+
+abbrev pub marked : Files
+marked =
+    packed "/node_modules/p" (239 ∷ 187 ∷ 191 ∷ codes "{\"exports\":\"./i.mjs\"}")
+    ++ empty_files ("/node_modules/p/i.mjs" ∷ [])
+
+abbrev pub fallback : String → Files
+fallback exports = with_text ("{\"exports\":" ∷ exports ∷ "}" ∷ []) ("f.mjs" ∷ [])
+
+pub record OwnRuleExamples : Type 0 where
+  pub byte_order_mark : Gives marked "p" "/node_modules/p/i.mjs"
+  -- only a folder whose whole name is `node_modules` ends a scope
+  pub whole_name : HasFormat typed "/my_node_modules/x.js" IsModule
+  pub not_a_drive : Gives (file "/c:d.mjs" [] ∷ []) "./c:d.mjs" "/c:d.mjs"
+  pub caret : Gives (file "/^.mjs" [] ∷ []) "./^.mjs" "/^.mjs"
+  pub nul : Refuses [] "./%00.mjs" NotFound
+  pub no_utf8 : Refuses [] "./%FF.mjs" NotFound
+  pub escaped_backslash : Refuses [] "./a%5Cb.mjs" InvalidSpecifier
+  pub escape_in_query :
+      answer_in (file "/b.mjs" [] ∷ []) "/app.mjs" "./b.mjs?u=%2F"
+      ≡ Ok (record { path = codes "/b.mjs"; suffix = codes "?u=%2F" })
+  pub invalid_passed : Gives (fallback "[\"../x\",\"./f.mjs\"]") "p" "/node_modules/p/f.mjs"
+  pub null_passed : Gives (fallback "[null,\"./f.mjs\"]") "p" "/node_modules/p/f.mjs"
+  pub last_null : Refuses (fallback "[\"../x\",null]") "p" NotExported
+  pub last_invalid : Refuses (fallback "[null,\"../x\"]") "p" InvalidTarget
+  pub empty_list : Refuses (fallback "[]") "p" NotExported
+  pub first_place : Refuses (fallback "[\"./gone.mjs\",\"./f.mjs\"]") "p" NotFound
+  pub bare_target : Refuses (fallback "\"f.mjs\"") "p" InvalidTarget
+  pub nested_modules : Refuses (fallback "\"./node_modules/f.mjs\"") "p" InvalidTarget
+  pub escaped_dots : Refuses (fallback "\"./%2e%2E/f.mjs\"") "p" InvalidTarget
+
 abbrev pub NodeExamples : Type 0
 NodeExamples =
     ExportExamples × ConfigExamples × OwnPackageExamples × ImportExamples × SpecifierExamples × FolderExamples
-    × FootprintExamples × FormatExamples
+    × FootprintExamples × FormatExamples × OwnRuleExamples

@@ -218,7 +218,6 @@ pub fn pattern_examples()
 {}
 
 /// Worked examples of specifiers.
-#[tactic(auto, using(crate::proofs::examples::NodeExamples::node_examples))]
 pub fn node_examples()
     ensures { NodeExamples }
 {}

@@ -16,7 +16,7 @@ use Rattle.node_spec.specs.BuiltinNames.{is_builtin}
 use Rattle.node_spec.specs.LookupPackageScope.{is_node_modules}
 use Rattle.node_spec.specs.PackageTargets.{is_invalid_segment, names_package}
 use Rattle.node_spec.specs.ReadPackageJson.{read_record}
-use Rattle.node_spec.specs.NodeExamples.{ExportExamples, ConfigExamples, OwnPackageExamples, ImportExamples, SpecifierExamples, FolderExamples, FootprintExamples, FormatExamples, NodeExamples}
+use Rattle.node_spec.specs.NodeExamples.{ExportExamples, ConfigExamples, OwnPackageExamples, ImportExamples, SpecifierExamples, FolderExamples, FootprintExamples, FormatExamples, OwnRuleExamples, NodeExamples}
 
 -- what a resolution unfolds to compute on literals
 unfoldable pub node_on_literals : Unit {0}
@@ -165,5 +165,27 @@ format_examples = record {
   looks_at_nothing = refl;
 }
 
+own_rule_examples : OwnRuleExamples
+unfolding node_on_literals
+own_rule_examples = record {
+  byte_order_mark = refl;
+  whole_name = refl;
+  not_a_drive = refl;
+  caret = refl;
+  nul = refl;
+  no_utf8 = refl;
+  escaped_backslash = refl;
+  escape_in_query = refl;
+  invalid_passed = refl;
+  null_passed = refl;
+  last_null = refl;
+  last_invalid = refl;
+  empty_list = refl;
+  first_place = refl;
+  bare_target = refl;
+  nested_modules = refl;
+  escaped_dots = refl;
+}
+
 pub node_examples : NodeExamples
-node_examples = (export_examples, config_examples, own_package_examples, import_examples, specifier_examples, folder_examples, footprint_examples, format_examples)
+node_examples = (export_examples, config_examples, own_package_examples, import_examples, specifier_examples, folder_examples, footprint_examples, format_examples, own_rule_examples)
