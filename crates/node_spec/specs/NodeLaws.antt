@@ -127,8 +127,8 @@ ExportsLookAtNothing =
 
 -- ---- conditions
 
--- own law: conditions are a set: neither their order nor how often one is named changes what is looked at and what comes
--- of it
+-- own law: conditions are a set: neither their order nor how often one is named changes what is looked at and what
+-- comes of it
 abbrev pub NodeConditionsAreASet : Type 0
 NodeConditionsAreASet =
     (some other : List (List ℕ)) (parent specifier : List ℕ) → IsSameSet some other

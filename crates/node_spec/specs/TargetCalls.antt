@@ -6,8 +6,8 @@
 --     Answerer T S X            what an object that answers bare texts keeps
 --     GivesBare answers bares before text answer after      one call of it
 --     Calls gives before asked after      these calls of an object, one after another
---     IsTargetAnswer, TargetAnswered T S X      what a target comes to as an asking, by what the object keeps behind the
---         calls
+--     IsTargetAnswer, TargetAnswered T S X      what a target comes to as an asking, by what the object keeps behind
+--         the calls
 use Rattle.std.specs.Prelude.{◌≡◌, ℕ, Bool, true, false, List, [], ◌∷◌, Option, Some, None}
 use Rattle.asking_spec.specs.Evaluation.{Ended, ends, stopped, then_ended, Answers, evaluated}
 use Rattle.json_spec.specs.Value.{Json}
@@ -48,8 +48,8 @@ FollowsTarget T S X =
 
 -- ---- an object that answers the calls
 
--- own: what it keeps: the state, the full answer to the text that was asked last, what stopped it, and whether an answer
--- was lost, as where something outside failed
+-- own: what it keeps: the state, the full answer to the text that was asked last, what stopped it, and whether an
+-- answer was lost, as where something outside failed
 pub record Answerer (T S X : Type 0) : Type 0 where
   pub state : T
   pub last : Option X
