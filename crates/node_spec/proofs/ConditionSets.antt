@@ -25,7 +25,7 @@ both_true true other there back = sym (there refl)
 both_true false true there back = back refl
 both_true false false there back = refl
 
-tried_alike : (some other : List (List ℕ)) (key : List ℕ) → IsSameSet some other → is_tried some key ≡ is_tried other key
+pub tried_alike : (some other : List (List ℕ)) (key : List ℕ) → IsSameSet some other → is_tried some key ≡ is_tried other key
 tried_alike some other key same =
     ap (λ t. bytes_eq key (codes "default") || t) (both_true (list_any (bytes_eq key) some) (list_any (bytes_eq key) other) (λ e. found_in key other ((same key).0 (stands_in key some e))) (λ e. found_in key some ((same key).1 (stands_in key other e))))
 

@@ -129,7 +129,7 @@ IsSilent asked out = (asked ≡ []) × (out ≢ Bare) × (out ≢ Stopped)
 no_calls : (out : Outcome) → IsOwn out → IsSilent [] out
 no_calls out is = (refl, is.0, is.1)
 
-never_package : (imports : Bool) (target : List ℕ) → imports ≡ false → names_package imports target ≡ true → ⊥
+pub never_package : (imports : Bool) (target : List ℕ) → imports ≡ false → names_package imports target ≡ true → ⊥
 unfolding names_package
 never_package imports target e n = true≢false (sym (and_parts _ _ n).0 ∙ e)
 

@@ -13,3 +13,11 @@ pub mod PatternOrder
 pub mod PatternChoice
 pub mod examples
 pub mod RelativeLemmas
+pub mod NearestFolders
+pub mod RecordLooks
+pub mod NodeLemmas
+pub mod TargetOutcomes
+pub mod KeyChoice
+pub mod TargetsFollowed
+pub mod TargetsAnswered
+pub mod NodeConditions

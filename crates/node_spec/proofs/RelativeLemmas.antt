@@ -1,6 +1,6 @@
 -- The asking of a relative specifier comes to Node's answer.
-use Rattle.std.proofs.Common.{◌≡◌, ◌⊎◌, ℕ, Bool, true, false, List, Option, Some, None, refl, sym, ap, ◌∙◌, subst, inl, inr}
-use Rattle.std.specs.Prelude.{◌&&◌, if◌then◌else◌, IsUtf8}
+use Rattle.std.proofs.Common.{◌≡◌, ℕ, Bool, true, false, List, Option, Some, None, refl, sym, ap, ◌∙◌, subst}
+use Rattle.std.specs.Prelude.{◌&&◌, IsUtf8}
 use Rattle.std.specs.FinMap.{get}
 use Rattle.std.proofs.lemmas.Bool.{cond-true, cond-false, true≢false}
 use Rattle.asking_spec.specs.Askings.{answered, outcome}
@@ -10,12 +10,12 @@ use Rattle.tree_spec.specs.Trees.{Tree}
 use Rattle.url_spec.specs.FileUrls.{names_host, url_path, escapes_separator, spelled_path, NamesPath}
 use Rattle.url_spec.specs.Specifiers.{is_relative}
 use Rattle.url_spec.specs.Suffixes.{suffix_of}
-use Rattle.node_spec.specs.declared.Cause.TheVariants.{InvalidSpecifier, NotFound, DirectoryImport}
-use Rattle.node_spec.specs.Resolution.{Answer, Resolved, Refused, is_folder_path, joined_url, Judges, Joins, Resolves}
+use Rattle.node_spec.specs.declared.Cause.TheVariants.{InvalidSpecifier, NotFound}
+use Rattle.node_spec.specs.Resolution.{Resolved, Refused, is_folder_path, joined_url, Judges, Joins, Resolves}
 use Rattle.node_spec.specs.Resolution.Judges.{separator, folder, nameless, absent, no_folder, file}
 use Rattle.node_spec.specs.Resolution.Joins.{no_url, other_host, joined}
 use Rattle.node_spec.specs.Resolution.Resolves.{relative}
-use Rattle.node_spec.specs.RelativeResolution.{as_path, named_path, judged, judged_at, url_judged, joined_judged, relative_resolution}
+use Rattle.node_spec.specs.RelativeResolution.{named_path, judged, judged_at, url_judged, joined_judged, relative_resolution}
 use Rattle.url_spec.specs.PathTests.{is_path}
 use Rattle.url_spec.proofs.PathDecisions.{path_by_test, test_by_path}
 use Rattle.tree_spec.specs.Paths.{IsPath}

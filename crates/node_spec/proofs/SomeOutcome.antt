@@ -119,7 +119,7 @@ told_first : (answer : List ℕ → BareAnswer) (first rest : Found) → Tells a
 told_first answer first rest t u = cond_both (is_undefined first.out) _ _ (λ (f : Found). Tells answer f.asked) (λ e. tells_both answer first.asked rest.asked t u) (λ e. t)
 
 mutual
-  told : (answer : List ℕ → BareAnswer) (rules : Rules) (target : Json) → Tells answer (found answer rules target).asked
+  pub told : (answer : List ℕ → BareAnswer) (rules : Rules) (target : Json) → Tells answer (found answer rules target).asked
   told answer rules a_null = tt
   told answer rules (a_bool b) = tt
   told answer rules (a_number number) = tt

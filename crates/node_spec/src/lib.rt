@@ -4,7 +4,10 @@
 
 ghost use Rattle.node_spec.specs.Laws.{AnswersDetermine, ConditionsAreASet, DecidingCallIsLast, ExportsAskNothing, KeysAreInOrder, OneAnswer, OneChoice, OneOutcome, OneRecord, OneUnder, PatternMatchIsSlice, PatternMatchStands, PlacesBeginWithDotSlash, RecordNamesAreDistinct, SomeAnswer, SomeChoice, SomeOutcome, SomeOutcomeInTurn, SomeRecord};
 ghost use Rattle.node_spec.specs.WorkedExamples.{WorkedExamples};
+ghost use Rattle.node_spec.specs.NodeExamples.{NodeExamples};
+ghost use Rattle.node_spec.specs.NodeLaws.{OneNode, SomeNode, SameNode, SameFormat, RelativeNode, OneNearest, FindsPackageScope, FindsPackageFolder, FindsRecord, OneRecordAt, RecordIsRead, FindsTarget, ExportsLookAtNothing, FindsKey, NodeConditionsAreASet};
 ghost use Rattle.node_spec.specs.PatternExamples.{PatternExamples};
+ghost use Rattle.node_spec.specs.TargetCalls.{FollowsTarget, TargetAnswered};
 ghost use Rattle.node_spec.specs.RelativeResolution.{FindsRelative};
 ghost use Rattle.node_spec.specs.RecordExamples.{RecordExamples};
 ghost use Rattle.node_spec.specs.TargetExamples.{TargetExamples};
@@ -212,4 +215,104 @@ pub fn some_choice()
 #[tactic(auto, using(crate::proofs::examples::PatternExamples::pattern_examples))]
 pub fn pattern_examples()
     ensures { PatternExamples }
+{}
+
+/// Worked examples of specifiers.
+pub fn node_examples()
+    ensures { NodeExamples }
+{}
+
+/// A specifier in a file of a tree has one answer at most.
+#[tactic(auto, using(crate::proofs::NodeLemmas::one_node))]
+pub fn one_node()
+    ensures { OneNode }
+{}
+
+/// A specifier in a file of a tree has an answer.
+#[tactic(auto, using(crate::proofs::NodeLemmas::some_node))]
+pub fn some_node()
+    ensures { SomeNode }
+{}
+
+/// What stands at the paths of its footprint decides the answer for a specifier.
+pub fn same_node()
+    ensures { SameNode }
+{}
+
+/// What stands at the paths of its footprint decides the format of a file.
+pub fn same_format()
+    ensures { SameFormat }
+{}
+
+/// A relative specifier is answered as the URL to which it is joined.
+pub fn relative_node()
+    ensures { RelativeNode }
+{}
+
+/// One folder at most is the nearest that is looked for.
+#[tactic(auto, using(crate::proofs::NearestFolders::one_nearest))]
+pub fn one_nearest()
+    ensures { OneNearest }
+{}
+
+/// In each tree the asking for a package scope comes to it.
+#[tactic(auto, using(crate::proofs::NearestFolders::finds_package_scope))]
+pub fn finds_package_scope()
+    ensures { FindsPackageScope }
+{}
+
+/// In each tree the asking for the folder of a package comes to it.
+#[tactic(auto, using(crate::proofs::NearestFolders::finds_package_folder))]
+pub fn finds_package_folder()
+    ensures { FindsPackageFolder }
+{}
+
+/// In each tree the asking for the record of a folder comes to it.
+#[tactic(auto, using(crate::proofs::RecordLooks::finds_record))]
+pub fn finds_record()
+    ensures { FindsRecord }
+{}
+
+/// A folder has one record, or one reason for having none.
+#[tactic(auto, using(crate::proofs::RecordLooks::one_record_at))]
+pub fn one_record_at()
+    ensures { OneRecordAt }
+{}
+
+/// The record of a package.json's bytes is what the function gives.
+#[tactic(auto, using(crate::proofs::RecordLooks::record_is_read))]
+pub fn record_is_read()
+    ensures { RecordIsRead }
+{}
+
+/// A target comes to what it comes to by its calls, where these are answered as its bare texts are.
+pub fn finds_target<X>()
+    ensures { FindsTarget X }
+{}
+
+/// A target in `exports` needs no look.
+#[tactic(auto, using(crate::proofs::TargetOutcomes::exports_look_at_nothing))]
+pub fn exports_look_at_nothing()
+    ensures { ExportsLookAtNothing }
+{}
+
+/// The key that is taken is the choice among the keys, and where none is taken, none matches.
+pub fn finds_key()
+    ensures { FindsKey }
+{}
+
+/// What a target comes to by calls that are answered one after another, in a state that they change, is what it comes to
+/// as an asking.
+pub fn follows_target<T, S, X>()
+    ensures { FollowsTarget T S X }
+{}
+
+/// An object that was asked for a target's bare texts keeps what the target comes to as an asking.
+pub fn target_answered<T, S, X>()
+    ensures { TargetAnswered T S X }
+{}
+
+/// Conditions are a set in the whole of Node's resolution.
+pub fn node_conditions_are_a_set()
+    ensures { NodeConditionsAreASet }
 {}

@@ -6,3 +6,8 @@ pub mod Placings
 pub mod RootAlone
 pub mod OneLook
 pub mod DecidedTrees
+pub mod Footprints
+pub mod LimitedLooks
+pub mod FolderLemmas
+pub mod LookExamples
+pub mod FootprintSets

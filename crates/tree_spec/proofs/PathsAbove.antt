@@ -18,7 +18,7 @@ shorter_by parent front name (at_other _ _ a b) is =
     let same : length front ≡ length parent = ap length b in
     omega (arith, length-append front (47 ∷ name))
 
-joined_longer : (parent name : List ℕ) → IsSegment name → length parent < length (joined parent name)
+pub joined_longer : (parent name : List ℕ) → IsSegment name → length parent < length (joined parent name)
 joined_longer parent name is =
     let has = front_of parent name in
     let short : length parent < length (has.front ++ 47 ∷ name) = shorter_by parent has.front name has.is_front is in

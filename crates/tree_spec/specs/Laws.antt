@@ -1,11 +1,19 @@
--- The laws of paths, trees and looks. Each is the contract of a function of this crate.
+-- The laws of paths, trees, looks and askings over looks. Each is the contract of a function of this crate.
 use Rattle.std.specs.FinMap.{get, insert}
-use Rattle.std.specs.Prelude.{◌≡◌, ℕ, List, ◌≢◌, Some, ◌↔◌, codes}
+use Rattle.std.specs.List.{IsDistinct}
+use Rattle.std.specs.Prelude.{◌≡◌, ◌++◌, ℕ, List, [], ◌≢◌, Some, ◌↔◌, codes, bytes_eq}
+use Rattle.asking_spec.specs.Askings.{outcome}
+use Rattle.asking_spec.specs.Evaluation.{ends, stopped, evaluated}
+use Rattle.asking_spec.specs.Laws.{AgreesOn}
+use Rattle.tree_spec.specs.FoldersAbove.{folders_from, folder_of, Climbs}
+use Rattle.tree_spec.specs.LookAskings.{Sights, LookAsking, looks, is_seen, noted, footprint}
+use Rattle.tree_spec.specs.LookLimits.{LookLimits, Trail, limited, IsFirstLimit, Counts}
 use Rattle.tree_spec.specs.Looks.{IsLook}
 use Rattle.tree_spec.specs.Paths.{IsParent, IsPath}
 use Rattle.tree_spec.specs.Trees.{Tree, Places, IsTree, bare_tree}
 use Rattle.tree_spec.specs.declared.Entry.{Entry}
 use Rattle.tree_spec.specs.declared.Entry.TheVariants.{Directory}
+use Rattle.tree_spec.specs.declared.LimitName.{LimitName}
 use Rattle.tree_spec.specs.declared.Look.{Look}
 
 -- a path has one parent
@@ -45,3 +53,65 @@ abbrev pub OneLook : Type 0
 OneLook =
     (tree : Tree) (path : List ℕ) (limit : ℕ) (look other : Look) → IsLook tree path limit look
     → IsLook tree path limit other → look ≡ other
+
+-- own: what an asking comes to is the same, and so are the paths at which it looks
+pub record IsSameAsking {X : Type 0} (one other : Sights) (asking : LookAsking X) : Type 0 where
+  pub outcome : outcome one asking ≡ outcome other asking
+  pub looks : looks one asking ≡ looks other asking
+  pub footprint : footprint one asking ≡ footprint other asking
+
+-- where the same stands at each path of the footprint that an asking has in the first, it comes to the same in both, by
+-- the same looks
+abbrev pub SameByFootprint : Type 0 → Type 0
+SameByFootprint X =
+    (one other : Sights) (asking : LookAsking X) → AgreesOn one other (footprint one asking)
+    → IsSameAsking one other asking
+
+-- nor do limits tell the two apart
+abbrev pub SameLimited : Type 0 → Type 0
+SameLimited X =
+    (limits : LookLimits) (one other : Sights) (trail : Trail) (asking : LookAsking X)
+    → AgreesOn one other (footprint one asking)
+    → evaluated (limited limits one) trail asking ≡ evaluated (limited limits other) trail asking
+
+-- a limit stops an asking exactly where it is the first that the asking's looks pass
+abbrev pub FirstLimitStops : Type 0 → Type 0
+FirstLimitStops X =
+    (limits : LookLimits) (sights : Sights) (trail : Trail) (asking : LookAsking X) (name : LimitName) (before : Trail)
+    → (evaluated (limited limits sights) trail asking ≡ stopped name before
+    ↔ IsFirstLimit limits sights trail (looks sights asking) name before)
+
+-- own: the asking came to its outcome, and its looks were counted
+pub record IsCounted {X : Type 0} (sights : Sights) (before : Trail) (asking : LookAsking X) (value : X)
+    (after : Trail) : Type 0 where
+  pub is : value ≡ outcome sights asking
+  pub counts : Counts sights before (looks sights asking) after
+
+-- where no limit stops it, an asking comes to its outcome, and the trail has counted its looks
+abbrev pub EndsCounted : Type 0 → Type 0
+EndsCounted X =
+    (limits : LookLimits) (sights : Sights) (before : Trail) (asking : LookAsking X) (value : X) (after : Trail)
+    → evaluated (limited limits sights) before asking ≡ ends value after → IsCounted sights before asking value after
+
+-- the folders from a path on are those that are reached from it by parents
+abbrev pub FoldersClimb : Type 0
+FoldersClimb = (path : List ℕ) → IsPath path → Climbs path (folders_from path)
+
+-- a path stands in its parent
+abbrev pub FolderIsParent : Type 0
+FolderIsParent = (parent path : List ℕ) → IsParent parent path → folder_of path ≡ parent
+
+-- own: a footprint has each path at which an asking looks once, and no other
+pub record IsFootprintOf {X : Type 0} (sights : Sights) (asking : LookAsking X) : Type 0 where
+  pub distinct : IsDistinct bytes_eq (footprint sights asking)
+  pub same_paths :
+      (path : List ℕ) → is_seen path (footprint sights asking) ≡ is_seen path (looks sights asking)
+
+abbrev pub FootprintIsSet : Type 0 → Type 0
+FootprintIsSet X = (sights : Sights) (asking : LookAsking X) → IsFootprintOf sights asking
+
+-- the footprints of askings are joined as their looks are: to note all looks of an asking is to note its footprint
+pub record FootprintsJoin : Type 0 where
+  pub one_after_another :
+      (seen front back : List (List ℕ)) → noted seen (front ++ back) ≡ noted (noted seen front) back
+  pub by_footprint : (seen paths : List (List ℕ)) → noted seen (noted [] paths) ≡ noted seen paths

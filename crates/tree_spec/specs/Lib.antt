@@ -3,6 +3,9 @@ pub mod Trees
 pub mod Looks
 pub mod LookAskings
 pub mod Limits
+pub mod LookLimits
+pub mod FoldersAbove
 pub mod Counts
 pub mod States
 pub mod Laws
+pub mod LookExamples

@@ -1,4 +1,6 @@
 ghost use Rattle.tree_spec.specs.Laws.{OneLook, OneParent, OnePlacing, PlacingKeepsTree, PlacingInFolder, PlacingInRoot, RootAlone};
+ghost use Rattle.tree_spec.specs.LookExamples.{LookExamples};
+ghost use Rattle.tree_spec.specs.Laws.{FootprintIsSet, FootprintsJoin, SameByFootprint, SameLimited, FirstLimitStops, EndsCounted, FoldersClimb, FolderIsParent};
 
 /// A path has one parent.
 pub fn one_parent()
@@ -33,4 +35,51 @@ pub fn root_alone()
 /// A look at a path has one answer.
 pub fn one_look()
     ensures { OneLook }
+{}
+
+/// What an asking over looks comes to is decided by what stands at the paths of its footprint.
+pub fn same_by_footprint<X>()
+    ensures { SameByFootprint X }
+{}
+
+/// So is which limit stops it, and behind which looks.
+pub fn same_limited<X>()
+    ensures { SameLimited X }
+{}
+
+/// A limit stops an asking exactly where it is the first that the asking's looks pass.
+pub fn first_limit_stops<X>()
+    ensures { FirstLimitStops X }
+{}
+
+/// An asking that no limit stops comes to its outcome, and its looks are counted.
+pub fn ends_counted<X>()
+    ensures { EndsCounted X }
+{}
+
+/// The folders at and above a path are reached from it by parents.
+pub fn folders_climb()
+    ensures { FoldersClimb }
+{}
+
+/// The folder in which a path stands is its parent.
+pub fn folder_is_parent()
+    ensures { FolderIsParent }
+{}
+
+/// Worked examples of looks with limits, and of folders.
+#[tactic(auto, using(crate::proofs::LookExamples::look_examples))]
+pub fn look_examples()
+    ensures { LookExamples }
+{}
+
+/// A footprint has each path of the looks once, and no other.
+pub fn footprint_is_set<X>()
+    ensures { FootprintIsSet X }
+{}
+
+/// Footprints are joined as looks are.
+#[tactic(auto, using(crate::proofs::FootprintSets::footprints_join))]
+pub fn footprints_join()
+    ensures { FootprintsJoin }
 {}

@@ -1,0 +1,231 @@
+-- What a target comes to by its calls, one after another, is what it comes to as an asking.
+use Rattle.std.proofs.Common.{◌≡◌, ℕ, true, false, List, [], ◌∷◌, ◌++◌, Option, Some, refl, sym, ap, ◌∙◌}
+use Rattle.std.specs.Prelude.{cond}
+use Rattle.std.proofs.lemmas.Bool.{cond-true, cond-false}
+use Rattle.asking_spec.proofs.EvaluationLemmas.{evaluated_then}
+use Rattle.asking_spec.specs.Askings.{answered, and_then}
+use Rattle.asking_spec.specs.Evaluation.{Ended, ends, stopped, then_ended, evaluated}
+use Rattle.json_spec.specs.Value.{Json, an_object, Items, an_item, Members, a_member}
+use Rattle.tree_spec.specs.LookAskings.{LookAsking}
+use Rattle.node_spec.specs.PackageTargetResolve.{Bares, Came, came, bare_comes, text_comes, after_item, after_member, target_comes, items_come, members_come}
+use Rattle.node_spec.specs.PackageTargets.{Rules, Call, own_outcome, with_match, bare_outcome, ResolvesText, is_undefined, is_passed, last_of, ResolvesTarget, ResolvesMembers, ResolvesItems}
+use Rattle.node_spec.specs.PackageTargets.ResolvesItems.{no_item, decided, passed}
+use Rattle.node_spec.specs.PackageTargets.ResolvesMembers.{no_member, untried, defined, undefined}
+use Rattle.node_spec.specs.PackageTargets.ResolvesTarget.{text_target, index_key, object_target, empty_list, list_target, null_target, bool_target, number_target}
+use Rattle.node_spec.specs.PackageTargets.ResolvesText.{own_place, bare, no_target}
+use Rattle.node_spec.specs.TargetCalls.{LookAnswers, Followed, no_call, a_call, a_stop, brings, FollowsTarget}
+use Rattle.node_spec.specs.declared.BareAnswer.{BareAnswer}
+use Rattle.node_spec.specs.declared.Outcome.{Outcome}
+use Rattle.node_spec.specs.declared.Outcome.TheVariants.{Undefined, Null, InvalidTarget, InvalidConfig}
+
+module _ {T S X : Type 0} (answers : LookAnswers T S) (bares : Bares X) where
+  abbrev End : Type 0
+  End = Ended (Option X) T S
+
+  abbrev CameEnd : Type 0
+  CameEnd = Ended (Came X) T S
+
+  abbrev run : T → LookAsking (Came X) → CameEnd
+  run now asking = evaluated answers now asking
+
+  -- ---- the calls of two parts
+
+  data Split (now : T) (last : Option X) (front back : List Call) (end : End) : Type 0 where
+    both :
+        (middle : T) (value : Option X) → Followed answers bares now last front (ends value middle)
+        → Followed answers bares middle value back end → Split now last front back end
+    first_stops :
+        (stop : S) (after : T) → Followed answers bares now last front (stopped stop after) → end ≡ stopped stop after
+        → Split now last front back end
+
+  no_front : (front back : List Call) → front ++ back ≡ [] → front ≡ []
+  no_front [] back e = refl
+  no_front (x ∷ front) back e = absurd (cc)
+
+  call_more : (now later : T) (last : Option X) (text : List ℕ) (answer : BareAnswer) (value : X)
+      (front back : List Call) (end : End) → evaluated answers now (bares.ask text) ≡ ends value later
+      → answer ≡ bares.judge value → Split later (Some value) front back end
+      → Split now last ((text, answer) ∷ front) back end
+  call_more now later last text answer value front back end r j (both middle v f g) = both middle v (a_call r j f) g
+  call_more now later last text answer value front back end r j (first_stops stop after f s) =
+      first_stops stop after (a_call r j f) s
+
+  split : (now : T) (last : Option X) (front back : List Call) (end : End)
+      → Followed answers bares now last (front ++ back) end → Split now last front back end
+  split now last [] back end f = both now last no_call f
+  split now last (call ∷ front) back end (a_call {later = later} {text = text} {answer = answer} {value = value} r j f) =
+      call_more now later last text answer value front back end r j (split later (Some value) front back end f)
+  split now last (call ∷ front) back end (a_stop {after = after} {stop = stop} r none) =
+      first_stops stop after (a_stop r (no_front front back none)) refl
+
+  -- ---- an item or a member, and then the rest
+
+  abbrev Comes : List Call → (Option X → LookAsking (Came X)) → Outcome → Type 0
+  Comes asked asking out =
+      (now : T) (last : Option X) (end : End) → Followed answers bares now last asked end
+      → run now (asking last) ≡ brings out end
+
+  abbrev behind : (Came X → LookAsking (Came X)) → CameEnd → CameEnd
+  behind next first = then_ended first (λ value after. run after (next value))
+
+  silent : (out : Outcome) → Comes [] (λ last. answered (came out last)) out
+  silent out now last end no_call = refl
+
+  brings_twice : (first rest : Outcome) (end : End)
+      → behind (λ later. answered (came (last_of first later.out) later.last)) (brings rest end)
+      ≡ brings (last_of first rest) end
+  brings_twice first rest (ends value after) = refl
+  brings_twice first rest (stopped stop after) = refl
+
+  item_passed : (front back : List Call) (item more : Option X → LookAsking (Came X)) (first rest : Outcome)
+      → is_passed first ≡ true → Comes front item first → Comes back more rest
+      → Comes (front ++ back) (λ last. and_then (item last) (after_item more)) (last_of first rest)
+  item_passed front back item more first rest p one two now last end f =
+      let next : Came X → LookAsking (Came X) = λ later. answered (came (last_of first later.out) later.last) in
+      elim (split now last front back end f) [
+        | both middle value g h ↦ (
+            evaluated_then answers now (item last) (after_item more)
+            ∙ (ap (behind (after_item more)) (one now last (ends value middle) g)
+            ∙ (ap (λ b. run middle (cond b (and_then (more value) next) (answered (came first value)))) p
+            ∙ (evaluated_then answers middle (more value) next
+            ∙ (ap (behind next) (two middle value end h) ∙ brings_twice first rest end))))
+            )
+        | first_stops stop after g s ↦ (
+            evaluated_then answers now (item last) (after_item more)
+            ∙ (ap (behind (after_item more)) (one now last (stopped stop after) g)
+            ∙ ap (brings (last_of first rest)) (sym s))
+            )
+      ]
+
+  decided_end : (more : Option X → LookAsking (Came X)) (out : Outcome) → is_passed out ≡ false → (end : End)
+      → behind (after_item more) (brings out end) ≡ brings out end
+  decided_end more out p (stopped stop after) = refl
+  decided_end more out p (ends value after) =
+      ap (λ b. run after (cond b
+      (and_then (more value) (λ later. answered (came (last_of out later.out) later.last)))
+      (answered (came out value)))) p
+
+  item_decided : (asked : List Call) (item more : Option X → LookAsking (Came X)) (out : Outcome)
+      → is_passed out ≡ false → Comes asked item out
+      → Comes asked (λ last. and_then (item last) (after_item more)) out
+  item_decided asked item more out p one now last end f =
+      evaluated_then answers now (item last) (after_item more)
+      ∙ (ap (behind (after_item more)) (one now last end f) ∙ decided_end more out p end)
+
+  member_undefined : (front back : List Call) (member more : Option X → LookAsking (Came X)) (out : Outcome)
+      → Comes front member Undefined → Comes back more out
+      → Comes (front ++ back) (λ last. and_then (member last) (after_member more)) out
+  member_undefined front back member more out one two now last end f =
+      elim (split now last front back end f) [
+        | both middle value g h ↦ (
+            evaluated_then answers now (member last) (after_member more)
+            ∙ (ap (behind (after_member more)) (one now last (ends value middle) g) ∙ two middle value end h)
+            )
+        | first_stops stop after g s ↦ (
+            evaluated_then answers now (member last) (after_member more)
+            ∙ (ap (behind (after_member more)) (one now last (stopped stop after) g) ∙ ap (brings out) (sym s))
+            )
+      ]
+
+  defined_end : (more : Option X → LookAsking (Came X)) (out : Outcome) → is_undefined out ≡ false → (end : End)
+      → behind (after_member more) (brings out end) ≡ brings out end
+  defined_end more out p (stopped stop after) = refl
+  defined_end more out p (ends value after) =
+      ap (λ b. run after (cond b (more value) (answered (came out value)))) p
+
+  member_defined : (asked : List Call) (member more : Option X → LookAsking (Came X)) (out : Outcome)
+      → is_undefined out ≡ false → Comes asked member out
+      → Comes asked (λ last. and_then (member last) (after_member more)) out
+  member_defined asked member more out p one now last end f =
+      evaluated_then answers now (member last) (after_member more)
+      ∙ (ap (behind (after_member more)) (one now last end f) ∙ defined_end more out p end)
+
+  -- a choice that is known
+  chosen : (asked : List Call) (out : Outcome) (asking other : Option X → LookAsking (Came X))
+      → ((last : Option X) → other last ≡ asking last) → Comes asked asking out → Comes asked other out
+  chosen asked out asking other same one now last end f = ap (run now) (same last) ∙ one now last end f
+
+  -- ---- strings
+
+  nothing_called : (now : T) (last : Option X) (end : End) → Followed answers bares now last [] end
+      → end ≡ ends last now
+  nothing_called now last _ no_call = refl
+
+  bare_called : (text : List ℕ) (answer : BareAnswer)
+      → Comes ((text, answer) ∷ []) (λ last. and_then (bares.ask text) (λ value. answered (bare_comes bares value)))
+      (bare_outcome answer)
+  bare_called text answer now last end (a_call {later = later} {value = value} r j none) =
+      evaluated_then answers now (bares.ask text) (λ value. answered (bare_comes bares value))
+      ∙ (ap (λ e. then_ended e (λ v after. run after (answered (bare_comes bares v)))) r
+      ∙ (ap (λ a. ends (came (bare_outcome a) (Some value)) later) (sym j)
+      ∙ ap (brings (bare_outcome answer)) (sym (nothing_called later (Some value) end none))))
+  bare_called text answer now last end (a_stop r none) =
+      evaluated_then answers now (bares.ask text) (λ value. answered (bare_comes bares value))
+      ∙ ap (λ e. then_ended e (λ v after. run after (answered (bare_comes bares v)))) r
+
+  text_followed : (rules : Rules) (text : List ℕ) (asked : List Call) (out : Outcome)
+      → ResolvesText rules text asked out → Comes asked (text_comes bares rules text) out
+  text_followed rules text _ _ (own_place b) =
+      chosen [] (own_outcome rules.pattern_match text)
+      (λ last. answered (came (own_outcome rules.pattern_match text) last)) (text_comes bares rules text)
+      (λ last. cond-true _ _ _ b) (silent (own_outcome rules.pattern_match text))
+  text_followed rules text _ _ (bare answer b n) =
+      let asked : List ℕ = with_match rules.pattern_match text in
+      chosen ((asked, answer) ∷ []) (bare_outcome answer)
+      (λ last. and_then (bares.ask asked) (λ value. answered (bare_comes bares value))) (text_comes bares rules text)
+      (λ last. cond-false _ _ _ b ∙ cond-true _ _ _ n) (bare_called asked answer)
+  text_followed rules text _ _ (no_target b n) =
+      chosen [] InvalidTarget (λ last. answered (came InvalidTarget last)) (text_comes bares rules text)
+      (λ last. cond-false _ _ _ b ∙ cond-false _ _ _ n) (silent InvalidTarget)
+
+  -- ---- all targets
+
+  mutual
+    target_followed : (rules : Rules) (target : Json) (asked : List Call) (out : Outcome)
+        → ResolvesTarget rules target asked out → Comes asked (target_comes bares rules target) out
+    target_followed rules _ _ _ (text_target text asked out r) = text_followed rules text asked out r
+    target_followed rules _ _ _ (index_key fields i) =
+        chosen [] InvalidConfig (λ last. answered (came InvalidConfig last))
+        (target_comes bares rules (an_object fields)) (λ last. cond-true _ _ _ i) (silent InvalidConfig)
+    target_followed rules _ _ _ (object_target fields asked out i r) =
+        chosen asked out (members_come bares rules fields) (target_comes bares rules (an_object fields))
+        (λ last. cond-false _ _ _ i) (members_followed rules fields asked out r)
+    target_followed rules _ _ _ empty_list = silent Null
+    target_followed rules _ _ _ (list_target item more asked out r) =
+        items_followed rules (an_item item more) asked out r
+    target_followed rules _ _ _ null_target = silent Null
+    target_followed rules _ _ _ (bool_target b) = silent InvalidTarget
+    target_followed rules _ _ _ (number_target number) = silent InvalidTarget
+
+    members_followed : (rules : Rules) (fields : Members) (asked : List Call) (out : Outcome)
+        → ResolvesMembers rules fields asked out → Comes asked (members_come bares rules fields) out
+    members_followed rules _ _ _ no_member = silent Undefined
+    members_followed rules _ _ _ (untried key value more asked out t r) =
+        chosen asked out (members_come bares rules more) (members_come bares rules (a_member key value more))
+        (λ last. cond-false _ _ _ t) (members_followed rules more asked out r)
+    members_followed rules _ _ _ (defined key value more asked out t r d) =
+        chosen asked out
+        (λ last. and_then (target_comes bares rules value last) (after_member (λ l. members_come bares rules more l)))
+        (members_come bares rules (a_member key value more)) (λ last. cond-true _ _ _ t)
+        (member_defined asked (target_comes bares rules value) (λ l. members_come bares rules more l) out d
+        (target_followed rules value asked out r))
+    members_followed rules _ _ _ (undefined key value more front back out t r s) =
+        chosen (front ++ back) out
+        (λ last. and_then (target_comes bares rules value last) (after_member (λ l. members_come bares rules more l)))
+        (members_come bares rules (a_member key value more)) (λ last. cond-true _ _ _ t)
+        (member_undefined front back (target_comes bares rules value) (λ l. members_come bares rules more l) out
+        (target_followed rules value front Undefined r) (members_followed rules more back out s))
+
+    items_followed : (rules : Rules) (items : Items) (asked : List Call) (out : Outcome)
+        → ResolvesItems rules items asked out → Comes asked (items_come bares rules items) out
+    items_followed rules _ _ _ no_item = silent Undefined
+    items_followed rules _ _ _ (decided item more asked out r d) =
+        item_decided asked (target_comes bares rules item) (λ l. items_come bares rules more l) out d
+        (target_followed rules item asked out r)
+    items_followed rules _ _ _ (passed item more front back first rest r p s) =
+        item_passed front back (target_comes bares rules item) (λ l. items_come bares rules more l) first rest p
+        (target_followed rules item front first r) (items_followed rules more back rest s)
+
+pub follows_target : {T S X : Type 0} → FollowsTarget T S X
+follows_target answers bares rules target asked out r now last end f =
+    target_followed answers bares rules target asked out r now last end f
