@@ -120,8 +120,8 @@ fn held(alloc: Global, count: u64) -> Result<u64, AllocError> {
     }
 }
 
-/// Puts values in, takes every third out again and drops the arena; how many were dropped, and how many were put in. One
-/// that isn't put in for want of memory is dropped too. So many pieces of memory are taken and given back before.
+/// Puts values in, takes every third out again and drops the arena; how many were dropped, and how many were put in.
+/// One that isn't put in for want of memory is dropped too. So many pieces of memory are taken and given back before.
 fn dropped(alloc: Global, before: u64) -> (u64, u64) {
     for number in 0..before {
         let _ = Box::new(alloc, number);

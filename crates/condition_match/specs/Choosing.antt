@@ -1,5 +1,6 @@
 -- A target that is judged with an object that answers bare texts.
---     Asks gives Is old new out      the object was asked, one text after another, and with these calls the outcome is out
+--     Asks gives Is old new out      the object was asked, one text after another, and with these calls the outcome
+--                                    is out
 --     Begins gives fails Is old new      memory was wanted on the way: the object was asked for the first of such texts
 --     Comes gives fails Is old new result      the one or the other
 --     Chooses gives rules target old new out      the calls and the outcome of a whole target
@@ -18,7 +19,8 @@ abbrev pub Calls : {B : Type 0} → (B → List ℕ → BareAnswer → B → Typ
 Calls gives old [] new = new ≡ old
 Calls {B} gives old (call ∷ more) new = (middle : B) × gives old call.0 call.1 middle × Calls gives middle more new
 
-pub record Asks {B : Type 0} (gives : B → List ℕ → BareAnswer → B → Type 0) (Is : List Call → Outcome → Type 0) (old new : B) (out : Outcome) : Type 0 where
+pub record Asks {B : Type 0} (gives : B → List ℕ → BareAnswer → B → Type 0) (Is : List Call → Outcome → Type 0)
+    (old new : B) (out : Outcome) : Type 0 where
   pub asked : List Call
   pub calls : Calls gives old asked new
   pub is : Is asked out
@@ -29,7 +31,8 @@ IsLeft fails middle [] new = new ≡ middle
 IsLeft fails middle (call ∷ more) new = (new ≡ middle) ⊎ fails middle call.0 new
 
 -- the calls that were made are the first of those by which there is an outcome; `left` says what became of the object
-pub record Begins {B : Type 0} (gives : B → List ℕ → BareAnswer → B → Type 0) (fails : B → List ℕ → B → Type 0) (Is : List Call → Outcome → Type 0) (old new : B) : Type 0 where
+pub record Begins {B : Type 0} (gives : B → List ℕ → BareAnswer → B → Type 0) (fails : B → List ℕ → B → Type 0)
+    (Is : List Call → Outcome → Type 0) (old new : B) : Type 0 where
   pub asked : List Call
   pub middle : B
   pub calls : Calls gives old asked middle
@@ -38,17 +41,21 @@ pub record Begins {B : Type 0} (gives : B → List ℕ → BareAnswer → B → 
   pub is : Is (asked ++ more) out
   pub left : IsLeft fails middle more new
 
-abbrev pub Comes : {B E : Type 0} → (B → List ℕ → BareAnswer → B → Type 0) → (B → List ℕ → B → Type 0) → (List Call → Outcome → Type 0) → B → B → Result Outcome E → Type 0
+abbrev pub Comes : {B E : Type 0} → (B → List ℕ → BareAnswer → B → Type 0) → (B → List ℕ → B → Type 0)
+    → (List Call → Outcome → Type 0) → B → B → Result Outcome E → Type 0
 Comes gives fails Is old new (Ok out) = Asks gives Is old new out
 Comes gives fails Is old new (Err fault) = Begins gives fails Is old new
 
 -- one call for this text, unless memory was wanted before it
-abbrev pub AsksOne : {B E : Type 0} → (B → List ℕ → BareAnswer → B → Type 0) → (B → List ℕ → B → Type 0) → List ℕ → B → B → Result Outcome E → Type 0
-AsksOne gives fails text old new (Ok out) = (answer : BareAnswer) × gives old text answer new × (out ≡ bare_outcome answer)
+abbrev pub AsksOne : {B E : Type 0} → (B → List ℕ → BareAnswer → B → Type 0) → (B → List ℕ → B → Type 0) → List ℕ → B
+    → B → Result Outcome E → Type 0
+AsksOne gives fails text old new (Ok out) =
+    (answer : BareAnswer) × gives old text answer new × (out ≡ bare_outcome answer)
 AsksOne gives fails text old new (Err fault) = (new ≡ old) ⊎ fails old text new
 
 -- what a target comes to, by the calls that were made: it is its outcome under every map that agrees with them
-pub record Chooses {B : Type 0} (gives : B → List ℕ → BareAnswer → B → Type 0) (rules : targets.Rules) (target : Json) (old new : B) (out : Outcome) : Type 0 where
+pub record Chooses {B : Type 0} (gives : B → List ℕ → BareAnswer → B → Type 0) (rules : targets.Rules) (target : Json)
+    (old new : B) (out : Outcome) : Type 0 where
   pub asked : List Call
   pub calls : Calls gives old asked new
   pub resolves : ResolvesTarget rules target asked out
@@ -63,4 +70,6 @@ rules_of rules = judged_by rules.conditions.now (option_map (λ text. text.now) 
 
 -- a member of an object: undefined where its key isn't tried
 abbrev pub Tries : targets.Rules → List ℕ → Json → List Call → Outcome → Type 0
-Tries rules key value asked out = ((is_tried rules.conditions key ≡ false) × (asked ≡ []) × (out ≡ Undefined)) ⊎ ((is_tried rules.conditions key ≡ true) × ResolvesTarget rules value asked out)
+Tries rules key value asked out =
+    ((is_tried rules.conditions key ≡ false) × (asked ≡ []) × (out ≡ Undefined))
+    ⊎ ((is_tried rules.conditions key ≡ true) × ResolvesTarget rules value asked out)

@@ -14,7 +14,8 @@ segments_in (Some text) = segments text
 
 -- what an invalid segment spells
 abbrev pub is_invalid_name : List ℕ → Bool
-is_invalid_name name = list_any (bytes_eq (lowercase name)) (codes "" ∷ codes "." ∷ codes ".." ∷ codes "node_modules" ∷ [])
+is_invalid_name name =
+    list_any (bytes_eq (lowercase name)) (codes "" ∷ codes "." ∷ codes ".." ∷ codes "node_modules" ∷ [])
 
 -- the text with each `*` replaced by this part
 abbrev pub replaced : List ℕ → List ℕ → List ℕ

@@ -32,8 +32,12 @@ pub fn choose<B: BareTarget>(
     imports: bool,
     bare: &mut B,
 ) -> Result<Outcome, Memory>
-    ensures chosen { IfOk result (Chooses B.gives (judged_by conditions.now (option_map (λ text. text.now) star.entry) imports) (json_of target.now) bare.old bare.new) }
-    ensures memory { OnErr result (Begins B.gives B.fails (ResolvesTarget (judged_by conditions.now (option_map (λ text. text.now) star.entry) imports) (json_of target.now)) bare.old bare.new) }
+    ensures chosen { IfOk result (Chooses B.gives
+        (judged_by conditions.now (option_map (λ text. text.now) star.entry) imports)
+        (json_of target.now) bare.old bare.new) }
+    ensures memory { OnErr result (Begins B.gives B.fails
+        (ResolvesTarget (judged_by conditions.now (option_map (λ text. text.now) star.entry) imports)
+        (json_of target.now)) bare.old bare.new) }
 {
     let rules = Rules {
         conditions,
@@ -50,7 +54,8 @@ fn choose_value<B: BareTarget>(
     rules: &Rules<'_>,
     bare: &mut B,
 ) -> Result<Outcome, Memory>
-    ensures { Comes B.gives B.fails (ResolvesTarget (rules_of rules.now) (json_of target.now)) bare.old bare.new result }
+    ensures { Comes B.gives B.fails (ResolvesTarget (rules_of rules.now) (json_of target.now)) bare.old bare.new
+        result }
 {
     match target {
         Value::Null => Ok(Outcome::Null),
@@ -81,7 +86,8 @@ fn choose_item<B: BareTarget>(
     rules: &Rules<'_>,
     bare: &mut B,
 ) -> Result<Outcome, Memory>
-    ensures { Comes B.gives B.fails (ResolvesItems (rules_of rules.now) (items_of (values_of items.now))) bare.old bare.new result }
+    ensures { Comes B.gives B.fails (ResolvesItems (rules_of rules.now) (items_of (values_of items.now))) bare.old
+        bare.new result }
 {
     let mut last = Outcome::Undefined;
     for index in 0..items.len() {
@@ -102,7 +108,8 @@ fn choose_member<B: BareTarget>(
     rules: &Rules<'_>,
     bare: &mut B,
 ) -> Result<Outcome, Memory>
-    ensures { Comes B.gives B.fails (ResolvesMembers (rules_of rules.now) (members_of (pairs_of members.now))) bare.old bare.new result }
+    ensures { Comes B.gives B.fails (ResolvesMembers (rules_of rules.now) (members_of (pairs_of members.now)))
+        bare.old bare.new result }
 {
     for index in 0..members.len() {
         let (key, value) = member_at(members, index);
@@ -181,7 +188,8 @@ fn item_at(items: &Items, index: usize) -> &Value
 /// The member with this number.
 pub(crate) fn member_at(members: &Members, index: usize) -> (&Text, &Value)
     requires { index < length (pairs_of members.now) }
-    ensures { drop index (pairs_of members.now) ≡ (result.0.now, result.1.now) ∷ drop (index + 1) (pairs_of members.now) }
+    ensures { drop index (pairs_of members.now) ≡ (result.0.now, result.1.now) ∷ drop (index + 1)
+        (pairs_of members.now) }
 {
     match members.at(index) {
         Some(member) => member,

@@ -1,5 +1,5 @@
-//! Conditions, and what a target in `exports` or `imports` of a package comes to under them. `choose` comes to the outcome
-//! of the definition, and asks for the bare texts that it names, in its order.
+//! Conditions, and what a target in `exports` or `imports` of a package comes to under them. `choose` comes to the
+//! outcome of the definition, and asks for the bare texts that it names, in its order.
 #![tactic(auto)]
 
 mod array_index;

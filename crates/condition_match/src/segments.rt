@@ -74,7 +74,8 @@ fn is_separator(byte: u8) -> bool
 
 // Whether one of the segments of a text is invalid. No text has none.
 fn any_invalid(alloc: Global, text: Option<&[u8]>) -> Result<bool, Memory>
-    ensures { IfOk result (λ invalid. invalid ≡ list_any is_invalid_segment (segments_in (option_map (λ bytes. bytes.now) text.entry))) }
+    ensures { IfOk result (λ invalid. invalid ≡ list_any is_invalid_segment
+        (segments_in (option_map (λ bytes. bytes.now) text.entry))) }
 {
     let mut rest = text;
     while let Some(bytes) = rest {

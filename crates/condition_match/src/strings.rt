@@ -39,7 +39,8 @@ fn choose_bare<B: BareTarget>(
     star: Option<&str>,
     bare: &mut B,
 ) -> Result<Outcome, Memory>
-    ensures { AsksOne B.gives B.fails (with_match (option_map (λ part. part.now) star.entry) target.now) bare.old bare.new result }
+    ensures { AsksOne B.gives B.fails (with_match (option_map (λ part. part.now) star.entry) target.now) bare.old
+        bare.new result }
 {
     match replacing(target, star) {
         None => ask(alloc, target, bare),
@@ -59,7 +60,8 @@ fn ask<B: BareTarget>(alloc: Global, text: &str, bare: &mut B) -> Result<Outcome
 
 // What replaces each `*` of a text, where there is both.
 fn replacing<'a>(target: &str, star: Option<&'a str>) -> Option<&'a str>
-    ensures { MatchOption result (with_match (option_map (λ part. part.now) star.entry) target.now ≡ target.now) (λ part. replaced part.now target.now ≡ with_match (option_map (λ part. part.now) star.entry) target.now) }
+    ensures { MatchOption result (with_match (option_map (λ part. part.now) star.entry) target.now ≡ target.now)
+        (λ part. replaced part.now target.now ≡ with_match (option_map (λ part. part.now) star.entry) target.now) }
 {
     match star {
         None => None,

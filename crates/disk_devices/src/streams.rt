@@ -57,7 +57,8 @@ impl<R: Read> Source for StdSource<R> {
     }
 }
 
-/// A sink over a writer. It tells nothing of what has gone out, since a writer that fails doesn't tell how much it took.
+/// A sink over a writer. It tells nothing of what has gone out, since a writer that fails doesn't tell how much it
+/// took.
 #[derive(Drop)]
 pub struct StdSink<W> {
     output: W,

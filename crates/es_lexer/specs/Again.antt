@@ -7,4 +7,7 @@ use Rattle.es_lexer.specs.Steps.{NextIs}
 
 -- own law: behind the same tokens, what a call answers once it answered a fault is that fault
 abbrev pub SameFaultAgain : Type 0
-SameFaultAgain = (text : List ℕ) (before : List Lexeme) (rest after later : List ℕ) (fault : LexFault) (answer : Result (Option Token) LexFault) → NextIs text before rest (Err fault) after → NextIs text before after answer later → answer ≡ Err fault
+SameFaultAgain =
+    (text : List ℕ) (before : List Lexeme) (rest after later : List ℕ) (fault : LexFault)
+    (answer : Result (Option Token) LexFault) → NextIs text before rest (Err fault) after
+    → NextIs text before after answer later → answer ≡ Err fault

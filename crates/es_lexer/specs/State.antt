@@ -18,7 +18,9 @@ Facts Template before = Unit {0}
 -- the open brackets, the innermost one last
 pub data IsStack : List Lexeme → List Open → Type 0 where
   empty : {before : List Lexeme} → Balanced before [] → IsStack before []
-  inside : {o : Lexeme} {before inner outer : List Lexeme} {stack : List Open} (x : Open) (front : List Open) → Balanced before (o ∷ inner) → opens o.sort ≡ Some (bracket_of x) → Facts x inner → Outside o inner outer → IsStack outer front → stack ≡ front ++ x ∷ [] → IsStack before stack
+  inside : {o : Lexeme} {before inner outer : List Lexeme} {stack : List Open} (x : Open) (front : List Open)
+      → Balanced before (o ∷ inner) → opens o.sort ≡ Some (bracket_of x) → Facts x inner → Outside o inner outer
+      → IsStack outer front → stack ≡ front ++ x ∷ [] → IsStack before stack
 
 pub record State (before : List Lexeme) (last : Last) (stack : List Open) : Type 0 where
   pub word : last.word ≡ plain_word before

@@ -58,13 +58,14 @@ impl<'a> Lexer<'a> {
         })
     }
 
-    /// The next token, None at the text's end, or the text's first fault. At the end and at a fault the reader stays where
-    /// it is, so that each later call answers the same.
+    /// The next token, None at the text's end, or the text's first fault. At the end and at a fault the reader stays
+    /// where it is, so that each later call answers the same.
     pub fn next(&mut self) -> Result<Option<Token>, LexFault>
         ensures text { self.new.0 ≡ self.old.0 }
         ensures span { IfOk result (λ token. IfSome token (λ t. IsSpan self.old.0 t)) }
         ensures reached { (before : List Lexeme) × Reaches self.old.0 before self.old.1 }
-        ensures next { (before : List Lexeme) → Reaches self.old.0 before self.old.1 → NextIs self.old.0 before self.old.1 result self.new.1 }
+        ensures next { (before : List Lexeme) → Reaches self.old.0 before self.old.1
+            → NextIs self.old.0 before self.old.1 result self.new.1 }
     {
         let bytes = skip(self.rest);
         let top = top_of(self.stack.as_slice());

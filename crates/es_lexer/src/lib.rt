@@ -1,5 +1,6 @@
-//! The tokens of a module text one by one, by ECMA-262's lexical grammar: [`Lexer::next`] gives them in their order, and then
-//! that the text ends, or its first fault. Each byte is read once, and no call but [`Lexer::new`] takes memory.
+//! The tokens of a module text one by one, by ECMA-262's lexical grammar: [`Lexer::next`] gives them in their order,
+//! and then that the text ends, or its first fault. Each byte is read once, and no call but [`Lexer::new`] takes
+//! memory.
 #![tactic(auto)]
 
 ghost use Rattle.es_lexer.specs.Again.{SameFaultAgain};

@@ -61,8 +61,8 @@ fn refusal(
     }
 }
 
-/// What comes at the front of bytes that begin with no white space and no comment: a token and the bytes behind it, None at
-/// the end, or a fault.
+/// What comes at the front of bytes that begin with no white space and no comment: a token and the bytes behind it,
+/// None at the end, or a fault.
 #[tactic(auto, unfolding(module_spec::specs::Tokens::next_at))]
 pub fn look(
     slash: bool,
@@ -70,8 +70,11 @@ pub fn look(
     depth: usize,
     bytes: &[u8],
 ) -> Result<Option<(Sort, &[u8])>, LexKind>
-    ensures next { MatchResult result (λ found. MatchOption found (next_at slash innermost depth bytes.now ≡ Ends) (λ p. next_at slash innermost depth bytes.now ≡ Gives (lexeme p.0 bytes.now p.1.now) p.1.now)) (λ kind. next_at slash innermost depth bytes.now ≡ Faults (length bytes.now) kind) }
-    ensures allowed { MatchResult result (λ found. MatchOption found (Unit {0}) (λ p. refusal (opens p.0) (closes p.0) innermost depth ≡ None)) (λ kind. Unit {0}) }
+    ensures next { MatchResult result (λ found. MatchOption found (next_at slash innermost depth bytes.now ≡ Ends)
+        (λ p. next_at slash innermost depth bytes.now ≡ Gives (lexeme p.0 bytes.now p.1.now) p.1.now))
+        (λ kind. next_at slash innermost depth bytes.now ≡ Faults (length bytes.now) kind) }
+    ensures allowed { MatchResult result (λ found. MatchOption found (Unit {0})
+        (λ p. refusal (opens p.0) (closes p.0) innermost depth ≡ None)) (λ kind. Unit {0}) }
 {
     if bytes.is_empty() {
         return if depth == 0 {

@@ -151,7 +151,8 @@ pub fn begins_name(bytes: &[u8]) -> bool
 
 // The bytes behind one character of names.
 fn name_more(bytes: &[u8]) -> Option<&[u8]>
-    ensures { MatchOption result (name_rest bytes.now ≡ bytes.now) (λ more. (name_rest bytes.now ≡ name_rest more.now) × (length more.now < length bytes.now)) }
+    ensures { MatchOption result (name_rest bytes.now ≡ bytes.now)
+        (λ more. (name_rest bytes.now ≡ name_rest more.now) × (length more.now < length bytes.now)) }
 {
     let size = name_size(bytes);
     if size == 0 {

@@ -9,7 +9,8 @@ use crate::spellings::{begins_number, number_rest, regex_body_rest, template_res
 use module_spec::Sort;
 
 fn punctuator_piece(bytes: &[u8]) -> Option<(Sort, &[u8])>
-    ensures { MatchOption result (punctuator_piece bytes.now (punctuator bytes.now) ≡ None) (λ found. punctuator_piece bytes.now (punctuator bytes.now) ≡ Some (found.0, found.1.now)) }
+    ensures { MatchOption result (punctuator_piece bytes.now (punctuator bytes.now) ≡ None)
+        (λ found. punctuator_piece bytes.now (punctuator bytes.now) ≡ Some (found.0, found.1.now)) }
 {
     match punctuator(bytes) {
         None => None,
@@ -18,7 +19,8 @@ fn punctuator_piece(bytes: &[u8]) -> Option<(Sort, &[u8])>
 }
 
 fn private_piece(bytes: &[u8]) -> Option<(Sort, &[u8])>
-    ensures { MatchOption result (private_piece bytes.now ≡ None) (λ found. private_piece bytes.now ≡ Some (found.0, found.1.now)) }
+    ensures { MatchOption result (private_piece bytes.now ≡ None)
+        (λ found. private_piece bytes.now ≡ Some (found.0, found.1.now)) }
 {
     if begins_name(bytes) {
         Some((Sort::Private, name_rest(bytes)))
@@ -28,7 +30,8 @@ fn private_piece(bytes: &[u8]) -> Option<(Sort, &[u8])>
 }
 
 fn text_piece(quote: u8, bytes: &[u8]) -> Option<(Sort, &[u8])>
-    ensures { MatchOption result (as_piece Sort.Text (text_rest quote bytes.now) ≡ None) (λ found. as_piece Sort.Text (text_rest quote bytes.now) ≡ Some (found.0, found.1.now)) }
+    ensures { MatchOption result (as_piece Sort.Text (text_rest quote bytes.now) ≡ None)
+        (λ found. as_piece Sort.Text (text_rest quote bytes.now) ≡ Some (found.0, found.1.now)) }
 {
     match text_rest(quote, bytes) {
         None => None,
@@ -37,7 +40,8 @@ fn text_piece(quote: u8, bytes: &[u8]) -> Option<(Sort, &[u8])>
 }
 
 fn first_part(bytes: &[u8]) -> Option<(Sort, &[u8])>
-    ensures { MatchOption result (first_part (template_rest bytes.now) ≡ None) (λ found. first_part (template_rest bytes.now) ≡ Some (found.0, found.1.now)) }
+    ensures { MatchOption result (first_part (template_rest bytes.now) ≡ None)
+        (λ found. first_part (template_rest bytes.now) ≡ Some (found.0, found.1.now)) }
 {
     match template_rest(bytes) {
         None => None,
@@ -47,7 +51,8 @@ fn first_part(bytes: &[u8]) -> Option<(Sort, &[u8])>
 }
 
 fn later_part(bytes: &[u8]) -> Option<(Sort, &[u8])>
-    ensures { MatchOption result (later_part (template_rest bytes.now) ≡ None) (λ found. later_part (template_rest bytes.now) ≡ Some (found.0, found.1.now)) }
+    ensures { MatchOption result (later_part (template_rest bytes.now) ≡ None)
+        (λ found. later_part (template_rest bytes.now) ≡ Some (found.0, found.1.now)) }
 {
     match template_rest(bytes) {
         None => None,
@@ -57,7 +62,8 @@ fn later_part(bytes: &[u8]) -> Option<(Sort, &[u8])>
 }
 
 fn regex_piece(bytes: &[u8]) -> Option<(Sort, &[u8])>
-    ensures { MatchOption result (regex_piece (regex_body_rest false false bytes.now) ≡ None) (λ found. regex_piece (regex_body_rest false false bytes.now) ≡ Some (found.0, found.1.now)) }
+    ensures { MatchOption result (regex_piece (regex_body_rest false false bytes.now) ≡ None)
+        (λ found. regex_piece (regex_body_rest false false bytes.now) ≡ Some (found.0, found.1.now)) }
 {
     match regex_body_rest(bytes) {
         None => None,
@@ -68,7 +74,8 @@ fn regex_piece(bytes: &[u8]) -> Option<(Sort, &[u8])>
 // What a `/` begins that begins no comment.
 fn slash_piece<'a>(regex: bool, bytes: &'a [u8], rest: &'a [u8]) -> Option<(Sort, &'a [u8])>
     requires { bytes.now ≡ 47 ∷ rest.now }
-    ensures { MatchOption result (slash_piece regex rest.now ≡ None) (λ found. slash_piece regex rest.now ≡ Some (found.0, found.1.now)) }
+    ensures { MatchOption result (slash_piece regex rest.now ≡ None)
+        (λ found. slash_piece regex rest.now ≡ Some (found.0, found.1.now)) }
 {
     match rest.split_first() {
         None => { if regex { None } else { punctuator_piece(bytes) } }
@@ -88,7 +95,8 @@ fn slash_piece<'a>(regex: bool, bytes: &'a [u8], rest: &'a [u8]) -> Option<(Sort
 /// regular expression, and `part` that a `}` goes on with a template.
 #[tactic(auto, unfolding(module_spec::specs::Tokens::piece))]
 pub fn piece(regex: bool, part: bool, bytes: &[u8]) -> Option<(Sort, &[u8])>
-    ensures { MatchOption result (piece regex part bytes.now ≡ None) (λ found. piece regex part bytes.now ≡ Some (found.0, found.1.now)) }
+    ensures { MatchOption result (piece regex part bytes.now ≡ None)
+        (λ found. piece regex part bytes.now ≡ Some (found.0, found.1.now)) }
 {
     let Some((first, rest)) = bytes.split_first() else {
         return None;

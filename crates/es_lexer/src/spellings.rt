@@ -158,7 +158,9 @@ fn number_size(exponent: bool, bytes: &[u8]) -> usize
 
 // The bytes behind a number's next part.
 fn number_more(exponent: bool, bytes: &[u8]) -> Option<&[u8]>
-    ensures { MatchOption result (passed (number_size exponent) 0 bytes.now ≡ bytes.now) (λ more. (passed (number_size exponent) 0 bytes.now ≡ passed (number_size exponent) 0 more.now) × (length more.now < length bytes.now)) }
+    ensures { MatchOption result (passed (number_size exponent) 0 bytes.now ≡ bytes.now)
+        (λ more. (passed (number_size exponent) 0 bytes.now ≡ passed (number_size exponent) 0 more.now)
+        × (length more.now < length bytes.now)) }
 {
     let size = number_size(exponent, bytes);
     if size == 0 {
@@ -223,7 +225,9 @@ fn text_size(quote: u8, bytes: &[u8]) -> usize
 
 // The bytes behind those that a string takes next.
 fn text_more(quote: u8, bytes: &[u8]) -> Option<&[u8]>
-    ensures { MatchOption result (passed (text_size quote) 0 bytes.now ≡ bytes.now) (λ more. (passed (text_size quote) 0 bytes.now ≡ passed (text_size quote) 0 more.now) × (length more.now < length bytes.now)) }
+    ensures { MatchOption result (passed (text_size quote) 0 bytes.now ≡ bytes.now)
+        (λ more. (passed (text_size quote) 0 bytes.now ≡ passed (text_size quote) 0 more.now)
+        × (length more.now < length bytes.now)) }
 {
     let size = text_size(quote, bytes);
     if size == 0 {
@@ -234,7 +238,8 @@ fn text_more(quote: u8, bytes: &[u8]) -> Option<&[u8]>
 }
 
 fn closed_rest(quote: u8, bytes: &[u8]) -> Option<&[u8]>
-    ensures { MatchOption result (closed_rest quote bytes.now ≡ None) (λ rest. closed_rest quote bytes.now ≡ Some rest.now) }
+    ensures { MatchOption result (closed_rest quote bytes.now ≡ None)
+        (λ rest. closed_rest quote bytes.now ≡ Some rest.now) }
 {
     match bytes.split_first() {
         None => None,
@@ -244,7 +249,8 @@ fn closed_rest(quote: u8, bytes: &[u8]) -> Option<&[u8]>
 
 /// The bytes behind the closing quote of a string literal, by those behind the opening one.
 pub fn text_rest(quote: u8, bytes: &[u8]) -> Option<&[u8]>
-    ensures { MatchOption result (text_rest quote bytes.now ≡ None) (λ rest. text_rest quote bytes.now ≡ Some rest.now) }
+    ensures { MatchOption result (text_rest quote bytes.now ≡ None)
+        (λ rest. text_rest quote bytes.now ≡ Some rest.now) }
 {
     let mut rest = bytes;
     while let Some(more) = text_more(quote, rest) {
@@ -282,7 +288,9 @@ fn template_size(bytes: &[u8]) -> usize
 
 // The bytes behind those that a part of a template takes next.
 fn template_more(bytes: &[u8]) -> Option<&[u8]>
-    ensures { MatchOption result (passed template_size 0 bytes.now ≡ bytes.now) (λ more. (passed template_size 0 bytes.now ≡ passed template_size 0 more.now) × (length more.now < length bytes.now)) }
+    ensures { MatchOption result (passed template_size 0 bytes.now ≡ bytes.now)
+        (λ more. (passed template_size 0 bytes.now ≡ passed template_size 0 more.now)
+        × (length more.now < length bytes.now)) }
 {
     let size = template_size(bytes);
     if size == 0 {
@@ -293,7 +301,8 @@ fn template_more(bytes: &[u8]) -> Option<&[u8]>
 }
 
 fn part_rest(bytes: &[u8]) -> Option<(bool, &[u8])>
-    ensures { MatchOption result (part_rest bytes.now ≡ None) (λ part. part_rest bytes.now ≡ Some (part.0, part.1.now)) }
+    ensures { MatchOption result (part_rest bytes.now ≡ None)
+        (λ part. part_rest bytes.now ≡ Some (part.0, part.1.now)) }
 {
     match bytes.split_first() {
         None => None,
@@ -311,7 +320,8 @@ fn part_rest(bytes: &[u8]) -> Option<(bool, &[u8])>
 
 /// The bytes behind a template's part, and whether a backquote ends it.
 pub fn template_rest(bytes: &[u8]) -> Option<(bool, &[u8])>
-    ensures { MatchOption result (template_rest bytes.now ≡ None) (λ part. template_rest bytes.now ≡ Some (part.0, part.1.now)) }
+    ensures { MatchOption result (template_rest bytes.now ≡ None)
+        (λ part. template_rest bytes.now ≡ Some (part.0, part.1.now)) }
 {
     let mut rest = bytes;
     while let Some(more) = template_more(rest) {
@@ -322,7 +332,8 @@ pub fn template_rest(bytes: &[u8]) -> Option<(bool, &[u8])>
 
 /// The bytes behind the closing `/` of a regular expression.
 pub fn regex_body_rest(bytes: &[u8]) -> Option<&[u8]>
-    ensures { MatchOption result (regex_body_rest false false bytes.now ≡ None) (λ rest. regex_body_rest false false bytes.now ≡ Some rest.now) }
+    ensures { MatchOption result (regex_body_rest false false bytes.now ≡ None)
+        (λ rest. regex_body_rest false false bytes.now ≡ Some rest.now) }
 {
     let mut rest = bytes;
     let mut escaped = false;

@@ -2,9 +2,9 @@ use crate::{Kind, LexFault, LexKind, Lexer, Token, tokens_of};
 use std::alloc::Global;
 use std::test::Fail;
 
-/// Texts with their tokens, each as the letter of its kind and its text, or with the first fault. The letters: N a name, H a
-/// private name, D a number, S a string, W O M E a whole template and its first, middle and last parts, R a regular expression, P
-/// a punctuator; `!` and `deep` are the faults. `¶` begins a row, and `⇒` stands behind its text.
+/// Texts with their tokens, each as the letter of its kind and its text, or with the first fault. The letters: N a
+/// name, H a private name, D a number, S a string, W O M E a whole template and its first, middle and last parts, R a
+/// regular expression, P a punctuator; `!` and `deep` are the faults. `¶` begins a row, and `⇒` stands behind its text.
 static CASES: &str = "\
 ¶⇒\
 ¶ \t\n\r\u{b}\u{c}⇒\

@@ -30,7 +30,8 @@ impl From<AllocError> for TokensFault {
 /// All tokens of a text in their order, or its first fault.
 pub fn tokens_of(alloc: Global, text: &str) -> Result<Listed<Token>, TokensFault>
     ensures tokens { IfOk result (λ tokens. ReadsTokens text.now (Ok tokens)) }
-    ensures fault { IfErr result (λ e. (fault : LexFault) → e ≡ TokensFault.Lexical fault → ReadsTokens text.now (Err fault)) }
+    ensures fault { IfErr result (λ e. (fault : LexFault) → e ≡ TokensFault.Lexical fault
+        → ReadsTokens text.now (Err fault)) }
 {
     let mut lexer = Lexer::new(alloc, text)?;
     let mut tokens = Listed::new(alloc);

@@ -22,7 +22,8 @@ after_dot (Import top) seen text = if mark_is seen.kind text (codes ".") then Do
 after_dot Dot seen text = Other
 
 abbrev pub after_token : After → Seen → List ℕ → After
-after_token after seen text = if seen.plain && word_is seen.kind text (codes "import") then Import seen.top else after_dot after seen text
+after_token after seen text =
+    if seen.plain && word_is seen.kind text (codes "import") then Import seen.top else after_dot after seen text
 
 abbrev pub declares_at_end : After → Bool
 declares_at_end Other = false

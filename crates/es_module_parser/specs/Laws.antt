@@ -18,8 +18,8 @@ abbrev pub CurlyOpens : Type 0
 CurlyOpens = (text : List ℕ) (t : Lexeme) (before : List Lexeme) (rest : List ℕ)
     → Reaches text (t ∷ before) rest → t.text ≡ codes "{" → opens t.sort ≡ Some Curly
 
--- where the tokens `held` stand behind `inner`, with no bracket open before, and are braces of a declaration, the last of
--- them closes what the first opens; `to` is its number
+-- where the tokens `held` stand behind `inner`, with no bracket open before, and are braces of a declaration, the
+-- last of them closes what the first opens; `to` is its number
 abbrev pub BracesArePartners : Type 0
 BracesArePartners = (text : List ℕ) (held inner : List Lexeme) (rest : List ℕ) (braces : List Placed) (to : ℕ)
     → Reaches text (held ++ inner) rest → depth inner ≡ 0 → Braces braces

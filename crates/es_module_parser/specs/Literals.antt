@@ -66,7 +66,8 @@ abbrev pub NoElement : ℕ → List ℕ → Type 0
 NoElement first characters = (more : List Element) × (elements zero (first ∷ characters) ≡ wrong ∷ more)
 
 abbrev pub IsElement : ℕ → List ℕ → Option ℕ → List ℕ → Type 0
-IsElement first characters added rest = (elements zero (first ∷ characters) ≡ element_of added ∷ elements zero rest) × (length rest ≤ length characters)
+IsElement first characters added rest =
+    (elements zero (first ∷ characters) ≡ element_of added ∷ elements zero rest) × (length rest ≤ length characters)
 
 -- a text, and then the characters
 abbrev pub behind_text : List ℕ → Option (List ℕ) → Option (List ℕ)
@@ -80,7 +81,8 @@ settled text Alone more = None
 
 -- the text and what waits behind it, before and after an element
 abbrev pub IsAdded : List ℕ → Waiting → Element → List ℕ → Waiting → Type 0
-IsAdded text waiting element new waits = (more : List Element) → settled text waiting (element ∷ more) ≡ settled new waits more
+IsAdded text waiting element new waits =
+    (more : List Element) → settled text waiting (element ∷ more) ≡ settled new waits more
 
 abbrev pub IsWaiting : Waiting → Type 0
 IsWaiting Nothing = Unit {0}

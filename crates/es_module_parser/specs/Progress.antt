@@ -1,4 +1,5 @@
--- How the parser goes on from token to token. Each word says what a function of the code gives; the lemmas on them tie it to the forms.
+-- How the parser goes on from token to token. Each word says what a function of the code gives; the lemmas on them
+-- tie it to the forms.
 use Rattle.std.specs.Prelude.{◌≡◌, ℕ, Bool, false, ◌&&◌, ◌||◌, ◌==◌, ◌++◌, [], ◌∷◌, length, bytes_eq, codes, List, if◌then◌else◌, Option, Some, None, slice_range}
 use Rattle.module_spec.specs.declared.token.Kind.{Kind}
 use Rattle.module_spec.specs.declared.token.Token.{Token}
@@ -102,7 +103,8 @@ abbrev pub moved : ℕ → Turn → Seen → List ℕ → Next
 moved word turns.Wrong seen text = Goes (Broken (Unreadable word))
 moved word turns.Asked seen text = Specifier
 moved word turns.Leave seen text = Goes (begun seen text)
-moved word (turns.Go next) seen text = Goes (if may_begin seen text then Inside next word (Some seen.from) else Inside next word None)
+moved word (turns.Go next) seen text =
+    Goes (if may_begin seen text then Inside next word (Some seen.from) else Inside next word None)
 
 abbrev pub moved_wrong : ℕ → ℕ → Turn → Progress
 moved_wrong word inner turns.Wrong = Broken (Unreadable word)
@@ -127,7 +129,9 @@ progress_asked token (Some text) asked = if length asked == most_requests then B
 
 abbrev pub requests_asked : Token → Option (List ℕ) → List Request → List Request
 requests_asked token None asked = asked
-requests_asked token (Some text) asked = if length asked == most_requests then asked else asked ++ record { from = token.from; to = token.to; text = text } ∷ []
+requests_asked token (Some text) asked =
+    if length asked == most_requests then asked
+    else asked ++ record { from = token.from; to = token.to; text = text } ∷ []
 
 abbrev pub progress_behind : Next → Token → Option (List ℕ) → List Request → Progress
 progress_behind (Goes progress) token value asked = progress

@@ -32,8 +32,8 @@ fn is_top(plain: bool, depth: usize) -> bool
     plain && depth == 0
 }
 
-// Whether a text is one of the two words. Few tokens are as long as they are, so this is asked before the kind, which is
-// seldom foreseen.
+// Whether a text is one of the two words. Few tokens are as long as they are, so this is asked before the kind, which
+// is seldom foreseen.
 fn begins_declaration(text: &[u8]) -> bool
     ensures { result ≡ (bytes_eq text.now (codes "import") || bytes_eq text.now (codes "export")) }
 {

@@ -8,8 +8,9 @@ use std::marker::Brand;
 use std::sync::ledger::{Blank, Ledger};
 use std::test::Fail;
 
-/// Texts, and what is told of each: `m` where it is a module's and else `-`, and then its requests, each with its span and
-/// its text; or `!` and the place of what can't be read, `deep` or `many`. `¶` begins a row, and `⇒` stands behind its text.
+/// Texts, and what is told of each: `m` where it is a module's and else `-`, and then its requests, each with its
+/// span and its text; or `!` and the place of what can't be read, `deep` or `many`. `¶` begins a row, and `⇒` stands
+/// behind its text.
 static CASES: &str = "\
 ¶import\"a\"⇒m  6..9 a\
 ¶import 'a'⇒m  7..10 a\

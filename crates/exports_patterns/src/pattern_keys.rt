@@ -38,7 +38,8 @@ pub fn best_match(keys: &Members, key: &str) -> Option<Match>
 }
 
 fn key_at(keys: &Members, index: usize) -> Option<&str>
-    ensures { MatchOption result (length (keys_of keys.now) ≤ index) (λ name. slice_get (keys_of keys.now) index ≡ Some name.now) }
+    ensures { MatchOption result (length (keys_of keys.now) ≤ index)
+        (λ name. slice_get (keys_of keys.now) index ≡ Some name.now) }
 {
     match keys.at(index) {
         None => None,
@@ -49,7 +50,8 @@ fn key_at(keys: &Members, index: usize) -> Option<&str>
 // What is found, where one more key stands behind those that were looked at.
 fn with_key(best: Option<Match>, index: usize, name: &str, asked: &str) -> Option<Match>
     ensures span { IfSome best (HasSpan asked.now) → IfSome result (HasSpan asked.now) }
-    ensures found { (done : List (List ℕ)) → length done ≡ index → Finds done asked.now best → Finds (done ++ name.now ∷ []) asked.now result }
+    ensures found { (done : List (List ℕ)) → length done ≡ index → Finds done asked.now best
+        → Finds (done ++ name.now ∷ []) asked.now result }
 {
     match matched(index, name, asked) {
         None => best,
@@ -78,7 +80,8 @@ fn precedes(found: Match, other: Match) -> bool
 }
 
 fn matched(index: usize, name: &str, asked: &str) -> Option<Match>
-    ensures matches { MatchOption result ((found : KeyMatch) → Matches asked.now name.now found → ⊥) (λ found. (found.index ≡ index) × IsMatch asked.now name.now found) }
+    ensures matches { MatchOption result ((found : KeyMatch) → Matches asked.now name.now found → ⊥)
+        (λ found. (found.index ≡ index) × IsMatch asked.now name.now found) }
     ensures span { IfSome result (HasSpan asked.now) }
 {
     match at_star(name) {
@@ -92,7 +95,8 @@ fn matched(index: usize, name: &str, asked: &str) -> Option<Match>
 
 fn exact_match(index: usize, name: &str, asked: &str) -> Option<Match>
     requires { HasNoStar name.now }
-    ensures matches { MatchOption result ((found : KeyMatch) → Matches asked.now name.now found → ⊥) (λ found. (found.index ≡ index) × IsMatch asked.now name.now found) }
+    ensures matches { MatchOption result ((found : KeyMatch) → Matches asked.now name.now found → ⊥)
+        (λ found. (found.index ≡ index) × IsMatch asked.now name.now found) }
     ensures span { IfSome result (HasSpan asked.now) }
 {
     if name != asked {
@@ -108,7 +112,9 @@ fn exact_match(index: usize, name: &str, asked: &str) -> Option<Match>
 
 fn pattern_match(index: usize, base: &str, trailer: &str, asked: &str) -> Option<Match>
     ensures span { IfSome result (HasSpan asked.now) }
-    ensures matches { (name : List ℕ) → IsPattern name base.now trailer.now → MatchOption result ((found : KeyMatch) → Matches asked.now name found → ⊥) (λ found. (found.index ≡ index) × IsMatch asked.now name found) }
+    ensures matches { (name : List ℕ) → IsPattern name base.now trailer.now
+        → MatchOption result ((found : KeyMatch) → Matches asked.now name found → ⊥)
+        (λ found. (found.index ≡ index) × IsMatch asked.now name found) }
 {
     match pattern_end(asked, base, trailer) {
         None => None,
@@ -123,14 +129,17 @@ fn pattern_match(index: usize, base: &str, trailer: &str, asked: &str) -> Option
 
 // What stands before the first star and after it.
 fn at_star(text: &str) -> Option<(&str, &str)>
-    ensures { MatchOption result (HasNoStar text.now) (λ parts. (text.now ≡ parts.0.now ++ 42 ∷ parts.1.now) × HasNoStar parts.0.now) }
+    ensures { MatchOption result (HasNoStar text.now)
+        (λ parts. (text.now ≡ parts.0.now ++ 42 ∷ parts.1.now) × HasNoStar parts.0.now) }
 {
     text.split_once('*')
 }
 
 // Where the pattern match ends, which stands between the base and the trailer and isn't empty.
 fn pattern_end(asked: &str, base: &str, trailer: &str) -> Option<usize>
-    ensures { MatchOption result ((part : List ℕ) → asked.now ≡ base.now ++ (part ++ trailer.now) → part ≡ []) (λ to. (part : List ℕ) × (asked.now ≡ base.now ++ (part ++ trailer.now)) × (part ≢ []) × (to ≡ length base.now + length part)) }
+    ensures { MatchOption result ((part : List ℕ) → asked.now ≡ base.now ++ (part ++ trailer.now) → part ≡ [])
+        (λ to. (part : List ℕ) × (asked.now ≡ base.now ++ (part ++ trailer.now)) × (part ≢ [])
+        × (to ≡ length base.now + length part)) }
 {
     let Some(rest) = behind(asked.as_bytes(), base.as_bytes()) else {
         return None;
@@ -145,13 +154,15 @@ fn pattern_end(asked: &str, base: &str, trailer: &str) -> Option<usize>
 }
 
 fn behind<'a>(text: &'a [u8], front: &[u8]) -> Option<&'a [u8]>
-    ensures { MatchOption result ((rest : List ℕ) → text.now ≢ front.now ++ rest) (λ rest. text.now ≡ front.now ++ rest.now) }
+    ensures { MatchOption result ((rest : List ℕ) → text.now ≢ front.now ++ rest)
+        (λ rest. text.now ≡ front.now ++ rest.now) }
 {
     text.strip_prefix(front)
 }
 
 fn ahead_of<'a>(text: &'a [u8], end: &[u8]) -> Option<&'a [u8]>
-    ensures { MatchOption result ((front : List ℕ) → text.now ≢ front ++ end.now) (λ front. text.now ≡ front.now ++ end.now) }
+    ensures { MatchOption result ((front : List ℕ) → text.now ≢ front ++ end.now)
+        (λ front. text.now ≡ front.now ++ end.now) }
 {
     text.strip_suffix(end)
 }

@@ -28,11 +28,13 @@ pub record IsGenerated (tree : Tree) (config : Config) (generated : Generated) :
   pub is_traced : traced (get tree) config ≡ Ok all
   pub is_map : IsMapOf all generated
 
--- own: a told tree has the trace whose map this is, or the refusal; what isn't refused so is a look that failed and was counted, or want of
--- memory
-pub record Generating (config : Config) (before : FolderState) (result : Result Generated TraceFault) (after : FolderState) : Type 0 where
+-- own: a told tree has the trace whose map this is, or the refusal; what isn't refused so is a look that failed and
+-- was counted, or want of memory
+pub record Generating (config : Config) (before : FolderState) (result : Result Generated TraceFault)
+    (after : FolderState) : Type 0 where
   pub generated : IfOk result (λ found. IfSome before.holds (λ tree. IsGenerated tree config found))
   pub refused :
-      IfErr result (λ fault. fault ≢ ReadFault → fault ≢ Memory → IfSome before.holds (λ tree. traced (get tree) config ≡ Err fault))
+      IfErr result (λ fault. fault ≢ ReadFault → fault ≢ Memory
+      → IfSome before.holds (λ tree. traced (get tree) config ≡ Err fault))
   pub kind : IfErr result (λ fault. fault ≢ ReadFault → fault ≢ Memory → IsOfTrace config fault)
   pub looks : OnlyLooks before after (result ≡ Err ReadFault)

@@ -10,7 +10,8 @@ use std::alloc::{AllocError, Global};
 use trace_spec::TraceFault;
 use tree_model::Folder;
 
-/// A map's text, and the counts that are told of it: the modules of its trace without the page, its requests, and the mappings of its layout.
+/// A map's text, and the counts that are told of it: the modules of its trace without the page, its requests, and the
+/// mappings of its layout.
 #[derive(Drop)]
 pub struct Generated {
     pub map: Vec<u8>,

@@ -1,4 +1,5 @@
-//! Generation: the map of a folder and a config, or why there is none. It is one call, whose contract is the definition of generation.
+//! Generation: the map of a folder and a config, or why there is none. It is one call, whose contract is the
+//! definition of generation.
 #![tactic(auto)]
 
 mod generated;

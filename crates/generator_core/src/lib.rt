@@ -1,5 +1,5 @@
-//! The whole program as one call: the words of the command line, a folder and an output are handed to `run`, which does what the words say, tells
-//! of it, and answers the exit status.
+//! The whole program as one call: the words of the command line, a folder and an output are handed to `run`, which
+//! does what the words say, tells of it, and answers the exit status.
 #![tactic(auto)]
 
 mod running;

@@ -22,7 +22,8 @@ use tree_model::{Folder, Path, PathFault, Sink, Source};
 /// Where the map is written.
 const MAP_PATH: &str = "/importmap.json";
 
-/// Does all that the program does: reads the words, generates from the folder, writes the map and says how it ended. Answers the exit status.
+/// Does all that the program does: reads the words, generates from the folder, writes the map and says how it ended.
+/// Answers the exit status.
 pub fn run<F: Folder, I: Source, O: Sink, L: Ledger>(
     alloc: Global,
     words: &[String],
@@ -31,7 +32,8 @@ pub fn run<F: Folder, I: Source, O: Sink, L: Ledger>(
     out: &mut O,
     _steps: &mut Steps<L>,
 ) -> u8
-    ensures end { EndsAs (texts words.now) (F.state folder.old) (F.state folder.new) (O.state out.old) (O.state out.new) result }
+    ensures end { EndsAs (texts words.now) (F.state folder.old) (F.state folder.new) (O.state out.old)
+        (O.state out.new) result }
     ensures words { (why : Refusal) → RefusesWords (texts words.now) why → folder.new ≡ folder.old }
     ensures input { _input.new ≡ _input.old }
     ensures steps { _steps.new ≡ _steps.old }
@@ -61,7 +63,8 @@ fn finish<F: Folder, O: Sink>(
     generated: &Generated,
     out: &mut O,
 ) -> u8
-    ensures { Writes generated.now (F.state folder.old) (F.state folder.new) (O.state out.old) (O.state out.new) result }
+    ensures { Writes generated.now (F.state folder.old) (F.state folder.new) (O.state out.old)
+        (O.state out.new) result }
 {
     let Ok(line) = done_line(
         alloc,

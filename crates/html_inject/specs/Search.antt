@@ -1,5 +1,6 @@
 -- One pass over the pieces of a page.
---     AreNext page piece next         the piece is the page's, and the next one, where there is one, is the one behind it
+--     AreNext page piece next         the piece is the page's, and the next one, where there is one, is the one
+--                                     behind it
 --     parts_behind page next          what stands behind a piece, as far as an import map element turns on it
 --     map_at page piece next          where the raw text of the import map element stands that begins with the piece
 --     plain_fault from p              the fault of a piece that begins no script
@@ -33,7 +34,8 @@ parts_behind page (Some next) = part_at page next ∷ []
 
 abbrev pub map_at : List ℕ → Piece → Option Piece → Option (ℕ × ℕ)
 map_at page piece None = None
-map_at page piece (Some next) = if is_map_start (part_at page piece) then (if is_raw next.kind then Some (next.from, next.to) else None) else None
+map_at page piece (Some next) =
+    if is_map_start (part_at page piece) then (if is_raw next.kind then Some (next.from, next.to) else None) else None
 
 -- the fault of a piece that begins no script
 abbrev pub plain_fault : ℕ → Part → Option InjectFault
@@ -47,7 +49,8 @@ abbrev pub place_at : List ℕ → Piece → Option ℕ
 place_at page piece = if is_place (part_at page piece) then Some piece.from else None
 
 abbrev pub found_more : List ℕ → Found → Piece → Option Piece → Found
-found_more page found piece next = record { map = sooner found.map (map_at page piece next); place = sooner found.place (place_at page piece) }
+found_more page found piece next =
+    record { map = sooner found.map (map_at page piece next); place = sooner found.place (place_at page piece) }
 
 abbrev pub chosen : Option (ℕ × ℕ) → Option ℕ → Result Site InjectFault
 chosen (Some span) n = Ok (Map span.0 span.1)

@@ -10,8 +10,9 @@ use std::alloc::Global;
 
 /// The page with the map put into it. The map is UTF-8 and holds no `<`, so no tag of the page is read in it.
 ///
-/// The first fault in order of place decides: [`InjectFault::PageUnclear`] at the first byte that isn't UTF-8, before all
-/// others; then what page_spec's faults say; [`InjectFault::NoPlace`] where there is no fault and nowhere to put the map.
+/// The first fault in order of place decides: [`InjectFault::PageUnclear`] at the first byte that isn't UTF-8, before
+/// all others; then what page_spec's faults say; [`InjectFault::NoPlace`] where there is no fault and nowhere to put
+/// the map.
 pub fn inject(alloc: Global, page: &[u8], map: &[u8]) -> Result<Vec<u8>, InjectFault>
     requires { IsPlainMap map.now }
     ensures page { IfOk result (λ new. Injection map.now page.now (Ok new.items)) }

@@ -2,7 +2,8 @@
 --     front_of f      the piece at the front
 --     value_of v      an attribute's value
 --     test_of end     whether a byte ends a part of an attribute
---     value_if_named wanted b rest     the value of the attribute whose name begins with b, where the name is the wanted one
+--     value_if_named wanted b rest     the value of the attribute whose name begins with b, where the name is the
+--                                      wanted one
 use Rattle.std.specs.Prelude.{ℕ, Bool, List, Option, Some, None, if◌then◌else◌, ◌==◌, bytes_eq}
 use Rattle.page_spec.specs.Pieces.{front}
 use Rattle.page_spec.specs.Pieces as pieces

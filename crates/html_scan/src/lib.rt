@@ -1,5 +1,6 @@
-//! The pieces of a page one by one, each with its place: [`Scanner::next`] gives them in their order, [`attribute`] tells
-//! where a start tag has the value of an attribute, and [`pieces`] lists the pieces of a page that has no broken one.
+//! The pieces of a page one by one, each with its place: [`Scanner::next`] gives them in their order, [`attribute`]
+//! tells where a start tag has the value of an attribute, and [`pieces`] lists the pieces of a page that has no
+//! broken one.
 //!
 //! Each byte is read a bounded number of times, and none but [`pieces`] takes memory.
 #![tactic(auto)]

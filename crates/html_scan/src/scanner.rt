@@ -24,7 +24,8 @@ impl<'a> Model for Scanner<'a> {
 
     ghost Value = { List ℕ × (Option RawElement × List ℕ) };
 
-    ghost coded = { coded× (coded_list coded_ℕ) (coded× (coded_option RawElementType.the_row.coded) (coded_list coded_ℕ)) };
+    ghost coded = { coded× (coded_list coded_ℕ)
+        (coded× (coded_option RawElementType.the_row.coded) (coded_list coded_ℕ)) };
 
     ghost view = { λ s. (s.page.now, (s.within, s.rest.now)) };
 
@@ -44,8 +45,8 @@ impl<'a> Scanner<'a> {
         }
     }
 
-    /// The next piece; None at the page's end, and at each later call. A page that ends with the start tag of an element
-    /// with raw text has an empty broken piece behind it.
+    /// The next piece; None at the page's end, and at each later call. A page that ends with the start tag of an
+    /// element with raw text has an empty broken piece behind it.
     pub fn next(&mut self) -> Option<Piece>
         ensures page { self.new.0 ≡ self.old.0 }
         ensures piece { IfSome result (λ piece. IsPieceOf self.old.0 piece) }

@@ -2,8 +2,8 @@ use crate::{Piece, PieceKind, ScanFault, Scanner, attribute, pieces};
 use std::alloc::Global;
 use std::test::Fail;
 
-/// Pages with their pieces, each as the letter of its kind and its length: T text, C a comment, S a start tag, E an end tag, R raw
-/// text, B a broken piece. Typed by hand from the HTML Standard's tokenizer.
+/// Pages with their pieces, each as the letter of its kind and its length: T text, C a comment, S a start tag, E an
+/// end tag, R raw text, B a broken piece. Typed by hand from the HTML Standard's tokenizer.
 static PAGES: [(&str, &str); 79] = [
     ("", ""),
     ("<p>x</p>", "S3 T1 E4"),
@@ -137,8 +137,8 @@ fn pages(rt: HostRuntime) -> Result<(), Fail> {
 /// The page that truncations are made of.
 static WHOLE: &str = "<head><script type=\"importmap\">{}</script>\n</head>\n";
 
-/// How truncations end, each row from its length on up to that of the next one: the pieces before the last one, and the last one's
-/// letter and place; a row without a letter has no piece that grows.
+/// How truncations end, each row from its length on up to that of the next one: the pieces before the last one, and
+/// the last one's letter and place; a row without a letter has no piece that grows.
 static CUTS: [(usize, &str, &str, usize); 12] = [
     (0, "", "", 0),
     (1, "", "T", 0),

@@ -182,8 +182,8 @@ fn span_in(end: usize, tail: usize, text: usize) -> (usize, usize)
     (from, from + text)
 }
 
-/// The text of the value of the first attribute of that name in a tag; names are compared without regard to ASCII case, and
-/// character references aren't decoded.
+/// The text of the value of the first attribute of that name in a tag; names are compared without regard to ASCII
+/// case, and character references aren't decoded.
 pub fn attribute_text<'a>(text: &'a str, piece: Piece, name: &[u8]) -> Option<&'a [u8]>
     requires { IsPieceOf text.now piece }
     ensures { option_map (λ t. t.now) result ≡ attribute_text name.now (text_at text.now piece) }

@@ -25,7 +25,8 @@ counted_onto needs (need ∷ more) = counted_onto (with_need needs need) more
 
 -- own: another need agrees with this one in referrer and normalized specifier, and has another target
 abbrev pub clashes : Need → Need → Bool
-clashes need other = bytes_eq other.referrer need.referrer && bytes_eq other.asked need.asked && not (bytes_eq other.target need.target)
+clashes need other =
+    bytes_eq other.referrer need.referrer && bytes_eq other.asked need.asked && not (bytes_eq other.target need.target)
 
 abbrev pub counted : List Need → List Need
 counted needs = counted_onto [] needs

@@ -14,4 +14,5 @@ mappings_value mappings = an_object (members_of a_text mappings)
 abbrev pub layout_value : Layout → List (List ℕ × List ℕ) → Json
 layout_value layout integrity =
     an_object (a_member (codes "imports") (mappings_value layout.imports)
-    (with_part (codes "scopes") (members_of mappings_value layout.scopes) (with_part (codes "integrity") (members_of a_text integrity) no_members)))
+    (with_part (codes "scopes") (members_of mappings_value layout.scopes)
+    (with_part (codes "integrity") (members_of a_text integrity) no_members)))

@@ -45,7 +45,8 @@ pub fn print_map(
 }
 
 fn push_map(out: &mut Vec<u8>, layout: &Layout, integrity: &Mappings) -> Result<(), Memory>
-    ensures { OnOk result (Appends out.old.items out.new.items (λ rest. printed 0 (layout_value layout.now integrity.now) (10 ∷ rest))) }
+    ensures { OnOk result (Appends out.old.items out.new.items
+        (λ rest. printed 0 (layout_value layout.now integrity.now) (10 ∷ rest))) }
 {
     out.extend_from_slice(b"{\n  \"imports\": ".as_slice())?;
     push_mappings(out, 1, layout.imports.as_slice())?;
@@ -55,7 +56,8 @@ fn push_map(out: &mut Vec<u8>, layout: &Layout, integrity: &Mappings) -> Result<
 }
 
 fn push_scopes_member(out: &mut Vec<u8>, scopes: &[(Text, Mappings)]) -> Result<(), Memory>
-    ensures { OnOk result (Appends out.old.items out.new.items (printed_members 1 (with_part (codes "scopes") (members_of mappings_value scopes.now) no_members))) }
+    ensures { OnOk result (Appends out.old.items out.new.items
+        (printed_members 1 (with_part (codes "scopes") (members_of mappings_value scopes.now) no_members))) }
 {
     if scopes.is_empty() {
         return Ok(());
@@ -65,7 +67,8 @@ fn push_scopes_member(out: &mut Vec<u8>, scopes: &[(Text, Mappings)]) -> Result<
 }
 
 fn push_integrity_member(out: &mut Vec<u8>, pairs: &[(Text, Text)]) -> Result<(), Memory>
-    ensures { OnOk result (Appends out.old.items out.new.items (printed_members 1 (with_part (codes "integrity") (members_of a_text pairs.now) no_members))) }
+    ensures { OnOk result (Appends out.old.items out.new.items
+        (printed_members 1 (with_part (codes "integrity") (members_of a_text pairs.now) no_members))) }
 {
     if pairs.is_empty() {
         return Ok(());
@@ -75,7 +78,8 @@ fn push_integrity_member(out: &mut Vec<u8>, pairs: &[(Text, Text)]) -> Result<()
 }
 
 fn push_scopes(out: &mut Vec<u8>, scopes: &[(Text, Mappings)]) -> Result<(), Memory>
-    ensures { OnOk result (Appends out.old.items out.new.items (printed 1 (an_object (members_of mappings_value scopes.now)))) }
+    ensures { OnOk result (Appends out.old.items out.new.items
+        (printed 1 (an_object (members_of mappings_value scopes.now)))) }
 {
     let Some((first, more)) = scopes.split_first() else {
         return out.extend_from_slice(b"{}".as_slice());
@@ -88,7 +92,8 @@ fn push_scopes(out: &mut Vec<u8>, scopes: &[(Text, Mappings)]) -> Result<(), Mem
 
 // What stands behind the first scope.
 fn push_more_scopes(out: &mut Vec<u8>, scopes: &[(Text, Mappings)]) -> Result<(), Memory>
-    ensures { OnOk result (Appends out.old.items out.new.items (printed_members 2 (members_of mappings_value scopes.now))) }
+    ensures { OnOk result (Appends out.old.items out.new.items
+        (printed_members 2 (members_of mappings_value scopes.now))) }
 {
     for scope in scopes {
         out.push(b',')?;
@@ -98,7 +103,8 @@ fn push_more_scopes(out: &mut Vec<u8>, scopes: &[(Text, Mappings)]) -> Result<()
 }
 
 fn push_scope(out: &mut Vec<u8>, scope: &(Text, Mappings)) -> Result<(), Memory>
-    ensures { OnOk result (Appends out.old.items out.new.items (λ rest. line 2 (quoted scope.now.0 ++ (codes ": " ++ printed 2 (mappings_value scope.now.1) rest)))) }
+    ensures { OnOk result (Appends out.old.items out.new.items
+        (λ rest. line 2 (quoted scope.now.0 ++ (codes ": " ++ printed 2 (mappings_value scope.now.1) rest)))) }
 {
     push_key(out, 2, scope.0.as_str())?;
     push_mappings(out, 2, scope.1.as_slice())
@@ -130,14 +136,16 @@ fn push_more_pairs(out: &mut Vec<u8>, level: usize, pairs: &[(Text, Text)]) -> R
 }
 
 fn push_pair(out: &mut Vec<u8>, level: usize, pair: &(Text, Text)) -> Result<(), Memory>
-    ensures { OnOk result (Appends out.old.items out.new.items (λ rest. line level (quoted pair.now.0 ++ (codes ": " ++ (quoted pair.now.1 ++ rest))))) }
+    ensures { OnOk result (Appends out.old.items out.new.items
+        (λ rest. line level (quoted pair.now.0 ++ (codes ": " ++ (quoted pair.now.1 ++ rest))))) }
 {
     push_key(out, level, pair.0.as_str())?;
     print_text(out, pair.1.as_str())
 }
 
 fn push_key(out: &mut Vec<u8>, level: usize, key: &str) -> Result<(), Memory>
-    ensures { OnOk result (Appends out.old.items out.new.items (λ rest. line level (quoted key.now ++ (codes ": " ++ rest)))) }
+    ensures { OnOk result (Appends out.old.items out.new.items
+        (λ rest. line level (quoted key.now ++ (codes ": " ++ rest)))) }
 {
     push_line(out, level)?;
     print_text(out, key)?;

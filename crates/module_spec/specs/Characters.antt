@@ -1,5 +1,7 @@
--- Characters of a module text by their bytes in UTF-8: white space, line ends, and those of names. ECMA-262, 12.2, 12.3 and 12.7.
---     space_size bytes      how many bytes of white space or of a line end stand at the front: those of one character, or none
+-- Characters of a module text by their bytes in UTF-8: white space, line ends, and those of names. ECMA-262, 12.2,
+-- 12.3 and 12.7.
+--     space_size bytes      how many bytes of white space or of a line end stand at the front: those of one
+--                           character, or none
 --     name_size bytes       the same for a character of a name
 use lib.Utf8.{scalar}
 use Rattle.std.specs.Prelude.{ℕ, zero, suc, ◌+◌, ◌-◌, ◌*◌, ◌%◌, Bool, false, not, ◌&&◌, ◌||◌, ◌==◌, nat_le, nat_lt, List, [], ◌∷◌, if◌then◌else◌, slice_index}
@@ -80,7 +82,8 @@ escape_size (b ∷ rest) = if b == 117 then unicode_size rest else 0
 abbrev pub is_name_byte : ℕ → Bool
 is_name_byte b = nat_le 97 b && nat_le b 122 || nat_le 65 b && nat_le b 90 || is_digit b || b == 95 || b == 36
 
--- own: of ECMA-262, 12.7, past ASCII each character that is no white space and no line end, and an escape whatever it stands for
+-- own: of ECMA-262, 12.7, past ASCII each character that is no white space and no line end, and an escape whatever it
+-- stands for
 unfoldable pub name_size : List ℕ → ℕ
 name_size [] = 0
 name_size (b ∷ rest) =

@@ -1,10 +1,12 @@
--- Import and export declarations by their productions: lists of tokens, from behind the word to the last one that is asked for. ECMA-262,
+-- Import and export declarations by their productions: lists of tokens, from behind the word to the last one that is
+-- asked for. ECMA-262,
 -- 16.2.2 and 16.2.3.
 --     ImportDeclaration tokens      what stands behind `import`, up to its module specifier
 --     ExportFrom tokens      what stands behind `export`, up to its module specifier
 --     ExportAlone tokens      what stands behind an `export` that asks for nothing
 --     Begins Production tokens      the tokens begin with one of these
---     Asks Production tokens count      the same, and so many of its tokens stand before the last one, which is the module specifier
+--     Asks Production tokens count      the same, and so many of its tokens stand before the last one, which is the
+--                                       module specifier
 use Rattle.std.specs.Prelude.{◌≡◌, ◌≢◌, ℕ, suc, true, ◌||◌, List, [], ◌∷◌, ◌++◌, codes, length}
 use Rattle.module_spec.specs.Places.{Placed, is_name, is_text, is_word, is_mark}
 use Rattle.module_spec.specs.Forms.{is_exported}
@@ -16,7 +18,8 @@ pub data UpToPartner : List Placed → Type 0 where
 
 -- own: NamedImports and NamedExports, and whatever else is a `{` and all up to its partner
 pub data Braces : List Placed → Type 0 where
-  curly : {t : Placed} {tokens : List Placed} → is_mark t (codes "{") ≡ true → UpToPartner (t ∷ tokens) → Braces (t ∷ tokens)
+  curly : {t : Placed} {tokens : List Placed} → is_mark t (codes "{") ≡ true → UpToPartner (t ∷ tokens)
+      → Braces (t ∷ tokens)
 
 -- `from` ModuleSpecifier
 pub data FromClause : List Placed → Type 0 where
@@ -24,14 +27,17 @@ pub data FromClause : List Placed → Type 0 where
 
 -- `*` `as` ImportedBinding
 pub data NameSpaceImport : List Placed → Type 0 where
-  star_as : {s a x : Placed} → is_mark s (codes "*") ≡ true → is_word a (codes "as") ≡ true → is_name x ≡ true → NameSpaceImport (s ∷ a ∷ x ∷ [])
+  star_as : {s a x : Placed} → is_mark s (codes "*") ≡ true → is_word a (codes "as") ≡ true → is_name x ≡ true
+      → NameSpaceImport (s ∷ a ∷ x ∷ [])
 
 pub data ImportClause : List Placed → Type 0 where
   default_binding : {x : Placed} → is_name x ≡ true → ImportClause (x ∷ [])
   name_space : {tokens : List Placed} → NameSpaceImport tokens → ImportClause tokens
   named : {tokens : List Placed} → Braces tokens → ImportClause tokens
-  default_and_name_space : {x c : Placed} {tokens : List Placed} → is_name x ≡ true → is_mark c (codes ",") ≡ true → NameSpaceImport tokens → ImportClause (x ∷ c ∷ tokens)
-  default_and_named : {x c : Placed} {tokens : List Placed} → is_name x ≡ true → is_mark c (codes ",") ≡ true → Braces tokens → ImportClause (x ∷ c ∷ tokens)
+  default_and_name_space : {x c : Placed} {tokens : List Placed} → is_name x ≡ true → is_mark c (codes ",") ≡ true
+      → NameSpaceImport tokens → ImportClause (x ∷ c ∷ tokens)
+  default_and_named : {x c : Placed} {tokens : List Placed} → is_name x ≡ true → is_mark c (codes ",") ≡ true
+      → Braces tokens → ImportClause (x ∷ c ∷ tokens)
 
 pub data ImportDeclaration : List Placed → Type 0 where
   effects : {s : Placed} → is_text s ≡ true → ImportDeclaration (s ∷ [])
@@ -39,7 +45,8 @@ pub data ImportDeclaration : List Placed → Type 0 where
 
 pub data ExportFromClause : List Placed → Type 0 where
   star : {s : Placed} → is_mark s (codes "*") ≡ true → ExportFromClause (s ∷ [])
-  star_as_name : {s a x : Placed} → is_mark s (codes "*") ≡ true → is_word a (codes "as") ≡ true → (is_name x || is_text x) ≡ true → ExportFromClause (s ∷ a ∷ x ∷ [])
+  star_as_name : {s a x : Placed} → is_mark s (codes "*") ≡ true → is_word a (codes "as") ≡ true
+      → (is_name x || is_text x) ≡ true → ExportFromClause (s ∷ a ∷ x ∷ [])
   names : {tokens : List Placed} → Braces tokens → ExportFromClause tokens
 
 -- an ExportDeclaration with a module specifier

@@ -42,13 +42,21 @@ span kind from to = record { kind = kind; from = from; to = to }
 
 pub record TokenExamples : Type 0 where
   pub empty : ReadsTokens [] (Ok [])
-  pub regex : ReadsTokens (codes "x=/b/c") (Ok (span kinds.Name 0 1 ∷ span kinds.Punctuator 1 2 ∷ span kinds.Regex 2 6 ∷ []))
-  pub division : ReadsTokens (codes "a /b/ c") (Ok (span kinds.Name 0 1 ∷ span kinds.Punctuator 2 3 ∷ span kinds.Name 3 4 ∷ span kinds.Punctuator 4 5 ∷ span kinds.Name 6 7 ∷ []))
-  pub brackets : ReadsTokens (codes "if(a)/b/") (Ok (span kinds.Name 0 2 ∷ span kinds.Punctuator 2 3 ∷ span kinds.Name 3 4 ∷ span kinds.Punctuator 4 5 ∷ span kinds.Regex 5 8 ∷ []))
+  pub regex : ReadsTokens (codes "x=/b/c") (Ok
+      (span kinds.Name 0 1 ∷ span kinds.Punctuator 1 2 ∷ span kinds.Regex 2 6 ∷ []))
+  pub division : ReadsTokens (codes "a /b/ c")
+      (Ok (span kinds.Name 0 1 ∷ span kinds.Punctuator 2 3 ∷ span kinds.Name 3 4 ∷ span kinds.Punctuator 4 5
+      ∷ span kinds.Name 6 7 ∷ []))
+  pub brackets : ReadsTokens (codes "if(a)/b/")
+      (Ok (span kinds.Name 0 2 ∷ span kinds.Punctuator 2 3 ∷ span kinds.Name 3 4 ∷ span kinds.Punctuator 4 5
+      ∷ span kinds.Regex 5 8 ∷ []))
   pub wrong_closer : ReadsTokens (codes "(]") (Err (record { at = 1; kind = Unreadable }))
   pub open_at_end : ReadsTokens (codes "(") (Err (record { at = 1; kind = Unreadable }))
   pub unclosed_text : ReadsTokens (codes "a'b") (Err (record { at = 1; kind = Unreadable }))
-  pub template : ReadsTokens (codes "(`${a}${b}`)") (Ok (span kinds.Punctuator 0 1 ∷ span kinds.TemplateHead 1 4 ∷ span kinds.Name 4 5 ∷ span kinds.TemplateMiddle 5 8 ∷ span kinds.Name 8 9 ∷ span kinds.TemplateTail 9 11 ∷ span kinds.Punctuator 11 12 ∷ []))
+  pub template : ReadsTokens (codes "(`${a}${b}`)")
+      (Ok (span kinds.Punctuator 0 1 ∷ span kinds.TemplateHead 1 4 ∷ span kinds.Name 4 5
+      ∷ span kinds.TemplateMiddle 5 8 ∷ span kinds.Name 8 9 ∷ span kinds.TemplateTail 9 11
+      ∷ span kinds.Punctuator 11 12 ∷ []))
   pub most_open : ReadsTokens (rounds 4096) (Err (record { at = 4096; kind = Unreadable }))
   pub too_deep : ReadsTokens (rounds 4097) (Err (record { at = 4096; kind = TooDeep }))
 
@@ -86,7 +94,8 @@ pub record ValueExamples : Type 0 where
 
 -- a token that isn't the name of a property
 abbrev pub at : Kind → ℕ → List ℕ → ℕ → ℕ → Placed
-at kind from text depth behind = record { token = span kind from (from + length text); text = text; plain = true; depth = depth; behind = behind }
+at kind from text depth behind =
+    record { token = span kind from (from + length text); text = text; plain = true; depth = depth; behind = behind }
 
 abbrev pub named_at : ℕ → List ℕ → Placed
 named_at from name = at kinds.Name from name 0 0
@@ -110,41 +119,64 @@ pub record OutlineExamples : Type 0 where
   -- no token
   pub nothing : outlined [] ≡ Ok (record { requests = []; declares = false })
   -- import "a"
-  pub effects : outlined (named_at 0 (codes "import") ∷ text_at 7 (codes "'a'") ∷ []) ≡ asks_for (request 7 10 (codes "a") ∷ [])
+  pub effects : outlined (named_at 0 (codes "import") ∷ text_at 7 (codes "'a'") ∷ []) ≡ asks_for
+      (request 7 10 (codes "a") ∷ [])
   -- import a from 'b'
-  pub default_binding : outlined (named_at 0 (codes "import") ∷ named_at 7 (codes "a") ∷ named_at 9 (codes "from") ∷ text_at 14 (codes "'b'") ∷ []) ≡ asks_for (request 14 17 (codes "b") ∷ [])
+  pub default_binding : outlined (named_at 0 (codes "import") ∷ named_at 7 (codes "a") ∷ named_at 9 (codes "from")
+      ∷ text_at 14 (codes "'b'") ∷ []) ≡ asks_for (request 14 17 (codes "b") ∷ [])
   -- import a,* as b from 'c'
-  pub default_and_name_space : outlined (named_at 0 (codes "import") ∷ named_at 7 (codes "a") ∷ mark_at 8 (codes ",") ∷ mark_at 9 (codes "*") ∷ named_at 11 (codes "as") ∷ named_at 14 (codes "b") ∷ named_at 16 (codes "from") ∷ text_at 21 (codes "'c'") ∷ []) ≡ asks_for (request 21 24 (codes "c") ∷ [])
+  pub default_and_name_space : outlined (named_at 0 (codes "import") ∷ named_at 7 (codes "a") ∷ mark_at 8 (codes ",")
+      ∷ mark_at 9 (codes "*") ∷ named_at 11 (codes "as") ∷ named_at 14 (codes "b") ∷ named_at 16 (codes "from")
+      ∷ text_at 21 (codes "'c'") ∷ []) ≡ asks_for (request 21 24 (codes "c") ∷ [])
   -- import a,{b} from 'c'
-  pub default_and_named : outlined (named_at 0 (codes "import") ∷ named_at 7 (codes "a") ∷ mark_at 8 (codes ",") ∷ at kinds.Punctuator 9 (codes "{") 0 1 ∷ at kinds.Name 10 (codes "b") 1 1 ∷ at kinds.Punctuator 11 (codes "}") 1 0 ∷ named_at 13 (codes "from") ∷ text_at 18 (codes "'c'") ∷ []) ≡ asks_for (request 18 21 (codes "c") ∷ [])
+  pub default_and_named : outlined (named_at 0 (codes "import") ∷ named_at 7 (codes "a") ∷ mark_at 8 (codes ",")
+      ∷ at kinds.Punctuator 9 (codes "{") 0 1 ∷ at kinds.Name 10 (codes "b") 1 1 ∷ at kinds.Punctuator 11
+      (codes "}") 1 0 ∷ named_at 13 (codes "from") ∷ text_at 18 (codes "'c'") ∷ []) ≡ asks_for
+      (request 18 21 (codes "c") ∷ [])
   -- import*as a from 'b'
-  pub name_space : outlined (named_at 0 (codes "import") ∷ mark_at 6 (codes "*") ∷ named_at 7 (codes "as") ∷ named_at 10 (codes "a") ∷ named_at 12 (codes "from") ∷ text_at 17 (codes "'b'") ∷ []) ≡ asks_for (request 17 20 (codes "b") ∷ [])
+  pub name_space : outlined (named_at 0 (codes "import") ∷ mark_at 6 (codes "*") ∷ named_at 7 (codes "as")
+      ∷ named_at 10 (codes "a") ∷ named_at 12 (codes "from") ∷ text_at 17 (codes "'b'") ∷ []) ≡ asks_for
+      (request 17 20 (codes "b") ∷ [])
   -- export*from'a' export*as'b'from'c'
-  pub export_all : outlined (named_at 0 (codes "export") ∷ mark_at 6 (codes "*") ∷ named_at 7 (codes "from") ∷ text_at 11 (codes "'a'") ∷ named_at 15 (codes "export") ∷ mark_at 21 (codes "*") ∷ named_at 22 (codes "as") ∷ text_at 24 (codes "'b'") ∷ named_at 27 (codes "from") ∷ text_at 31 (codes "'c'") ∷ []) ≡ asks_for (request 11 14 (codes "a") ∷ request 31 34 (codes "c") ∷ [])
+  pub export_all : outlined (named_at 0 (codes "export") ∷ mark_at 6 (codes "*") ∷ named_at 7 (codes "from")
+      ∷ text_at 11 (codes "'a'") ∷ named_at 15 (codes "export") ∷ mark_at 21 (codes "*") ∷ named_at 22 (codes "as")
+      ∷ text_at 24 (codes "'b'") ∷ named_at 27 (codes "from") ∷ text_at 31 (codes "'c'") ∷ []) ≡ asks_for
+      (request 11 14 (codes "a") ∷ request 31 34 (codes "c") ∷ [])
   -- export{}from'a'
-  pub export_named : outlined (named_at 0 (codes "export") ∷ at kinds.Punctuator 6 (codes "{") 0 1 ∷ at kinds.Punctuator 7 (codes "}") 1 0 ∷ named_at 8 (codes "from") ∷ text_at 12 (codes "'a'") ∷ []) ≡ asks_for (request 12 15 (codes "a") ∷ [])
+  pub export_named : outlined (named_at 0 (codes "export") ∷ at kinds.Punctuator 6 (codes "{") 0 1
+      ∷ at kinds.Punctuator 7 (codes "}") 1 0 ∷ named_at 8 (codes "from") ∷ text_at 12 (codes "'a'") ∷ []) ≡ asks_for
+      (request 12 15 (codes "a") ∷ [])
   -- export {import} from
-  pub no_specifier : outlined (named_at 0 (codes "export") ∷ at kinds.Punctuator 7 (codes "{") 0 1 ∷ at kinds.Name 8 (codes "import") 1 1 ∷ at kinds.Punctuator 14 (codes "}") 1 0 ∷ named_at 16 (codes "from") ∷ []) ≡ asks_for []
+  pub no_specifier : outlined (named_at 0 (codes "export") ∷ at kinds.Punctuator 7 (codes "{") 0 1 ∷ at kinds.Name 8
+      (codes "import") 1 1 ∷ at kinds.Punctuator 14 (codes "}") 1 0 ∷ named_at 16 (codes "from") ∷ []) ≡ asks_for []
   -- export default
   pub export_default : outlined (named_at 0 (codes "export") ∷ named_at 7 (codes "default") ∷ []) ≡ asks_for []
   -- export a
   pub no_export : outlined (named_at 0 (codes "export") ∷ named_at 7 (codes "a") ∷ []) ≡ unreadable_at 0
   -- import a 'b'
-  pub no_from : outlined (named_at 0 (codes "import") ∷ named_at 7 (codes "a") ∷ text_at 9 (codes "'b'") ∷ []) ≡ unreadable_at 0
+  pub no_from : outlined (named_at 0 (codes "import") ∷ named_at 7 (codes "a") ∷ text_at 9 (codes "'b'") ∷ [])
+      ≡ unreadable_at 0
   -- import import from 'a'
-  pub inner_word : outlined (named_at 0 (codes "import") ∷ named_at 7 (codes "import") ∷ named_at 14 (codes "from") ∷ text_at 18 (codes "'a'") ∷ []) ≡ unreadable_at 7
+  pub inner_word : outlined (named_at 0 (codes "import") ∷ named_at 7 (codes "import") ∷ named_at 14 (codes "from")
+      ∷ text_at 18 (codes "'a'") ∷ []) ≡ unreadable_at 7
   -- import import 'a'
-  pub outer_word : outlined (named_at 0 (codes "import") ∷ named_at 7 (codes "import") ∷ text_at 14 (codes "'a'") ∷ []) ≡ unreadable_at 0
+  pub outer_word : outlined (named_at 0 (codes "import") ∷ named_at 7 (codes "import") ∷ text_at 14 (codes "'a'")
+      ∷ []) ≡ unreadable_at 0
   -- import '\7'
   pub no_value : outlined (named_at 0 (codes "import") ∷ text_at 7 (codes "'\\7'") ∷ []) ≡ unreadable_at 7
   -- import.meta
-  pub meta : outlined (named_at 0 (codes "import") ∷ mark_at 6 (codes ".") ∷ named_at 7 (codes "meta") ∷ []) ≡ asks_for []
+  pub meta : outlined (named_at 0 (codes "import") ∷ mark_at 6 (codes ".") ∷ named_at 7 (codes "meta") ∷ [])
+      ≡ asks_for []
   -- import(a)
-  pub call : outlined (named_at 0 (codes "import") ∷ at kinds.Punctuator 6 (codes "(") 0 1 ∷ at kinds.Name 7 (codes "a") 1 1 ∷ at kinds.Punctuator 8 (codes ")") 1 0 ∷ []) ≡ Ok (record { requests = []; declares = false })
+  pub call : outlined (named_at 0 (codes "import") ∷ at kinds.Punctuator 6 (codes "(") 0 1 ∷ at kinds.Name 7
+      (codes "a") 1 1 ∷ at kinds.Punctuator 8 (codes ")") 1 0 ∷ []) ≡ Ok (record { requests = []; declares = false })
   -- {import 'a'}, where the `import` stands in brackets
-  pub in_brackets : outlined (at kinds.Punctuator 0 (codes "{") 0 1 ∷ at kinds.Name 1 (codes "import") 1 1 ∷ at kinds.Text 8 (codes "'a'") 1 1 ∷ at kinds.Punctuator 11 (codes "}") 1 0 ∷ []) ≡ Ok (record { requests = []; declares = false })
+  pub in_brackets : outlined (at kinds.Punctuator 0 (codes "{") 0 1 ∷ at kinds.Name 1 (codes "import") 1 1
+      ∷ at kinds.Text 8 (codes "'a'") 1 1 ∷ at kinds.Punctuator 11 (codes "}") 1 0 ∷ [])
+      ≡ Ok (record { requests = []; declares = false })
 
 -- own: as many requests as may be, and one more
 pub record ManyExamples : Type 0 where
-  pub most : requests [] (replicate 4096 (specifier (text_at 7 (codes "'a'")))) ≡ Ok (replicate 4096 (request 7 10 (codes "a")))
+  pub most : requests [] (replicate 4096 (specifier (text_at 7 (codes "'a'"))))
+      ≡ Ok (replicate 4096 (request 7 10 (codes "a")))
   pub too_many : requests [] (replicate 4097 (specifier (text_at 7 (codes "'a'")))) ≡ Err module_fault.TooManyRequests

@@ -4,8 +4,8 @@
 use Rattle.std.specs.Prelude.{ℕ, suc, Bool, false, not, ◌&&◌, ◌||◌, ◌==◌, codes, List, [], ◌∷◌, if◌then◌else◌}
 use Rattle.module_spec.specs.Places.{Placed, is_name, is_text, is_word, is_mark, is_top}
 
--- what the tokens come to: no form of a declaration; what is no declaration at all; a declaration that asks for nothing; or one with that
--- many tokens before its module specifier
+-- what the tokens come to: no form of a declaration; what is no declaration at all; a declaration that asks for
+-- nothing; or one with that many tokens before its module specifier
 pub data Form : Type 0 where
   wrong : Form
   none : Form
@@ -131,7 +131,8 @@ declaration t rest =
 
 -- own: the text is a module's: a declaration begins here. ECMA-262, 16.2.2 and 16.2.3
 abbrev pub begins_declaration : Placed → List Placed → Bool
-begins_declaration t rest = is_top t && is_word t (codes "import") && not (begins_expression rest) || is_top t && is_word t (codes "export")
+begins_declaration t rest =
+    is_top t && is_word t (codes "import") && not (begins_expression rest) || is_top t && is_word t (codes "export")
 
 abbrev pub begins_word : List ℕ → List Placed → Bool
 begins_word word [] = false

@@ -1,5 +1,6 @@
 -- What a module text asks for. ECMA-262, 16.2.2, 16.2.3 and 13.3.12.
---     ReadsOutline text (Ok outline)      the requests of the text in their order, and whether it has declarations of a module
+--     ReadsOutline text (Ok outline)      the requests of the text in their order, and whether it has declarations of
+--                                         a module
 --     ReadsOutline text (Err fault)      its first fault
 use Rattle.std.specs.Prelude.{◌≡◌, ℕ, zero, suc, ◌-◌, Bool, false, ◌||◌, ◌==◌, List, [], ◌∷◌, ◌++◌, if◌then◌else◌, Option, Some, None, Result, Ok, Err, length, reverse}
 use Rattle.module_spec.specs.declared.token.LexKind as lex_kinds
@@ -25,7 +26,8 @@ pub data Finding : Type 0 where
   wrong_form : ℕ → Finding
   specifier : Placed → Finding
 
--- what is found from a token on, by the form that begins at it and by the number of tokens before the module specifier that is to come
+-- what is found from a token on, by the form that begins at it and by the number of tokens before the module
+-- specifier that is to come
 abbrev pub found : Placed → Option ℕ → Form → (Option ℕ → List Finding) → List Finding
 found t asked wrong next = wrong_form t.token.from ∷ []
 found t asked alone next = next None
@@ -47,9 +49,11 @@ abbrev pub asked_by : Placed → List ℕ → Request
 asked_by t text = record { from = t.token.from; to = t.token.to; text = text }
 
 -- own: a module specifier without a value is refused at its place, and before the one that is too many
-abbrev pub asked_for : Placed → Option (List ℕ) → List Request → (List Request → Result (List Request) ModuleFault) → Result (List Request) ModuleFault
+abbrev pub asked_for : Placed → Option (List ℕ) → List Request → (List Request → Result (List Request) ModuleFault)
+    → Result (List Request) ModuleFault
 asked_for t None so_far next = Err (Unreadable t.token.from)
-asked_for t (Some text) so_far next = if length so_far == most_requests then Err TooManyRequests else next (so_far ++ asked_by t text ∷ [])
+asked_for t (Some text) so_far next =
+    if length so_far == most_requests then Err TooManyRequests else next (so_far ++ asked_by t text ∷ [])
 
 -- the requests behind those so far, or what is refused first
 abbrev pub requests : List Request → List Finding → Result (List Request) ModuleFault
@@ -77,5 +81,8 @@ lexical_fault at lex_kind.TooDeep = TooDeep
 
 -- own: a fault among the tokens, wherever it stands, goes before those of forms
 pub data ReadsOutline (text : List ℕ) : Result Outline ModuleFault → Type 0 where
-  all : {before : List Lexeme} {rest : List ℕ} {out : Result Outline ModuleFault} → Reaches text before rest → IsNext before rest Ends → out ≡ outlined (reverse (places (length text) before)) → ReadsOutline text out
-  fault : {before : List Lexeme} {rest : List ℕ} {left : ℕ} {kind : lex_kinds.LexKind} {out : Result Outline ModuleFault} → Reaches text before rest → IsNext before rest (Faults left kind) → out ≡ Err (lexical_fault (length text - left) kind) → ReadsOutline text out
+  all : {before : List Lexeme} {rest : List ℕ} {out : Result Outline ModuleFault} → Reaches text before rest
+      → IsNext before rest Ends → out ≡ outlined (reverse (places (length text) before)) → ReadsOutline text out
+  fault : {before : List Lexeme} {rest : List ℕ} {left : ℕ} {kind : lex_kinds.LexKind}
+      {out : Result Outline ModuleFault} → Reaches text before rest → IsNext before rest (Faults left kind)
+      → out ≡ Err (lexical_fault (length text - left) kind) → ReadsOutline text out

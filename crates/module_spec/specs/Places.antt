@@ -9,8 +9,8 @@ use Rattle.module_spec.specs.declared.token.Kind.TheVariants as kind
 use Rattle.module_spec.specs.declared.token.Token.{Token}
 use Rattle.module_spec.specs.Tokens.{Lexeme, depth, is_property, token_of}
 
--- a token with its text; whether it is plain, so that no `.` and no `?.` stands before it (ECMA-262, 13.3); and how many brackets are open
--- before it and behind it
+-- a token with its text; whether it is plain, so that no `.` and no `?.` stands before it (ECMA-262, 13.3); and how
+-- many brackets are open before it and behind it
 pub record Placed : Type 0 where
   pub token : Token
   pub text : List ℕ
@@ -19,7 +19,15 @@ pub record Placed : Type 0 where
   pub behind : ℕ
 
 abbrev pub placed : ℕ → List Lexeme → Lexeme → Placed
-placed size before t = record { token = token_of size t; text = t.text; plain = not (is_property before); depth = depth before; behind = depth (t ∷ before) }
+placed size before t =
+    record {
+      token = token_of size t;
+      text = t.text;
+      plain = not (is_property before);
+      depth = depth before;
+      behind =
+          depth (t ∷ before);
+    }
 
 abbrev pub places : ℕ → List Lexeme → List Placed
 places size [] = []

@@ -13,8 +13,8 @@ pub record IsPlainByte (b : ℕ) : Type 0 where
   pub no_quote : b ≢ 34
   pub no_escape : b ≢ 92
 
--- own: of the declarations of ECMA-262, 16.2.2, those that are `import`, a specifier between double quotes that holds no escape, and a
--- written `;`, with the text behind them
+-- own: of the declarations of ECMA-262, 16.2.2, those that are `import`, a specifier between double quotes that holds
+-- no escape, and a written `;`, with the text behind them
 pub record IsStatement (text specifier rest : List ℕ) : Type 0 where
   pub before : List ℕ
   pub after : List ℕ
@@ -26,8 +26,10 @@ pub record IsStatement (text specifier rest : List ℕ) : Type 0 where
 -- own: such statements (ECMA-262, 16.2) and white space one after another, and the specifiers that they ask for
 pub data IsPlain : List ℕ → List (List ℕ) → Type 0 where
   nothing : (text : List ℕ) → text ≡ [] → IsPlain text []
-  space : (b : ℕ) (text rest : List ℕ) (specifiers : List (List ℕ)) → IsSpace b → text ≡ b ∷ rest → IsPlain rest specifiers → IsPlain text specifiers
-  statement : (text specifier rest : List ℕ) (specifiers : List (List ℕ)) → IsStatement text specifier rest → IsPlain rest specifiers → IsPlain text (specifier ∷ specifiers)
+  space : (b : ℕ) (text rest : List ℕ) (specifiers : List (List ℕ)) → IsSpace b → text ≡ b ∷ rest
+      → IsPlain rest specifiers → IsPlain text specifiers
+  statement : (text specifier rest : List ℕ) (specifiers : List (List ℕ)) → IsStatement text specifier rest
+      → IsPlain rest specifiers → IsPlain text (specifier ∷ specifiers)
 
 -- own: a module of these bytes asks for these specifiers, in this order
 pub record Requests (bytes : List ℕ) (specifiers : List (List ℕ)) : Type 0 where

@@ -1,4 +1,5 @@
--- What the kinds of tokens do to brackets, and what a name says of what stands behind it. ECMA-262, 12.7.2, 12.8 and 12.9.
+-- What the kinds of tokens do to brackets, and what a name says of what stands behind it. ECMA-262, 12.7.2, 12.8 and
+-- 12.9.
 use Rattle.std.specs.Prelude.{ℕ, Bool, true, false, List, bytes_eq, codes, ◌||◌, if◌then◌else◌, Option, Some, None}
 use Rattle.module_spec.specs.declared.token.Mark.{Mark}
 use Rattle.module_spec.specs.declared.token.Mark.TheVariants.{OpenRound, OpenSquare, OpenCurly, CloseRound, CloseSquare, CloseCurly, Dot, Step, Stop, Operator}

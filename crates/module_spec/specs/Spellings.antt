@@ -1,4 +1,5 @@
--- How far comments, literals and punctuators reach: the bytes behind them, or none where the text ends before they do. ECMA-262, 12.4, 12.8 and 12.9.
+-- How far comments, literals and punctuators reach: the bytes behind them, or none where the text ends before they
+-- do. ECMA-262, 12.4, 12.8 and 12.9.
 use Rattle.std.specs.Prelude.{ℕ, Bool, true, false, not, ◌&&◌, ◌||◌, ◌==◌, List, [], ◌∷◌, if◌then◌else◌, Option, Some, None, slice_index, drop, length, codes}
 use Rattle.module_spec.specs.declared.token.Mark.{Mark}
 use Rattle.module_spec.specs.declared.token.Mark.TheVariants.{OpenRound, OpenSquare, OpenCurly, CloseRound, CloseSquare, CloseCurly, Dot, Step, Stop, Operator}
@@ -44,13 +45,15 @@ hashbang_rest (b ∷ c ∷ rest) = if b == 35 && c == 33 then line_rest rest els
 -- ECMA-262, 12.9.3: `0` and the letter of another base
 abbrev pub has_base_letter : List ℕ → Bool
 has_base_letter [] = false
-has_base_letter (b ∷ rest) = b == 48 && (let c = slice_index rest 0 in c == 120 || c == 88 || c == 98 || c == 66 || c == 111 || c == 79)
+has_base_letter (b ∷ rest) =
+    b == 48 && (let c = slice_index rest 0 in c == 120 || c == 88 || c == 98 || c == 66 || c == 111 || c == 79)
 
 abbrev pub begins_sign : List ℕ → Bool
 begins_sign [] = false
 begins_sign (b ∷ rest) = b == 43 || b == 45
 
--- own: of ECMA-262, 12.9.3, a number goes on over characters of names, points, and an `e` with a sign where it may have an exponent
+-- own: of ECMA-262, 12.9.3, a number goes on over characters of names, points, and an `e` with a sign where it may
+-- have an exponent
 abbrev pub number_size : Bool → List ℕ → ℕ
 number_size exponent [] = 0
 number_size exponent (b ∷ rest) =
@@ -68,8 +71,8 @@ begins_number (b ∷ rest) = is_digit b || b == 46 && begins_digit rest
 
 -- ---- literals between marks
 
--- ECMA-262, 12.9.4: how many bytes a string takes next: none at its quote, at CR and at LF. A `\` is taken with what stands behind it,
--- where CR LF counts as one.
+-- ECMA-262, 12.9.4: how many bytes a string takes next: none at its quote, at CR and at LF. A `\` is taken with what
+-- stands behind it, where CR LF counts as one.
 abbrev pub text_size : ℕ → List ℕ → ℕ
 text_size quote [] = 0
 text_size quote (b ∷ rest) =
@@ -91,8 +94,8 @@ abbrev pub begins_substitution : List ℕ → Bool
 begins_substitution [] = false
 begins_substitution (b ∷ rest) = b == 36 && begins (codes "{") rest
 
--- ECMA-262, 12.9.6: how many bytes a part of a template takes next: none at a backquote and at `${`. A `\` is taken with what stands
--- behind it.
+-- ECMA-262, 12.9.6: how many bytes a part of a template takes next: none at a backquote and at `${`. A `\` is taken
+-- with what stands behind it.
 abbrev pub template_size : List ℕ → ℕ
 template_size [] = 0
 template_size (b ∷ rest) = if b == 96 || begins_substitution (b ∷ rest) then 0 else if b == 92 then 2 else 1
@@ -100,13 +103,16 @@ template_size (b ∷ rest) = if b == 96 || begins_substitution (b ∷ rest) then
 -- behind the backquote or the `${` at the front, and whether it is a backquote
 abbrev pub part_rest : List ℕ → Option (Bool × List ℕ)
 part_rest [] = None
-part_rest (b ∷ rest) = if b == 96 then Some (true, rest) else if begins_substitution (b ∷ rest) then Some (false, drop 1 rest) else None
+part_rest (b ∷ rest) =
+    if b == 96 then Some (true, rest) else if begins_substitution (b ∷ rest) then Some (false, drop 1 rest) else None
 
--- ECMA-262, 12.9.6: a part of a template from behind what opens it to behind what ends it, and whether that is a backquote
+-- ECMA-262, 12.9.6: a part of a template from behind what opens it to behind what ends it, and whether that is a
+-- backquote
 abbrev pub template_rest : List ℕ → Option (Bool × List ℕ)
 template_rest bytes = part_rest (passed (λ more. template_size more) 0 bytes)
 
--- ECMA-262, 12.9.5, behind the opening `/` and to behind the closing one. `class` says that a `[` is open, `escaped` that a `\` stands before.
+-- ECMA-262, 12.9.5, behind the opening `/` and to behind the closing one. `class` says that a `[` is open, `escaped`
+-- that a `\` stands before.
 abbrev pub regex_body_rest : Bool → Bool → List ℕ → Option (List ℕ)
 regex_body_rest class escaped [] = None
 regex_body_rest class escaped (b ∷ rest) =
@@ -120,17 +126,25 @@ regex_body_rest class escaped (b ∷ rest) =
 -- ECMA-262, 12.8: the punctuators, longer ones first
 abbrev pub punctuators : List (List ℕ × Mark)
 punctuators =
-    (codes ">>>=", Operator) ∷ (codes "...", Operator) ∷ (codes "===", Operator) ∷ (codes "!==", Operator) ∷ (codes "**=", Operator)
-    ∷ (codes "<<=", Operator) ∷ (codes ">>=", Operator) ∷ (codes ">>>", Operator) ∷ (codes "&&=", Operator) ∷ (codes "||=", Operator)
-    ∷ (codes "??=", Operator) ∷ (codes "=>", Stop) ∷ (codes "==", Operator) ∷ (codes "!=", Operator) ∷ (codes "<=", Operator)
-    ∷ (codes ">=", Operator) ∷ (codes "&&", Operator) ∷ (codes "||", Operator) ∷ (codes "??", Operator) ∷ (codes "?.", Dot)
+    (codes ">>>=", Operator) ∷ (codes "...", Operator) ∷ (codes "===", Operator) ∷ (codes "!==", Operator)
+    ∷ (codes "**=", Operator)
+    ∷ (codes "<<=", Operator) ∷ (codes ">>=", Operator) ∷ (codes ">>>", Operator) ∷ (codes "&&=", Operator)
+    ∷ (codes "||=", Operator)
+    ∷ (codes "??=", Operator) ∷ (codes "=>", Stop) ∷ (codes "==", Operator) ∷ (codes "!=", Operator)
+    ∷ (codes "<=", Operator)
+    ∷ (codes ">=", Operator) ∷ (codes "&&", Operator) ∷ (codes "||", Operator) ∷ (codes "??", Operator)
+    ∷ (codes "?.", Dot)
     ∷ (codes "++", Step) ∷ (codes "--", Step) ∷ (codes "+=", Operator) ∷ (codes "-=", Operator) ∷ (codes "*=", Operator)
-    ∷ (codes "/=", Operator) ∷ (codes "%=", Operator) ∷ (codes "&=", Operator) ∷ (codes "|=", Operator) ∷ (codes "^=", Operator)
+    ∷ (codes "/=", Operator) ∷ (codes "%=", Operator) ∷ (codes "&=", Operator) ∷ (codes "|=", Operator)
+    ∷ (codes "^=", Operator)
     ∷ (codes "<<", Operator) ∷ (codes ">>", Operator) ∷ (codes "**", Operator)
-    ∷ (codes "{", OpenCurly) ∷ (codes "}", CloseCurly) ∷ (codes "(", OpenRound) ∷ (codes ")", CloseRound) ∷ (codes "[", OpenSquare)
+    ∷ (codes "{", OpenCurly) ∷ (codes "}", CloseCurly) ∷ (codes "(", OpenRound) ∷ (codes ")", CloseRound)
+    ∷ (codes "[", OpenSquare)
     ∷ (codes "]", CloseSquare) ∷ (codes ".", Dot) ∷ (codes ";", Stop) ∷ (codes ",", Operator) ∷ (codes "<", Operator)
-    ∷ (codes ">", Operator) ∷ (codes "+", Operator) ∷ (codes "-", Operator) ∷ (codes "*", Operator) ∷ (codes "/", Operator)
-    ∷ (codes "%", Operator) ∷ (codes "&", Operator) ∷ (codes "|", Operator) ∷ (codes "^", Operator) ∷ (codes "!", Operator)
+    ∷ (codes ">", Operator) ∷ (codes "+", Operator) ∷ (codes "-", Operator) ∷ (codes "*", Operator)
+    ∷ (codes "/", Operator)
+    ∷ (codes "%", Operator) ∷ (codes "&", Operator) ∷ (codes "|", Operator) ∷ (codes "^", Operator)
+    ∷ (codes "!", Operator)
     ∷ (codes "~", Operator) ∷ (codes "?", Operator) ∷ (codes ":", Stop) ∷ (codes "=", Operator) ∷ []
 
 -- the first text of a table that begins the bytes: its mark and length

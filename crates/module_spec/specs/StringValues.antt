@@ -1,5 +1,6 @@
 -- The value of a string literal. ECMA-262, 12.9.4.2, and 11.1.3 to 11.1.5 for its surrogates.
---     string_value literal      the text, in UTF-8, that the literal with its quotes stands for; none where it holds a wrong escape or a
+--     string_value literal      the text, in UTF-8, that the literal with its quotes stands for; none where it holds
+--                               a wrong escape or a
 --                               surrogate that is no half of a pair
 --     escape characters      what the `\` before these characters begins, and how many of them belong to it
 -- Characters are told by their numbers.
@@ -8,7 +9,8 @@ use Rattle.std.specs.Prelude.{ℕ, zero, suc, ◌+◌, ◌-◌, ◌*◌, Bool, f
 use Rattle.std.specs.Str.{chars, encode_utf8_all}
 use Rattle.module_spec.specs.Characters.{is_digit, begins_digit, is_hex_digit, hex_digits, is_wide_line_end}
 
--- what a character or an escape adds: a code unit, or a character that needs two of them; nothing; or the literal is wrong
+-- what a character or an escape adds: a code unit, or a character that needs two of them; nothing; or the literal is
+-- wrong
 pub data Element : Type 0 where
   unit : ℕ → Element
   nothing : Element
@@ -24,7 +26,8 @@ hex_value c = if nat_le c 57 then c - 48 else if nat_le c 70 then c - 55 else c 
 abbrev pub hex_number : ℕ → ℕ → List ℕ → Option ℕ
 hex_number so_far zero characters = Some so_far
 hex_number so_far (suc count) [] = None
-hex_number so_far (suc count) (c ∷ rest) = if is_hex_digit c then hex_number (so_far * 16 + hex_value c) count rest else None
+hex_number so_far (suc count) (c ∷ rest) =
+    if is_hex_digit c then hex_number (so_far * 16 + hex_value c) count rest else None
 
 -- an escape of so many characters behind its `\`, where its digits write a number
 abbrev pub escape_of : ℕ → Option ℕ → ℕ × Element
@@ -35,7 +38,8 @@ escape_of size (Some code) = (size, unit code)
 abbrev pub braced_escape : List ℕ → ℕ × Element
 braced_escape rest =
     let digits = hex_digits rest in
-    if nat_le 1 digits && nat_le digits 6 && slice_index rest digits == 125 then escape_of (digits + 3) (hex_number 0 digits rest) else (0, wrong)
+    if nat_le 1 digits && nat_le digits 6 && slice_index rest digits == 125
+    then escape_of (digits + 3) (hex_number 0 digits rest) else (0, wrong)
 
 -- UnicodeEscapeSequence, behind its `u`
 abbrev pub unicode_escape : List ℕ → ℕ × Element
@@ -80,7 +84,8 @@ abbrev pub elements : ℕ → List ℕ → List Element
 elements (suc count) [] = []
 elements zero [] = []
 elements (suc count) (c ∷ rest) = elements count rest
-elements zero (c ∷ rest) = if c == 92 then (escape rest).1 ∷ elements (escape rest).0 rest else unit c ∷ elements zero rest
+elements zero (c ∷ rest) =
+    if c == 92 then (escape rest).1 ∷ elements (escape rest).0 rest else unit c ∷ elements zero rest
 
 -- Unicode: U+D800 to U+DBFF, and U+DC00 to U+DFFF
 abbrev pub is_high_surrogate : ℕ → Bool
@@ -97,8 +102,8 @@ abbrev pub behind_character : ℕ → Option (List ℕ) → Option (List ℕ)
 behind_character c None = None
 behind_character c (Some rest) = Some (c ∷ rest)
 
--- the characters that the elements come to, behind a high surrogate that waits for the low one. Own: none where a surrogate is alone, or
--- where a number is above that of every character
+-- the characters that the elements come to, behind a high surrogate that waits for the low one. Own: none where a
+-- surrogate is alone, or where a number is above that of every character
 abbrev pub code_points : Option ℕ → List Element → Option (List ℕ)
 code_points None [] = Some []
 code_points (Some high) [] = None
@@ -110,7 +115,8 @@ code_points None (unit c ∷ rest) =
     if is_high_surrogate c then code_points (Some c) rest
     else if scalar c then behind_character c (code_points None rest)
     else None
-code_points (Some high) (unit c ∷ rest) = if is_low_surrogate c then behind_character (surrogate_pair high c) (code_points None rest) else None
+code_points (Some high) (unit c ∷ rest) =
+    if is_low_surrogate c then behind_character (surrogate_pair high c) (code_points None rest) else None
 
 -- what stands between the first character and the last one
 abbrev pub between_quotes : List ℕ → List ℕ

@@ -46,7 +46,8 @@ abbrev pub punctuator_piece : List ℕ → Option (Mark × ℕ) → Piece
 punctuator_piece bytes None = None
 punctuator_piece bytes (Some found) = Some (Punctuator found.0, drop found.1 bytes)
 
--- what a `/` begins that begins no comment, by the bytes behind it: none where they are those of a comment without an end
+-- what a `/` begins that begins no comment, by the bytes behind it: none where they are those of a comment without an
+-- end
 abbrev pub slash_piece : Bool → List ℕ → Piece
 slash_piece regex [] = if regex then None else punctuator_piece (47 ∷ []) (punctuator (47 ∷ []))
 slash_piece regex (b ∷ rest) =
@@ -58,8 +59,8 @@ slash_piece regex (b ∷ rest) =
 abbrev pub private_piece : List ℕ → Piece
 private_piece bytes = if begins_name bytes then Some (Private, name_rest bytes) else None
 
--- ECMA-262, 12: the token at the front and the bytes behind it, none where no token can be read. `regex` says that a `/` begins a regular
--- expression, and `part` that a `}` goes on with a template.
+-- ECMA-262, 12: the token at the front and the bytes behind it, none where no token can be read. `regex` says that a
+-- `/` begins a regular expression, and `part` that a `}` goes on with a template.
 unfoldable pub piece : Bool → Bool → List ℕ → Piece
 piece regex part [] = None
 piece regex part (b ∷ rest) =
@@ -104,9 +105,11 @@ plain_word (t ∷ before) = if is_property before then Other else name_word t.so
 -- ECMA-262, 14.7.5: `for` or `for await` stands before
 abbrev pub after_for : List Lexeme → Bool
 after_for [] = false
-after_for (t ∷ before) = is_for (plain_word (t ∷ before)) || is_await (plain_word (t ∷ before)) && is_for (plain_word before)
+after_for (t ∷ before) =
+    is_for (plain_word (t ∷ before)) || is_await (plain_word (t ∷ before)) && is_for (plain_word before)
 
--- ECMA-262, 14.6, 14.7 and 14.11: the word of a statement that goes on with round brackets and a statement stands before
+-- ECMA-262, 14.6, 14.7 and 14.11: the word of a statement that goes on with round brackets and a statement stands
+-- before
 abbrev pub after_control : List Lexeme → Bool
 after_control before = is_condition (plain_word before) || after_for before
 
@@ -118,22 +121,28 @@ before_value (t ∷ before) = sort_before_value t.sort (plain_word (t ∷ before
 -- ---- brackets
 
 mutual
-  -- `Balanced before at`: `before` is `at` and then tokens in which each bracket is closed, and none is closed that was opened earlier
+  -- `Balanced before at`: `before` is `at` and then tokens in which each bracket is closed, and none is closed that
+  -- was opened earlier
   pub data Balanced : List Lexeme → List Lexeme → Type 0 where
     same : {at : List Lexeme} → Balanced at at
-    neither : {t : Lexeme} {before at : List Lexeme} → opens t.sort ≡ None → closes t.sort ≡ None → Balanced before at → Balanced (t ∷ before) at
-    closed : {t o : Lexeme} {k : Bracket} {before inner outer at : List Lexeme} → opens t.sort ≡ None → closes t.sort ≡ Some k → Balanced before (o ∷ inner) → opens o.sort ≡ Some k → Outside o inner outer → Balanced outer at → Balanced (t ∷ before) at
+    neither : {t : Lexeme} {before at : List Lexeme} → opens t.sort ≡ None → closes t.sort ≡ None → Balanced before at
+        → Balanced (t ∷ before) at
+    closed : {t o : Lexeme} {k : Bracket} {before inner outer at : List Lexeme} → opens t.sort ≡ None
+        → closes t.sort ≡ Some k → Balanced before (o ∷ inner) → opens o.sort ≡ Some k → Outside o inner outer
+        → Balanced outer at → Balanced (t ∷ before) at
 
-  -- `Outside o inner outer`: what `o` opens after `inner` stands in what is open after `outer`. The later parts of a template stand where
-  -- its first one does.
+  -- `Outside o inner outer`: what `o` opens after `inner` stands in what is open after `outer`. The later parts of a
+  -- template stand where its first one does.
   pub data Outside : Lexeme → List Lexeme → List Lexeme → Type 0 where
     first : {o : Lexeme} {inner : List Lexeme} → closes o.sort ≡ None → Outside o inner inner
-    later : {o p : Lexeme} {k : Bracket} {inner before outer : List Lexeme} → closes o.sort ≡ Some k → Balanced inner (p ∷ before) → opens p.sort ≡ Some k → Outside p before outer → Outside o inner outer
+    later : {o p : Lexeme} {k : Bracket} {inner before outer : List Lexeme} → closes o.sort ≡ Some k
+        → Balanced inner (p ∷ before) → opens p.sort ≡ Some k → Outside p before outer → Outside o inner outer
 
 -- `Innermost before at`: the last token of `at` opened the innermost open bracket; or `at` is empty, and none is open
 pub data Innermost : List Lexeme → List Lexeme → Type 0 where
   none : {before : List Lexeme} → Balanced before [] → Innermost before []
-  bracket : {o : Lexeme} {k : Bracket} {before at : List Lexeme} → Balanced before (o ∷ at) → opens o.sort ≡ Some k → Innermost before (o ∷ at)
+  bracket : {o : Lexeme} {k : Bracket} {before at : List Lexeme} → Balanced before (o ∷ at) → opens o.sort ≡ Some k
+      → Innermost before (o ∷ at)
 
 abbrev pub opener : List Lexeme → Option Bracket
 opener [] = None
@@ -207,11 +216,12 @@ slash_after TemplateTail w at = false
 slash_after Regex w at = false
 slash_after (Punctuator mark) w at = slash_after_mark mark at
 
--- own: of the goals of ECMA-262, 12, whether a `/` behind these tokens begins a regular expression: by the last token, and by the bracket
--- that it closes or stands in
+-- own: of the goals of ECMA-262, 12, whether a `/` behind these tokens begins a regular expression: by the last
+-- token, and by the bracket that it closes or stands in
 pub data Slash : List Lexeme → Bool → Type 0 where
   start : Slash [] true
-  token : {t : Lexeme} {before at : List Lexeme} {slash : Bool} → Innermost before at → slash ≡ slash_after t.sort (plain_word (t ∷ before)) at → Slash (t ∷ before) slash
+  token : {t : Lexeme} {before at : List Lexeme} {slash : Bool} → Innermost before at
+      → slash ≡ slash_after t.sort (plain_word (t ∷ before)) at → Slash (t ∷ before) slash
 
 -- ---- one step
 
@@ -239,7 +249,8 @@ unless_refused None sort bytes rest = Gives (lexeme sort bytes rest) rest
 
 abbrev pub next_from : Option Bracket → ℕ → List ℕ → Piece → Next
 next_from innermost depth bytes None = Faults (length bytes) Unreadable
-next_from innermost depth bytes (Some found) = unless_refused (refusal (opens found.0) (closes found.0) innermost depth) found.0 bytes found.1
+next_from innermost depth bytes (Some found) =
+    unless_refused (refusal (opens found.0) (closes found.0) innermost depth) found.0 bytes found.1
 
 abbrev pub is_template : Option Bracket → Bool
 is_template None = false
@@ -251,7 +262,8 @@ is_template (Some Template) = true
 -- what comes at the front of bytes that begin with no white space and no comment
 unfoldable pub next_at : Bool → Option Bracket → ℕ → List ℕ → Next
 next_at slash innermost depth [] = if depth == 0 then Ends else Faults 0 Unreadable
-next_at slash innermost depth (b ∷ rest) = next_from innermost depth (b ∷ rest) (piece slash (is_template innermost) (b ∷ rest))
+next_at slash innermost depth (b ∷ rest) =
+    next_from innermost depth (b ∷ rest) (piece slash (is_template innermost) (b ∷ rest))
 
 -- ECMA-262, 12.2 to 12.4: all white space, line ends and comments at the front are passed over
 pub data Skips : List ℕ → List ℕ → Type 0 where
@@ -260,12 +272,15 @@ pub data Skips : List ℕ → List ℕ → Type 0 where
 
 -- what comes behind these tokens, where this is the rest of the text
 pub data IsNext : List Lexeme → List ℕ → Next → Type 0 where
-  next : {before at : List Lexeme} {rest bytes : List ℕ} {slash : Bool} {out : Next} → Slash before slash → Innermost before at → Skips rest bytes → out ≡ next_at slash (opener at) (depth before) bytes → IsNext before rest out
+  next : {before at : List Lexeme} {rest bytes : List ℕ} {slash : Bool} {out : Next} → Slash before slash
+      → Innermost before at → Skips rest bytes → out ≡ next_at slash (opener at) (depth before) bytes
+      → IsNext before rest out
 
 -- these tokens stand in the text from its start on, and this is the rest behind them
 pub data Reaches (text : List ℕ) : List Lexeme → List ℕ → Type 0 where
   begin : {rest : List ℕ} → rest ≡ hashbang_rest text → Reaches text [] rest
-  go : {t : Lexeme} {before : List Lexeme} {rest after : List ℕ} → Reaches text before rest → IsNext before rest (Gives t after) → Reaches text (t ∷ before) after
+  go : {t : Lexeme} {before : List Lexeme} {rest after : List ℕ} → Reaches text before rest
+      → IsNext before rest (Gives t after) → Reaches text (t ∷ before) after
 
 -- ---- the whole text
 
@@ -276,5 +291,8 @@ abbrev pub fault_of : ℕ → ℕ → LexKind → LexFault
 fault_of size left kind = record { at = size - left; kind = kind }
 
 pub data ReadsTokens (text : List ℕ) : Result (List Token) LexFault → Type 0 where
-  all : {before : List Lexeme} {rest : List ℕ} {out : Result (List Token) LexFault} → Reaches text before rest → IsNext before rest Ends → out ≡ Ok (reverse (map (token_of (length text)) before)) → ReadsTokens text out
-  fault : {before : List Lexeme} {rest : List ℕ} {left : ℕ} {kind : LexKind} {out : Result (List Token) LexFault} → Reaches text before rest → IsNext before rest (Faults left kind) → out ≡ Err (fault_of (length text) left kind) → ReadsTokens text out
+  all : {before : List Lexeme} {rest : List ℕ} {out : Result (List Token) LexFault} → Reaches text before rest
+      → IsNext before rest Ends → out ≡ Ok (reverse (map (token_of (length text)) before)) → ReadsTokens text out
+  fault : {before : List Lexeme} {rest : List ℕ} {left : ℕ} {kind : LexKind} {out : Result (List Token) LexFault}
+      → Reaches text before rest → IsNext before rest (Faults left kind)
+      → out ≡ Err (fault_of (length text) left kind) → ReadsTokens text out

@@ -1,6 +1,6 @@
-//! What a module text is made of and what it asks for: definitions and their laws. The tokens of ECMA-262; the forms of its
-//! import and export declarations, with the values of their module specifiers; and texts of the plain form, which consist
-//! of white space and of statements that import a module for its effects.
+//! What a module text is made of and what it asks for: definitions and their laws. The tokens of ECMA-262; the forms
+//! of its import and export declarations, with the values of their module specifiers; and texts of the plain form,
+//! which consist of white space and of statements that import a module for its effects.
 #![tactic(auto)]
 
 ghost use Rattle.module_spec.specs.Examples.{ManyExamples, OutlineExamples, TokenExamples, ValueExamples, WorkedExamples};

@@ -81,7 +81,8 @@ impl Needs {
     pub fn add(&mut self, need: Need) -> Result<Added, NeedFault>
         ensures new { result ≡ Ok Added.New → IsFresh self.old need self.new }
         ensures known { result ≡ Ok Added.Known → IsKnown self.old need }
-        ensures clash { IfErr result (λ fault. (first : ℕ) → fault ≡ NeedFault.Clash first → ClashesAt self.old need first) }
+        ensures clash { IfErr result (λ fault. (first : ℕ) → fault ≡ NeedFault.Clash first
+            → ClashesAt self.old need first) }
         ensures same { result ≢ Ok Added.New → self.new ≡ self.old }
     {
         let _apart = self.rows.len();
@@ -131,7 +132,8 @@ fn put_row(rows: &mut IndexSet<Asking>, row: Asking) -> Result<(), Memory>
 // The need that asks alike, with its place.
 #[tactic(auto, using(crate::proofs::Found::find_passes))]
 fn place_of<'a>(rows: &'a IndexSet<Asking>, row: &Asking) -> Option<(usize, &'a Need)>
-    ensures { MatchOption result (list_any (asks_alike row.now) rows.now.keys ≡ false) (λ found. (slice_get rows.now.keys found.0 ≡ Some found.1.now) × (asks_alike row.now found.1.now ≡ true)) }
+    ensures { MatchOption result (list_any (asks_alike row.now) rows.now.keys ≡ false)
+        (λ found. (slice_get rows.now.keys found.0 ≡ Some found.1.now) × (asks_alike row.now found.1.now ≡ true)) }
 {
     match rows.get_full(row) {
         None => None,

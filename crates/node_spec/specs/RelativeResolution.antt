@@ -1,4 +1,5 @@
--- Node's resolution of a relative specifier as an asking over looks (Node.js, ECMAScript modules: ESM_RESOLVE, from "If specifier starts with
+-- Node's resolution of a relative specifier as an asking over looks (Node.js, ECMAScript modules: ESM_RESOLVE, from
+-- "If specifier starts with
 -- "/", "./", or "../"" on).
 --     relative_resolution parent specifier      in the file at the path `parent`: a module, or the cause of a refusal
 --     named_path url                            the path that the URL's path spells, if it spells one
@@ -28,7 +29,8 @@ named_path url = as_path (spelled_path (url_path url))
 abbrev pub judged : List ℕ → List ℕ → Option Entry → Answer
 judged url path None = Refused NotFound
 judged url path (Some Directory) = Refused DirectoryImport
-judged url path (Some (Stored bytes)) = if is_folder_path (url_path url) then Refused NotFound else Resolved path (suffix_of url)
+judged url path (Some (Stored bytes)) =
+    if is_folder_path (url_path url) then Refused NotFound else Resolved path (suffix_of url)
 
 -- own: where the URL's path names no path, nothing stands there
 abbrev pub judged_at : List ℕ → Option (List ℕ) → LookAsking Answer
@@ -36,7 +38,8 @@ judged_at url None = answered (Refused NotFound)
 judged_at url (Some path) = ask path (λ found. answered (judged url path found))
 
 abbrev pub url_judged : List ℕ → LookAsking Answer
-url_judged url = if escapes_separator (url_path url) then answered (Refused InvalidSpecifier) else judged_at url (named_path url)
+url_judged url =
+    if escapes_separator (url_path url) then answered (Refused InvalidSpecifier) else judged_at url (named_path url)
 
 -- own: the URL of a relative specifier names no host
 abbrev pub joined_judged : Option (List ℕ) → LookAsking Answer
@@ -48,4 +51,6 @@ relative_resolution parent specifier = joined_judged (joined_url parent specifie
 
 -- law: in each tree the asking of a relative specifier comes to Node's answer
 abbrev pub FindsRelative : Type 0
-FindsRelative = (tree : Tree) (parent specifier : List ℕ) → is_relative specifier ≡ true → Resolves tree parent specifier (outcome (get tree) (relative_resolution parent specifier))
+FindsRelative =
+    (tree : Tree) (parent specifier : List ℕ) → is_relative specifier ≡ true
+    → Resolves tree parent specifier (outcome (get tree) (relative_resolution parent specifier))

@@ -1,5 +1,5 @@
-//! What Node's resolver answers for a specifier in a file of a tree, the record of a package.json, and what a target in it
-//! comes to: definitions and their laws.
+//! What Node's resolver answers for a specifier in a file of a tree, the record of a package.json, and what a target
+//! in it comes to: definitions and their laws.
 #![tactic(auto)]
 
 ghost use Rattle.node_spec.specs.Laws.{AnswersDetermine, ConditionsAreASet, DecidingCallIsLast, ExportsAskNothing, KeysAreInOrder, OneAnswer, OneChoice, OneOutcome, OneRecord, OneUnder, PatternMatchIsSlice, PatternMatchStands, PlacesBeginWithDotSlash, RecordNamesAreDistinct, SomeAnswer, SomeChoice, SomeOutcome, SomeOutcomeInTurn, SomeRecord};
@@ -116,7 +116,8 @@ pub fn record_names_are_distinct()
     ensures { RecordNamesAreDistinct }
 {}
 
-/// A target asks for one list of texts and comes to one outcome at most, if the same texts in turn get the same answers.
+/// A target asks for one list of texts and comes to one outcome at most, if the same texts in turn get the same
+/// answers.
 pub fn one_outcome()
     ensures { OneOutcome }
 {}
@@ -301,8 +302,8 @@ pub fn finds_key()
     ensures { FindsKey }
 {}
 
-/// What a target comes to by calls that are answered one after another, in a state that they change, is what it comes to
-/// as an asking.
+/// What a target comes to by calls that are answered one after another, in a state that they change, is what it comes
+/// to as an asking.
 pub fn follows_target<T, S, X>()
     ensures { FollowsTarget T S X }
 {}

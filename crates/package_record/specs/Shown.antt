@@ -7,7 +7,15 @@ use Rattle.package_record.specs.declared.package_json.PackageFault.{PackageFault
 use Rattle.package_record.specs.declared.package_json.PackageFault.TheVariants.{InvalidConfig, TooDeep, Memory}
 
 abbrev pub record_shown : Package → Record
-record_shown found = record { name = found.name; kind = found.kind; main = found.main; exports = json_of found.exports; imports = json_of found.imports }
+record_shown found =
+    record {
+      name = found.name;
+      kind = found.kind;
+      main = found.main;
+      exports = json_of found.exports;
+      imports =
+          json_of found.imports;
+    }
 
 -- the bytes have no record, for this reason, unless no memory was found
 abbrev pub IsNoRecord : List ℕ → PackageFault → Type 0

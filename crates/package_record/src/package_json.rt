@@ -42,7 +42,8 @@ pub enum PackageFault {
 
 /// The record of the bytes of a package.json. A byte order mark before the text is passed over.
 pub fn read_package(alloc: Global, bytes: &[u8]) -> Result<Package, PackageFault>
-    ensures reads { MatchResult result (λ found. ReadsRecord bytes.now (Ok (record_shown found))) (IsNoRecord bytes.now) }
+    ensures reads { MatchResult result (λ found. ReadsRecord bytes.now (Ok (record_shown found)))
+        (IsNoRecord bytes.now) }
     ensures distinct { IfOk result (λ found. HasDistinctNames (json_of found.exports)) }
     ensures distinct_imports { IfOk result (λ found. HasDistinctNames (json_of found.imports)) }
 {
@@ -70,7 +71,8 @@ fn behind_mark(bytes: &[u8]) -> &[u8]
 }
 
 fn members_in(value: Value) -> Option<Members>
-    ensures { MatchOption result (record_in (json_of value) ≡ Err InvalidRecord) (λ members. json_of value ≡ an_object (members_of (pairs_of members))) }
+    ensures { MatchOption result (record_in (json_of value) ≡ Err InvalidRecord)
+        (λ members. json_of value ≡ an_object (members_of (pairs_of members))) }
 {
     match value {
         Value::Object(members) => Some(members),

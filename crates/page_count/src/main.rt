@@ -1,5 +1,5 @@
-//! Counts the pieces of the page that its first word names, or, where there is a second word, the bytes of the page with
-//! a map put into it: it shows how long reading and injection take.
+//! Counts the pieces of the page that its first word names, or, where there is a second word, the bytes of the page
+//! with a map put into it: it shows how long reading and injection take.
 #![tactic(auto)]
 
 use html_inject::{InjectFault, inject};

@@ -3,7 +3,8 @@
 --     behind is_end bytes          that byte and those behind it
 --     Value                        an attribute's value: its text, and the tag's bytes from the value's begin on
 --     attributes state bytes       the attributes in the rest of a tag, in order
---     attribute name text          the value of the first attribute of that name in the tag; names are compared in lower case
+--     attribute name text          the value of the first attribute of that name in the tag; names are compared in
+--                                  lower case
 --     attribute_text name text     its text
 -- own: character references in values aren't decoded.
 use Rattle.std.specs.Char.{is_ascii_whitespace}
@@ -37,7 +38,9 @@ ends_unquoted b = is_ascii_whitespace b || b == 62
 -- the value behind its `=` and white space
 abbrev pub value_at : List ℕ → Value
 value_at [] = value [] []
-value_at (b ∷ rest) = if b == 34 || b == 39 then value (before (λ c. c == b) rest) rest else value (before ends_unquoted (b ∷ rest)) (b ∷ rest)
+value_at (b ∷ rest) =
+    if b == 34 || b == 39 then value (before (λ c. c == b) rest) rest
+    else value (before ends_unquoted (b ∷ rest)) (b ∷ rest)
 
 -- the value of an attribute whose name ends before `tail`, `bytes` being the tail without white space
 abbrev pub value_behind : List ℕ → List ℕ → Value

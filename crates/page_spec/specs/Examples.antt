@@ -64,14 +64,16 @@ pub record TagExamples : Type 0 where
 -- raw text runs to its element's end tag, and to no other
 pub record RawExamples : Type 0 where
   pub begins : first_piece None (codes "<TITLE lang=en>a") ≡ Some (front Start (Some Title) (codes "a"))
-  pub ends : first_piece (Some Script) (codes "a</b></scripts></SCRIPT\tx>") ≡ Some (front Raw None (codes "</SCRIPT\tx>"))
+  pub ends : first_piece (Some Script) (codes "a</b></scripts></SCRIPT\tx>")
+      ≡ Some (front Raw None (codes "</SCRIPT\tx>"))
   pub empty : first_piece (Some Title) (codes "</title/>") ≡ Some (front Raw None (codes "</title/>"))
   pub unended : first_piece (Some Title) (codes "a</title") ≡ Some broken
   pub page_ends : first_piece (Some Script) [] ≡ Some broken
 
 -- the first attribute of the name, in any case; its value, and where it begins
 pub record AttributeExamples : Type 0 where
-  pub first : attribute (codes "TYPE") (codes "<script a=b/c Type = ' x' type=y>") ≡ Some (value (codes " x") (codes " x' type=y>"))
+  pub first : attribute (codes "TYPE") (codes "<script a=b/c Type = ' x' type=y>")
+      ≡ Some (value (codes " x") (codes " x' type=y>"))
   pub unquoted : attribute (codes "b") (codes "<a b=\"\" b=c>") ≡ Some (value [] (codes "\" b=c>"))
   pub no_value : attribute (codes "b") (codes "<a b c>") ≡ Some (value [] (codes " c>"))
   pub equals_first : attribute (codes "=b") (codes "<a =b=c>") ≡ Some (value (codes "c") (codes "c>"))
@@ -93,23 +95,32 @@ element_of map = codes "<script type=\"importmap\">" ++ (map ++ codes "</script>
 
 -- a map goes before the head's end, before the first script or link, or into the import map element that is there
 pub record InjectionExamples : Type 0 where
-  pub head_end : Injection (codes "{}") (codes "<head></head>\n") (Ok (codes "<head><script type=\"importmap\">{}</script>\n</head>\n"))
-  pub again : Injection (codes "{}") (codes "<head><script type=\"importmap\">{}</script>\n</head>\n") (Ok (codes "<head><script type=\"importmap\">{}</script>\n</head>\n"))
-  pub other_map : Injection (codes "{1}") (codes "<script type='ImportMap'>a</script>") (Ok (codes "<script type='ImportMap'>{1}</script>"))
-  pub before_link : Injection (codes "{}") (codes "<LINK></head>") (Ok (codes "<script type=\"importmap\">{}</script>\n<LINK></head>"))
-  pub behind_a_script : Injection (codes "{}") (codes "<script></script><script type=importmap></script>") (Ok (codes "<script></script><script type=importmap>{}</script>"))
+  pub head_end : Injection (codes "{}") (codes "<head></head>\n")
+      (Ok (codes "<head><script type=\"importmap\">{}</script>\n</head>\n"))
+  pub again : Injection (codes "{}") (codes "<head><script type=\"importmap\">{}</script>\n</head>\n")
+      (Ok (codes "<head><script type=\"importmap\">{}</script>\n</head>\n"))
+  pub other_map : Injection (codes "{1}") (codes "<script type='ImportMap'>a</script>")
+      (Ok (codes "<script type='ImportMap'>{1}</script>"))
+  pub before_link : Injection (codes "{}") (codes "<LINK></head>")
+      (Ok (codes "<script type=\"importmap\">{}</script>\n<LINK></head>"))
+  pub behind_a_script : Injection (codes "{}") (codes "<script></script><script type=importmap></script>")
+      (Ok (codes "<script></script><script type=importmap>{}</script>"))
 
 -- what refuses a map, and the first place of it
 pub record RefusalExamples : Type 0 where
   pub no_place : Injection (codes "{}") (codes "<p>") (Err NoPlace)
   pub cut_off : Injection (codes "{}") (codes "<head") (Err (PageUnclear 0))
   pub not_utf8 : Injection (codes "{}") (60 ∷ 112 ∷ 62 ∷ 255 ∷ []) (Err (PageUnclear 3))
-  pub two_maps : Injection (codes "{}") (codes "<script type=importmap></script><script type=importmap></script>") (Err (TwoMaps 32))
-  pub second_with_src : Injection (codes "{}") (codes "<script type=importmap></script><script type=importmap src></script>") (Err (PageUnclear 32))
+  pub two_maps : Injection (codes "{}") (codes "<script type=importmap></script><script type=importmap></script>")
+      (Err (TwoMaps 32))
+  pub second_with_src : Injection (codes "{}")
+      (codes "<script type=importmap></script><script type=importmap src></script>") (Err (PageUnclear 32))
   pub base_before : Injection (codes "{}") (codes "<base><head") (Err (PageUnclear 0))
   pub reference : Injection (codes "{}") (codes "<script type='a&b'></script>") (Err (PageUnclear 0))
   pub hidden : Injection (codes "{}") (codes "<script>a<!--</script>") (Err (PageUnclear 9))
   pub unended_map : Injection (codes "{}") (codes "<script type=importmap src>") (Err (PageUnclear 27))
 
 abbrev pub WorkedExamples : Type 0
-WorkedExamples = PageExamples × CommentExamples × TextExamples × TagExamples × RawExamples × AttributeExamples × ImportMapExamples × InjectionExamples × RefusalExamples
+WorkedExamples =
+    PageExamples × CommentExamples × TextExamples × TagExamples × RawExamples × AttributeExamples × ImportMapExamples
+    × InjectionExamples × RefusalExamples

@@ -1,11 +1,13 @@
--- What keeps a map out of a page, in order of place. own, but for what an import map element may be (HTML Standard, 4.12.1).
+-- What keeps a map out of a page, in order of place. own, but for what an import map element may be (HTML Standard,
+-- 4.12.1).
 --     is_unclear p parts               the piece makes the page unclear; the parts are behind it
 --     comment_at from bytes            the place of the first `<!--` in the bytes, from an offset on
---     fault_at from seen p parts       the fault of the piece that begins at the offset; `seen`: an import map element came before
+--     fault_at from seen p parts       the fault of the piece that begins at the offset; `seen`: an import map
+--                                      element came before
 --     first_fault from seen parts      the first fault of the pieces
--- A page is unclear where a piece is Broken, where it has a `base` (which changes what the map's addresses mean), where a script's
--- type holds `&` (which may begin a character reference), where an import map element has a `src`, and where a script's text
--- holds `<!--` (behind which its end tag need not end it).
+-- A page is unclear where a piece is Broken, where it has a `base` (which changes what the map's addresses mean),
+-- where a script's type holds `&` (which may begin a character reference), where an import map element has a `src`,
+-- and where a script's text holds `<!--` (behind which its end tag need not end it).
 use Rattle.std.specs.Prelude.{ℕ, ◌+◌, Bool, true, false, ◌&&◌, ◌||◌, ◌==◌, List, [], ◌∷◌, length, if◌then◌else◌, Option, Some, None, option_map, is_some, codes}
 use Rattle.std.specs.List.{list_any}
 use Rattle.page_spec.specs.declared.kinds.InjectFault.{InjectFault}
@@ -52,4 +54,5 @@ or_later None later = later
 
 abbrev pub first_fault : ℕ → Bool → List Part → Option InjectFault
 first_fault n seen [] = None
-first_fault n seen (p ∷ parts) = or_later (fault_at n seen p parts) (first_fault (n + length p.text) (seen || begins_map p parts) parts)
+first_fault n seen (p ∷ parts) =
+    or_later (fault_at n seen p parts) (first_fault (n + length p.text) (seen || begins_map p parts) parts)

@@ -1,9 +1,11 @@
 -- Import map elements. HTML Standard, 4.12.1, "The script element".
 --     is_start_of name p       the piece is a start tag of that name
 --     is_end_of name p         the piece is an end tag of that name
---     is_map_start p           the piece is the start tag of a script whose type, without white space around it, is `importmap`
+--     is_map_start p           the piece is the start tag of a script whose type, without white space around it, is
+--                              `importmap`
 --     raw_behind parts         the raw text with which the pieces begin
---     map_of p parts           the raw text of the import map element that begins with p, where one does; the parts are behind p
+--     map_of p parts           the raw text of the import map element that begins with p, where one does; the parts
+--                              are behind p
 --     import_maps parts        the raw texts of all import map elements
 -- own: which element stands in which isn't known, so a script in a template or in a foreign element counts as well.
 use Rattle.std.specs.Prelude.{ℕ, Bool, true, false, ◌&&◌, List, [], ◌∷◌, if◌then◌else◌, Option, Some, None, is_some, drop, reverse, codes, bytes_eq}

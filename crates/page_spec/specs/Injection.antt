@@ -1,6 +1,8 @@
--- A map put into a page. own, but for UTF-8 (Encoding Standard) and where import maps may stand (HTML Standard, 4.12.1).
+-- A map put into a page. own, but for UTF-8 (Encoding Standard) and where import maps may stand (HTML Standard,
+-- 4.12.1).
 --     map_span from parts          where the raw text of the first import map element stands, from an offset on
---     is_place p                   a map may be put before the piece: a start tag of a script or link, or the head's end tag
+--     is_place p                   a map may be put before the piece: a start tag of a script or link, or the head's
+--                                  end tag
 --     place from parts             where the first such piece begins
 --     element map                  the import map element of a map, and a line end
 --     replaced from to text page   the page with the text in place of what stands from one offset to the other
@@ -52,8 +54,10 @@ unless_faulted (Some fault) out = Err fault
 unless_faulted None out = out
 
 abbrev pub injected : List ℕ → List ℕ → List Part → Result (List ℕ) InjectFault
-injected text page parts = unless_faulted (first_fault 0 false parts) (put_into text page (map_span 0 parts) (place 0 parts))
+injected text page parts =
+    unless_faulted (first_fault 0 false parts) (put_into text page (map_span 0 parts) (place 0 parts))
 
 pub data Injection (text page : List ℕ) : Result (List ℕ) InjectFault → Type 0 where
   not_utf8 : is_utf8 page ≡ false → Injection text page (Err (PageUnclear (utf8_valid_len page)))
-  utf8 : {parts : List Part} → is_utf8 page ≡ true → Pieces None page parts → Injection text page (injected text page parts)
+  utf8 : {parts : List Part} → is_utf8 page ≡ true → Pieces None page parts
+      → Injection text page (injected text page parts)

@@ -27,11 +27,13 @@ PiecesCover = (page : List ℕ) (parts : List Part) → Pieces None page parts �
 
 -- no piece of a page begins or ends within a character
 abbrev pub PiecesAreUtf8 : Type 0
-PiecesAreUtf8 = (page : List ℕ) (parts : List Part) → Pieces None page parts → IsUtf8 page → All (λ p. IsUtf8 p.text) parts
+PiecesAreUtf8 =
+    (page : List ℕ) (parts : List Part) → Pieces None page parts → IsUtf8 page → All (λ p. IsUtf8 p.text) parts
 
 -- no character is cut at the places of a piece
 abbrev pub PiecesEndAtBoundaries : Type 0
-PiecesEndAtBoundaries = (page : List ℕ) (piece : Piece) → IsPieceOf page piece → IsUtf8 page → AtBoundaries page piece.from piece.to
+PiecesEndAtBoundaries =
+    (page : List ℕ) (piece : Piece) → IsPieceOf page piece → IsUtf8 page → AtBoundaries page piece.from piece.to
 
 -- the tag ends with the value's tail, which begins with its text
 pub record StandsIn (tag : List ℕ) (value : Value) : Type 0 where
@@ -46,11 +48,15 @@ ValuesStandInTags = (name tag : List ℕ) (value : Value) → attribute name tag
 
 -- no character is cut at the places of an attribute's value
 abbrev pub ValuesEndAtBoundaries : Type 0
-ValuesEndAtBoundaries = (page name : List ℕ) (piece : Piece) (span : ℕ × ℕ) → IsPieceOf page piece → IsUtf8 page → value_span name page piece ≡ Some span → AtBoundaries page span.0 span.1
+ValuesEndAtBoundaries =
+    (page name : List ℕ) (piece : Piece) (span : ℕ × ℕ) → IsPieceOf page piece → IsUtf8 page
+    → value_span name page piece ≡ Some span → AtBoundaries page span.0 span.1
 
 -- a map and a page have one outcome
 abbrev pub OneInjection : Type 0
-OneInjection = (text page : List ℕ) (some other : Result (List ℕ) InjectFault) → Injection text page some → Injection text page other → some ≡ other
+OneInjection =
+    (text page : List ℕ) (some other : Result (List ℕ) InjectFault) → Injection text page some
+    → Injection text page other → some ≡ other
 
 pub record HasInjection (text page : List ℕ) : Type 0 where
   pub out : Result (List ℕ) InjectFault
@@ -68,18 +74,24 @@ pub record IsPlainMap (text : List ℕ) : Type 0 where
 abbrev pub map_element : List ℕ → List Part
 map_element text = part Start start_tag ∷ part Raw text ∷ part End end_tag ∷ part Text (10 ∷ []) ∷ []
 
--- a map has the place of a piece of raw text, or an element with it stands between two pieces; all other pieces are the same
+-- a map has the place of a piece of raw text, or an element with it stands between two pieces; all other pieces are
+-- the same
 pub data PutBetween (text : List ℕ) : List Part → List Part → Type 0 where
-  in_place : (before : List Part) (start raw : Part) (behind : List Part) → PutBetween text (before ++ start ∷ raw ∷ behind) (before ++ start ∷ part Raw text ∷ behind)
+  in_place : (before : List Part) (start raw : Part) (behind : List Part)
+      → PutBetween text (before ++ start ∷ raw ∷ behind) (before ++ start ∷ part Raw text ∷ behind)
   new : (before behind : List Part) → PutBetween text (before ++ behind) (before ++ (map_element text ++ behind))
 
 -- the pieces of a page into which a map was put are those that it had, but for the map
 abbrev pub InjectedPieces : Type 0
-InjectedPieces = (text page new : List ℕ) (parts others : List Part) → IsPlainMap text → Injection text page (Ok new) → Pieces None page parts → Pieces None new others → PutBetween text parts others
+InjectedPieces =
+    (text page new : List ℕ) (parts others : List Part) → IsPlainMap text → Injection text page (Ok new)
+    → Pieces None page parts → Pieces None new others → PutBetween text parts others
 
 -- a page into which a map was put has one import map element, and the map is its raw text
 abbrev pub OneMapAfter : Type 0
-OneMapAfter = (text page new : List ℕ) (parts : List Part) → IsPlainMap text → Injection text page (Ok new) → Pieces None new parts → import_maps parts ≡ text ∷ []
+OneMapAfter =
+    (text page new : List ℕ) (parts : List Part) → IsPlainMap text → Injection text page (Ok new)
+    → Pieces None new parts → import_maps parts ≡ text ∷ []
 
 -- a map that is put into a page again changes nothing
 abbrev pub SamePageAgain : Type 0

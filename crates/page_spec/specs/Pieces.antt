@@ -1,4 +1,5 @@
--- The pieces of a page. HTML Standard, 13.2.5, "Tokenization", and 13.2.6, "Tree construction", for the elements with raw text.
+-- The pieces of a page. HTML Standard, 13.2.5, "Tokenization", and 13.2.6, "Tree construction", for the elements with
+-- raw text.
 --     opening bytes                what a `<` before these bytes opens; None where the `<` is text
 --     tag_name bytes               the tag name at the front, in lower case; None where the page ends before it does
 --     closes element bytes         the element's end tag begins at the front
@@ -8,7 +9,8 @@
 --     Part                         a piece as its kind and its text
 --     Pieces within bytes parts    the pieces of the bytes are these
 --     page_of parts                the texts of the pieces one behind the other
--- own: a script's raw text ends at its first end tag, whatever `<!--` stands before it; `noscript` is read as with scripting on.
+-- own: a script's raw text ends at its first end tag, whatever `<!--` stands before it; `noscript` is read as with
+-- scripting on.
 use Rattle.std.specs.Char.{is_ascii_alphabetic, is_ascii_whitespace, to_ascii_lowercase}
 use Rattle.std.specs.Prelude.{◌≡◌, ℕ, Bool, true, false, ◌&&◌, ◌||◌, ◌==◌, List, [], ◌∷◌, ◌++◌, if◌then◌else◌, Option, Some, None, option_map, is_some, codes, bytes_eq}
 use Rattle.page_spec.specs.declared.kinds.PieceKind.{PieceKind}
@@ -126,7 +128,9 @@ part k t = record { kind = k; text = t }
 
 pub data Pieces : Option RawElement → List ℕ → List Part → Type 0 where
   none : {within : Option RawElement} {bytes : List ℕ} → first_piece within bytes ≡ None → Pieces within bytes []
-  piece : {within next : Option RawElement} {bytes rest : List ℕ} {p : Part} {parts : List Part} → bytes ≡ p.text ++ rest → first_piece within bytes ≡ Some (front p.kind next rest) → Pieces next rest parts → Pieces within bytes (p ∷ parts)
+  piece : {within next : Option RawElement} {bytes rest : List ℕ} {p : Part} {parts : List Part}
+      → bytes ≡ p.text ++ rest → first_piece within bytes ≡ Some (front p.kind next rest) → Pieces next rest parts
+      → Pieces within bytes (p ∷ parts)
 
 abbrev pub page_of : List Part → List ℕ
 page_of [] = []

@@ -1,11 +1,13 @@
 -- Pieces and values by their places: offsets in the page, in bytes.
 --     span from p                       the piece of a part that begins at the offset
 --     spans from parts                  the pieces of the parts, the first of which begins at the offset
---     Reaches page before within rest   behind these pieces of the page the rest is left; `within`: whose raw text comes there
+--     Reaches page before within rest   behind these pieces of the page the rest is left; `within`: whose raw text
+--                                       comes there
 --     IsPieceOf page piece              the piece is one of the page's
 --     text_at page piece                the bytes between the piece's places
 --     part_at page piece                the piece as its kind and its text
---     value_span name page piece        where the value of the first attribute of that name stands; None but for a start tag
+--     value_span name page piece        where the value of the first attribute of that name stands; None but for a
+--                                       start tag
 --     broken_at from parts              where the first broken piece begins
 --     AtBoundaries page from to         no character of the page is cut at these places
 use Rattle.std.specs.Prelude.{◌≡◌, ℕ, ◌+◌, ◌-◌, List, [], ◌∷◌, ◌++◌, length, take, drop, if◌then◌else◌, Option, Some, None, option_map, IsCharBoundary}
@@ -44,7 +46,8 @@ abbrev pub span_of : ℕ → Value → ℕ × ℕ
 span_of n value = (n - length value.tail, (n - length value.tail) + length value.text)
 
 abbrev pub value_span : List ℕ → List ℕ → Piece → Option (ℕ × ℕ)
-value_span name page piece = if is_start piece.kind then option_map (span_of piece.to) (attribute name (text_at page piece)) else None
+value_span name page piece =
+    if is_start piece.kind then option_map (span_of piece.to) (attribute name (text_at page piece)) else None
 
 abbrev pub broken_at : ℕ → List Part → Option ℕ
 broken_at n [] = None

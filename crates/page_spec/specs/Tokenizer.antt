@@ -1,11 +1,12 @@
--- Markup behind its `<`: where a tag or a comment ends. HTML Standard, 13.2.5, "Tokenization"; Infra Standard, "Code points".
+-- Markup behind its `<`: where a tag or a comment ends. HTML Standard, 13.2.5, "Tokenization"; Infra Standard, "Code
+-- points".
 --     lowered bytes                the bytes in ASCII lowercase
 --     may_end state                a `>` in this state is the last byte of its tag or comment
 --     next_state state byte        the state behind a byte that isn't the last one
 --     behind_markup state bytes    what is left behind the markup; None where the page ends before the markup does
--- own: the tokenizer's states without those that change no place where markup ends: what stands behind a quoted value, or
--- behind the `/` of a tag, is read as what stands before an attribute name. `<!` begins no doctype and no CDATA section, but a
--- bogus comment where no two dashes follow.
+-- own: the tokenizer's states without those that change no place where markup ends: what stands behind a quoted
+-- value, or behind the `/` of a tag, is read as what stands before an attribute name. `<!` begins no doctype and no
+-- CDATA section, but a bogus comment where no two dashes follow.
 use Rattle.std.specs.Char.{is_ascii_alphabetic, is_ascii_whitespace, to_ascii_lowercase}
 use Rattle.std.specs.Prelude.{ℕ, Bool, true, false, ◌&&◌, ◌||◌, ◌==◌, List, [], ◌∷◌, if◌then◌else◌, Option, Some, None, map}
 use Rattle.page_spec.specs.declared.kinds.State.{State}

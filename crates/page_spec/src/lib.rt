@@ -1,5 +1,5 @@
-//! Pages of HTML as a scanner sees them: their pieces, the attributes of start tags, import map elements, and how a map is
-//! put into a page.
+//! Pages of HTML as a scanner sees them: their pieces, the attributes of start tags, import map elements, and how a
+//! map is put into a page.
 //!
 //! Definitions and laws alone: each function here is empty, and its contract is a law.
 #![tactic(auto)]

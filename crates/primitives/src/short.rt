@@ -53,8 +53,8 @@ impl Short {
         })
     }
 
-    // A copy of a text of one to four bytes, as most numbers and many keys are. They are put together in a register and stored
-    // at once: a processor waits where it loads together what it has just stored byte by byte.
+    // A copy of a text of one to four bytes, as most numbers and many keys are. They are put together in a register
+    // and stored at once: a processor waits where it loads together what it has just stored byte by byte.
     fn of_few(text: &str) -> Option<Short>
         ensures { IfSome result (λ copy. copy ≡ text.now) }
     {

@@ -14,8 +14,8 @@ const _: () = prove!(size_of::<Text>() == 16);
 
 /// A text that is kept: a contract sees it as the list of its UTF-8 bytes.
 ///
-/// A text of at most 14 bytes lies in its value and takes no memory of its own. A longer one lies in memory that it shares
-/// with its copies.
+/// A text of at most 14 bytes lies in its value and takes no memory of its own. A longer one lies in memory that it
+/// shares with its copies.
 #[derive(Drop)]
 pub struct Text {
     kept: Kept,

@@ -13,7 +13,8 @@ use Rattle.slot_arena.specs.Rows.{IsFilled}
 module _ {X : Type 0} where
   abbrev pub IsEmptyBlock : {A : Type 0} → Start X → Row X → Right X A → ℕ → A → Type 0
   IsEmptyBlock start row right n alloc =
-      (row.start ≡ start.first) × (row.places ≡ replicate n None) × (right.start ≡ start.first) × (right.count ≡ n) × (right.from ≡ alloc)
+      (row.start ≡ start.first) × (row.places ≡ replicate n None) × (right.start ≡ start.first) × (right.count ≡ n)
+      × (right.from ≡ alloc)
 
   abbrev pub IsEmptyAt : Row X → Start X → ℕ → Type 0
   IsEmptyAt row start i = (start.first ≡ row.start) × (i < length row.places) × (get_or row.places i None ≡ None)

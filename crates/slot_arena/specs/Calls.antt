@@ -9,5 +9,7 @@ pub data Calls {X : Type 0} (start : List (Place X)) : List (Place X) → Type 0
   begin : Calls start start
   reserved : {a : List (Place X)} (n : ℕ) → Calls start a → Calls start (with_places a n)
   inserted : {a : List (Place X)} (s : Slot) (x : X) → IsFresh a s → Calls start a → Calls start (set_at a s (Some x))
-  written : {a : List (Place X)} (s : Slot) (x y : X) → value_at a s ≡ Some x → Calls start a → Calls start (set_at a s (Some y))
-  removed : {a : List (Place X)} (s : Slot) (x : X) → value_at a s ≡ Some x → Calls start a → Calls start (set_at a s None)
+  written : {a : List (Place X)} (s : Slot) (x y : X) → value_at a s ≡ Some x → Calls start a
+      → Calls start (set_at a s (Some y))
+  removed : {a : List (Place X)} (s : Slot) (x : X) → value_at a s ≡ Some x → Calls start a
+      → Calls start (set_at a s None)

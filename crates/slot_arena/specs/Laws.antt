@@ -1,6 +1,7 @@
 -- The laws of an arena, over any type of values. Each is the contract of a function in src/laws.rt.
 --
--- GivenOnce X       a slot that was inserted under is given, stays so under every call, and is never the next slot again;
+-- GivenOnce X       a slot that was inserted under is given, stays so under every call, and is never the next slot
+-- again;
 --                   once its value is gone, it has none
 -- LiveIsGiven X     each live slot was given
 -- Inserts X         what an insertion changes: its slot alone, one spare place less, one live slot more

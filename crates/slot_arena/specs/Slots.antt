@@ -24,7 +24,8 @@ module _ {X : Type 0} where
   -- the code by which a list of places lies in the logic's one type of values
   abbrev pub places_code : Coded X → Coded (List (Place X))
   places_code c =
-      coded_list (code_by (Option X × ℕ) (coded× (coded_option c) coded_ℕ) (λ p. (p.value, p.next)) (λ p. place p.0 p.1) (λ _. refl))
+      coded_list (code_by (Option X × ℕ) (coded× (coded_option c) coded_ℕ) (λ p. (p.value, p.next))
+      (λ p. place p.0 p.1) (λ _. refl))
 
   abbrev pub place_at : List (Place X) → ℕ → Place X
   place_at a i = get_or a i (place None 0)

@@ -15,7 +15,8 @@ tree_of entries = from_entries entries.entries
 -- own: the root is a folder, and above a path so is the parent of each entry
 pub record IsSettled (tree : Tree) (path : List ℕ) : Type 0 where
   pub root : get tree (codes "/") ≡ Some Directory
-  pub parents : (parent above : List ℕ) (entry : Entry) → IsAbove above path → get tree above ≡ Some entry → IsParent parent above → get tree parent ≡ Some Directory
+  pub parents : (parent above : List ℕ) (entry : Entry) → IsAbove above path → get tree above ≡ Some entry
+      → IsParent parent above → get tree parent ≡ Some Directory
 
 -- own: a file stands above a path
 pub record IsBelowFile (tree : Tree) (path : List ℕ) : Type 0 where

@@ -72,8 +72,9 @@ fn take_away(entries: &mut Entries, path: &Path)
     entries.remove(path);
 }
 
-/// Places an entry at a path where nothing stands, with the missing folders above it. False where a file stands above it.
-/// The entry is put first and the folders after it, upwards, so that a failure has only its own entries to take away.
+/// Places an entry at a path where nothing stands, with the missing folders above it. False where a file stands above
+/// it. The entry is put first and the folders after it, upwards, so that a failure has only its own entries to take
+/// away.
 fn place(alloc: Global, entries: &mut Entries, path: &Path, entry: Entry) -> Result<bool, Memory>
     requires absent { get (tree_of entries.old) path.now ≡ None }
     requires settled { IsSettled (tree_of entries.old) path.now }

@@ -8,8 +8,8 @@ use tree_spec::{Look, LookFault};
 
 /// A folder that is looked at path by path and written to. Whether it tells what it holds is its own choice.
 pub trait Folder {
-    /// The tree and the paths that were looked at, where they are told; how many looks and how many writes failed, up to
-    /// the last number of their type.
+    /// The tree and the paths that were looked at, where they are told; how many looks and how many writes failed, up
+    /// to the last number of their type.
     ghost state: { Self → FolderState };
 
     /// What stands at a path; a file of more than `limit` bytes is too large.

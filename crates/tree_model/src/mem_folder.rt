@@ -36,7 +36,8 @@ impl MemFolder {
         ensures asked { IfOk result (λ folder. folder.asked ≡ []) }
         ensures calls { IfOk result (λ folder. (folder.looks ≡ 0) × (folder.writes ≡ 0)) }
         ensures faults { IfOk result (λ folder. (folder.look_faults ≡ 0) × (folder.write_faults ≡ 0)) }
-        ensures failing { IfOk result (λ folder. (folder.failing_looks ≡ looks.now) × (folder.failing_writes ≡ writes.now)) }
+        ensures failing { IfOk result (λ folder. (folder.failing_looks ≡ looks.now)
+            × (folder.failing_writes ≡ writes.now)) }
     {
         Ok(MemFolder {
             alloc,
@@ -54,14 +55,17 @@ impl MemFolder {
     /// Makes a file of these bytes, or a folder, with the missing folders above it. It is no numbered call.
     /// False where something stands at the path or a file stands above it.
     pub fn put(&mut self, path: &Path, file: Option<&[u8]>) -> Result<bool, Memory>
-        ensures placed { result ≡ Ok true → Places (tree_of self.old.entries) path.now (entry_for file.entry) (tree_of self.new.entries) }
+        ensures placed { result ≡ Ok true → Places (tree_of self.old.entries) path.now (entry_for file.entry)
+            (tree_of self.new.entries) }
         ensures free { result ≡ Ok true → IsFree (tree_of self.old.entries) path.now }
         ensures taken { result ≡ Ok false → IsFree (tree_of self.old.entries) path.now → ⊥ }
         ensures same { result ≢ Ok true → tree_of self.new.entries ≡ tree_of self.old.entries }
         ensures asked { self.new.asked ≡ self.old.asked }
         ensures calls { (self.new.looks ≡ self.old.looks) × (self.new.writes ≡ self.old.writes) }
-        ensures faults { (self.new.look_faults ≡ self.old.look_faults) × (self.new.write_faults ≡ self.old.write_faults) }
-        ensures failing { (self.new.failing_looks ≡ self.old.failing_looks) × (self.new.failing_writes ≡ self.old.failing_writes) }
+        ensures faults { (self.new.look_faults ≡ self.old.look_faults)
+            × (self.new.write_faults ≡ self.old.write_faults) }
+        ensures failing { (self.new.failing_looks ≡ self.old.failing_looks)
+            × (self.new.failing_writes ≡ self.old.failing_writes) }
     {
         let entry = match file {
             None => Entry::Directory,
@@ -85,7 +89,12 @@ impl MemFolder {
 impl Folder for MemFolder {
     ghost use Rattle.tree_spec.proofs.DecidedTrees.{known_tree};
 
-    ghost state = { λ folder. record { holds = Some (tree_of folder.entries); asked = Some folder.asked; look_faults = folder.look_faults; write_faults = folder.write_faults } };
+    ghost state = { λ folder. record {
+      holds = Some (tree_of folder.entries);
+      asked = Some folder.asked;
+      look_faults = folder.look_faults;
+      write_faults = folder.write_faults;
+    } };
 
     ghost told = { λ folder. known_tree (tree_of folder.entries) folder.tree };
 
@@ -99,7 +108,8 @@ impl Folder for MemFolder {
         ensures quiet { result ≢ Err LookFault.Failed → self.new.look_faults ≡ self.old.look_faults }
         ensures later { self.old.look_faults ≤ self.new.look_faults }
         ensures writes { (self.new.writes ≡ self.old.writes) × (self.new.write_faults ≡ self.old.write_faults) }
-        ensures failing { (self.new.failing_looks ≡ self.old.failing_looks) × (self.new.failing_writes ≡ self.old.failing_writes) }
+        ensures failing { (self.new.failing_looks ≡ self.old.failing_looks)
+            × (self.new.failing_writes ≡ self.old.failing_writes) }
     {
         self.looks = self.looks.saturating_add(1);
         if is_listed(self.failing_looks.as_slice(), self.looks) {
@@ -112,7 +122,8 @@ impl Folder for MemFolder {
     }
 
     fn write(&mut self, path: &Path, bytes: &[u8]) -> Result<(), Failed>
-        ensures written { OnOk result ((after : Tree) × (Some (tree_of self.new.entries) ≡ Some after) × Places (tree_of self.old.entries) path.now (Stored bytes.now) after) }
+        ensures written { OnOk result ((after : Tree) × (Some (tree_of self.new.entries) ≡ Some after)
+            × Places (tree_of self.old.entries) path.now (Stored bytes.now) after) }
         ensures tree { OnErr result (tree_of self.new.entries ≡ tree_of self.old.entries) }
         ensures asked { self.new.asked ≡ self.old.asked }
         ensures number { self.new.writes ≡ following self.old.writes }
@@ -122,7 +133,8 @@ impl Folder for MemFolder {
         ensures quiet { OnOk result (self.new.write_faults ≡ self.old.write_faults) }
         ensures later { self.old.write_faults ≤ self.new.write_faults }
         ensures looks { (self.new.looks ≡ self.old.looks) × (self.new.look_faults ≡ self.old.look_faults) }
-        ensures failing { (self.new.failing_looks ≡ self.old.failing_looks) × (self.new.failing_writes ≡ self.old.failing_writes) }
+        ensures failing { (self.new.failing_looks ≡ self.old.failing_looks)
+            × (self.new.failing_writes ≡ self.old.failing_writes) }
     {
         self.writes = self.writes.saturating_add(1);
         if is_listed(self.failing_writes.as_slice(), self.writes) {

@@ -44,7 +44,8 @@ impl Sink for MemSink {
 
     fn give(&mut self, bytes: &[u8]) -> Result<(), Failed>
         ensures given { OnOk result (self.new.bytes.items ≡ self.old.bytes.items ++ bytes.now) }
-        ensures part { OnErr result ((count : ℕ) × (Some self.new.bytes.items ≡ Some (self.old.bytes.items ++ take count bytes.now))) }
+        ensures part { OnErr result ((count : ℕ)
+            × (Some self.new.bytes.items ≡ Some (self.old.bytes.items ++ take count bytes.now))) }
         ensures kept { OnErr result (self.new.bytes.items ≡ self.old.bytes.items) }
         ensures number { self.new.gives ≡ following self.old.gives }
         ensures listed { Contains self.old.failing (following self.old.gives) → IsErr result }

@@ -41,7 +41,9 @@ impl Source for MemSource {
     fn take(&mut self, into: &mut [u8]) -> Result<usize, Failed>
         ensures within { IfOk result (λ count. count ≤ length into.old) }
         ensures most { IfOk result (λ count. count ≡ min (length (drop self.old.at self.old.bytes)) (length into.old)) }
-        ensures bytes { IfOk result (λ count. (count ≤ length (drop self.old.at self.old.bytes)) × (take count into.new ≡ take count (drop self.old.at self.old.bytes)) × (Some (drop self.new.at self.new.bytes) ≡ Some (drop count (drop self.old.at self.old.bytes)))) }
+        ensures bytes { IfOk result (λ count. (count ≤ length (drop self.old.at self.old.bytes))
+            × (take count into.new ≡ take count (drop self.old.at self.old.bytes))
+            × (Some (drop self.new.at self.new.bytes) ≡ Some (drop count (drop self.old.at self.old.bytes)))) }
         ensures end { IfOk result (λ count. count ≡ 0 → 0 < length into.old → drop self.old.at self.old.bytes ≡ []) }
         ensures behind { IfOk result (λ count. drop count into.new ≡ drop count into.old) }
         ensures untouched { OnErr result (into.new ≡ into.old) }

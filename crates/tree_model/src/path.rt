@@ -93,7 +93,8 @@ impl Path {
 
     /// The path without its last segment; the root has none.
     pub fn parent(&self, alloc: Global) -> Result<Option<Path>, Memory>
-        ensures parent { IfOk result (λ found. MatchOption found (self.now ≡ codes "/") (λ parent. IsParent parent self.now)) }
+        ensures parent { IfOk result (λ found. MatchOption found (self.now ≡ codes "/")
+            (λ parent. IsParent parent self.now)) }
         ensures is_path { IsPath self.now }
     {
         let text = self.text.as_str();
@@ -112,7 +113,8 @@ impl Path {
 
     /// The path of what stands below this one under the text `rest`, where that is a path.
     pub fn join(&self, alloc: Global, rest: &str) -> Result<Option<Path>, Memory>
-        ensures { IfOk result (λ found. MatchOption found (IsPath (joined self.now rest.now) → ⊥) (λ path. (path ≡ joined self.now rest.now) × IsPath (joined self.now rest.now))) }
+        ensures { IfOk result (λ found. MatchOption found (IsPath (joined self.now rest.now) → ⊥)
+            (λ path. (path ≡ joined self.now rest.now) × IsPath (joined self.now rest.now))) }
     {
         if rest.len() > MOST_BYTES {
             return Ok(None);
@@ -199,7 +201,8 @@ fn is_segment(name: &str) -> bool
 
 /// What stands before and behind the last `/` of a text.
 fn last_part(text: &str) -> Option<(&str, &str)>
-    ensures { MatchOption result (All (λ b. b ≢ 47) text.now) (λ part. (text.now ≡ part.0.now ++ 47 ∷ part.1.now) × All (λ b. b ≢ 47) part.1.now) }
+    ensures { MatchOption result (All (λ b. b ≢ 47) text.now)
+        (λ part. (text.now ≡ part.0.now ++ 47 ∷ part.1.now) × All (λ b. b ≢ 47) part.1.now) }
 {
     match text.rfind('/') {
         None => None,

@@ -32,7 +32,8 @@ pub record SinkState : Type 0 where
   pub faults : ℕ
 
 -- own: a look answers what stands there, and fails only where that was counted
-pub record IsLooked (before : FolderState) (path : List ℕ) (limit : ℕ) (result : Result Look LookFault) (after : FolderState) : Type 0 where
+pub record IsLooked (before : FolderState) (path : List ℕ) (limit : ℕ) (result : Result Look LookFault)
+    (after : FolderState) : Type 0 where
   pub entry : IfOk result (λ look. IfSome before.holds (λ tree. IsLook tree path limit look))
   pub tree : after.holds ≡ before.holds
   pub asked : after.asked ≡ asked_after (is_ok result) path before.asked
@@ -50,8 +51,10 @@ pub record OnlyLooks (before after : FolderState) (failed : Type 0) : Type 0 whe
   pub quiet : (failed → ⊥) → after.look_faults ≡ before.look_faults
 
 -- own: a write makes the file, with the missing folders above it, or fails, leaves the tree and counts it
-pub record IsWritten {E : Type 0} (before : FolderState) (path bytes : List ℕ) (result : Result (Unit {0}) E) (after : FolderState) : Type 0 where
-  pub written : OnOk result (IfSome before.holds (λ tree. (later : Tree) × (after.holds ≡ Some later) × Places tree path (Stored bytes) later))
+pub record IsWritten {E : Type 0} (before : FolderState) (path bytes : List ℕ) (result : Result (Unit {0}) E)
+    (after : FolderState) : Type 0 where
+  pub written : OnOk result (IfSome before.holds (λ tree. (later : Tree) × (after.holds ≡ Some later)
+      × Places tree path (Stored bytes) later))
   pub tree : OnErr result (after.holds ≡ before.holds)
   pub untold : before.holds ≡ None → after.holds ≡ None
   pub asked : after.asked ≡ before.asked
@@ -60,10 +63,13 @@ pub record IsWritten {E : Type 0} (before : FolderState) (path bytes : List ℕ)
   pub later : before.write_faults ≤ after.write_faults
   pub looks : after.look_faults ≡ before.look_faults
 
--- own: what comes next was moved into the beginning of the slice. None, although the slice has room, means that nothing is left
-pub record IsTaken {E : Type 0} (before : SourceState) (into filled : List ℕ) (result : Result ℕ E) (after : SourceState) : Type 0 where
+-- own: what comes next was moved into the beginning of the slice. None, although the slice has room, means that
+-- nothing is left
+pub record IsTaken {E : Type 0} (before : SourceState) (into filled : List ℕ) (result : Result ℕ E)
+    (after : SourceState) : Type 0 where
   pub within : IfOk result (λ count. count ≤ length into)
-  pub bytes : IfOk result (λ count. IfSome before.left (λ rest. (count ≤ length rest) × (take count filled ≡ take count rest) × (after.left ≡ Some (drop count rest))))
+  pub bytes : IfOk result (λ count. IfSome before.left
+      (λ rest. (count ≤ length rest) × (take count filled ≡ take count rest) × (after.left ≡ Some (drop count rest))))
   pub untold : before.left ≡ None → after.left ≡ None
   pub end : IfOk result (λ count. count ≡ 0 → 0 < length into → IfSome before.left (λ rest. rest ≡ []))
   pub behind : IfOk result (λ count. drop count filled ≡ drop count into)
@@ -74,7 +80,8 @@ pub record IsTaken {E : Type 0} (before : SourceState) (into filled : List ℕ) 
   pub later : before.faults ≤ after.faults
 
 -- own: all bytes have gone out; or a front of them has, and that was counted
-pub record IsGiven {E : Type 0} (before : SinkState) (bytes : List ℕ) (result : Result (Unit {0}) E) (after : SinkState) : Type 0 where
+pub record IsGiven {E : Type 0} (before : SinkState) (bytes : List ℕ) (result : Result (Unit {0}) E)
+    (after : SinkState) : Type 0 where
   pub given : OnOk result (after.got ≡ option_map (λ front. front ++ bytes) before.got)
   pub part : OnErr result ((count : ℕ) × (after.got ≡ option_map (λ front. front ++ take count bytes) before.got))
   pub failed : OnErr result (Rose before.faults after.faults)

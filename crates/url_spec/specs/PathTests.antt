@@ -20,16 +20,23 @@ parts (b ∷ rest) = if b == 47 then [] ∷ parts rest else with_first b (parts 
 
 abbrev pub is_segment : List ℕ → Bool
 is_segment name =
-    not (bytes_eq name []) && not (bytes_eq name (codes ".")) && not (bytes_eq name (codes "..")) && list_all (λ b. not (b == 47) && not (b == 0)) name
+    not (bytes_eq name []) && not (bytes_eq name (codes ".")) && not (bytes_eq name (codes "..")) && list_all
+    (λ b. not (b == 47) && not (b == 0)) name
 
 -- own: `/`, or segments, each behind a `/`; at most 64 of them in at most 1,024 bytes
 abbrev pub is_path : List ℕ → Bool
 is_path [] = false
-is_path (b ∷ rest) = b == 47 && (bytes_eq rest [] || list_all is_segment (parts rest) && nat_le (length (parts rest)) 64) && nat_le (length rest) 1023
+is_path (b ∷ rest) =
+    b == 47 && (bytes_eq rest [] || list_all is_segment (parts rest) && nat_le (length (parts rest)) 64) && nat_le
+    (length rest) 1023
 
 -- the rest of a URL behind its base spells this path
 abbrev pub spells : List ℕ → List ℕ → Bool
-spells rest path = not (holds_escape (codes "%2f") rest) && bytes_eq path (flat_map read_segment (segments rest)) && is_utf8 path && is_path path
+spells rest path =
+    not (holds_escape (codes "%2f") rest) && bytes_eq path (flat_map read_segment (segments rest)) && is_utf8 path
+    && is_path path
 
 abbrev pub is_served : List ℕ → List ℕ → List ℕ → Bool
-is_served base url path = bytes_eq (before_suffix url) (base ++ drop (length base) (before_suffix url)) && spells (drop (length base) (before_suffix url)) path
+is_served base url path =
+    bytes_eq (before_suffix url) (base ++ drop (length base) (before_suffix url)) && spells
+    (drop (length base) (before_suffix url)) path

@@ -11,13 +11,16 @@ use Rattle.web_url.specs.declared.specifier.AskFault.TheVariants.{Unaskable, Tra
 
 -- own: a URL that is asked for relatively doesn't end in `/`, and a relative specifier isn't bare
 abbrev pub IsAsked : List ℕ → List ℕ → Asked → Type 0
-IsAsked referrer specifier (Url url) = (as_url referrer specifier ≡ Some url) × (is_relative specifier ≡ true → ends_with nat_eq url (codes "/") ≡ false)
+IsAsked referrer specifier (Url url) =
+    (as_url referrer specifier ≡ Some url) × (is_relative specifier ≡ true → ends_with nat_eq url (codes "/") ≡ false)
 IsAsked referrer specifier Bare = (as_url referrer specifier ≡ None) × (is_relative specifier ≡ false)
 
 -- own: when a specifier can't be asked for
 abbrev pub IsAskFault : List ℕ → List ℕ → AskFault → Type 0
 IsAskFault referrer specifier Unaskable = (is_relative specifier ≡ true) × (as_url referrer specifier ≡ None)
-IsAskFault referrer specifier TrailingSlash = (is_relative specifier ≡ true) × (url : List ℕ) × (as_url referrer specifier ≡ Some url) × (ends_with nat_eq url (codes "/") ≡ true)
+IsAskFault referrer specifier TrailingSlash =
+    (is_relative specifier ≡ true) × (url : List ℕ) × (as_url referrer specifier ≡ Some url)
+    × (ends_with nat_eq url (codes "/") ≡ true)
 IsAskFault referrer specifier Memory = ⊤
 
 -- what a specifier is whose URL without a base has this scheme, or that is no URL

@@ -15,5 +15,6 @@ pub record SpellsBelow (base url bytes : List ℕ) : Type 0 where
 
 -- own: the web name is this URL or none, and the path isn't served at it
 abbrev pub IsUnservable : List ℕ → List ℕ → List ℕ → WebFault → Type 0
-IsUnservable base path suffix (Unservable url) = (url ≡ web base path suffix) × MatchOption url ⊤ (λ name. IsServed base name path → ⊥)
+IsUnservable base path suffix (Unservable url) =
+    (url ≡ web base path suffix) × MatchOption url ⊤ (λ name. IsServed base name path → ⊥)
 IsUnservable base path suffix Memory = ⊤

@@ -38,7 +38,8 @@ impl From<AllocError> for WebFault {
 /// The web name of a module: its path and its suffix.
 pub fn web_of(alloc: Global, base: &Base, path: &Path, suffix: &Suffix) -> Result<WebUrl, WebFault>
     ensures url { IfOk result (λ url. (web base.now path.now suffix.now ≡ Some url) × IsServed base.now url path.now) }
-    ensures file { IfOk result (λ url. suffix.now ≡ [] → path.now ≢ codes "/" → ends_with nat_eq url (codes "/") ≡ false) }
+    ensures file { IfOk result (λ url. suffix.now ≡ [] → path.now ≢ codes "/" → ends_with nat_eq url (codes "/")
+        ≡ false) }
     ensures fault { IfErr result (IsUnservable base.now path.now suffix.now) }
 {
     let text = web_text(alloc, base, path, suffix)?;
@@ -56,7 +57,8 @@ pub fn web_of(alloc: Global, base: &Base, path: &Path, suffix: &Suffix) -> Resul
 
 /// The path that a base serves at a URL, or none.
 pub fn served(alloc: Global, base: &Base, url: &WebUrl) -> Result<Option<Path>, Memory>
-    ensures { IfOk result (λ found. MatchOption found ((path : List ℕ) → IsServed base.now url.now path → ⊥) (IsServed base.now url.now)) }
+    ensures { IfOk result (λ found. MatchOption found ((path : List ℕ) → IsServed base.now url.now path → ⊥)
+        (IsServed base.now url.now)) }
 {
     match spelled_below(alloc, base, url)? {
         None => Ok(None),
@@ -95,7 +97,8 @@ fn serves(alloc: Global, base: &Base, url: &WebUrl, path: &Path) -> Result<bool,
 
 /// The bytes that a URL spells below a base, which needn't be a path.
 fn spelled_below(alloc: Global, base: &Base, url: &WebUrl) -> Result<Option<Vec<u8>>, Memory>
-    ensures { IfOk result (λ found. MatchOption found ((bytes : List ℕ) → SpellsBelow base.now url.now bytes → ⊥) (λ bytes. SpellsBelow base.now url.now bytes.items)) }
+    ensures { IfOk result (λ found. MatchOption found ((bytes : List ℕ) → SpellsBelow base.now url.now bytes → ⊥)
+        (λ bytes. SpellsBelow base.now url.now bytes.items)) }
 {
     let Some(rest) = after_front(split_suffix(url.as_str()).0, base.as_str()) else {
         return Ok(None);
@@ -109,7 +112,8 @@ fn spelled_below(alloc: Global, base: &Base, url: &WebUrl) -> Result<Option<Vec<
 #[tactic(auto, using(crate::proofs::NameLemmas::fronts))]
 fn after_front<'a>(text: &'a str, front: &str) -> Option<&'a str>
     requires { IsAscii text.now }
-    ensures { MatchOption result ((rest : List ℕ) → text.now ≡ front.now ++ rest → ⊥) (λ rest. text.now ≡ front.now ++ rest.now) }
+    ensures { MatchOption result ((rest : List ℕ) → text.now ≡ front.now ++ rest → ⊥)
+        (λ rest. text.now ≡ front.now ++ rest.now) }
 {
     if text.starts_with(front) {
         Some(&text[front.len()..])

@@ -11,7 +11,8 @@ use tree_model::{Path, PathFault};
 
 /// The path with these bytes, where they are UTF-8 and spell one.
 pub fn path_of(alloc: Global, bytes: &[u8]) -> Result<Option<Path>, Memory>
-    ensures { IfOk result (λ found. MatchOption found (IsUtf8 bytes.now → IsPath bytes.now → ⊥) (λ path. (path ≡ bytes.now) × IsUtf8 bytes.now × IsPath bytes.now)) }
+    ensures { IfOk result (λ found. MatchOption found (IsUtf8 bytes.now → IsPath bytes.now → ⊥)
+        (λ path. (path ≡ bytes.now) × IsUtf8 bytes.now × IsPath bytes.now)) }
 {
     match std::str::from_utf8(bytes) {
         Err(_) => Ok(None),
@@ -25,7 +26,8 @@ pub fn path_of(alloc: Global, bytes: &[u8]) -> Result<Option<Path>, Memory>
 
 /// The path that the path of a file URL names, or none.
 pub fn named_path(alloc: Global, url_path: &str) -> Result<Option<Path>, Memory>
-    ensures { IfOk result (λ found. MatchOption found ((path : List ℕ) → NamesPath url_path.now path → ⊥) (NamesPath url_path.now)) }
+    ensures { IfOk result (λ found. MatchOption found ((path : List ℕ) → NamesPath url_path.now path → ⊥)
+        (NamesPath url_path.now)) }
 {
     if escapes_separator(url_path) {
         return Ok(None);
@@ -63,7 +65,8 @@ fn or_root(bytes: Vec<u8>) -> Result<Vec<u8>, Memory>
 }
 
 fn push_name(bytes: &mut Vec<u8>, name: &str) -> Result<(), Memory>
-    ensures { OnOk result (bytes.new.items ≡ bytes.old.items ++ (if length name.now == 0 then [] else read_segment name.now)) }
+    ensures { OnOk result (bytes.new.items ≡ bytes.old.items ++ (if length name.now == 0 then []
+        else read_segment name.now)) }
 {
     if name.is_empty() {
         return Ok(());

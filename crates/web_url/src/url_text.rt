@@ -10,7 +10,8 @@ use url::{ParseError, Url};
 /// The URL of a text without a base, or none.
 #[tactic(auto, using(crate::proofs::UrlTexts::parsing))]
 pub fn parse(alloc: Global, text: &str) -> Result<Option<Url>, Memory>
-    ensures written { IfOk result (λ found. MatchOption found (parse_alone text.now ≡ None) (λ url. (parse_alone text.now ≡ Some (text_of url)) × IsWritten url)) }
+    ensures written { IfOk result (λ found. MatchOption found (parse_alone text.now ≡ None)
+        (λ url. (parse_alone text.now ≡ Some (text_of url)) × IsWritten url)) }
     ensures valid { IfOk result (λ found. IfSome found (IsParsed text.now)) }
 {
     match Url::parse(alloc, text) {
@@ -28,7 +29,8 @@ pub fn parse(alloc: Global, text: &str) -> Result<Option<Url>, Memory>
 #[tactic(auto, using(crate::proofs::UrlTexts::parsing))]
 pub fn join(base: &Url, text: &str) -> Result<Option<Url>, Memory>
     requires { IsWritten base.now }
-    ensures written { IfOk result (λ found. MatchOption found (parse_against (text_of base.now) text.now ≡ None) (λ url. (parse_against (text_of base.now) text.now ≡ Some (text_of url)) × IsWritten url)) }
+    ensures written { IfOk result (λ found. MatchOption found (parse_against (text_of base.now) text.now ≡ None)
+        (λ url. (parse_against (text_of base.now) text.now ≡ Some (text_of url)) × IsWritten url)) }
 {
     let _valid = base.as_str();
     match base.join(text) {

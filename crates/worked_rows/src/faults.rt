@@ -21,8 +21,8 @@ const MISSING_WITH_OLD_MAP: &[(&str, &str)] = &[
 ];
 
 /// A run over a module that asks for another one looks at each of the two, writes the map, and gives one line: two
-/// looks, one write and one give. Each of them fails in turn, and so does the one that would come next. A command that is
-/// refused makes no write that could fail, and refused words and an entry that isn't built make no look.
+/// looks, one write and one give. Each of them fails in turn, and so does the one that would come next. A command
+/// that is refused makes no write that could fail, and refused words and an entry that isn't built make no look.
 pub static FAULTS: [Fault; 17] = [
     Fault {
         fails: Fails {

@@ -2,8 +2,8 @@
 //! must come of them.
 //!
 //! The program is one such run, and says how it ended. Its input is the number of allocations that it makes before, so
-//! that the one that fails by its number can be any of the run: `rt try --cases INPUTS --fail-alloc 200` in this folder,
-//! for which `.ci/memory.sh` makes the inputs.
+//! that the one that fails by its number can be any of the run: `rt try --cases INPUTS --fail-alloc 200` in this
+//! folder, for which `.ci/memory.sh` makes the inputs.
 #![tactic(auto)]
 
 mod case;
