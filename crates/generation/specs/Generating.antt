@@ -12,11 +12,11 @@ use Rattle.trace_spec.specs.declared.TraceFault.{TraceFault}
 use Rattle.trace_spec.specs.declared.TraceFault.TheVariants.{ReadFault, Memory}
 use Rattle.trace_spec.specs.Kinds.{IsOfTrace}
 use Rattle.trace_spec.specs.Modules.{Config}
-use Rattle.trace_spec.specs.Checks.{Before}
+use Rattle.trace_spec.specs.Checks.{Gathered}
 use Rattle.trace_spec.specs.Traces.{traced}
 use Rattle.generation.specs.declared.generated.Generated.{Generated}
 
-pub record IsMapOf (all : Before) (generated : Generated) : Type 0 where
+pub record IsMapOf (all : Gathered) (generated : Generated) : Type 0 where
   pub map : generated.map.items ≡ map_text (layout all.needs)
   pub modules : generated.modules ≡ length all.modules
   pub requests : generated.requests ≡ all.requests
@@ -24,7 +24,7 @@ pub record IsMapOf (all : Before) (generated : Generated) : Type 0 where
 
 -- own: the map of the tree's trace
 pub record IsGenerated (tree : Tree) (config : Config) (generated : Generated) : Type 0 where
-  pub all : Before
+  pub all : Gathered
   pub is_traced : traced (get tree) config ≡ Ok all
   pub is_map : IsMapOf all generated
 

@@ -12,7 +12,7 @@ use Rattle.import_map_spec.proofs.examples.WrittenMaps.{looked, looked_onto, now
 use Rattle.trace_spec.specs.declared.TraceFault.{TraceFault}
 use Rattle.trace_spec.specs.Modules.{Config}
 use Rattle.trace_spec.specs.Questions.{Source, Question, of_module, of_request, Answer, Trail, source_in, within_limit, answers}
-use Rattle.trace_spec.specs.Checks.{Before}
+use Rattle.trace_spec.specs.Checks.{Gathered}
 use Rattle.trace_spec.specs.Traces.{trace, result_of, traced}
 use Rattle.generator_examples.specs.Sites.{Files, tree_of}
 
@@ -69,7 +69,7 @@ same_answers : (known : List Known) (trail : Trail) (question : Question) → an
 same_answers known trail (of_module path) = all_agree known nowhere no_sources (λ p t. refl) path trail
 same_answers known trail (of_request parent specifier) = refl
 
-abbrev pub told_trace : List Known → Config → Result Before TraceFault
+abbrev pub told_trace : List Known → Config → Result Gathered TraceFault
 told_trace known config = result_of (evaluated (told (looked (files_of known)) (sources_of known)) tt (trace config))
 
 -- the trace of the files is that by what is known of them

@@ -16,7 +16,7 @@ use Rattle.layout_spec.specs.Counting.{mapping_count}
 use Rattle.layout_spec.specs.Layout.{layout}
 use Rattle.layout_spec.specs.PrintedMap.{map_text}
 use Rattle.trace_spec.specs.Modules.{Config}
-use Rattle.trace_spec.specs.Checks.{Before}
+use Rattle.trace_spec.specs.Checks.{Gathered}
 use Rattle.generator_spec.specs.declared.Refusal.TheVariants.{BadBase}
 use Rattle.generator_spec.proofs.MapPaths.{map_in_root}
 use Rattle.generator_spec.proofs.PageNames.{page_of_words_is_file}
@@ -65,7 +65,7 @@ ftp_is_none = refl
 
 -- ---- maps
 
-abbrev generated : (words : List (List ℕ)) (files : Files) (config : Config) (all : Before) (text : List ℕ) → IsConfigOf words config → IsTraced files config all → listed_text (listed_layout all.needs) ≡ text → Generates (tree_of files) config text
+abbrev generated : (words : List (List ℕ)) (files : Files) (config : Config) (all : Gathered) (text : List ℕ) → IsConfigOf words config → IsTraced files config all → listed_text (listed_layout all.needs) ≡ text → Generates (tree_of files) config text
 generated words files config all text is is_traced e = record {
   page_is_file = page_of_words_is_file words config is;
   all = all;

@@ -10,15 +10,15 @@ use Prim.Native.String.{String}
 use Rattle.std.specs.FinMap.{get}
 use Rattle.tree_spec.specs.Trees.{Tree, IsTree}
 use Rattle.trace_spec.specs.Modules.{Config}
-use Rattle.trace_spec.specs.Checks.{Before}
+use Rattle.trace_spec.specs.Checks.{Gathered}
 use Rattle.trace_spec.specs.Traces.{traced}
 use Rattle.generator_spec.specs.Generation.{Generates}
-use Rattle.generator_spec.specs.Headline.{Serves}
+use Rattle.generator_spec.specs.Serves.{Serves}
 use Rattle.generator_spec.specs.Outcome.{Outcome}
 use Rattle.generator_examples.specs.Sites.{Files, tree_of, file, based, links, levels, levels_all, spelling, spelling_all, spelling_map, site, site_all, site_map, missing, clashing}
 
 -- own: nothing is refused, and these are the tables of the trace
-abbrev pub IsTraced : Files → Config → Before → Type 0
+abbrev pub IsTraced : Files → Config → Gathered → Type 0
 IsTraced files config all = traced (get (tree_of files)) config ≡ Ok all
 
 -- own: a map with this text is generated, and it serves

@@ -18,7 +18,7 @@ use Rattle.import_map_spec.specs.WrittenMaps.{map_of}
 use Rattle.layout_spec.specs.WorkedExamples.{need}
 use Rattle.trace_spec.specs.Modules.{Config, Module}
 use Rattle.trace_spec.specs.Questions.{Source}
-use Rattle.trace_spec.specs.Checks.{Before}
+use Rattle.trace_spec.specs.Checks.{Gathered}
 
 -- own: the list of a tree's entries
 abbrev pub Files : Type 0
@@ -63,7 +63,7 @@ a_text = codes "import \"./c.mjs\";import \"./b.mjs\";"
 abbrev pub levels : Files
 levels = folder "/" ∷ file "/app.mjs" app_text ∷ file "/a.mjs" a_text ∷ file "/b.mjs" [] ∷ file "/c.mjs" [] ∷ []
 
-abbrev pub levels_all : Before
+abbrev pub levels_all : Gathered
 levels_all = record {
   modules = module_at "/app.mjs" ∷ module_at "/a.mjs" ∷ module_at "/b.mjs" ∷ module_at "/c.mjs" ∷ [];
   sources =
@@ -90,7 +90,7 @@ spelled_text = codes "import \"./a%62.mjs\";"
 abbrev pub spelling : Files
 spelling = folder "/" ∷ file "/app.mjs" spelled_text ∷ file "/ab.mjs" [] ∷ []
 
-abbrev pub spelling_all : Before
+abbrev pub spelling_all : Gathered
 spelling_all = record {
   modules = module_at "/app.mjs" ∷ module_at "/ab.mjs" ∷ [];
   sources = source spelled_text ("./a%62.mjs" ∷ []) ∷ source [] [] ∷ [];
@@ -159,7 +159,7 @@ site =
     ∷ file "/pages/home.mjs" home_text
     ∷ []
 
-abbrev pub site_all : Before
+abbrev pub site_all : Gathered
 site_all = record {
   modules =
       module_at "/app.mjs"

@@ -7,12 +7,12 @@ use Rattle.layout_spec.specs.Layout.{layout}
 use Rattle.layout_spec.specs.PrintedMap.{map_text}
 use Rattle.trace_spec.specs.declared.TraceFault.{TraceFault}
 use Rattle.trace_spec.specs.Modules.{Config}
-use Rattle.trace_spec.specs.Checks.{Before}
+use Rattle.trace_spec.specs.Checks.{Gathered}
 use Rattle.trace_spec.specs.Traces.{traced}
 use Rattle.generator_spec.specs.Generation.{Generates}
 use Rattle.generator_spec.specs.Laws.{OneGeneration, SomeGeneration, NothingRefused}
 
-same_trace : (found : Result Before TraceFault) (all other : Before) → found ≡ Ok all → found ≡ Ok other → all ≡ other
+same_trace : (found : Result Gathered TraceFault) (all other : Gathered) → found ≡ Ok all → found ≡ Ok other → all ≡ other
 same_trace found all other e f = cc
 
 -- two generations of equal configs have one trace
@@ -25,7 +25,7 @@ one_trace tree config second bytes others same a b =
 pub one_generation : OneGeneration
 one_generation tree config some other a b =
     let traces = one_trace tree config config some other refl a b in
-    a.text ∙ (ap (λ (all : Before). map_text (layout all.needs)) traces ∙ sym b.text)
+    a.text ∙ (ap (λ (all : Gathered). map_text (layout all.needs)) traces ∙ sym b.text)
 
 pub some_generation : SomeGeneration
 some_generation tree config all page traces = record { page_is_file = page; all = all; is_traced = traces; text = refl }

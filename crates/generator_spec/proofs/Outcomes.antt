@@ -8,7 +8,7 @@ use Rattle.layout_spec.specs.Layout.{layout}
 use Rattle.layout_spec.specs.PrintedMap.{map_text}
 use Rattle.trace_spec.specs.declared.TraceFault.{TraceFault}
 use Rattle.trace_spec.specs.Modules.{Config}
-use Rattle.trace_spec.specs.Checks.{Before}
+use Rattle.trace_spec.specs.Checks.{Gathered}
 use Rattle.trace_spec.specs.Traces.{traced}
 use Rattle.generator_spec.specs.declared.Refusal.{Refusal}
 use Rattle.generator_spec.specs.declared.Refusal.TheVariants.{Trace}
@@ -34,7 +34,7 @@ refused_or_generated tree config second bytes fault same generates refused =
     nothing_refused tree config bytes fault generates (ap (traced (get tree)) same ∙ refused)
 
 same_fault :
-    (found : Result Before TraceFault) (some other : TraceFault) → found ≡ Err some → found ≡ Err other → some ≡ other
+    (found : Result Gathered TraceFault) (some other : TraceFault) → found ≡ Err some → found ≡ Err other → some ≡ other
 same_fault found some other e f = cc
 
 one_fault :
@@ -63,7 +63,7 @@ module _ (tree : Tree) (status other : ℕ) (line another : List ℕ) (after las
   same_generation config second bytes others same generates too s l placed t m placed_too =
       let traces = one_trace tree config second bytes others same generates too in
       let texts : bytes ≡ others =
-      generates.text ∙ (ap (λ (all : Before). map_text (layout all.needs)) traces ∙ sym too.text) in
+      generates.text ∙ (ap (λ (all : Gathered). map_text (layout all.needs)) traces ∙ sym too.text) in
       record {
         one_status = s ∙ sym t;
         one_line = l ∙ (ap done_line traces ∙ sym m);
@@ -116,7 +116,7 @@ module _ (words : List (List ℕ)) (tree : Tree) (is_tree : IsTree tree) where
   }
 
   by_trace :
-      (config : Config) → IsConfigOf words config → (found : Result Before TraceFault)
+      (config : Config) → IsConfigOf words config → (found : Result Gathered TraceFault)
       → traced (get tree) config ≡ found → HasOutcome words tree
   by_trace config is (Err fault) e = record {
     status = status_of (Trace fault);

@@ -15,7 +15,7 @@ use Rattle.trace_spec.specs.Modules.{Config}
 use Rattle.generator_spec.specs.declared.Refusal.{Refusal}
 use Rattle.generator_spec.specs.declared.Refusal.TheVariants.{Trace}
 use Rattle.generator_spec.specs.Generation.{Generates}
-use Rattle.generator_spec.specs.Headline.{Serves}
+use Rattle.generator_spec.specs.Serves.{Serves}
 use Rattle.generator_spec.specs.Words.{IsConfigOf, RefusesWords}
 use Rattle.generator_spec.specs.Lines.{status_of, line_of, counts_line, done_line, memory_line, read_fault_line, write_fault_line}
 use Rattle.generator_spec.specs.Outcome.{Outcome}

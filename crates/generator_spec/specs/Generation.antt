@@ -8,7 +8,7 @@ use Rattle.layout_spec.specs.Layout.{layout}
 use Rattle.layout_spec.specs.PrintedMap.{map_text}
 use Rattle.trace_spec.specs.Walking.{the_page}
 use Rattle.trace_spec.specs.Modules.{Config, web_name}
-use Rattle.trace_spec.specs.Checks.{Before}
+use Rattle.trace_spec.specs.Checks.{Gathered}
 use Rattle.trace_spec.specs.Traces.{traced}
 
 -- own: the page's web name is no folder's
@@ -18,6 +18,6 @@ PageIsFile config = (name : List ℕ) → web_name config the_page ≡ Some name
 -- own: nothing is refused, and the bytes are the text of the layout of the trace's needs
 pub record Generates (tree : Tree) (config : Config) (bytes : List ℕ) : Type 0 where
   pub page_is_file : PageIsFile config
-  pub all : Before
+  pub all : Gathered
   pub is_traced : traced (get tree) config ≡ Ok all
   pub text : bytes ≡ map_text (layout all.needs)

@@ -7,7 +7,7 @@ use Rattle.layout_spec.specs.Layout.{layout}
 use Rattle.layout_spec.specs.PrintedMap.{map_text}
 use Rattle.trace_spec.specs.declared.TraceFault.{TraceFault}
 use Rattle.trace_spec.specs.Modules.{Config}
-use Rattle.trace_spec.specs.Checks.{Before}
+use Rattle.trace_spec.specs.Checks.{Gathered}
 use Rattle.trace_spec.specs.Traces.{traced}
 use Rattle.generator_spec.specs.declared.Refusal.{Refusal}
 use Rattle.generator_spec.specs.Words.{IsConfigOf, RefusesWords}
@@ -60,7 +60,7 @@ OneGeneration =
 -- where the page has no folder's web name, the text of each trace is generated
 abbrev pub SomeGeneration : Type 0
 SomeGeneration =
-    (tree : Tree) (config : Config) (all : Before) → PageIsFile config → traced (get tree) config ≡ Ok all
+    (tree : Tree) (config : Config) (all : Gathered) → PageIsFile config → traced (get tree) config ≡ Ok all
     → Generates tree config (map_text (layout all.needs))
 
 -- where something is generated, nothing is refused

@@ -1,6 +1,6 @@
 pub mod Words
 pub mod Generation
-pub mod Headline
+pub mod Serves
 pub mod Lines
 pub mod Outcome
 pub mod Ending

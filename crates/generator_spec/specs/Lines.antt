@@ -12,7 +12,7 @@ use Rattle.layout_spec.specs.Layout.{layout}
 use Rattle.layout_spec.specs.Counting.{mapping_count}
 use Rattle.trace_spec.specs.declared.TraceFault.{TraceFault}
 use Rattle.trace_spec.specs.declared.TraceFault.TheVariants.{Unservable, Refused, RequestNotBuilt, ModuleNotBuilt, Limit, ReadFault, Memory}
-use Rattle.trace_spec.specs.Checks.{Before}
+use Rattle.trace_spec.specs.Checks.{Gathered}
 use Rattle.generator_spec.specs.declared.Refusal.{Refusal}
 use Rattle.generator_spec.specs.declared.Refusal.TheVariants.{Words, BadBase, Trace}
 
@@ -83,5 +83,5 @@ counts_line modules requests mappings =
     ++ (decimal requests ++ (codes " requests, " ++ (decimal mappings ++ (codes " mappings" ++ end_of_line))))))
 
 -- own: the modules of the trace without the page, its requests with the entries, and the mappings of its layout
-abbrev pub done_line : Before → List ℕ
+abbrev pub done_line : Gathered → List ℕ
 done_line all = counts_line (length all.modules) all.requests (mapping_count (layout all.needs))

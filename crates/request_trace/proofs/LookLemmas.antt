@@ -18,7 +18,7 @@ use Rattle.trace_spec.specs.declared.TraceFault.{TraceFault}
 use Rattle.trace_spec.specs.Modules.{Config}
 use Rattle.trace_spec.specs.Questions.{Source, Question, of_module, Answer, Trail, source_in, put}
 use Rattle.trace_spec.specs.Questions.{limited, answers}
-use Rattle.trace_spec.specs.Checks.{Before}
+use Rattle.trace_spec.specs.Checks.{Gathered}
 use Rattle.trace_spec.specs.Traces.{trace, traced, result_of, state_of}
 use Rattle.request_trace.specs.declared.looks.Seen.{Seen}
 use Rattle.request_trace.specs.declared.looks.Looks.{Looks}
@@ -135,7 +135,7 @@ unlisted_result (stopped limit state) = refl
 abbrev start : Known
 start = record { state = tt; asked = None }
 
-pub traces : (config : Config) (reference other : ℕ) (before after : FolderState) (result : Result Before TraceFault)
+pub traces : (config : Config) (reference other : ℕ) (before after : FolderState) (result : Result Gathered TraceFault)
     → Met (answers_of reference before) (trace config) result (answers_of other after)
     → IfErr result (IsOfWalk config) → Traces config before result after
 traces config reference other before after result met kind = record {
@@ -159,7 +159,7 @@ traces config reference other before after result met kind = record {
         (unlisted_result (evaluated (listed (answers (get tree))) start (trace config)) ∙ (comes told).is)
 
 -- the same of a state that is the same
-pub traces_moved : (config : Config) (before after other : FolderState) (result : Result Before TraceFault)
+pub traces_moved : (config : Config) (before after other : FolderState) (result : Result Gathered TraceFault)
     → other ≡ after → Traces config before result after → Traces config before result other
 traces_moved config before after other result same is = subst (Traces config before result) (sym same) is
 

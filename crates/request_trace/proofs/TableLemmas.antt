@@ -18,7 +18,7 @@ use Rattle.trace_spec.specs.declared.TraceFault.TheVariants.{RequestNotBuilt, Li
 use Rattle.trace_spec.specs.Walking.{new_modules}
 use Rattle.trace_spec.specs.Walking as walking
 use Rattle.trace_spec.specs.Modules.{Config, Module, is_module, file_name}
-use Rattle.trace_spec.specs.Checks.{Before, Wanted, with_request, has_room, placed, needed, named, led}
+use Rattle.trace_spec.specs.Checks.{Gathered, Wanted, with_request, has_room, with_room, needed, named, led}
 use Rattle.trace_spec.proofs.Lists.{same_module}
 use Rattle.request_trace.specs.declared.referrer.Referrer.{Referrer}
 use Rattle.request_trace.specs.declared.tables.Name.{Name}
@@ -99,23 +99,23 @@ same_grows config old new modules sources clear = record {
 
 -- ---- the definitions' checks
 
-pub needed_clash : (refusal : TraceFault) (before : Before) (need : Need) (target : Module) → list_any (clashes need) before.needs ≡ true → needed refusal before need target ≡ Err refusal
-needed_clash refusal before need target clash = cond-true _ (Err refusal) (placed before need target) clash
+pub needed_clash : (refusal : TraceFault) (before : Gathered) (need : Need) (target : Module) → list_any (clashes need) before.needs ≡ true → needed refusal before need target ≡ Err refusal
+needed_clash refusal before need target clash = cond-true _ (Err refusal) (with_room before need target) clash
 
 room_or_known : (modules : List Module) (target : Module) (known : Bool) → list_any (is_module target) modules ≡ known → (known ≡ false → length modules < limit_number Modules) → has_room modules target ≡ true
 room_or_known modules target true e room = ap (λ b. b || nat_lt (length modules) (limit_number Modules)) e
 room_or_known modules target false e room = ap (λ b. b || nat_lt (length modules) (limit_number Modules)) e ∙ lt-ltb (length modules) (limit_number Modules) (room refl)
 
-pub needed_room : (refusal : TraceFault) (before : Before) (need : Need) (target : Module) → list_any (clashes need) before.needs ≡ false → (list_any (is_module target) before.modules ≡ false → length before.modules < limit_number Modules) → needed refusal before need target ≡ Ok (with_request before need target)
+pub needed_room : (refusal : TraceFault) (before : Gathered) (need : Need) (target : Module) → list_any (clashes need) before.needs ≡ false → (list_any (is_module target) before.modules ≡ false → length before.modules < limit_number Modules) → needed refusal before need target ≡ Ok (with_request before need target)
 needed_room refusal before need target clear room =
-    cond-false _ (Err refusal) (placed before need target) clear ∙ cond-true _ (Ok (with_request before need target)) (Err (Limit Modules)) (room_or_known before.modules target (list_any (is_module target) before.modules) refl room)
+    cond-false _ (Err refusal) (with_room before need target) clear ∙ cond-true _ (Ok (with_request before need target)) (Err (Limit Modules)) (room_or_known before.modules target (list_any (is_module target) before.modules) refl room)
 
-pub needed_full : (refusal : TraceFault) (before : Before) (need : Need) (target : Module) → list_any (clashes need) before.needs ≡ false → list_any (is_module target) before.modules ≡ false → limit_number Modules ≤ length before.modules → needed refusal before need target ≡ Err (Limit Modules)
+pub needed_full : (refusal : TraceFault) (before : Gathered) (need : Need) (target : Module) → list_any (clashes need) before.needs ≡ false → list_any (is_module target) before.modules ≡ false → limit_number Modules ≤ length before.modules → needed refusal before need target ≡ Err (Limit Modules)
 needed_full refusal before need target clear fresh full =
-    cond-false _ (Err refusal) (placed before need target) clear ∙ cond-false _ (Ok (with_request before need target)) (Err (Limit Modules)) (ap (λ b. b || nat_lt (length before.modules) (limit_number Modules)) fresh ∙ le-ltb (length before.modules) (limit_number Modules) full)
+    cond-false _ (Err refusal) (with_room before need target) clear ∙ cond-false _ (Ok (with_request before need target)) (Err (Limit Modules)) (ap (λ b. b || nat_lt (length before.modules) (limit_number Modules)) fresh ∙ le-ltb (length before.modules) (limit_number Modules) full)
 
 -- a module that is known
-pub known_put : (refusal : TraceFault) (before : Before) (need : Need) (target : Module) → list_any (is_module target) before.modules ≡ true → put_known refusal before need ≡ needed refusal before need target
+pub known_put : (refusal : TraceFault) (before : Gathered) (need : Need) (target : Module) → list_any (is_module target) before.modules ≡ true → put_known refusal before need ≡ needed refusal before need target
 known_put refusal before need target known =
     elim (cases_Bool (list_any (clashes need) before.needs)) [
       | inl clash ↦ cond-true _ (Err refusal) _ clash ∙ sym (needed_clash refusal before need target clash)
@@ -135,17 +135,17 @@ put_is old new need target name fresh modules sources needs requests =
     }
 
 -- the need of a referrer
-pub led_by : (config : Config) (before : Before) (r : walking.Referrer Module) (referrer : Referrer) (specifier asked : List ℕ) (target : Module) → IsReferrer config r referrer
+pub led_by : (config : Config) (before : Gathered) (r : walking.Referrer Module) (referrer : Referrer) (specifier asked : List ℕ) (target : Module) → IsReferrer config r referrer
     → led config before r specifier (record { referrer = referrer.name; asked = asked }) (node.Resolved target.path target.suffix) ≡ named (NotBuilt referrer specifier) before (record { referrer = referrer.text; asked = asked }) target (file_name config target)
 led_by config before r referrer specifier asked target is =
     λ i. named (RequestNotBuilt (is.path i ++ is.suffix i) specifier) before (record { referrer = sym is.text i; asked = asked }) target (file_name config target)
 
 -- ---- a new module's request
 
-named_is : (refusal : TraceFault) (before : Before) (want : Wanted) (target : Module) (found : Option (List ℕ)) (url : List ℕ) (need : Need) → found ≡ Some url → need ≡ record { referrer = want.referrer; asked = want.asked; target = url } → named refusal before want target found ≡ needed refusal before need target
+named_is : (refusal : TraceFault) (before : Gathered) (want : Wanted) (target : Module) (found : Option (List ℕ)) (url : List ℕ) (need : Need) → found ≡ Some url → need ≡ record { referrer = want.referrer; asked = want.asked; target = url } → named refusal before want target found ≡ needed refusal before need target
 named_is refusal before want target found url need found_is need_is = ap (named refusal before want target) found_is ∙ ap (λ n. needed refusal before n target) (sym need_is)
 
-pub given_handed : (definition : Result Before TraceFault) (fault : TraceFault) (result : Result (Unit {0}) TraceFault) (tables : Tables) → IsErrAnd result (λ f. f ≡ fault) → (fault ≢ Memory → definition ≡ Err fault) → fault ≢ ReadFault → IsGiven definition (done result tables)
+pub given_handed : (definition : Result Gathered TraceFault) (fault : TraceFault) (result : Result (Unit {0}) TraceFault) (tables : Tables) → IsErrAnd result (λ f. f ≡ fault) → (fault ≢ Memory → definition ≡ Err fault) → fault ≢ ReadFault → IsGiven definition (done result tables)
 given_handed definition fault (Ok unit) tables is given no_look = absurd is
 given_handed definition fault (Err other) tables is given no_look = record {
   given = λ ne. given (λ e. ne (ap Err (is ∙ e))) ∙ ap Err (sym is);

@@ -16,7 +16,7 @@ use Rattle.trace_spec.specs.Walking.{the_page, a_module, followed, visited, walk
 use Rattle.trace_spec.specs.Modules.{Config, Module, served_name}
 use Rattle.trace_spec.specs.Questions as spec
 use Rattle.trace_spec.specs.Questions.{Question, Answer, of_module}
-use Rattle.trace_spec.specs.Checks.{Before, begun, opens, page_opened, with_source, module_opened, rules}
+use Rattle.trace_spec.specs.Checks.{Gathered, nothing_gathered, opens, page_opened, with_source, module_opened, rules}
 use Rattle.trace_spec.specs.Traces.{trace}
 use Rattle.trace_spec.proofs.Steps.{file_name_parts}
 use Rattle.request_trace.specs.declared.answerer.Source.{Source}
@@ -106,21 +106,21 @@ whole_by config empty paged tables modules sources needs page all =
 
 -- ---- the page's visit
 
-pub page_done : (before after : AnswererState) (config : Config) (tables : Before) (url : List ℕ) (result : Result Before TraceFault) → served_name config.base config.page (web config.base config.page []) ≡ Some url
+pub page_done : (before after : AnswererState) (config : Config) (tables : Gathered) (url : List ℕ) (result : Result Gathered TraceFault) → served_name config.base config.page (web config.base config.page []) ≡ Some url
     → Met before (followed (rules config) tables the_page config.entries) result after → Met before (visited (rules config) tables the_page) result after
 page_done before after config tables url result served met =
     subst (λ o. Met before (on_ok (λ opened. followed (rules config) opened.after the_page opened.specifiers) (page_opened config tables o)) result after) (sym served) met
 
-pub page_refused : (before : AnswererState) (config : Config) (tables : Before) (result : Result Before TraceFault) → served_name config.base config.page (web config.base config.page []) ≡ None
+pub page_refused : (before : AnswererState) (config : Config) (tables : Gathered) (result : Result Gathered TraceFault) → served_name config.base config.page (web config.base config.page []) ≡ None
     → IsGiven (Err (Unservable config.page (web config.base config.page []))) result → Met before (visited (rules config) tables the_page) result before
 page_refused before config tables result unserved given =
     subst (λ o. Met before (on_ok (λ opened. followed (rules config) opened.after the_page opened.specifiers) (page_opened config tables o)) result before) (sym unserved) (met_now before (Err (Unservable config.page (web config.base config.page []))) result given)
 
-page_unmet_by : (before : AnswererState) (config : Config) (tables : Before) (fault : TraceFault) → fault ≢ Memory → IsPageFault config fault → Met {X = Before} before (visited (rules config) tables the_page) (Err fault) before
+page_unmet_by : (before : AnswererState) (config : Config) (tables : Gathered) (fault : TraceFault) → fault ≢ Memory → IsPageFault config fault → Met {X = Gathered} before (visited (rules config) tables the_page) (Err fault) before
 page_unmet_by before config tables fault ne is =
     page_refused before config tables (Err fault) (is.unserved ne) (record { given = λ e. ap Err (sym (is.is ne)); no_look = λ e. is.no_look (let f : fault ≡ ReadFault = cc in f) })
 
-pub page_unmet : (before : AnswererState) (config : Config) (tables : Before) (fault : TraceFault) → IsPageFault config fault → Met {X = Before} before (visited (rules config) tables the_page) (Err fault) before
+pub page_unmet : (before : AnswererState) (config : Config) (tables : Gathered) (fault : TraceFault) → IsPageFault config fault → Met {X = Gathered} before (visited (rules config) tables the_page) (Err fault) before
 page_unmet before config tables Memory is = met_memory before (visited (rules config) tables the_page)
 page_unmet before config tables ReadFault is = absurd (is.no_look refl)
 page_unmet before config tables (Unservable path url) is = page_unmet_by before config tables (Unservable path url) (λ e. cc) is
@@ -131,15 +131,15 @@ page_unmet before config tables (Limit which) is = page_unmet_by before config t
 
 -- ---- a module's visit
 
-abbrev behind : Config → Before → Module → Option spec.Source → Asking Question Answer (Result Before TraceFault)
+abbrev behind : Config → Gathered → Module → Option spec.Source → Asking Question Answer (Result Gathered TraceFault)
 behind config before m found = on_ok (λ opened. followed (rules config) opened.after (a_module m) opened.specifiers) (module_opened config before m found)
 
-pub visit_failed : (before after : AnswererState) (config : Config) (tables : Before) (m : Module) (path : List ℕ) (fault : TraceFault) → m.path ≡ path
-    → Met {X = Option spec.Source} before (fine (ask (of_module path) answered)) (Err fault) after → Met {X = Before} before (visited (rules config) tables (a_module m)) (Err fault) after
+pub visit_failed : (before after : AnswererState) (config : Config) (tables : Gathered) (m : Module) (path : List ℕ) (fault : TraceFault) → m.path ≡ path
+    → Met {X = Option spec.Source} before (fine (ask (of_module path) answered)) (Err fault) after → Met {X = Gathered} before (visited (rules config) tables (a_module m)) (Err fault) after
 visit_failed before after config tables m path fault is first =
     met_failed before after (fine (ask (of_module m.path) answered)) (behind config tables m) fault (subst (λ p. Met {X = Option spec.Source} before (fine (ask (of_module p) answered)) (Err fault) after) (sym is) first)
 
-pub visit_not_built : (before after : AnswererState) (config : Config) (tables : Before) (m : Module) (path suffix : List ℕ) (result : Result Before TraceFault) → m.path ≡ path → m.suffix ≡ suffix
+pub visit_not_built : (before after : AnswererState) (config : Config) (tables : Gathered) (m : Module) (path suffix : List ℕ) (result : Result Gathered TraceFault) → m.path ≡ path → m.suffix ≡ suffix
     → Met {X = Option spec.Source} before (fine (ask (of_module path) answered)) (Ok None) after → IsGiven (Err (ModuleNotBuilt (path ++ suffix))) result → Met before (visited (rules config) tables (a_module m)) result after
 visit_not_built before after config tables m path suffix result is tail first given =
     met_then before after after (fine (ask (of_module m.path) answered)) (behind config tables m) None result
@@ -155,7 +155,7 @@ pushed_source tables pushed source modules sources needs requests =
       requests = requests i;
     }
 
-pub visit_done : (before middle after : AnswererState) (config : Config) (tables : Before) (opened : Before) (m : Module) (path : List ℕ) (source : spec.Source) (specifiers : List (List ℕ)) (result : Result Before TraceFault) → m.path ≡ path
+pub visit_done : (before middle after : AnswererState) (config : Config) (tables : Gathered) (opened : Gathered) (m : Module) (path : List ℕ) (source : spec.Source) (specifiers : List (List ℕ)) (result : Result Gathered TraceFault) → m.path ≡ path
     → opened ≡ with_source tables source → specifiers ≡ source.specifiers → Met {X = Option spec.Source} before (fine (ask (of_module path) answered)) (Ok (Some source)) middle → Met middle (followed (rules config) opened (a_module m) specifiers) result after
     → Met before (visited (rules config) tables (a_module m)) result after
 visit_done before middle after config tables opened m path source specifiers result is opens reads first rest =
@@ -192,16 +192,16 @@ at_index [] i below = absurd (omega arith)
 at_index (x ∷ xs) zero below = (x, refl)
 at_index (x ∷ xs) (suc i) below = at_index xs i (omega arith)
 
-abbrev from_place : Config → ℕ → Before → ℕ → Option Module → Asking Question Answer (Result Before TraceFault)
+abbrev from_place : Config → ℕ → Gathered → ℕ → Option Module → Asking Question Answer (Result Gathered TraceFault)
 from_place config room before next found = where_some (answered (Ok before)) (λ m. and_ok (visited (rules config) before (a_module m)) (λ after. walked (rules config) room after (suc next))) found
 
-place : (begin middle : AnswererState) (whole : Asking Question Answer (Result Before TraceFault)) (config : Config) (tables : Before) (next : ℕ) (found : Option Module) → next ≤ 20000 → slice_get tables.modules next ≡ found
+place : (begin middle : AnswererState) (whole : Asking Question Answer (Result Gathered TraceFault)) (config : Config) (tables : Gathered) (next : ℕ) (found : Option Module) → next ≤ 20000 → slice_get tables.modules next ≡ found
     → Left begin whole middle (walked (rules config) (20001 - next) tables next) → Left begin whole middle (from_place config (20000 - next) tables next found)
 place begin middle whole config tables next found few at left =
     let room : 20001 - next ≡ suc (20000 - next) = omega arith in
     subst (λ o. Left begin whole middle (from_place config (20000 - next) tables next o)) at (subst (λ n. Left begin whole middle (walked (rules config) n tables next)) room left)
 
-pub next_visit : (begin middle : AnswererState) (whole : Asking Question Answer (Result Before TraceFault)) (config : Config) (tables : Before) (next : ℕ) (m : Module) → next ≤ 20000 → slice_get tables.modules next ≡ Some m
+pub next_visit : (begin middle : AnswererState) (whole : Asking Question Answer (Result Gathered TraceFault)) (config : Config) (tables : Gathered) (next : ℕ) (m : Module) → next ≤ 20000 → slice_get tables.modules next ≡ Some m
     → Left begin whole middle (walked (rules config) (20001 - next) tables next) → Left begin whole middle (and_ok (visited (rules config) tables (a_module m)) (λ after. walked (rules config) (20001 - (next + 1)) after (next + 1)))
 next_visit begin middle whole config tables next m few at left =
     let rooms : 20000 - next ≡ 20001 - (next + 1) = omega arith in
@@ -209,21 +209,21 @@ next_visit begin middle whole config tables next m few at left =
     subst (λ n. Left begin whole middle (and_ok (visited (rules config) tables (a_module m)) (λ after. walked (rules config) n after (next + 1)))) rooms
     (subst (λ n. Left begin whole middle (and_ok (visited (rules config) tables (a_module m)) (λ after. walked (rules config) (20000 - next) after n))) places (place begin middle whole config tables next (Some m) few at left))
 
-pub no_visit : (begin middle : AnswererState) (whole : Asking Question Answer (Result Before TraceFault)) (config : Config) (tables : Before) (next : ℕ) → next ≤ 20000 → length tables.modules ≤ next
+pub no_visit : (begin middle : AnswererState) (whole : Asking Question Answer (Result Gathered TraceFault)) (config : Config) (tables : Gathered) (next : ℕ) → next ≤ 20000 → length tables.modules ≤ next
     → Left begin whole middle (walked (rules config) (20001 - next) tables next) → Left begin whole middle (answered (Ok tables))
 no_visit begin middle whole config tables next few past left = place begin middle whole config tables next None few (slice_get_past tables.modules next past) left
 
 -- ---- the whole walk
 
-pub begun_is : (tables : Tables) → tables.modules.entries ≡ [] → tables.sources.items ≡ [] → tables.needs ≡ [] → tables.requests ≡ 0 → before_of tables ≡ begun
+pub begun_is : (tables : Tables) → tables.modules.entries ≡ [] → tables.sources.items ≡ [] → tables.needs ≡ [] → tables.requests ≡ 0 → before_of tables ≡ nothing_gathered
 begun_is tables modules sources needs requests = λ i. record { modules = keys_of (modules i); sources = map source_of (sources i); needs = needs i; requests = requests i }
 
-pub walk_unpaged : (before after : AnswererState) (config : Config) (tables : Before) (fault : TraceFault) → tables ≡ begun
-    → Met {X = Before} before (visited (rules config) tables the_page) (Err fault) after → Met {X = Before} before (trace config) (Err fault) after
+pub walk_unpaged : (before after : AnswererState) (config : Config) (tables : Gathered) (fault : TraceFault) → tables ≡ nothing_gathered
+    → Met {X = Gathered} before (visited (rules config) tables the_page) (Err fault) after → Met {X = Gathered} before (trace config) (Err fault) after
 walk_unpaged before after config tables fault begins met =
-    met_failed before after (visited (rules config) begun the_page) (λ paged. walked (rules config) 20001 paged 0) fault (subst (λ t. Met {X = Before} before (visited (rules config) t the_page) (Err fault) after) begins met)
+    met_failed before after (visited (rules config) nothing_gathered the_page) (λ paged. walked (rules config) 20001 paged 0) fault (subst (λ t. Met {X = Gathered} before (visited (rules config) t the_page) (Err fault) after) begins met)
 
-pub walk_paged : (before middle after : AnswererState) (config : Config) (tables paged : Before) (result : Result Before TraceFault) → tables ≡ begun
+pub walk_paged : (before middle after : AnswererState) (config : Config) (tables paged : Gathered) (result : Result Gathered TraceFault) → tables ≡ nothing_gathered
     → Met before (visited (rules config) tables the_page) (Ok paged) middle → Met middle (walked (rules config) 20001 paged 0) result after → Met before (trace config) result after
 walk_paged before middle after config tables paged result begins met rest =
-    met_then before middle after (visited (rules config) begun the_page) (λ all. walked (rules config) 20001 all 0) paged result (subst (λ t. Met before (visited (rules config) t the_page) (Ok paged) middle) begins met) rest
+    met_then before middle after (visited (rules config) nothing_gathered the_page) (λ all. walked (rules config) 20001 all 0) paged result (subst (λ t. Met before (visited (rules config) t the_page) (Ok paged) middle) begins met) rest

@@ -4,7 +4,7 @@ use Rattle.indexmap.specs.IndexMap.{keys}
 use Rattle.node_spec.specs.Resolution as node
 use Rattle.trace_spec.specs.declared.TraceFault.{TraceFault}
 use Rattle.trace_spec.specs.Questions as spec
-use Rattle.trace_spec.specs.Checks.{Before}
+use Rattle.trace_spec.specs.Checks.{Gathered}
 use Rattle.request_trace.specs.declared.answerer.Source.{Source}
 use Rattle.request_trace.specs.declared.answerer.NodeAnswer.{NodeAnswer}
 use Rattle.request_trace.specs.declared.answerer.NodeAnswer.TheVariants.{Resolved, Refused}
@@ -29,7 +29,7 @@ abbrev pub resolutions : Result NodeAnswer TraceFault → Result node.Answer Tra
 resolutions result = shown_by answer_of result
 
 -- the tables of a walk
-abbrev pub before_of : Tables → Before
+abbrev pub before_of : Tables → Gathered
 before_of tables = record {
   modules = keys tables.modules;
   sources = map source_of tables.sources.items;
@@ -38,9 +38,9 @@ before_of tables = record {
 }
 
 -- a call's result, with what the tables hold then
-abbrev pub done : Result (Unit {0}) TraceFault → Tables → Result Before TraceFault
+abbrev pub done : Result (Unit {0}) TraceFault → Tables → Result Gathered TraceFault
 done (Ok unit) tables = Ok (before_of tables)
 done (Err fault) tables = Err fault
 
-abbrev pub traced_of : Result Tables TraceFault → Result Before TraceFault
+abbrev pub traced_of : Result Tables TraceFault → Result Gathered TraceFault
 traced_of result = shown_by before_of result

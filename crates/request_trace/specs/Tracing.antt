@@ -10,19 +10,19 @@ use Rattle.layout_spec.specs.Needs.{NoClash}
 use Rattle.trace_spec.specs.declared.TraceFault.{TraceFault}
 use Rattle.trace_spec.specs.declared.TraceFault.TheVariants.{ReadFault}
 use Rattle.trace_spec.specs.Modules.{Config}
-use Rattle.trace_spec.specs.Checks.{Before}
+use Rattle.trace_spec.specs.Checks.{Gathered}
 use Rattle.trace_spec.specs.Traces.{traced}
 use Rattle.request_trace.specs.Meeting.{IsTold}
 use Rattle.request_trace.specs.Walking.{IsOfWalk}
 
 -- the tables behind the last visit
-pub record IsWhole (tables : Before) : Type 0 where
+pub record IsWhole (tables : Gathered) : Type 0 where
   pub visited : length tables.sources ≡ length tables.modules
   pub few : length tables.modules ≤ limit_number Modules
   pub clear : NoClash tables.needs
 
 -- own: unless a look fails or memory is wanting, the result is the definition's for the tree that the folder holds
-pub record Traces (config : Config) (before : FolderState) (result : Result Before TraceFault)
+pub record Traces (config : Config) (before : FolderState) (result : Result Gathered TraceFault)
     (after : FolderState) : Type 0 where
   pub is : IfSome before.holds (λ tree. IsTold result → traced (get tree) config ≡ result)
   pub looks : OnlyLooks before after (result ≡ Err ReadFault)

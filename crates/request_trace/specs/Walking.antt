@@ -17,7 +17,7 @@ use Rattle.trace_spec.specs.declared.TraceFault.TheVariants.{Unservable, Refused
 use Rattle.trace_spec.specs.declared.TraceFault.TheVariants.{Limit, ReadFault, Memory}
 use Rattle.trace_spec.specs.Kinds.{IsTraceLimit, IsOfTrace}
 use Rattle.url_spec.specs.WebNames.{web}
-use Rattle.trace_spec.specs.Checks.{Before, Wanted}
+use Rattle.trace_spec.specs.Checks.{Gathered, Wanted}
 use Rattle.trace_spec.specs.Walking as spec
 use Rattle.trace_spec.specs.Modules.{Config, Module, path_of, suffix_of, web_name, served_name, file_name}
 use Rattle.request_trace.specs.declared.referrer.Referrer.{Referrer}
@@ -79,7 +79,7 @@ IsOfPutting ReadFault = ⊤
 IsOfPutting Memory = ⊤
 
 -- a need of a module that is known is put into the tables
-abbrev pub put_known : TraceFault → Before → Need → Result Before TraceFault
+abbrev pub put_known : TraceFault → Gathered → Need → Result Gathered TraceFault
 put_known refusal before need = if list_any (clashes need) before.needs then Err refusal
     else Ok (record {
       modules = before.modules;

@@ -17,12 +17,12 @@ pub struct Trace {
 }
 
 impl Model for Trace {
-    ghost use Rattle.trace_spec.specs.Checks.{Before};
+    ghost use Rattle.trace_spec.specs.Checks.{Gathered};
     ghost use Rattle.layout_spec.specs.Needs.{NoClash};
     ghost use Rattle.request_trace.specs.Shown.{before_of};
     ghost use Rattle.request_trace.specs.Tracing.{IsWhole};
 
-    ghost Value = { Before };
+    ghost Value = { Gathered };
 
     ghost view = { λ t. before_of t.tables };
 

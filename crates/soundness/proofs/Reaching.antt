@@ -20,15 +20,15 @@ use Rattle.layout_spec.specs.Needs.{NamesFiles}
 use Rattle.layout_spec.specs.declared.Need.{Need}
 use Rattle.trace_spec.proofs.Steps.{traced_outcome, served_parts, file_name_parts}
 use Rattle.trace_spec.proofs.Traces.{requests_pass, needs_are_requests}
-use Rattle.trace_spec.specs.Checks.{Before, page_opened, opens, begun, rules}
+use Rattle.trace_spec.specs.Checks.{Gathered, page_opened, opens, nothing_gathered, rules}
 use Rattle.trace_spec.specs.Laws.{Passes}
 use Rattle.trace_spec.specs.Levels.{page as page_is_reached, requested as is_requested}
 use Rattle.trace_spec.specs.Modules.{Config, Module, path_of, web_name, served_name}
 use Rattle.trace_spec.specs.Questions.{always}
-use Rattle.trace_spec.specs.Traces.{traced, requests, specifiers, module_in, leads, Reachable as IsReached}
+use Rattle.trace_spec.specs.Traces.{traced, requests, specifiers, module_in, leads, ReachedByPage as IsReached}
 use Rattle.trace_spec.specs.Walking.{Referrer, the_page, a_module, Opened, followed, visited, walked}
 use Rattle.generator_spec.specs.Generation.{PageIsFile}
-use Rattle.generator_spec.specs.Headline.{Reachable, page, requested}
+use Rattle.generator_spec.specs.Serves.{Reachable, page, requested}
 
 -- a web name that is no folder's
 pub record IsNamed (config : Config) (referrer : Referrer Module) : Type 0 where
@@ -36,7 +36,7 @@ pub record IsNamed (config : Config) (referrer : Referrer Module) : Type 0 where
   pub named : web_name config referrer ≡ Some name
   pub is_file : ends_in_slash name ≡ false
 
-module _ (tree : Tree) (config : Config) (all : Before) (is_traced : traced (get tree) config ≡ Ok all) where
+module _ (tree : Tree) (config : Config) (all : Gathered) (is_traced : traced (get tree) config ≡ Ok all) where
   -- what a referrer asks for is a request that passes
   passes_at : (referrer : Referrer Module) (specifiers : List (List ℕ)) (specifier : List ℕ) → IsReached (get tree) config referrer → requests (get tree) config referrer ≡ Some specifiers → Contains specifiers specifier → Passes (get tree) config all referrer specifier
   passes_at referrer specifiers specifier reached asks asked =
@@ -60,11 +60,11 @@ module _ (tree : Tree) (config : Config) (all : Before) (is_traced : traced (get
 
   page_named : PageIsFile config → IsNamed config the_page
   page_named page_is_file =
-      let walk = ok_parts (always (get tree)) (visited (rules config) begun the_page) (λ after. walked (rules config) (suc (limit_number Modules)) after 0) all (traced_outcome (get tree) config all is_traced) in
-      let visit = ok_parts (always (get tree)) (opens config begun the_page) (λ (opened : Opened Before). followed (rules config) opened.after the_page opened.specifiers) walk.value walk.first_is in
+      let walk = ok_parts (always (get tree)) (visited (rules config) nothing_gathered the_page) (λ after. walked (rules config) (suc (limit_number Modules)) after 0) all (traced_outcome (get tree) config all is_traced) in
+      let visit = ok_parts (always (get tree)) (opens config nothing_gathered the_page) (λ (opened : Opened Gathered). followed (rules config) opened.after the_page opened.specifiers) walk.value walk.first_is in
       by (served_name config.base config.page (web config.base config.page [])) visit.value refl visit.first_is
     where
-      by : (found : Option (List ℕ)) (opened : Opened Before) → served_name config.base config.page (web config.base config.page []) ≡ found → page_opened config begun found ≡ Ok opened → IsNamed config the_page
+      by : (found : Option (List ℕ)) (opened : Opened Gathered) → served_name config.base config.page (web config.base config.page []) ≡ found → page_opened config nothing_gathered found ≡ Ok opened → IsNamed config the_page
       by None opened is e = absurd (cc)
       by (Some name) opened is e = let named = (served_parts config.base config.page (web config.base config.page []) name is).0 in record { name = name; named = named; is_file = page_is_file name named }
 

@@ -20,14 +20,14 @@ use Rattle.layout_spec.specs.PrintedMap.{map_text}
 use Rattle.layout_spec.specs.Serving.{NoCapture, OfNeeds}
 use Rattle.layout_spec.specs.declared.Need.{Need}
 use Rattle.trace_spec.proofs.Traces.{requests_pass, needs_are_requests}
-use Rattle.trace_spec.specs.Checks.{Before}
+use Rattle.trace_spec.specs.Checks.{Gathered}
 use Rattle.trace_spec.specs.Laws.{Passes}
 use Rattle.trace_spec.specs.Levels.{page as page_is_reached}
 use Rattle.trace_spec.specs.Modules.{Config, Module, path_of, web_name}
 use Rattle.trace_spec.specs.Traces.{traced}
 use Rattle.trace_spec.specs.Walking.{Referrer, the_page}
 use Rattle.generator_spec.specs.Generation.{PageIsFile}
-use Rattle.generator_spec.specs.Headline.{Reachable, Leads, AllLead, Serves}
+use Rattle.generator_spec.specs.Serves.{Reachable, Leads, AllLead, Serves}
 use Rattle.soundness.proofs.Kept.{map_kept}
 use Rattle.soundness.proofs.Leading.{need_leads}
 use Rattle.soundness.proofs.Reaching.{reached, is_named, needs_name}
@@ -37,7 +37,7 @@ normal_by_url : (referrer specifier asked : List ℕ) → as_url referrer specif
 unfolding normalized
 normal_by_url referrer specifier asked e = ap (λ found. unwrap_or found specifier) e
 
-module _ (tree : Tree) (config : Config) (all : Before) (is_traced : traced (get tree) config ≡ Ok all) (page_is_file : PageIsFile config) (m : ParsedMap) (no_capture : NoCapture all.needs m) (of_needs : OfNeeds all.needs m) where
+module _ (tree : Tree) (config : Config) (all : Gathered) (is_traced : traced (get tree) config ≡ Ok all) (page_is_file : PageIsFile config) (m : ParsedMap) (no_capture : NoCapture all.needs m) (of_needs : OfNeeds all.needs m) where
   files : (need : Need) → Contains all.needs need → NamesFiles need
   files = needs_name tree config all is_traced page_is_file
 

@@ -25,9 +25,9 @@ use Rattle.trace_spec.specs.Walking.{Referrer, the_page, a_module}
 use Rattle.trace_spec.specs.Modules.{Config, Module, path_of, shown, served_name, file_name}
 use Rattle.trace_spec.specs.Questions.{Source, Question, of_request, Answer, Trail, within_limit, limited}
 use Rattle.trace_spec.specs.Questions.{answers, always, put}
-use Rattle.trace_spec.specs.Checks.{Before, page_opened, module_opened, opens, Wanted, wanted, refused_by}
+use Rattle.trace_spec.specs.Checks.{Gathered, page_opened, module_opened, opens, Wanted, wanted, refused_by}
 use Rattle.trace_spec.specs.Checks.{with_request}
-use Rattle.trace_spec.specs.Checks.{has_room, placed, needed, named, led, followed_by, follows}
+use Rattle.trace_spec.specs.Checks.{has_room, with_room, needed, named, led, followed_by, follows}
 use Rattle.trace_spec.specs.Traces.{result_of, source}
 use Rattle.trace_spec.specs.Kinds.{IsOfTrace}
 use Rattle.trace_spec.specs.Laws.{ComesTo, RefusedAt, at_opening, at_request, RefusesByKind}
@@ -63,18 +63,18 @@ OfKind config (Ok value) = ⊤
 OfKind config (Err refusal) = IsOfTrace config refusal
 
 module _ (sights : Sights) (config : Config) where
-  page_kind : (before : Before) (name : Option (List ℕ))
+  page_kind : (before : Gathered) (name : Option (List ℕ))
       → served_name config.base config.page (web config.base config.page []) ≡ name
       → OfKind config (page_opened config before name)
   page_kind before None is = (refl, refl, is)
   page_kind before (Some url) is = tt
 
-  module_kind : (before : Before) (m : Module) (found : Option Source)
+  module_kind : (before : Gathered) (m : Module) (found : Option Source)
       → OfKind config (module_opened config before m found)
   module_kind before m None = tt
   module_kind before m (Some found) = tt
 
-  opens_kind : (before : Before) (referrer : Referrer Module)
+  opens_kind : (before : Gathered) (referrer : Referrer Module)
       → OfKind config (outcome (always sights) (opens config before referrer))
   opens_kind before the_page =
       page_kind before (served_name config.base config.page (web config.base config.page [])) refl
@@ -91,40 +91,40 @@ module _ (sights : Sights) (config : Config) where
   refused_kind cause.NotFound referrer specifier = refl
   refused_kind cause.DirectoryImport referrer specifier = tt
 
-  placed_kind : (before : Before) (need : Need) (target : Module) → OfKind config (placed before need target)
-  placed_kind before need target =
-      let fits : Result Before TraceFault = Ok (with_request before need target) in
-      let full : Result Before TraceFault = Err (Limit Modules) in
+  with_room_kind : (before : Gathered) (need : Need) (target : Module) → OfKind config (with_room before need target)
+  with_room_kind before need target =
+      let fits : Result Gathered TraceFault = Ok (with_request before need target) in
+      let full : Result Gathered TraceFault = Err (Limit Modules) in
       elim (cases_Bool (has_room before.modules target)) [
         | inl room ↦ subst (OfKind config) (sym (cond-true _ fits full room)) tt
         | inr none ↦ subst (OfKind config) (sym (cond-false _ fits full none)) (inr refl)
       ]
 
-  needed_kind : (refusal : TraceFault) (before : Before) (need : Need) (target : Module) → IsOfTrace config refusal
+  needed_kind : (refusal : TraceFault) (before : Gathered) (need : Need) (target : Module) → IsOfTrace config refusal
       → OfKind config (needed refusal before need target)
   needed_kind refusal before need target is =
-      let refuses : Result Before TraceFault = Err refusal in
+      let refuses : Result Gathered TraceFault = Err refusal in
       elim (cases_Bool (list_any (clashes need) before.needs)) [
-        | inl clash ↦ subst (OfKind config) (sym (cond-true _ refuses (placed before need target) clash)) is
+        | inl clash ↦ subst (OfKind config) (sym (cond-true _ refuses (with_room before need target) clash)) is
         | inr clear ↦
-            subst (OfKind config) (sym (cond-false _ refuses (placed before need target) clear))
-            (placed_kind before need target)
+            subst (OfKind config) (sym (cond-false _ refuses (with_room before need target) clear))
+            (with_room_kind before need target)
       ]
 
-  named_kind : (refusal : TraceFault) (before : Before) (want : Wanted) (target : Module) (name : Option (List ℕ))
+  named_kind : (refusal : TraceFault) (before : Gathered) (want : Wanted) (target : Module) (name : Option (List ℕ))
       → IsOfTrace config refusal → OfKind config (named refusal before want target name)
   named_kind refusal before want target None is = is
   named_kind refusal before want target (Some url) is =
       needed_kind refusal before (record { referrer = want.referrer; asked = want.asked; target = url }) target is
 
-  led_kind : (before : Before) (referrer : Referrer Module) (specifier : List ℕ) (want : Wanted) (found : node.Answer)
+  led_kind : (before : Gathered) (referrer : Referrer Module) (specifier : List ℕ) (want : Wanted) (found : node.Answer)
       → OfKind config (led config before referrer specifier want found)
   led_kind before referrer specifier want (node.Refused why) = refused_kind why (shown config referrer) specifier
   led_kind before referrer specifier want (node.Resolved path suffix) =
       let target : Module = record { path = path; suffix = suffix } in
       named_kind (RequestNotBuilt (shown config referrer) specifier) before want target (file_name config target) tt
 
-  followed_kind : (before : Before) (referrer : Referrer Module) (specifier : List ℕ) (want : Option Wanted)
+  followed_kind : (before : Gathered) (referrer : Referrer Module) (specifier : List ℕ) (want : Option Wanted)
       → OfKind config (outcome (always sights) (followed_by config before referrer specifier want))
   followed_kind before referrer specifier None = tt
   followed_kind before referrer specifier (Some want) =
@@ -154,7 +154,7 @@ module _ (sights : Sights) (config : Config) where
   comes_kind asking refusal kind comes =
       result_kind asking refusal kind (evaluated (answers sights) tt asking) refl comes
 
-  refused_at_kind : (before : Before) (referrer : Referrer Module) (refusal : TraceFault) (asked : List Question)
+  refused_at_kind : (before : Gathered) (referrer : Referrer Module) (refusal : TraceFault) (asked : List Question)
       → RefusedAt sights config before referrer refusal asked → IsOfTrace config refusal
   refused_at_kind before referrer refusal asked (at_opening refuses) =
       comes_kind (opens config before referrer) refusal (opens_kind before referrer) refuses

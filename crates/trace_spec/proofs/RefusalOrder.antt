@@ -19,7 +19,7 @@ use Rattle.trace_spec.specs.FirstRefusals.{Failure, refused, halted, failed, Pas
 use Rattle.trace_spec.specs.FirstRefusals.{page_first, module_next, FailsIn, by_opening, by_request}
 use Rattle.trace_spec.specs.Modules.{Config, Module, is_module, path_of}
 use Rattle.trace_spec.specs.Questions.{Question, of_module, of_request, Answer, Trail, answers, always}
-use Rattle.trace_spec.specs.Checks.{Before, module_opened, opens, Wanted, wanted, led, followed_by, follows, begun}
+use Rattle.trace_spec.specs.Checks.{Gathered, module_opened, opens, Wanted, wanted, led, followed_by, follows, nothing_gathered}
 use Rattle.trace_spec.specs.Checks.{rules}
 use Rattle.trace_spec.specs.Traces.{trace, result_of, state_of, traced, specifiers, leads, targets}
 use Rattle.trace_spec.specs.Laws.{refusal_by, opening, opening_put, requests_put, visits_put, asked_in, visits_of}
@@ -63,17 +63,17 @@ module _ (sights : Sights) (config : Config) where
         record { few = grows.few; longer = grows.longer };
   }
 
-  passed_without : (before : Before) (state : Told) (count : ℕ)
+  passed_without : (before : Gathered) (state : Told) (count : ℕ)
       → Passed told (rules config) none_asked before state count
       → Passed (answers sights) (rules config) tt before state.state count
   passed_without before state count (page_passes e) =
-      page_passes (without (visited (rules config) begun the_page) none_asked (ends (Ok before) state) e)
+      page_passes (without (visited (rules config) nothing_gathered the_page) none_asked (ends (Ok before) state) e)
   passed_without before state count (next_passes {before = earlier} {after = a} {state = s} {later = l} {count = n}
       {found = m} passed is e) =
       next_passes (passed_without earlier s n passed) is
       (without (visited (rules config) earlier (a_module m)) s (ends (Ok before) state) e)
 
-  comes_without : (before : Before) (state : Told) (referrer : Referrer Module)
+  comes_without : (before : Gathered) (state : Told) (referrer : Referrer Module)
       → Comes told (rules config) none_asked before state referrer
       → Comes (answers sights) (rules config) tt before state.state referrer
   comes_without _ _ _ page_first = page_first
@@ -83,21 +83,21 @@ module _ (sights : Sights) (config : Config) where
   -- ---- the visits that pass
 
   -- these visits passed
-  record Done (before : Before) (state : Told) (place : ℕ) : Type 0 where
+  record Done (before : Gathered) (state : Told) (place : ℕ) : Type 0 where
     visits : List (Referrer Module)
     later : List (Referrer Module)
     split : visits_of before ≡ visits ++ later
     counted : length visits ≡ place
-    tables : before ≡ visits_put sights config begun visits
+    tables : before ≡ visits_put sights config nothing_gathered visits
     asked : state.asked ≡ Some (asked_in sights config visits)
 
   -- and the visit of this referrer comes next
-  record Coming (before : Before) (state : Told) (place : ℕ) (referrer : Referrer Module) : Type 0 where
+  record Coming (before : Gathered) (state : Told) (place : ℕ) (referrer : Referrer Module) : Type 0 where
     visits : List (Referrer Module)
     later : List (Referrer Module)
     split : visits_of before ≡ visits ++ referrer ∷ later
     counted : length visits ≡ place
-    tables : before ≡ visits_put sights config begun visits
+    tables : before ≡ visits_put sights config nothing_gathered visits
     asked : state.asked ≡ Some (asked_in sights config visits)
 
   first_of : (visits : List (Referrer Module)) (referrer : Referrer Module) → slice_get visits 0 ≡ Some referrer
@@ -105,7 +105,7 @@ module _ (sights : Sights) (config : Config) where
   first_of [] referrer e = absurd (cc)
   first_of (other ∷ more) referrer e = (more, ap (λ r. r ∷ more) (let same : other ≡ referrer = cc in same))
 
-  next_coming : (before : Before) (state : Told) (count : ℕ) (found : Module) → Done before state (suc count)
+  next_coming : (before : Gathered) (state : Told) (count : ℕ) (found : Module) → Done before state (suc count)
       → slice_get before.modules count ≡ Some found → Coming before state (suc count) (a_module found)
   next_coming before state count found done is =
       let there : slice_get (visits_of before) (length done.visits) ≡ Some (a_module found) =
@@ -123,7 +123,7 @@ module _ (sights : Sights) (config : Config) where
         asked = done.asked;
       }
 
-  visits_more : (some more : List (Referrer Module)) (before : Before)
+  visits_more : (some more : List (Referrer Module)) (before : Gathered)
       → visits_put sights config before (some ++ more)
       ≡ visits_put sights config (visits_put sights config before some) more
   visits_more [] more before = refl
@@ -142,7 +142,7 @@ module _ (sights : Sights) (config : Config) where
   abbrev asking_at : Referrer Module → List ℕ → Question
   asking_at referrer = of_request (path_of config referrer)
 
-  visit_done : (before after : Before) (state later : Told) (place : ℕ) (referrer : Referrer Module)
+  visit_done : (before after : Gathered) (state later : Told) (place : ℕ) (referrer : Referrer Module)
       → Coming before state place referrer
       → evaluated told state (visited (rules config) before referrer) ≡ ends (Ok after) later
       → Done after later (suc place)
@@ -174,23 +174,23 @@ module _ (sights : Sights) (config : Config) where
         tables =
             tables
             ∙ (ap (λ b. visits_put sights config b (referrer ∷ [])) coming.tables
-            ∙ sym (visits_more coming.visits (referrer ∷ []) begun));
+            ∙ sym (visits_more coming.visits (referrer ∷ []) nothing_gathered));
         asked = came.asked ∙ ((λ i. with_asked (coming.asked i) (visit.are_asked i))
             ∙ ap Some (asked_more coming.visits referrer));
       }
 
-  page_coming : Coming begun none_asked 0 the_page
+  page_coming : Coming nothing_gathered none_asked 0 the_page
   page_coming = record { visits = []; later = []; split = refl; counted = refl; tables = refl; asked = refl }
 
-  passed_done : (before : Before) (state : Told) (count : ℕ) → Passed told (rules config) none_asked before state count
+  passed_done : (before : Gathered) (state : Told) (count : ℕ) → Passed told (rules config) none_asked before state count
       → Done before state (suc count)
-  passed_done before state count (page_passes e) = visit_done begun before none_asked state 0 the_page page_coming e
+  passed_done before state count (page_passes e) = visit_done nothing_gathered before none_asked state 0 the_page page_coming e
   passed_done before state count (next_passes {before = earlier} {after = a} {state = s} {later = l} {count = n}
       {found = m} passed is e) =
       visit_done earlier before s state (suc n) (a_module m)
       (next_coming earlier s n m (passed_done earlier s n passed) is) e
 
-  comes_next : (before : Before) (state : Told) (referrer : Referrer Module)
+  comes_next : (before : Gathered) (state : Told) (referrer : Referrer Module)
       → Comes told (rules config) none_asked before state referrer
       → (place : ℕ) × Coming before state place referrer
   comes_next _ _ _ page_first = (0, page_coming)
@@ -231,14 +231,14 @@ module _ (sights : Sights) (config : Config) where
   one_asked question next asked (ends answer trail) = refl
   one_asked question next asked (stopped limit trail) = refl
 
-  opening_asked : (before : Before) (referrer : Referrer Module) (state : Told)
+  opening_asked : (before : Gathered) (referrer : Referrer Module) (state : Told)
       → asked_after state (opens config before referrer) ≡ with_asked state.asked (opening referrer)
   opening_asked before the_page state = sym (asked_none state.asked)
   opening_asked before (a_module m) state =
       one_asked (of_module m.path) (module_opened config before m) (with_asked state.asked (of_module m.path ∷ []))
       (answers sights state.state (of_module m.path))
 
-  follows_asked : (before : Before) (referrer : Referrer Module) (specifier : List ℕ) (state : Told)
+  follows_asked : (before : Gathered) (referrer : Referrer Module) (specifier : List ℕ) (state : Told)
       (want : Option Wanted)
       → asked_after state (followed_by config before referrer specifier want)
       ≡ with_asked state.asked (if_wanted (asking_at referrer specifier) want)
@@ -250,7 +250,7 @@ module _ (sights : Sights) (config : Config) where
 
   -- ---- the visit that fails
 
-  record Refused (before : Before) (state : Told) (referrer : Referrer Module) (why : Failure TraceFault LimitName)
+  record Refused (before : Gathered) (state : Told) (referrer : Referrer Module) (why : Failure TraceFault LimitName)
       (after : Told) (visits : List (Referrer Module)) : Type 0 where
     asked_last : List Question
     refused : RefusedAt sights config before referrer (refusal_by why) asked_last
@@ -267,7 +267,7 @@ module _ (sights : Sights) (config : Config) where
       ∙ (ap (λ qs. with_asked qs last) (g ∙ ap (λ qs. with_asked qs more) (f ∙ ap (λ qs. with_asked qs some) e))
       ∙ ap Some (ap (λ qs. qs ++ last) (append_assoc front some more) ∙ append_assoc front (some ++ more) last))
 
-  refused_there : (before : Before) (state : Told) (referrer : Referrer Module) (why : Failure TraceFault LimitName)
+  refused_there : (before : Gathered) (state : Told) (referrer : Referrer Module) (why : Failure TraceFault LimitName)
       (after : Told) (visits : List (Referrer Module))
       → state.asked ≡ Some (asked_in sights config visits)
       → FailsIn told (rules config) none_asked before state referrer why after
@@ -312,13 +312,13 @@ module _ (sights : Sights) (config : Config) where
             ∙ follows_asked tables referrer specifier later (wanted config referrer specifier));
       }
 
-  record Failed (refusal : TraceFault) (end : Ended (Result Before TraceFault) Told LimitName) : Type 0 where
+  record Failed (refusal : TraceFault) (end : Ended (Result Gathered TraceFault) Told LimitName) : Type 0 where
     why : Failure TraceFault LimitName
     after : Told
     shown : refusal ≡ refusal_by why
     fails : end ≡ failed why after
 
-  failed_end : (refusal : TraceFault) (end : Ended (Result Before TraceFault) Told LimitName)
+  failed_end : (refusal : TraceFault) (end : Ended (Result Gathered TraceFault) Told LimitName)
       → result_of (unlisted end) ≡ Err refusal → Failed refusal end
   failed_end refusal (ends (Ok all) after) e = absurd (cc)
   failed_end refusal (ends (Err other) after) e =

@@ -30,8 +30,8 @@ use Rattle.trace_spec.specs.Modules.{Config, Module, path_of, web_name, shown, I
 use Rattle.trace_spec.specs.Modules.{file_name}
 use Rattle.trace_spec.specs.Questions.{Source, Question, of_request, Answer, Trail, within_limit, limited, answers}
 use Rattle.trace_spec.specs.Questions.{always, put}
-use Rattle.trace_spec.specs.Checks.{Before, page_opened, with_source, module_opened, opens, Wanted, file_wanted}
-use Rattle.trace_spec.specs.Checks.{wanted_by, wanted, with_request, has_room, placed, needed, named, led, followed_by}
+use Rattle.trace_spec.specs.Checks.{Gathered, page_opened, with_source, module_opened, opens, Wanted, file_wanted}
+use Rattle.trace_spec.specs.Checks.{wanted_by, wanted, with_request, has_room, with_room, needed, named, led, followed_by}
 use Rattle.trace_spec.specs.Checks.{follows}
 use Rattle.trace_spec.specs.Traces.{trace, result_of, traced, source, requests, resolution}
 use Rattle.trace_spec.specs.Laws.{opening, opening_put, no_source}
@@ -62,13 +62,13 @@ pub answers_always : (sights : Sights) (trail after : Trail) (question : Questio
 answers_always sights trail after question answer e =
     ends_outcome (limited sights) sights (limited_always sights) trail after (put question) answer e
 
-ok_end : (all : Before) (end : Ended (Result Before TraceFault) Trail LimitName) → result_of end ≡ Ok all
+ok_end : (all : Gathered) (end : Ended (Result Gathered TraceFault) Trail LimitName) → result_of end ≡ Ok all
     → (trail : Trail) × (end ≡ ends (Ok all) trail)
 ok_end all (ends result trail) e = (trail, ap (λ r. ends r trail) e)
 ok_end all (stopped limit trail) e = absurd (cc)
 
 -- what is traced is the outcome without limits
-pub traced_outcome : (sights : Sights) (config : Config) (all : Before) → traced sights config ≡ Ok all
+pub traced_outcome : (sights : Sights) (config : Config) (all : Gathered) → traced sights config ≡ Ok all
     → outcome (always sights) (trace config) ≡ Ok all
 traced_outcome sights config all e =
     let end = ok_end all (evaluated (answers sights) tt (trace config)) e in
@@ -122,24 +122,24 @@ file_name_parts config m url e =
 
 -- ---- openings
 
-record PageOpens (config : Config) (before : Before) (opened : Opened Before) : Type 0 where
+record PageOpens (config : Config) (before : Gathered) (opened : Opened Gathered) : Type 0 where
   specifiers : opened.specifiers ≡ config.entries
   after : opened.after ≡ before
 
-page_opens : (config : Config) (before : Before) (name : Option (List ℕ)) (opened : Opened Before)
+page_opens : (config : Config) (before : Gathered) (name : Option (List ℕ)) (opened : Opened Gathered)
     → page_opened config before name ≡ Ok opened → PageOpens config before opened
 page_opens config before None opened e = absurd (cc)
 page_opens config before (Some url) opened e =
     let same : opened ≡ record { specifiers = config.entries; after = before } = cc in
     record { specifiers = ap (λ o. o.specifiers) same; after = ap (λ o. o.after) same }
 
-record ModuleOpens (before : Before) (found : Option Source) (opened : Opened Before) : Type 0 where
+record ModuleOpens (before : Gathered) (found : Option Source) (opened : Opened Gathered) : Type 0 where
   found_is : Source
   is_found : found ≡ Some found_is
   specifiers : opened.specifiers ≡ found_is.specifiers
   after : opened.after ≡ with_source before found_is
 
-module_opens : (config : Config) (before : Before) (m : Module) (found : Option Source) (opened : Opened Before)
+module_opens : (config : Config) (before : Gathered) (m : Module) (found : Option Source) (opened : Opened Gathered)
     → module_opened config before m found ≡ Ok opened → ModuleOpens before found opened
 module_opens config before m None opened e = absurd (cc)
 module_opens config before m (Some some) opened e =
@@ -151,14 +151,14 @@ module_opens config before m (Some some) opened e =
       after = ap (λ o. o.after) same;
     }
 
-pub record Opens (sights : Sights) (config : Config) (before : Before) (referrer : Referrer Module)
-    (opened : Opened Before) : Type 0 where
+pub record Opens (sights : Sights) (config : Config) (before : Gathered) (referrer : Referrer Module)
+    (opened : Opened Gathered) : Type 0 where
   pub asks : requests sights config referrer ≡ Some opened.specifiers
   pub after : opened.after ≡ opening_put sights before referrer
   pub questions : questions (always sights) (opens config before referrer) ≡ opening referrer
 
-pub opens_is : (sights : Sights) (config : Config) (before : Before) (referrer : Referrer Module)
-    (opened : Opened Before) → outcome (always sights) (opens config before referrer) ≡ Ok opened
+pub opens_is : (sights : Sights) (config : Config) (before : Gathered) (referrer : Referrer Module)
+    (opened : Opened Gathered) → outcome (always sights) (opens config before referrer) ≡ Ok opened
     → Opens sights config before referrer opened
 opens_is sights config before the_page opened e =
     let parts =
@@ -173,17 +173,17 @@ opens_is sights config before (a_module m) opened e =
     }
 
 -- an opening leaves modules and needs as they are
-pub record Leaves (before after : Before) : Type 0 where
+pub record Leaves (before after : Gathered) : Type 0 where
   pub modules : after.modules ≡ before.modules
   pub needs : after.needs ≡ before.needs
 
-leaves_by : (sights : Sights) (before : Before) (referrer : Referrer Module)
+leaves_by : (sights : Sights) (before : Gathered) (referrer : Referrer Module)
     → Leaves before (opening_put sights before referrer)
 leaves_by sights before the_page = record { modules = refl; needs = refl }
 leaves_by sights before (a_module m) = record { modules = refl; needs = refl }
 
-pub opens_leaves : (sights : Sights) (config : Config) (before : Before) (referrer : Referrer Module)
-    (opened : Opened Before) → outcome (always sights) (opens config before referrer) ≡ Ok opened
+pub opens_leaves : (sights : Sights) (config : Config) (before : Gathered) (referrer : Referrer Module)
+    (opened : Opened Gathered) → outcome (always sights) (opens config before referrer) ≡ Ok opened
     → Leaves before opened.after
 opens_leaves sights config before referrer opened e =
     subst (Leaves before) (sym (opens_is sights config before referrer opened e).after)
@@ -236,41 +236,41 @@ wants_parts config referrer specifier want e =
     let parts = wants_by specifier (web_name config referrer) want e in
     record { named = parts.0; relative = parts.1; asks = parts.2; asks_file = parts.3 }
 
-pub record Fits (before : Before) (need : Need) (target : Module) (after : Before) : Type 0 where
+pub record Fits (before : Gathered) (need : Need) (target : Module) (after : Gathered) : Type 0 where
   pub clear : list_any (clashes need) before.needs ≡ false
   pub room : has_room before.modules target ≡ true
   pub is : after ≡ with_request before need target
 
-placed_parts : (before : Before) (need : Need) (target : Module) (after : Before)
-    → placed before need target ≡ Ok after → (has_room before.modules target ≡ true)
+placed_parts : (before : Gathered) (need : Need) (target : Module) (after : Gathered)
+    → with_room before need target ≡ Ok after → (has_room before.modules target ≡ true)
     × (after ≡ with_request before need target)
 placed_parts before need target after e =
     elim (cases_Bool (has_room before.modules target)) [
       | inl room ↦
-          (let f : ◌≡◌ {A = Result Before TraceFault} (Ok (with_request before need target)) (Ok after) =
+          (let f : ◌≡◌ {A = Result Gathered TraceFault} (Ok (with_request before need target)) (Ok after) =
           sym (cond-true _ (Ok (with_request before need target)) (Err (Limit Modules)) room) ∙ e in
           (room, (let p : after ≡ with_request before need target = cc in p)))
       | inr full ↦
-          absurd (let f : ◌≡◌ {A = Result Before TraceFault} (Err (Limit Modules)) (Ok after) =
+          absurd (let f : ◌≡◌ {A = Result Gathered TraceFault} (Err (Limit Modules)) (Ok after) =
           sym (cond-false _ (Ok (with_request before need target)) (Err (Limit Modules)) full) ∙ e in cc)
     ]
 
-needed_parts : (refusal : TraceFault) (before : Before) (need : Need) (target : Module) (after : Before)
+needed_parts : (refusal : TraceFault) (before : Gathered) (need : Need) (target : Module) (after : Gathered)
     → needed refusal before need target ≡ Ok after → Fits before need target after
 needed_parts refusal before need target after e =
     elim (cases_Bool (list_any (clashes need) before.needs)) [
       | inl clash ↦
-          absurd (let f : ◌≡◌ {A = Result Before TraceFault} (Err refusal) (Ok after) =
-          sym (cond-true _ (Err refusal) (placed before need target) clash) ∙ e in cc)
+          absurd (let f : ◌≡◌ {A = Result Gathered TraceFault} (Err refusal) (Ok after) =
+          sym (cond-true _ (Err refusal) (with_room before need target) clash) ∙ e in cc)
       | inr clear ↦
           (let parts = placed_parts before need target after
-          (sym (cond-false _ (Err refusal) (placed before need target) clear) ∙ e) in
+          (sym (cond-false _ (Err refusal) (with_room before need target) clear) ∙ e) in
           record { clear = clear; room = parts.0; is = parts.1 })
     ]
 
 -- a request went through
-pub record Follows (sights : Sights) (config : Config) (before : Before) (referrer : Referrer Module)
-    (specifier : List ℕ) (after : Before) : Type 0 where
+pub record Follows (sights : Sights) (config : Config) (before : Gathered) (referrer : Referrer Module)
+    (specifier : List ℕ) (after : Gathered) : Type 0 where
   pub want : Wanted
   pub wants : Wants config referrer specifier want
   pub target : Module
@@ -281,8 +281,8 @@ pub record Follows (sights : Sights) (config : Config) (before : Before) (referr
   pub questions : questions (always sights) (follows config before referrer specifier)
       ≡ of_request (path_of config referrer) specifier ∷ []
 
-module _ (sights : Sights) (config : Config) (before : Before) (referrer : Referrer Module) (specifier : List ℕ)
-    (after : Before) where
+module _ (sights : Sights) (config : Config) (before : Gathered) (referrer : Referrer Module) (specifier : List ℕ)
+    (after : Gathered) where
   record Led (want : Wanted) (found : node.Answer) : Type 0 where
     target : Module
     answers : found ≡ node.Resolved target.path target.suffix

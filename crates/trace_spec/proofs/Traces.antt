@@ -26,9 +26,9 @@ use Rattle.trace_spec.specs.Levels.{page}
 use Rattle.trace_spec.specs.FirstRefusals.{Failure, refused, halted, failed}
 use Rattle.trace_spec.specs.Modules.{Config, Module, is_module, path_of, web_name, file_name}
 use Rattle.trace_spec.specs.Questions.{Source, of_request, Trail, answers, always}
-use Rattle.trace_spec.specs.Checks.{Before, opens, follows, with_request, has_room, begun, rules}
+use Rattle.trace_spec.specs.Checks.{Gathered, opens, follows, with_request, has_room, nothing_gathered, rules}
 use Rattle.trace_spec.specs.Traces.{trace, result_of, traced, source, specifiers, resolution, module_in, leads}
-use Rattle.trace_spec.specs.Traces.{Reachable}
+use Rattle.trace_spec.specs.Traces.{ReachedByPage}
 use Rattle.trace_spec.specs.Laws.{HasLevels, IsWhatIsReached, ModulesOnce, FewModules, refusal_by, IsFirst, Decides}
 use Rattle.trace_spec.specs.Laws.{FirstRefusalDecides, NeverOutOfRoom, no_module, no_source, target_of, need_of}
 use Rattle.trace_spec.specs.Laws.{request_put, requests_put, opening_put, visits_put, opening, visits_of, InOrder}
@@ -85,7 +85,7 @@ module _ (sights : Sights) (config : Config) where
             omega (arith, length-append modules (new_modules is_module modules (target ∷ [])), ap length new.1)
       ]
 
-  grows_by : (before after : Before) (need : Need) (target : Module) → Fits before need target after
+  grows_by : (before after : Gathered) (need : Need) (target : Module) → Fits before need target after
       → Grows (answers sights) (rules config) tt before after
   grows_by before after need target fits = record {
     few = λ few. subst (λ b. length b.modules ≤ limit_number Modules) (sym fits.is)
@@ -120,11 +120,11 @@ module _ (sights : Sights) (config : Config) where
   abbrev pub request_of : Referrer Module → List ℕ → Link
   request_of referrer specifier = record { referrer = referrer; specifier = specifier }
 
-  abbrev pub put_request : Before → Link → Before
+  abbrev pub put_request : Gathered → Link → Gathered
   put_request before link = request_put sights config before link.referrer link.specifier
 
   -- what a request that went through needs
-  need_is : (before : Before) (referrer : Referrer Module) (specifier : List ℕ) (after : Before)
+  need_is : (before : Gathered) (referrer : Referrer Module) (specifier : List ℕ) (after : Gathered)
       (is : Follows sights config before referrer specifier after)
       → need_of sights config referrer specifier
       ≡ record { referrer = is.want.referrer; asked = is.want.asked; target = is.url }
@@ -139,7 +139,7 @@ module _ (sights : Sights) (config : Config) where
       ap (λ m. unwrap_or (file_name config m) []) target ∙ ap (λ o. unwrap_or o []) is.is_name in
       same_need _ _ name asked url
 
-  target_is : (before : Before) (referrer : Referrer Module) (specifier : List ℕ) (after : Before)
+  target_is : (before : Gathered) (referrer : Referrer Module) (specifier : List ℕ) (after : Gathered)
       (is : Follows sights config before referrer specifier after)
       → target_of sights config referrer specifier ≡ is.target
   target_is before referrer specifier after is =
@@ -158,18 +158,18 @@ module _ (sights : Sights) (config : Config) where
         (same, is.questions);
   }
 
-  pub requests_put_is : (referrer : Referrer Module) (some : List (List ℕ)) (before : Before)
+  pub requests_put_is : (referrer : Referrer Module) (some : List (List ℕ)) (before : Gathered)
       → requests_put sights config referrer before some ≡ all_in put_request before (map (request_of referrer) some)
   requests_put_is referrer [] before = refl
   requests_put_is referrer (specifier ∷ more) before =
       requests_put_is referrer more (put_request before (request_of referrer specifier))
 
-  abbrev visit_in : Before → Referrer Module → Before
+  abbrev visit_in : Gathered → Referrer Module → Gathered
   visit_in before referrer =
       all_in put_request (opening_put sights before referrer)
       (map (request_of referrer) (specifiers sights config referrer))
 
-  visits_put_is : (before : Before) (visits : List (Referrer Module))
+  visits_put_is : (before : Gathered) (visits : List (Referrer Module))
       → visits_put sights config before visits ≡ all_in visit_in before visits
   visits_put_is before [] = refl
   visits_put_is before (referrer ∷ more) =
@@ -178,14 +178,14 @@ module _ (sights : Sights) (config : Config) where
       ∙ visits_put_is (visit_in before referrer) more
 
   -- requests leave the sources as they are, and a visit puts one there
-  sources_left : (some : List Link) (before : Before) → (all_in put_request before some).sources ≡ before.sources
+  sources_left : (some : List Link) (before : Gathered) → (all_in put_request before some).sources ≡ before.sources
   sources_left [] before = refl
   sources_left (request ∷ more) before = sources_left more (put_request before request)
 
   abbrev opened_source : Module → Source
   opened_source m = unwrap_or (source sights m) no_source
 
-  sources_put : (modules : List Module) (before : Before)
+  sources_put : (modules : List Module) (before : Gathered)
       → (all_in visit_in before (map a_module modules)).sources ≡ before.sources ++ map opened_source modules
   sources_put [] before = sym (append-nil before.sources)
   sources_put (m ∷ more) before =
@@ -214,7 +214,7 @@ module _ (sights : Sights) (config : Config) where
   -- ---- what holds of the tables
 
   -- a need of a request of the page, or of a module that stands in the table
-  record IsOf (before : Before) (need : Need) : Type 0 where
+  record IsOf (before : Gathered) (need : Need) : Type 0 where
     referrer : Referrer Module
     visited : IsVisited before.modules referrer
     named : web_name config referrer ≡ Some need.referrer
@@ -226,7 +226,7 @@ module _ (sights : Sights) (config : Config) where
     leads_to : leads sights config referrer specifier ≡ Some target
     is_name : file_name config target ≡ Some need.target
 
-  record Stands (before : Before) : Type 0 where
+  record Stands (before : Gathered) : Type 0 where
     each : (need : Need) → Contains before.needs need → IsOf before need
     no_clash : NoClash before.needs
     once : AreOnce before.modules
@@ -236,7 +236,7 @@ module _ (sights : Sights) (config : Config) where
   visited_more the_page modules more is = tt
   visited_more (a_module m) modules more is = Contains-append_left modules more m is
 
-  still_of : (before : Before) (need other : Need) (target : Module) → IsOf before other
+  still_of : (before : Gathered) (need other : Need) (target : Module) → IsOf before other
       → IsOf (with_request before need target) other
   still_of before need other target is = record {
     referrer = is.referrer;
@@ -251,7 +251,7 @@ module _ (sights : Sights) (config : Config) where
     is_name = is.is_name;
   }
 
-  stand_more : (before : Before) (referrer : Referrer Module) (specifier : List ℕ) (after : Before)
+  stand_more : (before : Gathered) (referrer : Referrer Module) (specifier : List ℕ) (after : Gathered)
       → IsVisited before.modules referrer → Contains (specifiers sights config referrer) specifier → Stands before
       → Follows sights config before referrer specifier after → Stands after
   stand_more before referrer specifier after visited asked_for stands is =
@@ -278,7 +278,7 @@ module _ (sights : Sights) (config : Config) where
         once = once_more before.modules is.target stands.once;
       })
 
-  passes_now : (before : Before) (referrer : Referrer Module) (specifier : List ℕ) (after : Before)
+  passes_now : (before : Gathered) (referrer : Referrer Module) (specifier : List ℕ) (after : Gathered)
       → Follows sights config before referrer specifier after → Passes sights config after referrer specifier
   passes_now before referrer specifier after is =
       let need : Need = record { referrer = is.want.referrer; asked = is.want.asked; target = is.url } in
@@ -295,7 +295,7 @@ module _ (sights : Sights) (config : Config) where
         is_need = subst (λ b. Contains b.needs need) (sym is.fits.is) (with_need_new before.needs need);
       }
 
-  passes_still : (before : Before) (need : Need) (target : Module) (after : Before) (referrer : Referrer Module)
+  passes_still : (before : Gathered) (need : Need) (target : Module) (after : Gathered) (referrer : Referrer Module)
       (specifier : List ℕ) → after ≡ with_request before need target → Passes sights config before referrer specifier
       → Passes sights config after referrer specifier
   passes_still before need target after referrer specifier is passes =
@@ -313,7 +313,7 @@ module _ (sights : Sights) (config : Config) where
         is_need = with_need_old before.needs need passes.need passes.is_need;
       })
 
-  of_on : (before after : Before) (need : Need) → Leaves before after → IsOf before need → IsOf after need
+  of_on : (before after : Gathered) (need : Need) → Leaves before after → IsOf before need → IsOf after need
   of_on before after need leaves is = record {
     referrer = is.referrer;
     visited = subst (λ ms. IsVisited ms is.referrer) (sym leaves.modules) is.visited;
@@ -327,14 +327,14 @@ module _ (sights : Sights) (config : Config) where
     is_name = is.is_name;
   }
 
-  stand_on : (before after : Before) → Leaves before after → Stands before → Stands after
+  stand_on : (before after : Gathered) → Leaves before after → Stands before → Stands after
   stand_on before after leaves stands = record {
     each = λ need c. of_on before after need leaves (stands.each need (subst (λ ns. Contains ns need) leaves.needs c));
     no_clash = subst NoClash (sym leaves.needs) stands.no_clash;
     once = subst AreOnce (sym leaves.modules) stands.once;
   }
 
-  pass_on : (before after : Before) (referrer : Referrer Module) (specifier : List ℕ) → Leaves before after
+  pass_on : (before after : Gathered) (referrer : Referrer Module) (specifier : List ℕ) → Leaves before after
       → Passes sights config before referrer specifier → Passes sights config after referrer specifier
   pass_on before after referrer specifier leaves passes = record {
     need = passes.need;
@@ -376,11 +376,11 @@ module _ (sights : Sights) (config : Config) where
 
   -- ---- a trace of this config
 
-  module _ (all : Before) (is : traced sights config ≡ Ok all) where
+  module _ (all : Gathered) (is : traced sights config ≡ Ok all) where
     whole : outcome (always sights) (trace config) ≡ Ok all
     whole = traced_outcome sights config all is
 
-    reached_or_not : (m : Module) → Contains all.modules m ↔ Reachable sights config (a_module m)
+    reached_or_not : (m : Module) → Contains all.modules m ↔ ReachedByPage sights config (a_module m)
     reached_or_not m =
         walk_is_reached (always sights) (rules config) (specifiers sights config)
         (leads sights config) lead same_module all whole m
@@ -390,7 +390,7 @@ module _ (sights : Sights) (config : Config) where
     end = at_end (always sights) (rules config) (specifiers sights config) (leads sights config) lead Stands
         (λ referrer specifier before. Passes sights config before referrer specifier) keep all whole
 
-    visited_reached : (referrer : Referrer Module) → IsVisited all.modules referrer → Reachable sights config referrer
+    visited_reached : (referrer : Referrer Module) → IsVisited all.modules referrer → ReachedByPage sights config referrer
     visited_reached the_page visited = page
     visited_reached (a_module m) visited = (reached_or_not m).0 visited
 
@@ -406,7 +406,7 @@ module _ (sights : Sights) (config : Config) where
               (subst (λ o. Contains (unwrap_or o []) specifier) (sym opened.asks) c);
         }
 
-    reached_pass : (referrer : Referrer Module) → Reachable sights config referrer → AllPass sights config all referrer
+    reached_pass : (referrer : Referrer Module) → ReachedByPage sights config referrer → AllPass sights config all referrer
     reached_pass the_page reached = all_pass the_page end.page
     reached_pass (a_module m) reached = all_pass (a_module m) (end.each m ((reached_or_not m).1 reached))
 
@@ -435,13 +435,13 @@ module _ (sights : Sights) (config : Config) where
         walk_in_order (always sights) (rules config) (specifiers sights config) (leads sights config) opening
         (λ referrer. of_request (path_of config referrer))
         (opening_put sights) put_request request_of lead put_in all whole in
-        let page : Before = visit_in begun the_page in
+        let page : Gathered = visit_in nothing_gathered the_page in
         let sources : all.sources ≡ map opened_source all.modules =
         ap (λ b. b.sources) order.tables ∙ (sources_put all.modules page
         ∙ ap (λ ss. ss ++ map opened_source all.modules)
-        (sources_left (map (request_of the_page) (specifiers sights config the_page)) begun)) in
+        (sources_left (map (request_of the_page) (specifiers sights config the_page)) nothing_gathered)) in
         record {
-          tables = order.tables ∙ sym (visits_put_is begun (visits_of all));
+          tables = order.tables ∙ sym (visits_put_is nothing_gathered (visits_of all));
           sources =
               ap (map Some) sources ∙ sources_are all.modules
               (λ m c. let pass = all_pass (a_module m) (end.each m c) in
@@ -451,12 +451,12 @@ module _ (sights : Sights) (config : Config) where
 
   -- ---- the first refusal
 
-  ok_ended : (all : Before) (end : Ended (Result Before TraceFault) Trail LimitName) → result_of end ≡ Ok all
+  ok_ended : (all : Gathered) (end : Ended (Result Gathered TraceFault) Trail LimitName) → result_of end ≡ Ok all
       → end ≡ ends (Ok all) tt
   ok_ended all (ends result trail) e = ap (λ r. ends r trail) e
   ok_ended all (stopped limit trail) e = absurd (cc)
 
-  err_ended : (refusal : TraceFault) (end : Ended (Result Before TraceFault) Trail LimitName)
+  err_ended : (refusal : TraceFault) (end : Ended (Result Gathered TraceFault) Trail LimitName)
       → result_of end ≡ Err refusal → (why : Failure TraceFault LimitName) × (refusal ≡ refusal_by why)
       × (end ≡ failed why tt)
   err_ended refusal (ends (Ok all) trail) e = absurd (cc)
@@ -464,7 +464,7 @@ module _ (sights : Sights) (config : Config) where
   err_ended refusal (stopped limit trail) e = let p : refusal ≡ Limit limit = cc in (halted limit, p, refl)
 
   failed_refuses : (why : Failure TraceFault LimitName) (trail : Trail)
-      → result_of {X = Before} (failed why trail) ≡ Err (refusal_by why)
+      → result_of {X = Gathered} (failed why trail) ≡ Err (refusal_by why)
   failed_refuses (refused refusal) trail = refl
   failed_refuses (halted limit) trail = refl
 

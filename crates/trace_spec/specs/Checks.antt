@@ -1,5 +1,5 @@
 -- The checks of a trace: what opens the visit of a referrer, and what is checked of a request, in order.
---     Before                                     the tables of what came before
+--     Gathered                                     the tables of what came before
 --     opens config before referrer               the page can be served; a module has a text of the form
 --     follows config before referrer specifier   what the request asks for; where Node leads it; the name of what it
 --                                                leads to; that it clashes with no need before it; the number of
@@ -27,7 +27,7 @@ use Rattle.trace_spec.specs.Questions.{Source, Question, of_module, of_request, 
 
 -- own: the modules that were asked for and the needs, each once at its first place; the sources of the modules whose
 -- visits were opened, in the order of the modules; and the number of requests
-pub record Before : Type 0 where
+pub record Gathered : Type 0 where
   pub modules : List Module
   pub sources : List Source
   pub needs : List Need
@@ -36,11 +36,11 @@ pub record Before : Type 0 where
 -- ---- what opens a visit
 
 -- own: the page is servable
-abbrev pub page_opened : Config → Before → Option (List ℕ) → Result (Opened Before) TraceFault
+abbrev pub page_opened : Config → Gathered → Option (List ℕ) → Result (Opened Gathered) TraceFault
 page_opened config before None = Err (Unservable config.page (web config.base config.page []))
 page_opened config before (Some url) = Ok (record { specifiers = config.entries; after = before })
 
-abbrev pub with_source : Before → Source → Before
+abbrev pub with_source : Gathered → Source → Gathered
 with_source before source =
     record {
       modules = before.modules;
@@ -49,12 +49,12 @@ with_source before source =
       requests = before.requests;
     }
 
-abbrev pub module_opened : Config → Before → Module → Option Source → Result (Opened Before) TraceFault
+abbrev pub module_opened : Config → Gathered → Module → Option Source → Result (Opened Gathered) TraceFault
 module_opened config before m None = Err (ModuleNotBuilt (shown config (a_module m)))
 module_opened config before m (Some source) =
     Ok (record { specifiers = source.specifiers; after = with_source before source })
 
-abbrev pub opens : Config → Before → Referrer Module → Asking Question Answer (Result (Opened Before) TraceFault)
+abbrev pub opens : Config → Gathered → Referrer Module → Asking Question Answer (Result (Opened Gathered) TraceFault)
 opens config before the_page =
     answered (page_opened config before (served_name config.base config.page (web config.base config.page [])))
 opens config before (a_module m) = ask (of_module m.path) (λ found. answered (module_opened config before m found))
@@ -90,7 +90,7 @@ refused_by cause.ImportNotDefined referrer specifier = RequestNotBuilt referrer 
 refused_by cause.NotFound referrer specifier = Refused referrer specifier cause.NotFound
 refused_by cause.DirectoryImport referrer specifier = RequestNotBuilt referrer specifier
 
-abbrev pub with_request : Before → Need → Module → Before
+abbrev pub with_request : Gathered → Need → Module → Gathered
 with_request before need target =
     record {
       modules = before.modules ++ new_modules is_module before.modules (target ∷ []);
@@ -103,47 +103,47 @@ with_request before need target =
 abbrev pub has_room : List Module → Module → Bool
 has_room modules target = list_any (is_module target) modules || nat_lt (length modules) (limit_number Modules)
 
-abbrev pub placed : Before → Need → Module → Result Before TraceFault
-placed before need target =
+abbrev pub with_room : Gathered → Need → Module → Result Gathered TraceFault
+with_room before need target =
     if has_room before.modules target then Ok (with_request before need target) else Err (Limit Modules)
 
-abbrev pub needed : TraceFault → Before → Need → Module → Result Before TraceFault
+abbrev pub needed : TraceFault → Gathered → Need → Module → Result Gathered TraceFault
 needed refusal before need target =
-    if list_any (clashes need) before.needs then Err refusal else placed before need target
+    if list_any (clashes need) before.needs then Err refusal else with_room before need target
 
-abbrev pub named : TraceFault → Before → Wanted → Module → Option (List ℕ) → Result Before TraceFault
+abbrev pub named : TraceFault → Gathered → Wanted → Module → Option (List ℕ) → Result Gathered TraceFault
 named refusal before want target None = Err refusal
 named refusal before want target (Some url) =
     needed refusal before (record { referrer = want.referrer; asked = want.asked; target = url }) target
 
 -- by Node's answer
-abbrev pub led : Config → Before → Referrer Module → List ℕ → Wanted → node.Answer → Result Before TraceFault
+abbrev pub led : Config → Gathered → Referrer Module → List ℕ → Wanted → node.Answer → Result Gathered TraceFault
 led config before referrer specifier want (node.Refused why) = Err (refused_by why (shown config referrer) specifier)
 led config before referrer specifier want (node.Resolved path suffix) =
     named (RequestNotBuilt (shown config referrer) specifier) before want (record { path = path; suffix = suffix })
     (file_name config (record { path = path; suffix = suffix }))
 
-abbrev pub followed_by : Config → Before → Referrer Module → List ℕ → Option Wanted
-    → Asking Question Answer (Result Before TraceFault)
+abbrev pub followed_by : Config → Gathered → Referrer Module → List ℕ → Option Wanted
+    → Asking Question Answer (Result Gathered TraceFault)
 followed_by config before referrer specifier None = answered (Err (RequestNotBuilt (shown config referrer) specifier))
 followed_by config before referrer specifier (Some want) =
     ask (of_request (path_of config referrer) specifier)
     (λ found. answered (led config before referrer specifier want found))
 
-abbrev pub follows : Config → Before → Referrer Module → List ℕ → Asking Question Answer (Result Before TraceFault)
+abbrev pub follows : Config → Gathered → Referrer Module → List ℕ → Asking Question Answer (Result Gathered TraceFault)
 follows config before referrer specifier =
     followed_by config before referrer specifier (wanted config referrer specifier)
 
 -- ---- the rules of a walk
 
-abbrev pub begun : Before
-begun = record { modules = []; sources = []; needs = []; requests = 0 }
+abbrev pub nothing_gathered : Gathered
+nothing_gathered = record { modules = []; sources = []; needs = []; requests = 0 }
 
-abbrev pub rules : Config → Rules Module Before TraceFault Question Answer
+abbrev pub rules : Config → Rules Module Gathered TraceFault Question Answer
 rules config =
     record {
       same = is_module;
-      start = begun;
+      start = nothing_gathered;
       modules = λ before. before.modules;
       most = limit_number Modules;
       above = Limit Modules;

@@ -22,32 +22,32 @@ use Rattle.trace_spec.specs.FirstRefusals.{Failure, refused, halted, Comes, AllP
 use Rattle.trace_spec.specs.Modules.{Config, Module, is_module, path_of, web_name, IsServable, file_name}
 use Rattle.trace_spec.specs.Questions.{Source, Question, of_module, of_request, Answer, Trail, answers, always}
 use Rattle.trace_spec.specs.Kinds.{IsOfTrace}
-use Rattle.trace_spec.specs.Checks.{Before, with_source, opens, Wanted, wanted, with_request, follows, begun, rules}
+use Rattle.trace_spec.specs.Checks.{Gathered, with_source, opens, Wanted, wanted, with_request, follows, nothing_gathered, rules}
 use Rattle.trace_spec.specs.Traces.{trace, result_of, state_of, traced, source, requests, specifiers, resolution}
-use Rattle.trace_spec.specs.Traces.{leads, targets, Reachable}
+use Rattle.trace_spec.specs.Traces.{leads, targets, ReachedByPage}
 
 -- the modules of a trace are its levels, one behind another
 abbrev pub HasLevels : Type 0
 HasLevels =
-    (sights : Sights) (config : Config) (all : Before) → traced sights config ≡ Ok all
+    (sights : Sights) (config : Config) (all : Gathered) → traced sights config ≡ Ok all
     → Levels Module is_module (targets sights config) [] (the_page ∷ []) all.modules
 
 -- they are the modules that the page reaches by requests
 abbrev pub IsWhatIsReached : Type 0
 IsWhatIsReached =
-    (sights : Sights) (config : Config) (all : Before) → traced sights config ≡ Ok all
-    → (m : Module) → Contains all.modules m ↔ Reachable sights config (a_module m)
+    (sights : Sights) (config : Config) (all : Gathered) → traced sights config ≡ Ok all
+    → (m : Module) → Contains all.modules m ↔ ReachedByPage sights config (a_module m)
 
 -- none of them stands there twice
 abbrev pub ModulesOnce : Type 0
 ModulesOnce =
-    (sights : Sights) (config : Config) (all : Before) → traced sights config ≡ Ok all → (i j : ℕ) (m : Module)
+    (sights : Sights) (config : Config) (all : Gathered) → traced sights config ≡ Ok all → (i j : ℕ) (m : Module)
     → slice_get all.modules i ≡ Some m → slice_get all.modules j ≡ Some m → i ≡ j
 
 -- they are at most 20,000
 abbrev pub FewModules : Type 0
 FewModules =
-    (sights : Sights) (config : Config) (all : Before) → traced sights config ≡ Ok all
+    (sights : Sights) (config : Config) (all : Gathered) → traced sights config ≡ Ok all
     → length all.modules ≤ limit_number Modules
 
 -- ---- the first refusal
@@ -65,7 +65,7 @@ pub record IsFirst (sights : Sights) (config : Config) (refusal : TraceFault) : 
 -- there is a trace exactly where all visits pass, and else the refusal is the first: the visits before it pass, and so
 -- do the requests before it in its own visit
 pub record Decides (sights : Sights) (config : Config) : Type 0 where
-  pub passes : (all : Before) → traced sights config ≡ Ok all ↔ AllPassed (answers sights) (rules config) tt all tt
+  pub passes : (all : Gathered) → traced sights config ≡ Ok all ↔ AllPassed (answers sights) (rules config) tt all tt
   pub refuses : (refusal : TraceFault) → traced sights config ≡ Err refusal ↔ IsFirst sights config refusal
 
 abbrev pub FirstRefusalDecides : Type 0
@@ -121,23 +121,23 @@ need_of sights config referrer specifier =
     }
 
 -- a request is put into the tables
-abbrev pub request_put : Sights → Config → Before → Referrer Module → List ℕ → Before
+abbrev pub request_put : Sights → Config → Gathered → Referrer Module → List ℕ → Gathered
 request_put sights config before referrer specifier =
     with_request before (need_of sights config referrer specifier) (target_of sights config referrer specifier)
 
 -- requests of a referrer are put into the tables one after another
-abbrev pub requests_put : Sights → Config → Referrer Module → Before → List (List ℕ) → Before
+abbrev pub requests_put : Sights → Config → Referrer Module → Gathered → List (List ℕ) → Gathered
 requests_put sights config referrer before [] = before
 requests_put sights config referrer before (specifier ∷ more) =
     requests_put sights config referrer (request_put sights config before referrer specifier) more
 
 -- what the opening of a visit puts there
-abbrev pub opening_put : Sights → Before → Referrer Module → Before
+abbrev pub opening_put : Sights → Gathered → Referrer Module → Gathered
 opening_put sights before the_page = before
 opening_put sights before (a_module m) = with_source before (unwrap_or (source sights m) no_source)
 
 -- visits are put into the tables one after another
-abbrev pub visits_put : Sights → Config → Before → List (Referrer Module) → Before
+abbrev pub visits_put : Sights → Config → Gathered → List (Referrer Module) → Gathered
 visits_put sights config before [] = before
 visits_put sights config before (referrer ∷ more) =
     visits_put sights config
@@ -156,19 +156,19 @@ asked_in sights config visits =
     (λ referrer. opening referrer ++ map (of_request (path_of config referrer)) (specifiers sights config referrer))
     visits
 
-abbrev pub visits_of : Before → List (Referrer Module)
+abbrev pub visits_of : Gathered → List (Referrer Module)
 visits_of all = the_page ∷ map a_module all.modules
 
 -- the tables hold the requests of the page and of the modules, in the order of the trace, and the source of each
 -- module at its place; and these are the questions, each at its place
-pub record InOrder (sights : Sights) (config : Config) (all : Before) : Type 0 where
-  pub tables : all ≡ visits_put sights config begun (visits_of all)
+pub record InOrder (sights : Sights) (config : Config) (all : Gathered) : Type 0 where
+  pub tables : all ≡ visits_put sights config nothing_gathered (visits_of all)
   pub sources : map Some all.sources ≡ map (source sights) all.modules
   pub asked : questions (always sights) (trace config) ≡ asked_in sights config (visits_of all)
 
 abbrev pub GoesInOrder : Type 0
 GoesInOrder =
-    (sights : Sights) (config : Config) (all : Before) → traced sights config ≡ Ok all → InOrder sights config all
+    (sights : Sights) (config : Config) (all : Gathered) → traced sights config ≡ Ok all → InOrder sights config all
 
 -- ---- the order of a refusal
 
@@ -195,13 +195,13 @@ abbrev pub ComesTo : {X : Type 0} → Sights → Asking Question Answer (Result 
 ComesTo sights asking result = result_of (evaluated (answers sights) tt asking) ≡ result
 
 -- the opening of a visit passes, and so do the requests in front of this one, which is refused
-pub record RefusedRequest (sights : Sights) (config : Config) (before : Before) (referrer : Referrer Module)
+pub record RefusedRequest (sights : Sights) (config : Config) (before : Gathered) (referrer : Referrer Module)
     (refusal : TraceFault) (front : List (List ℕ)) (specifier : List ℕ) : Type 0 where
   pub behind : List (List ℕ)
   pub split : specifiers sights config referrer ≡ front ++ specifier ∷ behind
-  pub opened : Opened Before
+  pub opened : Opened Gathered
   pub opens_so : ComesTo sights (opens config before referrer) (Ok opened)
-  pub tables : Before
+  pub tables : Gathered
   pub tables_are : tables ≡ requests_put sights config referrer (opening_put sights before referrer) front
   pub passed : ComesTo sights (followed (rules config) opened.after referrer front) (Ok tables)
   pub refused : ComesTo sights (follows config tables referrer specifier) (Err refusal)
@@ -213,7 +213,7 @@ asked_up_to config referrer front specifier =
 
 -- where a visit is refused, and what was asked in it by then: what its opening asks, and then what the requests ask up
 -- to the one that is refused
-pub data RefusedAt (sights : Sights) (config : Config) (before : Before) (referrer : Referrer Module)
+pub data RefusedAt (sights : Sights) (config : Config) (before : Gathered) (referrer : Referrer Module)
     (refusal : TraceFault) : List Question → Type 0 where
   at_opening : ComesTo sights (opens config before referrer) (Err refusal)
       → RefusedAt sights config before referrer refusal (opening referrer)
@@ -227,8 +227,8 @@ pub record RefusedInOrder (sights : Sights) (config : Config) (refusal : TraceFa
   pub visits : List (Referrer Module)
   pub referrer : Referrer Module
   pub later : List (Referrer Module)
-  pub before : Before
-  pub tables : before ≡ visits_put sights config begun visits
+  pub before : Gathered
+  pub tables : before ≡ visits_put sights config nothing_gathered visits
   pub in_order : visits_of before ≡ visits ++ referrer ∷ later
   pub comes : Comes (answers sights) (rules config) tt before tt referrer
   pub asked_last : List Question
@@ -259,7 +259,7 @@ SourcesAreRead = (sights : Sights) (m : Module) (own : Source) → source sights
 
 -- a request went through its checks: it is relative, and asks for the URL of a file; Node answers it with a module
 -- that is served at its web name, which is no folder's; and the tables have its need
-pub record Passes (sights : Sights) (config : Config) (all : Before) (referrer : Referrer Module)
+pub record Passes (sights : Sights) (config : Config) (all : Gathered) (referrer : Referrer Module)
     (specifier : List ℕ) : Type 0 where
   pub need : Need
   pub target : Module
@@ -273,21 +273,21 @@ pub record Passes (sights : Sights) (config : Config) (all : Before) (referrer :
   pub is_need : Contains all.needs need
 
 -- whatever the page reaches has requests, and they all pass
-pub record AllPass (sights : Sights) (config : Config) (all : Before) (referrer : Referrer Module) : Type 0 where
+pub record AllPass (sights : Sights) (config : Config) (all : Gathered) (referrer : Referrer Module) : Type 0 where
   pub specifiers : List (List ℕ)
   pub asks : requests sights config referrer ≡ Some specifiers
   pub pass : (specifier : List ℕ) → Contains specifiers specifier → Passes sights config all referrer specifier
 
 abbrev pub RequestsPass : Type 0
 RequestsPass =
-    (sights : Sights) (config : Config) (all : Before) → traced sights config ≡ Ok all
-    → (referrer : Referrer Module) → Reachable sights config referrer → AllPass sights config all referrer
+    (sights : Sights) (config : Config) (all : Gathered) → traced sights config ≡ Ok all
+    → (referrer : Referrer Module) → ReachedByPage sights config referrer → AllPass sights config all referrer
 
 -- a need is that of a request of a referrer that is reached and has that web name: it is for what the request asks
 -- for, and names the module to which Node leads it; neither name is a folder's
 pub record IsNeed (sights : Sights) (config : Config) (need : Need) : Type 0 where
   pub referrer : Referrer Module
-  pub reached : Reachable sights config referrer
+  pub reached : ReachedByPage sights config referrer
   pub named : web_name config referrer ≡ Some need.referrer
   pub specifier : List ℕ
   pub is_request : Contains (specifiers sights config referrer) specifier
@@ -298,10 +298,10 @@ pub record IsNeed (sights : Sights) (config : Config) (need : Need) : Type 0 whe
   pub is_name : file_name config target ≡ Some need.target
 
 -- the needs are those of requests of what is reached, and no two clash
-pub record NeedsAre (sights : Sights) (config : Config) (all : Before) : Type 0 where
+pub record NeedsAre (sights : Sights) (config : Config) (all : Gathered) : Type 0 where
   pub each : (need : Need) → Contains all.needs need → IsNeed sights config need
   pub no_clash : NoClash all.needs
 
 abbrev pub NeedsAreRequests : Type 0
 NeedsAreRequests =
-    (sights : Sights) (config : Config) (all : Before) → traced sights config ≡ Ok all → NeedsAre sights config all
+    (sights : Sights) (config : Config) (all : Gathered) → traced sights config ≡ Ok all → NeedsAre sights config all

@@ -4,7 +4,7 @@
 --     traced sights config        what it comes to: the tables of the trace, or the first refusal
 --     requests sights config referrer      what a referrer asks for, if it is of the form
 --     targets sights config referrer       the modules that Node answers for these requests
---     Reachable sights config referrer     the page reaches it by requests
+--     ReachedByPage sights config referrer     the page reaches it by requests
 use Rattle.std.specs.Prelude.{ℕ, List, [], Option, Some, None, Result, Err, filter_map, option_map, unwrap_or}
 use Rattle.std.specs.Prelude.{if◌then◌else◌}
 use Rattle.asking_spec.specs.Askings.{Asking, outcome}
@@ -20,9 +20,9 @@ use Rattle.trace_spec.specs.Walking.{Referrer, the_page, a_module, walk}
 use Rattle.trace_spec.specs.Levels.{Reached}
 use Rattle.trace_spec.specs.Modules.{Config, Module, path_of}
 use Rattle.trace_spec.specs.Questions.{Source, Question, of_module, Answer, answers, always}
-use Rattle.trace_spec.specs.Checks.{Before, rules}
+use Rattle.trace_spec.specs.Checks.{Gathered, rules}
 
-abbrev pub trace : Config → Asking Question Answer (Result Before TraceFault)
+abbrev pub trace : Config → Asking Question Answer (Result Gathered TraceFault)
 trace config = walk (rules config)
 
 -- own: what an evaluation comes to, where a limit that stops it refuses it
@@ -35,7 +35,7 @@ abbrev pub state_of : {X T : Type 0} → Ended X T LimitName → T
 state_of (ends value state) = state
 state_of (stopped limit state) = state
 
-abbrev pub traced : Sights → Config → Result Before TraceFault
+abbrev pub traced : Sights → Config → Result Gathered TraceFault
 traced sights config = result_of (evaluated (answers sights) tt (trace config))
 
 -- ---- what is reached
@@ -67,5 +67,5 @@ leads sights config referrer specifier =
 abbrev pub targets : Sights → Config → Referrer Module → List Module
 targets sights config referrer = filter_map (leads sights config referrer) (specifiers sights config referrer)
 
-abbrev pub Reachable : Sights → Config → Referrer Module → Type 0
-Reachable sights config referrer = Reached Module (targets sights config) referrer
+abbrev pub ReachedByPage : Sights → Config → Referrer Module → Type 0
+ReachedByPage sights config referrer = Reached Module (targets sights config) referrer

@@ -1,7 +1,7 @@
 use Rattle.std.proofs.Common.{subst}
 use Rattle.layout_spec.specs.Needs.{NoClash}
-use Rattle.trace_spec.specs.Checks.{Before}
+use Rattle.trace_spec.specs.Checks.{Gathered}
 use Rattle.request_trace.proofs.traces.Trace.needs.Goals as goal
 
 pub returns-clause-clear : goal.returns-clause-clear
-returns-clause-clear c = subst (λ (tables : Before). NoClash tables.needs) c.self.view_is c.self.invariant.clear
+returns-clause-clear c = subst (λ (tables : Gathered). NoClash tables.needs) c.self.view_is c.self.invariant.clear
