@@ -118,9 +118,9 @@ request from to text = record { from = from; to = to; text = text }
 pub record OutlineExamples : Type 0 where
   -- no token
   pub nothing : outlined [] ≡ Ok (record { requests = []; declares = false })
-  -- import "a"
-  pub effects : outlined (named_at 0 (codes "import") ∷ text_at 7 (codes "'a'") ∷ []) ≡ asks_for
-      (request 7 10 (codes "a") ∷ [])
+  -- import 'a'
+  pub effects : outlined (named_at 0 (codes "import") ∷ text_at 7 (codes "'a'") ∷ [])
+      ≡ asks_for (request 7 10 (codes "a") ∷ [])
   -- import a from 'b'
   pub default_binding : outlined (named_at 0 (codes "import") ∷ named_at 7 (codes "a") ∷ named_at 9 (codes "from")
       ∷ text_at 14 (codes "'b'") ∷ []) ≡ asks_for (request 14 17 (codes "b") ∷ [])
@@ -131,21 +131,21 @@ pub record OutlineExamples : Type 0 where
   -- import a,{b} from 'c'
   pub default_and_named : outlined (named_at 0 (codes "import") ∷ named_at 7 (codes "a") ∷ mark_at 8 (codes ",")
       ∷ at kinds.Punctuator 9 (codes "{") 0 1 ∷ at kinds.Name 10 (codes "b") 1 1 ∷ at kinds.Punctuator 11
-      (codes "}") 1 0 ∷ named_at 13 (codes "from") ∷ text_at 18 (codes "'c'") ∷ []) ≡ asks_for
-      (request 18 21 (codes "c") ∷ [])
+      (codes "}") 1 0 ∷ named_at 13 (codes "from") ∷ text_at 18 (codes "'c'") ∷ [])
+      ≡ asks_for (request 18 21 (codes "c") ∷ [])
   -- import*as a from 'b'
   pub name_space : outlined (named_at 0 (codes "import") ∷ mark_at 6 (codes "*") ∷ named_at 7 (codes "as")
-      ∷ named_at 10 (codes "a") ∷ named_at 12 (codes "from") ∷ text_at 17 (codes "'b'") ∷ []) ≡ asks_for
-      (request 17 20 (codes "b") ∷ [])
+      ∷ named_at 10 (codes "a") ∷ named_at 12 (codes "from") ∷ text_at 17 (codes "'b'") ∷ [])
+      ≡ asks_for (request 17 20 (codes "b") ∷ [])
   -- export*from'a' export*as'b'from'c'
   pub export_all : outlined (named_at 0 (codes "export") ∷ mark_at 6 (codes "*") ∷ named_at 7 (codes "from")
       ∷ text_at 11 (codes "'a'") ∷ named_at 15 (codes "export") ∷ mark_at 21 (codes "*") ∷ named_at 22 (codes "as")
-      ∷ text_at 24 (codes "'b'") ∷ named_at 27 (codes "from") ∷ text_at 31 (codes "'c'") ∷ []) ≡ asks_for
-      (request 11 14 (codes "a") ∷ request 31 34 (codes "c") ∷ [])
+      ∷ text_at 24 (codes "'b'") ∷ named_at 27 (codes "from") ∷ text_at 31 (codes "'c'") ∷ [])
+      ≡ asks_for (request 11 14 (codes "a") ∷ request 31 34 (codes "c") ∷ [])
   -- export{}from'a'
   pub export_named : outlined (named_at 0 (codes "export") ∷ at kinds.Punctuator 6 (codes "{") 0 1
-      ∷ at kinds.Punctuator 7 (codes "}") 1 0 ∷ named_at 8 (codes "from") ∷ text_at 12 (codes "'a'") ∷ []) ≡ asks_for
-      (request 12 15 (codes "a") ∷ [])
+      ∷ at kinds.Punctuator 7 (codes "}") 1 0 ∷ named_at 8 (codes "from") ∷ text_at 12 (codes "'a'") ∷ [])
+      ≡ asks_for (request 12 15 (codes "a") ∷ [])
   -- export {import} from
   pub no_specifier : outlined (named_at 0 (codes "export") ∷ at kinds.Punctuator 7 (codes "{") 0 1 ∷ at kinds.Name 8
       (codes "import") 1 1 ∷ at kinds.Punctuator 14 (codes "}") 1 0 ∷ named_at 16 (codes "from") ∷ []) ≡ asks_for []

@@ -114,7 +114,8 @@ is_value_word text =
     || bytes_eq text (codes "void")
     || bytes_eq text (codes "yield")
 
--- own: of ECMA-262, 12.7.2, the other words behind which a statement may stand
+-- own: of ECMA-262, 12.7.2, words that are no operand and behind which none goes on: a `/` behind them begins a
+-- regular expression, and a `{` a block
 abbrev pub is_statement_word : List ℕ → Bool
 is_statement_word text =
     bytes_eq text (codes "break")
@@ -159,7 +160,8 @@ is_dot TemplateTail = false
 is_dot Regex = false
 is_dot (Punctuator mark) = is_dot_mark mark
 
--- own: behind what a `{` opens an object literal, a function's body as an expression or a class, and no block
+-- own: behind what a `{` opens an object literal. What comes of a function's or a class's braces is taken as a
+-- block's, also where they are expressions
 abbrev pub mark_before_value : Mark → Bool
 mark_before_value OpenRound = true
 mark_before_value OpenSquare = true

@@ -162,7 +162,7 @@ most_brackets = 4096
 
 -- ---- the slash
 
--- own: what may stand behind a bracket that is closed, by what stands before it
+-- own: whether a `/` behind a closing bracket begins a regular expression, by what stands before the opening one
 abbrev pub closed_round : List Lexeme → Bool
 closed_round [] = false
 closed_round (o ∷ before) = after_control before

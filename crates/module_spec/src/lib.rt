@@ -24,7 +24,7 @@ pub fn worked_examples()
     ensures { WorkedExamples }
 {}
 
-/// A text has one list of tokens or one first fault, and not both.
+/// A text has at most one list of tokens or one first fault, and not both.
 #[tactic(auto, using(crate::proofs::TokenLaws::one_tokens))]
 pub fn one_tokens()
     ensures { OneTokens }
@@ -48,7 +48,7 @@ pub fn depth_counts()
     ensures { DepthCounts }
 {}
 
-/// A closing token has one partner.
+/// A closing token has at most one partner.
 pub fn one_partner()
     ensures { OnePartner }
 {}
@@ -64,7 +64,7 @@ pub fn forms_are_productions()
     ensures { FormsAreProductions }
 {}
 
-/// A text has one outline or one first fault, and not both.
+/// A text has at most one outline or one first fault, and not both.
 #[tactic(auto, using(crate::proofs::OutlineLaws::one_outline))]
 pub fn one_outline()
     ensures { OneOutline }

@@ -11,3 +11,4 @@ pub mod Traces
 pub mod RefusalOrder
 pub mod RefusalKinds
 pub mod NeedLemmas
+pub mod TextLimits

@@ -5,12 +5,14 @@ use Rattle.asking_spec.specs.Askings.{Asking, questions}
 use Rattle.asking_spec.specs.Evaluation.{evaluated, Asked, listed}
 use Rattle.tree_spec.specs.declared.Entry.TheVariants.{Stored}
 use Rattle.tree_spec.specs.declared.LimitName.{LimitName}
-use Rattle.tree_spec.specs.declared.LimitName.TheVariants.{Modules}
+use Rattle.tree_spec.specs.declared.LimitName.TheVariants.{Modules, Brackets, ModuleRequests}
 use Rattle.tree_spec.specs.Limits.{limit_number}
 use Rattle.tree_spec.specs.LookAskings.{Sights}
 use Rattle.url_spec.specs.Specifiers.{ends_in_slash}
 use Rattle.url_spec.specs.Specifiers.{is_relative, as_url}
+use Rattle.module_spec.specs.Outlines.{most_requests}
 use Rattle.module_spec.specs.PlainForm.{Requests}
+use Rattle.module_spec.specs.Tokens.{most_brackets}
 use Rattle.node_spec.specs.Resolution as node
 use Rattle.layout_spec.specs.declared.Need.{Need}
 use Rattle.layout_spec.specs.Needs.{NoClash}
@@ -22,7 +24,8 @@ use Rattle.trace_spec.specs.FirstRefusals.{Failure, refused, halted, Comes, AllP
 use Rattle.trace_spec.specs.Modules.{Config, Module, is_module, path_of, web_name, IsServable, file_name}
 use Rattle.trace_spec.specs.Questions.{Source, Question, of_module, of_request, Answer, Trail, answers, always}
 use Rattle.trace_spec.specs.Kinds.{IsOfTrace}
-use Rattle.trace_spec.specs.Checks.{Gathered, with_source, opens, Wanted, wanted, with_request, follows, nothing_gathered, rules}
+use Rattle.trace_spec.specs.Checks.{Gathered, with_source, nothing_gathered, rules}
+use Rattle.trace_spec.specs.Checks.{opens, Wanted, wanted, with_request, follows}
 use Rattle.trace_spec.specs.Traces.{trace, result_of, state_of, traced, source, requests, specifiers, resolution}
 use Rattle.trace_spec.specs.Traces.{leads, targets, ReachedByPage}
 
@@ -305,3 +308,10 @@ pub record NeedsAre (sights : Sights) (config : Config) (all : Gathered) : Type 
 abbrev pub NeedsAreRequests : Type 0
 NeedsAreRequests =
     (sights : Sights) (config : Config) (all : Gathered) → traced sights config ≡ Ok all → NeedsAre sights config all
+
+-- ---- limits
+
+-- the most brackets that a module's text has open, and the most requests of a module, are the limits of that name
+pub record LimitsOfTexts : Type 0 where
+  pub brackets : most_brackets ≡ limit_number Brackets
+  pub requests : most_requests ≡ limit_number ModuleRequests

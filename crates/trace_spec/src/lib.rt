@@ -4,7 +4,8 @@
 
 ghost use Rattle.trace_spec.specs.Laws.{HasLevels, IsWhatIsReached, ModulesOnce, FewModules};
 ghost use Rattle.trace_spec.specs.Laws.{FirstRefusalDecides, RefusesByKind, NeverOutOfRoom, GoesInOrder};
-ghost use Rattle.trace_spec.specs.Laws.{RefusesInOrder, SourcesAreRead, RequestsPass, NeedsAreRequests};
+ghost use Rattle.trace_spec.specs.Laws.{RefusesInOrder, SourcesAreRead, RequestsPass};
+ghost use Rattle.trace_spec.specs.Laws.{NeedsAreRequests, LimitsOfTexts};
 
 use node_spec::Cause;
 use primitives::Text;
@@ -114,4 +115,10 @@ pub fn requests_pass()
 /// The needs of a trace are those of requests of whatever the page reaches, and no two clash.
 pub fn needs_are_requests()
     ensures { NeedsAreRequests }
+{}
+
+/// The numbers of a module's text are those of the limits.
+#[tactic(auto, using(crate::proofs::TextLimits::limits_of_texts))]
+pub fn limits_of_texts()
+    ensures { LimitsOfTexts }
 {}
