@@ -1,14 +1,14 @@
 -- What Node's resolution comes to: one answer, decided by its footprint, and on relative specifiers the known one.
-use Rattle.std.proofs.Common.{◌≡◌, ◌==◌, ℕ, List, [], ◌∷◌, Bool, true, false, Option, Some, None, refl, sym, ap, ◌∙◌, subst, ⊎_elim, append-nil}
+use Rattle.std.proofs.Common.{◌≡◌, ℕ, List, [], ◌∷◌, Bool, true, false, Option, Some, None, refl, sym, ap, ◌∙◌, append-nil}
 use Rattle.std.specs.Prelude.{option_map}
-use Rattle.std.proofs.lemmas.Bool.{cond-true, cond-false, eqb-true, cases_Bool, true≢false}
+use Rattle.std.proofs.lemmas.Bool.{cond-true, cond-false}
 use Rattle.asking_spec.proofs.AskingLemmas.{outcome_then, questions_then}
 use Rattle.asking_spec.specs.Askings.{answered, outcome, questions, and_then, and_ok}
 use Rattle.tree_spec.proofs.Footprints.{same_by_footprint}
 use Rattle.tree_spec.specs.LookAskings.{LookAsking, looks}
 use Rattle.url_spec.proofs.NoUrls.{no_url as no_url_at}
+use Rattle.url_spec.proofs.OwnUrls.{relative_start}
 use Rattle.url_spec.specs.FileUrls.{names_host}
-use Rattle.url_spec.specs.Laws.{IsNoStart}
 use Rattle.url_spec.specs.Parsing.{parse_alone}
 use Rattle.url_spec.specs.Schemes.{scheme_of, url_scheme}
 use Rattle.url_spec.specs.Specifiers.{is_relative}
@@ -35,22 +35,6 @@ pub same_format : SameFormat
 same_format path one other agrees = same_by_footprint one other (file_format path) agrees
 
 -- ---- a relative specifier is no URL
-
-no_start : (b mark : ℕ) → IsNoStart mark → (mark == b) ≡ true → IsNoStart b
-no_start b mark start same = subst IsNoStart (eqb-true mark b same) start
-
-other_start : (b : ℕ) (rest : List ℕ) → (47 == b) ≡ false → (46 == b) ≡ false → is_relative (b ∷ rest) ≡ false
-other_start b rest no_slash no_dot = rw (no_slash, no_dot) refl
-
-relative_start : (b : ℕ) (rest : List ℕ) → is_relative (b ∷ rest) ≡ true → IsNoStart b
-relative_start b rest e =
-    ⊎_elim
-    (no_start b 47 (record { no_letter = refl; no_space = refl; no_tab = refl }))
-    (λ no_slash. ⊎_elim
-    (no_start b 46 (record { no_letter = refl; no_space = refl; no_tab = refl }))
-    (λ no_dot. absurd (true≢false (sym e ∙ other_start b rest no_slash no_dot)))
-    (cases_Bool (46 == b)))
-    (cases_Bool (47 == b))
 
 relative_no_url : (specifier : List ℕ) → is_relative specifier ≡ true → parse_alone specifier ≡ None
 relative_no_url [] r = absurd (cc)

@@ -13,7 +13,7 @@ other_start b rest no_slash no_dot = rw (no_slash, no_dot) refl
 no_start : (b mark : ℕ) → IsNoStart mark → (mark == b) ≡ true → IsNoStart b
 no_start b mark start same = subst IsNoStart (eqb-true mark b same) start
 
-relative_start : (b : ℕ) (rest : List ℕ) → is_relative (b ∷ rest) ≡ true → IsNoStart b
+pub relative_start : (b : ℕ) (rest : List ℕ) → is_relative (b ∷ rest) ≡ true → IsNoStart b
 relative_start b rest e =
     ⊎_elim
     (no_start b 47 (record { no_letter = refl; no_space = refl; no_tab = refl }))
