@@ -1,24 +1,29 @@
 -- What Node's resolution comes to: one answer, decided by its footprint, and on relative specifiers the known one.
-use Rattle.std.proofs.Common.{◌≡◌, ℕ, List, [], ◌∷◌, Bool, true, false, Option, Some, None, refl, sym, ap, ◌∙◌, append-nil}
+use Rattle.std.proofs.Common.{◌≡◌, ℕ, List, [], ◌∷◌, Bool, true, false, Option, Some, None, refl, sym, ap, ◌∙◌, subst, append-nil, ◌++◌, if◌then◌else◌, Result, Ok, Err}
 use Rattle.std.specs.Prelude.{option_map}
 use Rattle.std.proofs.lemmas.Bool.{cond-true, cond-false}
-use Rattle.asking_spec.proofs.AskingLemmas.{outcome_then, questions_then}
+use Rattle.asking_spec.proofs.AskingLemmas.{outcome_then, questions_then, ok_parts, questions_ok}
 use Rattle.asking_spec.specs.Askings.{answered, outcome, questions, and_then, and_ok}
 use Rattle.tree_spec.proofs.Footprints.{same_by_footprint}
-use Rattle.tree_spec.specs.LookAskings.{LookAsking, looks}
+use Rattle.tree_spec.specs.LookAskings.{Sights, LookAsking, looks}
+use Rattle.tree_spec.specs.declared.Entry.{Entry}
+use Rattle.tree_spec.specs.declared.Entry.TheVariants.{Stored, Directory}
 use Rattle.url_spec.proofs.NoUrls.{no_url as no_url_at}
 use Rattle.url_spec.proofs.OwnUrls.{relative_start}
-use Rattle.url_spec.specs.FileUrls.{names_host}
+use Rattle.url_spec.specs.FileUrls.{names_host, url_path, escapes_separator}
 use Rattle.url_spec.specs.Parsing.{parse_alone}
 use Rattle.url_spec.specs.Schemes.{scheme_of, url_scheme}
 use Rattle.url_spec.specs.Specifiers.{is_relative}
+use Rattle.url_spec.specs.Suffixes.{suffix_of}
 use Rattle.node_spec.specs.EsmFileFormat.{file_format}
-use Rattle.node_spec.specs.EsmResolve.{judged, by_scheme, node}
+use Rattle.node_spec.specs.EsmResolve.{judged, by_scheme, specifier_url, node}
 use Rattle.node_spec.specs.FileLooks.{without_host, check_url}
-use Rattle.node_spec.specs.NodeAnswers.{Module, Resolving, as_node}
-use Rattle.node_spec.specs.NodeLaws.{OneNode, SomeNode, SameNode, SameFormat, RelativeNode}
-use Rattle.node_spec.specs.RelativeResolution.{url_judged, joined_judged, relative_resolution}
-use Rattle.node_spec.specs.Resolution.{Answer, joined_url}
+use Rattle.node_spec.specs.NodeAnswers.{Module, Refusal, Resolving, as_node}
+use Rattle.node_spec.specs.NodeLaws.{OneNode, SomeNode, GivesFile, SameNode, SameFormat, RelativeNode}
+use Rattle.node_spec.specs.RelativeResolution.{judged_at, url_judged, named_path, joined_judged, relative_resolution}
+use Rattle.node_spec.specs.RelativeResolution.{judged as judged_there}
+use Rattle.node_spec.specs.Resolution.{Answer, Resolved, Refused, is_folder_path, joined_url}
+use Rattle.node_spec.specs.declared.Cause.TheVariants.{InvalidSpecifier, NotFound}
 use Rattle.std.specs.FinMap.{get}
 
 pub one_node : OneNode
@@ -77,4 +82,65 @@ relative_node sights conditions parent specifier r =
       looks =
           ap (looks sights) is ∙ (questions_then sights asking (λ answer. answered (as_node answer))
           ∙ append-nil (questions sights asking));
+    }
+
+-- ---- where it is a module
+
+abbrev asked : List ℕ → Bool → Option (List ℕ) → LookAsking Answer
+asked url true named = answered (Refused InvalidSpecifier)
+asked url false named = judged_at url named
+
+abbrev path_or : List ℕ → Result Module Refusal → List ℕ
+path_or other (Ok answer) = answer.path
+path_or other (Err refusal) = other
+
+by_folder : (path suffix : List ℕ) (folder : Bool) (answer : Module)
+    → as_node (if folder then Refused NotFound else Resolved path suffix) ≡ Ok answer → path ≡ answer.path
+by_folder path suffix true answer e = absurd (cc)
+by_folder path suffix false answer e = ap (path_or path) e
+
+record IsFileAt (sights : Sights) (looks : List (List ℕ)) (path : List ℕ) : Type 0 where
+  last : looks ≡ path ∷ []
+  bytes : List ℕ
+  stored : sights path ≡ Some (Stored bytes)
+
+by_entry : (sights : Sights) (url path : List ℕ) (found : Option Entry) (answer : Module) → sights path ≡ found
+    → as_node (judged_there url path found) ≡ Ok answer → IsFileAt sights (path ∷ []) answer.path
+by_entry sights url path None answer s e = absurd (cc)
+by_entry sights url path (Some Directory) answer s e = absurd (cc)
+by_entry sights url path (Some (Stored bytes)) answer s e =
+    let same = by_folder path (suffix_of url) (is_folder_path (url_path url)) answer e in
+    record { last = ap (λ p. p ∷ []) same; bytes = bytes; stored = ap sights (sym same) ∙ s }
+
+by_asked : (sights : Sights) (url : List ℕ) (escapes : Bool) (named : Option (List ℕ)) (answer : Module)
+    → outcome sights (as_module (asked url escapes named)) ≡ Ok answer
+    → IsFileAt sights (looks sights (as_module (asked url escapes named))) answer.path
+by_asked sights url true named answer e = absurd (cc)
+by_asked sights url false None answer e = absurd (cc)
+by_asked sights url false (Some path) answer e = by_entry sights url path (sights path) answer refl e
+
+judged_is : (url : List ℕ) (escapes : Bool) → escapes_separator (url_path url) ≡ escapes
+    → judged url ≡ as_module (asked url escapes (named_path url))
+judged_is url true e = ap as_module (cond-true _ _ (judged_at url (named_path url)) e)
+judged_is url false e = ap as_module (cond-false _ _ (judged_at url (named_path url)) e)
+
+judged_file : (sights : Sights) (url : List ℕ) (answer : Module) → outcome sights (judged url) ≡ Ok answer
+    → IsFileAt sights (looks sights (judged url)) answer.path
+judged_file sights url answer e =
+    let is = judged_is url (escapes_separator (url_path url)) refl in
+    subst (λ asking. IsFileAt sights (looks sights asking) answer.path) (sym is)
+    (by_asked sights url (escapes_separator (url_path url)) (named_path url) answer
+    (subst (λ asking. outcome sights asking ≡ Ok answer) is e))
+
+pub gives_file : GivesFile
+gives_file sights conditions parent specifier answer e =
+    let parts = ok_parts sights (specifier_url conditions parent specifier) judged answer e in
+    let file = judged_file sights parts.value answer parts.next_is in
+    record {
+      front = looks sights (specifier_url conditions parent specifier);
+      last =
+          questions_ok sights (specifier_url conditions parent specifier) judged parts.value parts.first_is
+          ∙ ap (λ last. looks sights (specifier_url conditions parent specifier) ++ last) file.last;
+      bytes = file.bytes;
+      stored = file.stored;
     }

@@ -1,5 +1,4 @@
 pub mod Resolution
-pub mod Looking
 pub mod Records
 pub mod PackageTargets
 pub mod BareCalls

@@ -19,7 +19,7 @@ unfoldable pub is_node_modules : List ℕ → Bool
 is_node_modules folder = ends_with nat_eq folder (codes "/node_modules")
 
 -- LOOKUP_PACKAGE_SCOPE: the first folder upwards in which a file package.json stands; a folder `node_modules` ends the
--- search. own: the root is looked at too
+-- search. The root is looked at too
 abbrev pub scopes : Search
 scopes = record { ends_at = is_node_modules; place = package_json; accepts = is_file }
 

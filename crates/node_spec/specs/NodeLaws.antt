@@ -1,6 +1,6 @@
 -- The laws of Node's rules as askings. Each is the contract of a function of this crate.
 use Rattle.std.specs.FinMap.{get}
-use Rattle.std.specs.Prelude.{◌≡◌, ◌↔◌, ℕ, true, false, List, [], Option, Result, MatchOption}
+use Rattle.std.specs.Prelude.{◌≡◌, ◌↔◌, ◌++◌, ℕ, true, false, List, [], ◌∷◌, Option, Some, Result, Ok, MatchOption}
 use Rattle.asking_spec.specs.Askings.{outcome}
 use Rattle.asking_spec.specs.Laws.{AgreesOn}
 use Rattle.json_spec.specs.Value.{Json}
@@ -8,6 +8,7 @@ use Rattle.tree_spec.specs.Laws.{IsSameAsking}
 use Rattle.tree_spec.specs.LookAskings.{Sights, looks, footprint}
 use Rattle.tree_spec.specs.Paths.{IsPath}
 use Rattle.tree_spec.specs.Trees.{Tree, IsTree}
+use Rattle.tree_spec.specs.declared.Entry.TheVariants.{Stored}
 use Rattle.url_spec.specs.Specifiers.{is_relative}
 use Rattle.node_spec.specs.BareCalls.{Tells}
 use Rattle.node_spec.specs.EsmFileFormat.{file_format}
@@ -37,6 +38,21 @@ abbrev pub SomeNode : Type 0
 SomeNode =
     (tree : Tree) (conditions : List (List ℕ)) (parent specifier : List ℕ)
     → (answer : Result Module Refusal) × Resolves tree conditions parent specifier answer
+
+-- own: the last look is at this path, and a file stands there
+pub record LooksLastAtFile (sights : Sights) (conditions : List (List ℕ)) (parent specifier path : List ℕ) : Type 0
+  where
+    pub front : List (List ℕ)
+    pub last : looks sights (node conditions parent specifier) ≡ front ++ path ∷ []
+    pub bytes : List ℕ
+    pub stored : sights path ≡ Some (Stored bytes)
+
+-- own law: where the answer is a module, a file stands at its path, and the last look was at it
+abbrev pub GivesFile : Type 0
+GivesFile =
+    (sights : Sights) (conditions : List (List ℕ)) (parent specifier : List ℕ) (answer : Module)
+    → outcome sights (node conditions parent specifier) ≡ Ok answer
+    → LooksLastAtFile sights conditions parent specifier answer.path
 
 -- own law: what stands at the paths of its footprint decides the answer
 abbrev pub SameNode : Type 0

@@ -106,7 +106,8 @@ is_undefined InvalidTarget = false
 is_undefined InvalidSpecifier = false
 is_undefined InvalidConfig = false
 
--- own: what an item of a list comes to without ending the list (PACKAGE_TARGET_RESOLVE leaves null open)
+-- own: what an item of a list comes to without ending the list (the steps of PACKAGE_TARGET_RESOLVE return null;
+-- its last sentence, and the program node, go on at it)
 abbrev pub is_passed : Outcome → Bool
 is_passed Undefined = true
 is_passed Null = true

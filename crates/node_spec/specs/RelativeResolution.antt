@@ -1,6 +1,5 @@
 -- Node's resolution of a relative specifier as an asking over looks (Node.js, ECMAScript modules: ESM_RESOLVE, from
--- "If specifier starts with
--- "/", "./", or "../"" on).
+-- "If specifier starts with "/", "./", or "../"" on).
 --     relative_resolution parent specifier      in the file at the path `parent`: a module, or the cause of a refusal
 --     named_path url                            the path that the URL's path spells, if it spells one
 use Rattle.std.specs.Prelude.{◌≡◌, ◌&&◌, ℕ, true, List, Option, Some, None, if◌then◌else◌}

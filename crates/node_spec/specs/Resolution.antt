@@ -1,4 +1,4 @@
--- Node's resolution of a specifier in a parent file (Node.js, ECMAScript modules: resolution algorithm).
+-- Node's resolution of a relative specifier in a parent file (Node.js, ECMAScript modules: resolution algorithm).
 --     Resolves tree parent specifier answer      the answer for a specifier in the file at the path `parent`
 --     Judges tree url answer      what stands at a file URL
 --     joined_url parent specifier      the URL of a relative specifier in that file

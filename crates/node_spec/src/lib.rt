@@ -5,7 +5,7 @@
 ghost use Rattle.node_spec.specs.Laws.{AnswersDetermine, ConditionsAreASet, DecidingCallIsLast, ExportsAskNothing, KeysAreInOrder, OneAnswer, OneChoice, OneOutcome, OneRecord, OneUnder, PatternMatchIsSlice, PatternMatchStands, PlacesBeginWithDotSlash, RecordNamesAreDistinct, SomeAnswer, SomeChoice, SomeOutcome, SomeOutcomeInTurn, SomeRecord};
 ghost use Rattle.node_spec.specs.WorkedExamples.{WorkedExamples};
 ghost use Rattle.node_spec.specs.NodeExamples.{NodeExamples};
-ghost use Rattle.node_spec.specs.NodeLaws.{OneNode, SomeNode, SameNode, SameFormat, RelativeNode, OneNearest, FindsPackageScope, FindsPackageFolder, FindsRecord, OneRecordAt, RecordIsRead, FindsTarget, ExportsLookAtNothing, FindsKey, NodeConditionsAreASet};
+ghost use Rattle.node_spec.specs.NodeLaws.{OneNode, SomeNode, GivesFile, SameNode, SameFormat, RelativeNode, OneNearest, FindsPackageScope, FindsPackageFolder, FindsRecord, OneRecordAt, RecordIsRead, FindsTarget, ExportsLookAtNothing, FindsKey, NodeConditionsAreASet};
 ghost use Rattle.node_spec.specs.PatternExamples.{PatternExamples};
 ghost use Rattle.node_spec.specs.TargetCalls.{FollowsTarget, TargetAnswered};
 ghost use Rattle.node_spec.specs.RelativeResolution.{FindsRelative};
@@ -233,6 +233,12 @@ pub fn one_node()
 #[tactic(auto, using(crate::proofs::NodeLemmas::some_node))]
 pub fn some_node()
     ensures { SomeNode }
+{}
+
+/// Where the answer is a module, a file stands at its path, and the last look was at it.
+#[tactic(auto, using(crate::proofs::NodeLemmas::gives_file))]
+pub fn gives_file()
+    ensures { GivesFile }
 {}
 
 /// What stands at the paths of its footprint decides the answer for a specifier.
