@@ -25,7 +25,7 @@ pub members_put : (key : List ℕ) (value : Value) (entries : List (List ℕ × 
 members_put key value [] = refl
 members_put key value (entry ∷ more) = put_first key entry.0 value entry.1 more (insert_entry bytes_eq more key value) (bytes_eq key entry.0) (members_put key value more)
 
-span_shown : (start len : ℕ) (values : List Value) → take len (drop start (map json_of values)) ≡ map json_of (take len (drop start values))
+pub span_shown : (start len : ℕ) (values : List Value) → take len (drop start (map json_of values)) ≡ map json_of (take len (drop start values))
 span_shown start len values = ap (take len) (drop-map json_of start values) ∙ take-map json_of len (drop start values)
 
 abbrev place_shown : Place → Json.Items
@@ -38,6 +38,7 @@ layer_shown : (level : Place-F Kept Place Value Items MembersOfCode) → place_s
 layer_shown (Place-F.Within start len block) = search (rules, the_lemmas, span_shown start len block.value.items)
 layer_shown (Place-F.Longer parts) = search (rules, the_lemmas, longer_shown parts.value.1 parts.value.2 parts.value.0.value.items parts.value.3.items)
 layer_shown (Place-F.Waiting start len) = search (rules, the_lemmas)
+layer_shown (Place-F.WaitingLong numbers) = search (rules, the_lemmas)
 
 place_layer : (place : Place) → place_shown place ≡ items_of (values_at (out-Place place))
 place_layer place = search (rules, the_lemmas, layer_shown (out-Place place))

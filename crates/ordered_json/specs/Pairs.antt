@@ -18,4 +18,6 @@ pub record IsAt (key : List ℕ) (pairs : List (List ℕ × Value)) (place : ℕ
   pub new : IsNowhere key before
 
 pub record IsReplaced (place : ℕ) (value : Value) (pairs replaced : List (List ℕ × Value)) : Type 0 where
-  pub all : (before after : List (List ℕ × Value)) (key : List ℕ) (old : Value) → pairs ≡ before ++ (key, old) ∷ after → place ≡ length before → replaced ≡ before ++ (key, value) ∷ after
+  pub all :
+      (before after : List (List ℕ × Value)) (key : List ℕ) (old : Value) → pairs ≡ before ++ (key, old) ∷ after
+      → place ≡ length before → replaced ≡ before ++ (key, value) ∷ after

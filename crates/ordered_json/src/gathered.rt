@@ -12,8 +12,8 @@ use std::alloc::{AllocError, Global};
 /// How many members are compared one by one.
 const FEW: usize = 8;
 
-/// The members of an object that is read: the first few in a list that is searched, as small objects are read faster without
-/// an index, and those behind them in a map.
+/// The members of an object that is read: the first few in a list that is searched, as small objects are read faster
+/// without an index, and those behind them in a map.
 #[derive(Drop)]
 pub struct Gathered {
     first: Vec<(Text, Value)>,

@@ -1,5 +1,5 @@
-//! JSON texts as values whose objects keep the order of their members: `read` gives a text's value, or its first fault with
-//! its place, and `print_text` the printed form of a string.
+//! JSON texts as values whose objects keep the order of their members: `read` gives a text's value, or its first fault
+//! with its place, and `print_text` the printed form of a string.
 #![tactic(auto)]
 
 mod escapes;
