@@ -2,6 +2,7 @@
 //! with its place, and `print_text` the printed form of a string.
 #![tactic(auto)]
 
+mod distinct;
 mod escapes;
 mod fault;
 mod forest;
@@ -10,6 +11,7 @@ mod numbers;
 mod quoting;
 mod reader;
 mod scan;
+mod settling;
 mod strings;
 #[cfg(test)]
 mod tests;

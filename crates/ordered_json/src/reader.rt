@@ -1,8 +1,8 @@
 ghost use Rattle.std.specs.Prelude.{◌≡◌, ◌≢◌, ◌<◌, ◌≤◌, List, ℕ, ◌∷◌};
 ghost use Rattle.std.specs.Prelude.{length, MatchResult, IfOk, IfErr, OnOk, Ok};
-ghost use Rattle.json_spec.specs.Value.{HasDistinctNames};
 ghost use Rattle.json_spec.specs.Taken.{taken};
-ghost use Rattle.json_spec.specs.Grammar.{ReadsName, ReadsJson};
+ghost use Rattle.json_spec.specs.Grammar.{ReadsName};
+ghost use Rattle.ordered_json.specs.IsJson.{HasJson};
 ghost use Rattle.ordered_json.specs.Shown.{json_of};
 ghost use Rattle.ordered_json.specs.Outcomes.{Fails, IsFault, IsWhole, WholeFails, ReadsValue, Unread};
 ghost use Rattle.ordered_json.specs.Outcomes.{ReadsAnywhere, UnreadAnywhere, IsScalar, IsNoScalar, ReadsPair, NoPair};
@@ -23,8 +23,7 @@ use tree_spec::MOST_DEPTH;
 
 /// The value of a JSON text (RFC 8259), or its first fault.
 pub fn read(alloc: Global, bytes: &[u8]) -> Result<Value, JsonFault>
-    ensures reads { MatchResult result (λ value. ReadsJson bytes.now (Ok (json_of value))) (IsFault bytes.now) }
-    ensures distinct { IfOk result (λ value. HasDistinctNames (json_of value)) }
+    ensures { MatchResult result (HasJson bytes.now) (IsFault bytes.now) }
 {
     match read_whole(alloc, bytes) {
         Ok(value) => Ok(value),

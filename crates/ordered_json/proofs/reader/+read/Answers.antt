@@ -35,7 +35,7 @@ read_members-returns-in-Some-after_byte-clause-shorter t c =
 
 pub read_members-loop-more-init : goal.read_members-loop-more-init
 read_members-loop-more-init t c =
-    let first = awaits_first_member (Reads c.args.depth) c.args.bytes.now _ _ (ap members_of c.in_ok-members.ensures) c.skip_space-start.ensures c.in_default.ensures in
+    let first = awaits_first_member (Reads c.args.depth) c.args.bytes.now _ _ c.in_ok-members.ensures c.skip_space-start.ensures c.in_default.ensures in
     record { behind = behind_one_more first _ _ _ _ _ c.in_ok-key.ensures.reads c.skip_space-rest.ensures c.in_ok-put.ensures; no_end = c.in_default-after_byte.ensures; kept = c.in_ok-key.ensures.kept; level = c.in_ok-key.ensures.depth; shorter = omega (arith, space_at_most c.args.bytes.now, ap length c.skip_space-start.ensures, c.in_ok-key.ensures.shorter, space_at_most c.in_ok-key.after.now, ap length c.skip_space-rest.ensures) }
 
 pub read_members-returns-in_default-after_byte-2-clause-reads : goal.read_members-returns-in_default-after_byte-2-clause-reads
@@ -50,7 +50,7 @@ read_members-returns-in_err-key-2-clause-reads t c =
 pub read_members-returns-in-Some-after_byte-3-clause-reads : goal.read_members-returns-in-Some-after_byte-3-clause-reads
 read_members-returns-in-Some-after_byte-3-clause-reads t c =
     let next = awaits_next_member c.loop-more.invariant.behind _ _ c.in-Some-after_byte-2.ensures c.skip_space.ensures in
-    last_member (behind_one_more next _ _ _ _ _ c.in_ok-key-2.ensures.reads c.skip_space-rest-in-loop-more.ensures (ap members_of c.in_ok-into_members.ensures ∙ c.in_ok-put-2.ensures)) _ _ refl c.in-Some-after_byte-3.ensures
+    last_member (behind_one_more next _ _ _ _ _ c.in_ok-key-2.ensures.reads c.skip_space-rest-in-loop-more.ensures (c.in_ok-into_members.ensures ∙ c.in_ok-put-2.ensures)) _ _ refl c.in-Some-after_byte-3.ensures
 
 pub read_members-returns-in-Some-after_byte-3-clause-shorter : goal.read_members-returns-in-Some-after_byte-3-clause-shorter
 read_members-returns-in-Some-after_byte-3-clause-shorter t c =
