@@ -1,6 +1,6 @@
 ghost use Rattle.std.specs.Prelude.{◌≡◌, IsTrue, IsFalse, IfOk};
 ghost use Rattle.json_spec.specs.Value.{IsNewName, AreDistinct};
-ghost use Rattle.ordered_json.specs.Pairs.{names_of, IsBefore, Ascend};
+ghost use Rattle.ordered_json.specs.Pairs.{weight_behind, weighed_names, IsBefore, Ascend};
 ghost use Rattle.ordered_json.specs.Shown.{members_of};
 
 use crate::value::Value;
@@ -11,6 +11,10 @@ use std::cmp::Ordering;
 /// In how many pairs each name is looked for among those behind it. The names of more are sorted.
 const FEW: usize = 8;
 
+// A name with a number that is made of it. They are sorted by that number first, as numbers are compared faster, and names
+// that differ mostly differ in it.
+type Weighed = (u64, Text);
+
 /// Whether no name stands twice among the pairs. It takes n log n comparisons of names, whatever they are, so names
 /// that somebody made up for it cost no more than others.
 pub fn are_distinct(alloc: Global, pairs: &[(Text, Value)]) -> Result<bool, Memory>
@@ -19,7 +23,7 @@ pub fn are_distinct(alloc: Global, pairs: &[(Text, Value)]) -> Result<bool, Memo
     if pairs.len() <= FEW {
         return Ok(few_are_distinct(pairs));
     }
-    let mut names = names_in(alloc, pairs)?;
+    let mut names = weigh(alloc, pairs)?;
     names.sort_unstable();
     Ok(ascend(names.as_slice()))
 }
@@ -50,20 +54,32 @@ fn has_name(pairs: &[(Text, Value)], name: &Text) -> bool
     false
 }
 
-fn names_in(alloc: Global, pairs: &[(Text, Value)]) -> Result<Vec<Text>, Memory>
-    ensures { IfOk result (λ names. names.items ≡ names_of pairs.now) }
+fn weigh(alloc: Global, pairs: &[(Text, Value)]) -> Result<Vec<Weighed>, Memory>
+    ensures { IfOk result (λ names. names.items ≡ weighed_names pairs.now) }
 {
     let mut names = Vec::with_capacity(alloc, pairs.len())?;
     let mut rest = pairs;
     while let Some((pair, more)) = rest.split_first() {
-        names.push(pair.0.copy(alloc)?)?;
+        names.push((weight(&pair.0), pair.0.copy(alloc)?))?;
         rest = more;
     }
     Ok(names)
 }
 
-// Whether each name stands before the next one in the order of texts.
-fn ascend(names: &[Text]) -> bool
+fn weight(name: &Text) -> u64
+    ensures { result ≡ weight_behind 0 name.now }
+{
+    let mut rest = name.as_str().as_bytes();
+    let mut weight = 0u64;
+    while let Some((byte, more)) = rest.split_first() {
+        weight = weight.wrapping_mul(31).wrapping_add(u64::from(*byte));
+        rest = more;
+    }
+    weight
+}
+
+// Whether each name stands before the next one.
+fn ascend(names: &[Weighed]) -> bool
     ensures { IsTrue result → Ascend names.now }
 {
     let Some((first, more)) = names.split_first() else {
@@ -81,7 +97,7 @@ fn ascend(names: &[Text]) -> bool
     true
 }
 
-fn is_before(name: &Text, other: &Text) -> bool
+fn is_before(name: &Weighed, other: &Weighed) -> bool
     ensures { IsTrue result → IsBefore name.now other.now }
 {
     match name.cmp(other) {
