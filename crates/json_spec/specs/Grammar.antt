@@ -5,13 +5,15 @@
 --     ReadsMembers, ReadsItems      the same of the members of an object and the values of a list
 --     most_brackets      how many brackets may be open at once
 -- A fault's place is counted from the end while the text is read, and is turned into an offset once, in `ReadsJson`.
-use Rattle.std.specs.Prelude.{ℕ, Bool, ◌||◌, ◌==◌, List, [], ◌∷◌, if◌then◌else◌, length, Option, Some, None, true, false, codes, suc, ◌≢◌, ◌≡◌, zero, Result, Ok, Err, ◌-◌}
+use Rattle.std.specs.Prelude.{ℕ, Bool, ◌||◌, ◌==◌, List, [], ◌∷◌, if◌then◌else◌, length, Option, Some, None, true}
+use Rattle.std.specs.Prelude.{false, codes, suc, ◌≢◌, ◌≡◌, zero, Result, Ok, Err, ◌-◌}
 use Rattle.tree_spec.specs.declared.LimitName.TheVariants.{Depth}
 use Rattle.tree_spec.specs.Limits.{limit_number}
 use Rattle.json_spec.specs.Numbers.{number_at}
 use Rattle.json_spec.specs.Strings.{behind, ReadsString}
 use Rattle.json_spec.specs.Taken.{Taken, refused, taken, Read, and_then}
-use Rattle.json_spec.specs.Value.{Json, a_number, a_null, a_bool, Members, a_member, Items, an_item, no_members, no_items, a_text, a_list, an_object, settled}
+use Rattle.json_spec.specs.Value.{Json, a_number, a_null, a_bool, Members, a_member, Items, an_item, no_members}
+use Rattle.json_spec.specs.Value.{no_items, a_text, a_list, an_object, settled}
 
 -- own: what ends the reading of a text, and its place. `NotJson`: nothing is left there, or what comes is no token, or
 -- one that the grammar hasn't at that point. `TooDeep`: a `[` or `{` that the grammar has there, while `most_brackets`

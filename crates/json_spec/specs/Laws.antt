@@ -3,7 +3,8 @@ use Rattle.std.specs.Prelude.{◌≡◌, ◌≤◌, ℕ, true, not, List, ◌∷
 use Rattle.std.specs.List.Sorted.{IsPermutation, IsNonDecreasingBy}
 use Rattle.json_spec.specs.Grammar.{Fault, ReadsJson, most_brackets}
 use Rattle.json_spec.specs.Numbers.{IsNumber, number_at}
-use Rattle.json_spec.specs.PropertyOrder.{Pair, pairs_of, is_array_index, number_of, index_members, other_members, in_property_order}
+use Rattle.json_spec.specs.PropertyOrder.{Pair, pairs_of, is_array_index, number_of, index_members, other_members}
+use Rattle.json_spec.specs.PropertyOrder.{in_property_order}
 use Rattle.json_spec.specs.PrintedString.{escaped, quoted}
 use Rattle.json_spec.specs.PrintedValue.{printed_text, IsPrintable}
 use Rattle.json_spec.specs.Strings.{ReadsText}

@@ -6,7 +6,8 @@
 use Rattle.std.specs.Prelude.{ℕ, zero, suc, List, ◌∷◌, true, false, ◌++◌, codes, [], ⊤, IsUtf8}
 use Rattle.json_spec.specs.PrintedString.{quoted}
 use Rattle.json_spec.specs.Numbers.{IsNumber}
-use Rattle.json_spec.specs.Value.{Json, a_null, a_bool, a_number, a_text, a_list, an_object, Items, no_items, an_item, Members, no_members, a_member, AreDistinct}
+use Rattle.json_spec.specs.Value.{Json, a_null, a_bool, a_number, a_text, a_list, an_object, Items, no_items, an_item}
+use Rattle.json_spec.specs.Value.{Members, no_members, a_member, AreDistinct}
 
 -- own: two spaces a level
 abbrev pub margin : ℕ → List ℕ → List ℕ

@@ -4,7 +4,8 @@
 --     is_array_index text      the text is the decimal form of a number below 2^32 - 1 (ECMA-262, object type)
 --     number_of digits      the number that decimal digits spell
 --     pairs_of members      the members as a list
-use Rattle.std.specs.Prelude.{ℕ, ◌+◌, ◌-◌, ◌*◌, Bool, not, ◌&&◌, ◌==◌, nat_lt, nat_le, true, false, List, [], ◌∷◌, if◌then◌else◌}
+use Rattle.std.specs.Prelude.{ℕ, ◌+◌, ◌-◌, ◌*◌, Bool, not, ◌&&◌, ◌==◌, nat_lt, nat_le, true, false, List, [], ◌∷◌}
+use Rattle.std.specs.Prelude.{if◌then◌else◌}
 use Rattle.std.specs.List.{list_all}
 use Rattle.std.specs.Char.{is_ascii_digit}
 use Rattle.json_spec.specs.Value.{Json, Members, no_members, a_member}

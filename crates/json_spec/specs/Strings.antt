@@ -2,7 +2,8 @@
 --     ReadsString bytes out      what a string is whose opening quote stands before the bytes
 --     ReadsText bytes out      the same, whether its text is UTF-8 or not
 --     escape_at bytes      the character of the escape whose `\` stands before the bytes
-use Rattle.std.specs.Prelude.{ℕ, ◌||◌, ◌==◌, if◌then◌else◌, Option, Some, None, ◌-◌, ◌&&◌, nat_le, zero, suc, ◌+◌, ◌*◌, List, [], ◌∷◌, Bool, nat_lt, encode_utf8, ◌≡◌, ◌<◌, ◌≤◌, ◌≢◌, IsUtf8}
+use Rattle.std.specs.Prelude.{ℕ, ◌||◌, ◌==◌, if◌then◌else◌, Option, Some, None, ◌-◌, ◌&&◌, nat_le, zero, suc, ◌+◌, ◌*◌}
+use Rattle.std.specs.Prelude.{List, [], ◌∷◌, Bool, nat_lt, encode_utf8, ◌≡◌, ◌<◌, ◌≤◌, ◌≢◌, IsUtf8}
 use Rattle.json_spec.specs.Taken.{refused, Read, taken, and_then, behind_piece}
 
 -- RFC 8259, 7: the character that a `\` and one character stand for

@@ -15,7 +15,10 @@ pub record PrintedExamples : Type 0 where
   pub string : quoted (97 ∷ 34 ∷ 60 ∷ 10 ∷ []) ≡ codes "\"a\\\"\\u003c\\u000a\""
   pub value :
       printed_text
-      (an_object (a_member (codes "a") (a_list no_items) (a_member (codes "b") (an_object (a_member (codes "c") a_null no_members)) (a_member (codes "d") (a_list (an_item (a_text (codes "e")) (an_item (a_bool true) no_items))) no_members))))
+      (an_object
+      (a_member (codes "a") (a_list no_items)
+      (a_member (codes "b") (an_object (a_member (codes "c") a_null no_members))
+      (a_member (codes "d") (a_list (an_item (a_text (codes "e")) (an_item (a_bool true) no_items))) no_members))))
       ≡ codes "{\n  \"a\": [],\n  \"b\": {\n    \"c\": null\n  },\n  \"d\": [\n    \"e\",\n    true\n  ]\n}\n"
 
 -- the longest number stands; a surrogate pair is one character, and half of one is none

@@ -3,7 +3,8 @@
 //! Definitions and laws alone: each function here is empty, and its contract is a law.
 #![tactic(auto)]
 
-ghost use Rattle.json_spec.specs.Laws.{LongestNumber, MembersInOrder, NamesAreDistinct, OneJson, PrintsUtf8, SomeJson, StringsReadBack, TextsReadBack, ValuesReadBack};
+ghost use Rattle.json_spec.specs.Laws.{LongestNumber, MembersInOrder, NamesAreDistinct, OneJson, PrintsUtf8, SomeJson};
+ghost use Rattle.json_spec.specs.Laws.{StringsReadBack, TextsReadBack, ValuesReadBack};
 ghost use Rattle.json_spec.specs.WorkedExamples.{WorkedExamples};
 
 /// A text has at most one outcome, a value or a first fault.
@@ -30,8 +31,8 @@ pub fn longest_number()
     ensures { LongestNumber }
 {}
 
-/// The order in which an object gives its members leaves none out and adds none: array indices by ascending number, and then the
-/// others as they are written.
+/// The order in which an object gives its members leaves none out and adds none: array indices by ascending number, and
+/// then the others as they are written.
 #[tactic(auto, using(crate::proofs::MembersInOrder::members_in_order))]
 pub fn members_in_order()
     ensures { MembersInOrder }
@@ -49,8 +50,8 @@ pub fn strings_read_back()
     ensures { StringsReadBack }
 {}
 
-/// A printed value reads back where its numbers are of the grammar, no object holds a name twice, its texts are UTF-8, and it
-/// opens no more brackets at once than a text may.
+/// A printed value reads back where its numbers are of the grammar, no object holds a name twice, its texts are UTF-8,
+/// and it opens no more brackets at once than a text may.
 #[tactic(auto, using(crate::proofs::ReadBack::values_read_back))]
 pub fn values_read_back()
     ensures { ValuesReadBack }

@@ -1,26 +1,28 @@
 -- What the reader's steps do to the forest.
 use Rattle.std.specs.Prelude.{◌≡◌, ℕ, List, [], ◌∷◌, ◌++◌}
-use Rattle.std.proofs.Common.{rules, ap, ◌∙◌}
+use Rattle.std.proofs.Common.{ap, sym, ◌∙◌}
 use Rattle.json_spec.specs.Value.{Json, a_list, no_items}
 use Rattle.json_spec.specs.Taken.{taken}
 use Rattle.json_spec.specs.Grammar.{Reads}
 use Rattle.ordered_json.specs.declared.value.Value as value
-use Rattle.ordered_json.specs.declared.value.Value.{Value, the_lemmas}
-use Rattle.ordered_json.specs.declared.value.Items.{Items}
+use Rattle.ordered_json.specs.declared.value.Value.{Value}
+use Rattle.ordered_json.specs.declared.value.Items.{Items, out-Items}
+use Rattle.ordered_json.specs.declared.value.Place.{out-Place}
 use Rattle.ordered_json.specs.declared.forest.Forest.{Forest}
-use Rattle.ordered_json.specs.Lists.{IsWaiting, values_at}
+use Rattle.ordered_json.specs.Lists.{IsWaiting}
 use Rattle.ordered_json.specs.Shown.{json_of, items_of}
 use Rattle.ordered_json.specs.Forests.{IsComplete, IsInside, HoldsOne, Keeps, PutsOn, AddsValue, OpensList, TakesValue}
 use Rattle.ordered_json.specs.Steps.{IsShown, Puts}
+use Rattle.ordered_json.proofs.ListLemmas.{waiting_values}
 use Rattle.ordered_json.proofs.ShownLemmas.{json_of_list}
-use Rattle.ordered_json.proofs.ForestLemmas.{inside_is}
+use Rattle.ordered_json.proofs.ForestLemmas.{inside_is, waiting_list}
 
 -- a list that waits for no values
 pub empty_is : (items : Items) → IsWaiting items 0 0 → json_of (value.List items) ≡ a_list no_items
-empty_is items w = json_of_list items ∙ ap (λ place. a_list (items_of (values_at place))) w
+empty_is items w = json_of_list items ∙ ap (λ values. a_list (items_of values)) (waiting_values (out-Place (out-Items items).place) 0 0 w)
 
 pub empty_complete : (items : Items) → IsWaiting items 0 0 → IsComplete (value.List items)
-empty_complete items w inner = search (rules, the_lemmas, w)
+empty_complete items w inner = waiting_list inner items 0 0 w ∙ sym (empty_is items w)
 
 pub puts_value : {depth : ℕ} {bytes rest : List ℕ} {before middle after : Forest} (v : Value) → IsComplete v → Keeps before middle → AddsValue v middle after → Reads depth bytes (taken (json_of v) rest) → middle.innermost ≡ before.innermost → after.innermost ≡ middle.innermost → Puts depth bytes before after rest
 puts_value v c k a r l m = record {

@@ -15,8 +15,8 @@ use Rattle.ordered_json.specs.declared.value.Kept.TheOpen.{Value-F, Place-F}
 use Rattle.ordered_json.specs.declared.value.Items.{Items, out-Items}
 use Rattle.ordered_json.specs.declared.value.Kept.{Kept}
 use Rattle.ordered_json.specs.declared.value.Members.{Members}
-use Rattle.ordered_json.specs.Lists.{values_at, values_of}
-use Rattle.ordered_json.proofs.ShownLemmas.{json_of_list}
+use Rattle.ordered_json.specs.Lists.{values_at, values_of, waits_at, IsWaiting, IsPlaced, GetsValues}
+use Rattle.ordered_json.proofs.ShownLemmas.{json_of_list, span_shown}
 use Rattle.ordered_json.specs.declared.forest.Level.{Level}
 use Rattle.ordered_json.specs.declared.forest.Forest.{Forest}
 use Rattle.ordered_json.specs.Shown.{json_of, items_from, items_of}
@@ -232,6 +232,7 @@ none_for_list : (items : Items) (whole : Json) → whole ≡ a_list (items_of (v
 none_for_list items whole e (Place-F.Within start len block) p = refl
 none_for_list items whole e (Place-F.Longer parts) p = refl
 none_for_list items whole e (Place-F.Waiting start len) p = ap (λ xs. a_list (items_from xs)) (nothing_in_none len start) ∙ sym (e ∙ ap (λ (q : Place-F Kept Place Value Items Members). a_list (items_of (values_at q))) p)
+none_for_list items whole e (Place-F.WaitingLong numbers) p = ap (λ xs. a_list (items_from xs)) (nothing_in_none numbers.value.1 numbers.value.0) ∙ sym (e ∙ ap (λ (q : Place-F Kept Place Value Items Members). a_list (items_of (values_at q))) p)
 
 rolled : (items : Items) → json_of (roll-Value (Value-F.List items)) ≡ a_list (items_of (values_of items))
 rolled items = search (rules, the_lemmas, json_of_list items)
@@ -257,6 +258,41 @@ same_layer one other whole (Value-F.Object members) n = refl
 
 list_from_out : (v : Value) (items : Items) → out-Value v ≡ Value-F.List items → v ≡ value.List items
 list_from_out v items e = let same : roll-Value (out-Value v) ≡ roll-Value (Value-F.List items) = ap roll-Value e in search (rules, the_lemmas, same)
+
+-- a list that waited has got its values
+waiting_json : (inner : List Json) (whole : Json) (place : Place-F Kept Place Value Items Members) (start len : ℕ) → waits_at place start len → place_in inner whole place ≡ a_list (items_from (take len (drop start inner)))
+waiting_json inner whole (Place-F.Waiting s l) start len w = rw (w.0, w.1) refl
+waiting_json inner whole (Place-F.WaitingLong numbers) start len w = rw (w.0, w.1) refl
+waiting_json inner whole (Place-F.Within s l block) start len w = absurd w
+waiting_json inner whole (Place-F.Longer parts) start len w = absurd w
+
+placed_json : (inner : List Json) (whole : Json) (place : Place-F Kept Place Value Items Members) → ((start len : ℕ) → waits_at place start len → ⊥) → place_in inner whole place ≡ whole
+placed_json inner whole (Place-F.Within s l block) p = refl
+placed_json inner whole (Place-F.Longer parts) p = refl
+placed_json inner whole (Place-F.Waiting s l) p = absurd (p s l (refl, refl))
+placed_json inner whole (Place-F.WaitingLong numbers) p = absurd (p numbers.value.0 numbers.value.1 (refl, refl))
+
+in_list : (inner : List Json) (items : Items) → json_in inner (value.List items) ≡ place_in inner (json_of (value.List items)) (out-Place (out-Items items).place)
+in_list inner items = search (rules, the_lemmas)
+
+pub waiting_list : (inner : List Json) (items : Items) (start len : ℕ) → IsWaiting items start len → json_in inner (value.List items) ≡ a_list (items_from (take len (drop start inner)))
+waiting_list inner items start len w = in_list inner items ∙ waiting_json inner (json_of (value.List items)) (out-Place (out-Items items).place) start len w
+
+pub list_got : (block : List Value) (before after : Items) → GetsValues block before after → GetsItems block (value.List before) (value.List after)
+list_got block before after g = record {
+  gets = λ other.
+      in_list other after ∙ placed_json other (json_of (value.List after)) (out-Place (out-Items after).place) g.placed
+      ∙ (json_of_list after ∙ ap (λ xs. a_list (items_of xs)) g.are)
+      ∙ ap (λ xs. a_list (items_from xs)) (sym (span_shown g.start g.len block))
+      ∙ sym (waiting_list (map json_of block) before g.start g.len g.waits);
+}
+
+pub list_kept : (block : List Value) (items : Items) → IsPlaced items → GetsItems block (value.List items) (value.List items)
+list_kept block items p = record {
+  gets = λ other.
+      in_list other items ∙ placed_json other (json_of (value.List items)) (out-Place (out-Items items).place) p
+      ∙ sym (in_list (map json_of block) items ∙ placed_json (map json_of block) (json_of (value.List items)) (out-Place (out-Items items).place) p);
+}
 
 module _ (block : List Value) where
   one_got : (before after : Value) → GetsItems block before after → (inner : List Json) → map json_of block ≡ inner → (other : List Json) → json_in other after ≡ json_in inner before

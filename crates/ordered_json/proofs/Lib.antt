@@ -2,7 +2,9 @@ pub mod EscapesLemmas
 pub mod ForestFacts
 pub mod ForestLemmas
 pub mod GrammarLemmas
+pub mod IsJsonLemmas
 pub mod ListLemmas
+pub mod NamesLemmas
 pub mod NestLemmas
 pub mod NumbersLemmas
 pub mod PairsLemmas

@@ -3,7 +3,6 @@ use Rattle.std.specs.Prelude.{◌≡◌, ℕ, Bool, true, false, cond, List, [],
 use Rattle.std.proofs.lemmas.List.{map-append}
 use Rattle.std.proofs.Common.{rules, refl, ap, sym, ◌∙◌}
 use Rattle.std.specs.List.{take-map, drop-map}
-use Rattle.indexmap.specs.IndexMap.{insert_entry}
 use Rattle.json_spec.specs.Value.{a_text, a_list, an_object, a_member, put}
 use Rattle.ordered_json.specs.declared.value.Value as value
 use Rattle.ordered_json.specs.declared.value.Value.{Value, the_lemmas}
@@ -16,16 +15,7 @@ use Rattle.ordered_json.specs.declared.value.Members.{Members as MembersOfCode}
 use Rattle.ordered_json.specs.Lists.{values_at, values_of, pairs_at, pairs_of}
 use Rattle.ordered_json.specs.Shown.{json_of, items_of, members_of, kept_step, place_step, value_step, items_step, members_step}
 
-put_first : (key name : List ℕ) (value : Value) (old : Value) (more others : List (List ℕ × Value)) (t : Bool) → members_of others ≡ put key (json_of value) (members_of more) → members_of (cond t ((name, value) ∷ more) ((name, old) ∷ others)) ≡ cond t (a_member name (json_of value) (members_of more)) (a_member name (json_of old) (put key (json_of value) (members_of more)))
-put_first key name value old more others true e = refl
-put_first key name value old more others false e = ap (a_member name (json_of old)) e
-
--- a map's insertion is the definition's
-pub members_put : (key : List ℕ) (value : Value) (entries : List (List ℕ × Value)) → members_of (insert_entry bytes_eq entries key value) ≡ put key (json_of value) (members_of entries)
-members_put key value [] = refl
-members_put key value (entry ∷ more) = put_first key entry.0 value entry.1 more (insert_entry bytes_eq more key value) (bytes_eq key entry.0) (members_put key value more)
-
-span_shown : (start len : ℕ) (values : List Value) → take len (drop start (map json_of values)) ≡ map json_of (take len (drop start values))
+pub span_shown : (start len : ℕ) (values : List Value) → take len (drop start (map json_of values)) ≡ map json_of (take len (drop start values))
 span_shown start len values = ap (take len) (drop-map json_of start values) ∙ take-map json_of len (drop start values)
 
 abbrev place_shown : Place → Json.Items
@@ -38,6 +28,7 @@ layer_shown : (level : Place-F Kept Place Value Items MembersOfCode) → place_s
 layer_shown (Place-F.Within start len block) = search (rules, the_lemmas, span_shown start len block.value.items)
 layer_shown (Place-F.Longer parts) = search (rules, the_lemmas, longer_shown parts.value.1 parts.value.2 parts.value.0.value.items parts.value.3.items)
 layer_shown (Place-F.Waiting start len) = search (rules, the_lemmas)
+layer_shown (Place-F.WaitingLong numbers) = search (rules, the_lemmas)
 
 place_layer : (place : Place) → place_shown place ≡ items_of (values_at (out-Place place))
 place_layer place = search (rules, the_lemmas, layer_shown (out-Place place))

@@ -1,3 +1,4 @@
+pub mod IsJson
 pub mod Lists
 pub mod Shown
 pub mod Scanned

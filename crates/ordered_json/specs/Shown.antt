@@ -1,7 +1,8 @@
 -- The ordered value that a value of the code is.
 --     json_of value      that value;        items_of, members_of      the same of what a list and an object hold
 use Rattle.std.specs.Prelude.{ℕ, List, [], ◌∷◌, map}
-use Rattle.json_spec.specs.Value.{Json, a_null, a_bool, a_number, a_text, a_list, an_object, Items, no_items, an_item, Members, no_members, a_member}
+use Rattle.json_spec.specs.Value.{Json, a_null, a_bool, a_number, a_text, a_list, an_object}
+use Rattle.json_spec.specs.Value.{Items, no_items, an_item, Members, no_members, a_member}
 use Rattle.ordered_json.specs.declared.value.Value.{Value, fold-Value}
 use Rattle.ordered_json.specs.declared.value.Kept.TheOpen.{Value-F, Items-F, Place-F, Members-F, Kept-F}
 use Rattle.ordered_json.specs.Lists.{values_at, pairs_at}

@@ -1,12 +1,15 @@
 -- What the reader of lists within lists does at one place of a text.
 --     IsShown forest      the forest shows some lists
+--     PutsRead depth bytes before after rest      the value that stands up to the rest is put on
 --     Begins depth bytes before after awaited rest      where a value is awaited, it opens a list, or puts the value on
 --     GoesOn bytes before after awaited rest      behind a value of a list, it goes past a comma, or closes the list
 --     StopsAt bytes stop      there is neither, or no memory was found
---     GoesUp outside bytes before after awaited rest      behind a value, it closes lists until no more are open than outside, or
---         goes past a comma
---     StopsAbove outside bytes before stop      behind that value, or a list that is closed then, there is neither, or no memory was found
--- before and after are the forest; awaited tells whether a value is awaited at the rest; outside is a number of open lists.
+--     GoesUp outside bytes before after awaited rest      behind a value, it closes lists until no more are open than
+--         outside, or goes past a comma
+--     StopsAbove outside bytes before stop      behind that value, or a list that is closed then, there is neither, or
+--         no memory was found
+-- before and after are the forest; awaited tells whether a value is awaited at the rest; outside is a number of open
+-- lists.
 use Rattle.std.specs.Prelude.{◌≡◌, ◌≢◌, ◌<◌, ◌≤◌, ◌+◌, ℕ, Bool, true, false, List, ◌∷◌, length, ⊤}
 use Rattle.json_spec.specs.Value.{Json}
 use Rattle.json_spec.specs.Taken.{taken}
@@ -30,8 +33,11 @@ pub record Opens (depth : ℕ) (bytes : List ℕ) (before after : Forest) (rest 
   pub opened : OpensList before after
   pub deeper : after.innermost ≡ before.innermost + 1
 
+abbrev pub PutsRead : ℕ → List ℕ → Forest → Forest → List ℕ → Type 0
+PutsRead depth bytes before after rest = PutsOn before after (λ json. Reads depth bytes (taken json rest))
+
 pub record Puts (depth : ℕ) (bytes : List ℕ) (before after : Forest) (rest : List ℕ) : Type 0 where
-  pub on : PutsOn before after (λ json. Reads depth bytes (taken json rest))
+  pub on : PutsRead depth bytes before after rest
   pub level : after.innermost ≡ before.innermost
 
 abbrev pub Begins : ℕ → List ℕ → Forest → Forest → Bool → List ℕ → Type 0
@@ -65,10 +71,22 @@ StopsAt bytes (Deep left) = ⊥
 StopsAt bytes NoMemory = ⊤
 
 pub data GoesUp (outside : ℕ) : List ℕ → Forest → Forest → Bool → List ℕ → Type 0 where
-  is_up : {bytes rest : List ℕ} {before after : Forest} → before.innermost ≤ outside → after ≡ before → rest ≡ bytes → GoesUp outside bytes before after false rest
-  passes : {bytes rest : List ℕ} {before after : Forest} → outside < before.innermost → PassesComma bytes before after rest → GoesUp outside bytes before after true rest
-  closes : {bytes middle rest : List ℕ} {before between after : Forest} {awaited : Bool} → outside < before.innermost → Closes bytes before between middle → GoesUp outside middle between after awaited rest → GoesUp outside bytes before after awaited rest
+  is_up :
+      {bytes rest : List ℕ} {before after : Forest} → before.innermost ≤ outside → after ≡ before → rest ≡ bytes
+      → GoesUp outside bytes before after false rest
+  passes :
+      {bytes rest : List ℕ} {before after : Forest} → outside < before.innermost → PassesComma bytes before after rest
+      → GoesUp outside bytes before after true rest
+  closes :
+      {bytes middle rest : List ℕ} {before between after : Forest} {awaited : Bool} → outside < before.innermost
+      → Closes bytes before between middle → GoesUp outside middle between after awaited rest
+      → GoesUp outside bytes before after awaited rest
 
 pub data StopsAbove (outside : ℕ) : List ℕ → Forest → Stop → Type 0 where
-  stops_here : {bytes : List ℕ} {before : Forest} {stop : Stop} → outside < before.innermost → StopsAt bytes stop → StopsAbove outside bytes before stop
-  stops_above : {bytes middle : List ℕ} {before between : Forest} {stop : Stop} → outside < before.innermost → Closes bytes before between middle → StopsAbove outside middle between stop → StopsAbove outside bytes before stop
+  stops_here :
+      {bytes : List ℕ} {before : Forest} {stop : Stop} → outside < before.innermost → StopsAt bytes stop
+      → StopsAbove outside bytes before stop
+  stops_above :
+      {bytes middle : List ℕ} {before between : Forest} {stop : Stop} → outside < before.innermost
+      → Closes bytes before between middle → StopsAbove outside middle between stop
+      → StopsAbove outside bytes before stop

@@ -1,14 +1,14 @@
-ghost use Rattle.std.specs.Prelude.{◌≡◌, ◌<◌, MatchOption, IfSome, encode_utf8};
-ghost use Rattle.json_spec.specs.Taken.{taken, refused, and_then};
-ghost use Rattle.json_spec.specs.Strings.{escape_at, four_digits, hex_value, short_escape, unicode_character as character_of};
-ghost use Rattle.ordered_json.specs.Scanned.{IsDigit, IsNoDigit};
+ghost use Rattle.std.specs.Prelude.{◌≡◌, ◌<◌, MatchOption, IfSome};
+ghost use Rattle.json_spec.specs.Taken.{refused};
+ghost use Rattle.json_spec.specs.Strings.{escape_at, four_digits, hex_value, short_escape};
+ghost use Rattle.ordered_json.specs.Scanned.{IsCharacter, NoEscape, NoUnicode, IsUnit, IsDigit, IsNoDigit, unicode_at};
 
 use crate::scan::{after_word, cut_first};
 
-/// The character of the escape whose `\` stands before the bytes, and the bytes behind it (RFC 8259, 7). None where there
-/// is no such escape, or where it is half of a surrogate pair.
+/// The character of the escape whose `\` stands before the bytes, and the bytes behind it (RFC 8259, 7). None where
+/// there is no such escape, or where it is half of a surrogate pair.
 pub fn read_escape(bytes: &[u8]) -> Option<(char, &[u8])>
-    ensures { MatchOption result (escape_at bytes.now ≡ refused tt) (λ x. escape_at bytes.now ≡ taken (encode_utf8 x.0) x.1.now) }
+    ensures { MatchOption result (NoEscape bytes.now) (λ x. IsCharacter (escape_at bytes.now) x.0 x.1.now) }
 {
     let (first, rest) = cut_first(bytes)?;
     if first == b'u' {
@@ -35,7 +35,7 @@ fn short_character(byte: u8) -> Option<u8>
 
 // The character of one `\u` escape, or of two that are a surrogate pair; the first `\u` stands before the bytes.
 fn unicode_character(bytes: &[u8]) -> Option<(char, &[u8])>
-    ensures { MatchOption result (and_then (four_digits bytes.now) character_of ≡ refused tt) (λ x. and_then (four_digits bytes.now) character_of ≡ taken (encode_utf8 x.0) x.1.now) }
+    ensures { MatchOption result (NoUnicode bytes.now) (λ x. IsCharacter (unicode_at bytes.now) x.0 x.1.now) }
 {
     let (unit, rest) = code_unit(bytes)?;
     if unit < 0xd800 || unit >= 0xdc00 {
@@ -52,7 +52,7 @@ fn unicode_character(bytes: &[u8]) -> Option<(char, &[u8])>
 
 // Four hexadecimal digits.
 fn code_unit(bytes: &[u8]) -> Option<(u32, &[u8])>
-    ensures { MatchOption result (four_digits bytes.now ≡ refused tt) (λ x. (four_digits bytes.now ≡ taken x.0 x.1.now) × (x.0 < 65536)) }
+    ensures { MatchOption result (four_digits bytes.now ≡ refused tt) (λ x. IsUnit bytes.now x.0 x.1.now) }
 {
     let (first, rest) = hexadecimal_digit(bytes)?;
     let (second, rest) = hexadecimal_digit(rest)?;

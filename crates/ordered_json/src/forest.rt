@@ -1,9 +1,11 @@
 ghost use Rattle.std.specs.Prelude.{◌≡◌, ◌<◌, ◌+◌, [], length, IfOk, OnOk};
-ghost use Rattle.ordered_json.specs.Forests.{IsFresh, IsClosed, IsLeft, GetsItems, Fills, FillsAt, FillsAll, Seals, Keeps, Shows, IsInside, HoldsOne, AddsValue, OpensList, ClosesList, TakesValue};
+ghost use Rattle.ordered_json.specs.Forests.{IsFresh, IsClosed, IsLeft, GetsItems, Fills, FillsAt, FillsAll, Seals};
+ghost use Rattle.ordered_json.specs.Forests.{Keeps, Shows, IsInside, HoldsOne, AddsValue, OpensList, ClosesList};
+ghost use Rattle.ordered_json.specs.Forests.{TakesValue};
 
 use crate::value::{Items, Value};
 use primitives::Memory;
-use std::alloc::{AllocError, Global};
+use std::alloc::Global;
 use std::mem;
 use std::rc::Rc;
 
@@ -22,8 +24,8 @@ const MOST: usize = 8192;
 // They are enough for a block of each of 256 levels, and there are fewer, so a level of so many is always sealed.
 const _: () = prove!(MOST / FEW >= 256);
 
-/// The values of one level of lists: those of lists that are closed, and then, from `start` on, those of the list that is open,
-/// or the one that will be opened next.
+/// The values of one level of lists: those of lists that are closed, and then, from `start` on, those of the list that
+/// is open, or the one that will be opened next.
 #[derive(Drop)]
 pub struct Level {
     values: Vec<Value>,
@@ -32,9 +34,9 @@ pub struct Level {
     ready: usize,
 }
 
-/// What is read of lists within lists. Each list that is open has a level of its own; the levels within the innermost one hold
-/// values of lists that are closed, until there are enough of them for a block a level, or the value is taken. So lists in a
-/// list share blocks.
+/// What is read of lists within lists. Each list that is open has a level of its own; the levels within the innermost
+/// one hold values of lists that are closed, until there are enough of them for a block a level, or the value is taken.
+/// So lists in a list share blocks.
 #[derive(Drop)]
 pub struct Forest {
     alloc: Global,
@@ -56,29 +58,19 @@ impl Level {
         }
     }
 
-    // Closes the list of the values from the start on, which waits for them; the next list starts behind these. Gives beside
-    // it whether the level lacks room. No list begins behind the last number of a `u16`, since a level of `MOST`
-    // values is sealed, and none begins behind the values that are there.
+    // Closes the list of the values from the start on, which waits for them; the next list starts behind these. Gives
+    // beside it whether the level lacks room.
     #[inline(always)]
     fn close(&mut self, alloc: Global) -> Result<(Value, bool), Memory>
         ensures closed { IfOk result (λ list. IsClosed self.old list.0) }
         ensures left { OnOk result (IsLeft self.old self.new) }
     {
         let count = self.values.as_slice().len();
-        let start = self.start;
-        if start > u16::MAX as usize || start > count {
-            return Err(AllocError);
-        }
-        let len = count - start;
-        if len > u32::MAX as usize {
-            return Err(AllocError);
-        }
+        let len = count.saturating_sub(self.start);
+        let list = Items::waiting_for(alloc, self.start, len)?;
         self.start = count;
         let lacks = lacks_room(count, len, self.values.capacity());
-        Ok((
-            Value::List(Items::waiting(alloc, start as u16, len as u32)),
-            lacks,
-        ))
+        Ok((Value::List(list), lacks))
     }
 
     // Gives each list that waits its span of the block.
@@ -97,8 +89,8 @@ impl Level {
         Ok(())
     }
 
-    // Takes the values off, as a block with little more room than they need: a level with about no room left is moved, and so
-    // is a large one; from any other they are copied out, and it keeps its room.
+    // Takes the values off, as a block with little more room than they need: a level with about no room left is moved,
+    // and so is a large one; from any other they are copied out, and it keeps its room.
     fn take_block(&mut self, alloc: Global) -> Result<Rc<Vec<Value>>, Memory>
         ensures taken { IfOk result (λ block. block.value.items ≡ self.old.values.items) }
         ensures left { OnOk result (IsFresh self.new) }
@@ -118,8 +110,9 @@ impl Level {
     }
 }
 
-// Whether a level with so many values, and room for so many, has enough of them for a block, and no room for another list as long
-// as its last one. Where no block is made then, this is so again a few times at most before the room is doubled.
+// Whether a level with so many values, and room for so many, has enough of them for a block, and no room for another
+// list as long as its last one. Where no block is made then, this is so again a few times at most before the room is
+// doubled.
 #[inline(always)]
 fn lacks_room(count: usize, last: usize, room: usize) -> bool {
     count >= FEW && (last > room.saturating_sub(count) || count >= MOST)
@@ -147,8 +140,7 @@ fn fill_value(value: &mut Value, block: &Rc<Vec<Value>>) -> Result<(), Memory>
     match value {
         Value::List(items) => match items.with_block(block)? {
             Some(list) => {
-                // What waits has nothing to drop.
-                mem::forget(mem::replace(value, Value::List(list)));
+                drop_waiting(mem::replace(value, Value::List(list)));
                 Ok(())
             }
             None => Ok(()),
@@ -157,8 +149,20 @@ fn fill_value(value: &mut Value, block: &Rc<Vec<Value>>) -> Result<(), Memory>
     }
 }
 
-// Makes a block of each level's values, from the outermost, which is the first, up to the first that has none. Gives the block
-// of the outermost.
+// Drops a list that waited, which mostly has nothing to drop.
+#[inline(always)]
+fn drop_waiting(waited: Value) {
+    let nothing = match &waited {
+        Value::List(items) => items.has_nothing_to_drop(),
+        _ => false,
+    };
+    if nothing {
+        mem::forget(waited);
+    }
+}
+
+// Makes a block of each level's values, from the outermost, which is the first, up to the first that has none. Gives
+// the block of the outermost.
 fn seal(alloc: Global, levels: &mut [Level]) -> Result<Option<Rc<Vec<Value>>>, Memory>
     ensures { IfOk result (λ block. Seals block levels.old levels.new) }
 {
@@ -280,7 +284,8 @@ impl Forest {
         self.fill()
     }
 
-    // Gives the lists of the innermost level their values, which become blocks. Lists of the levels around it may wait on.
+    // Gives the lists of the innermost level their values, which become blocks. Lists of the levels around it may wait
+    // on.
     #[inline(never)]
     fn fill(&mut self) -> Result<(), Memory>
         requires { IsInside self.old }

@@ -1,7 +1,8 @@
-//! JSON texts as values whose objects keep the order of their members: `read` gives a text's value, or its first fault with
-//! its place, and `print_text` the printed form of a string.
+//! JSON texts as values whose objects keep the order of their members: `read` gives a text's value, or its first fault
+//! with its place, and `print_text` the printed form of a string.
 #![tactic(auto)]
 
+mod distinct;
 mod escapes;
 mod fault;
 mod forest;
@@ -10,6 +11,7 @@ mod numbers;
 mod quoting;
 mod reader;
 mod scan;
+mod settling;
 mod strings;
 #[cfg(test)]
 mod tests;

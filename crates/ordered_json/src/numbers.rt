@@ -1,7 +1,7 @@
 ghost use Rattle.std.specs.Prelude.{◌≡◌, ◌==◌, ◌||◌, ◌≤◌, length, MatchOption, IfOk};
-ghost use Rattle.json_spec.specs.Taken.{taken, refused};
+ghost use Rattle.json_spec.specs.Taken.{refused};
 ghost use Rattle.json_spec.specs.Numbers.{after_digits, digits_at, int_at, frac_at, exp_at, maybe, one_of, number_at};
-ghost use Rattle.ordered_json.specs.Scanned.{Cut};
+ghost use Rattle.ordered_json.specs.Scanned.{Cut, CutBy, NoNumber, IsNumberAt, letter_at};
 
 use crate::scan::{after_byte, cut_first, piece_before};
 use primitives::{Memory, Text};
@@ -10,7 +10,7 @@ use std::alloc::Global;
 /// The longest number at the front, as it is written, and the bytes behind it (RFC 8259, 6). None where there is none.
 #[inline(always)]
 pub fn read_number(alloc: Global, bytes: &[u8]) -> Result<Option<(Text, &[u8])>, Memory>
-    ensures { IfOk result (λ found. MatchOption found (number_at bytes.now ≡ refused tt) (λ x. number_at bytes.now ≡ taken x.0 x.1.now)) }
+    ensures { IfOk result (λ found. MatchOption found (NoNumber bytes.now) (λ x. IsNumberAt bytes.now x.0 x.1.now)) }
 {
     let Some(rest) = after_number(bytes) else {
         return Ok(None);
@@ -21,7 +21,7 @@ pub fn read_number(alloc: Global, bytes: &[u8]) -> Result<Option<(Text, &[u8])>,
 
 #[inline(always)]
 fn after_number(bytes: &[u8]) -> Option<&[u8]>
-    ensures { MatchOption result (number_at bytes.now ≡ refused tt) (λ rest. Cut (number_at bytes.now) bytes.now rest.now) }
+    ensures { MatchOption result (number_at bytes.now ≡ refused tt) (λ rest. CutBy number_at bytes.now rest.now) }
 {
     let whole = after_int(after_minus(bytes))?;
     Some(after_exponent(after_fraction(whole)))
@@ -40,7 +40,7 @@ fn after_minus(bytes: &[u8]) -> &[u8]
 // A zero, or digits that begin with no zero.
 #[inline(always)]
 fn after_int(bytes: &[u8]) -> Option<&[u8]>
-    ensures { MatchOption result (int_at bytes.now ≡ refused tt) (λ rest. Cut (int_at bytes.now) bytes.now rest.now) }
+    ensures { MatchOption result (int_at bytes.now ≡ refused tt) (λ rest. CutBy int_at bytes.now rest.now) }
 {
     match after_byte(bytes, b'0') {
         Some(rest) => Some(rest),
@@ -59,7 +59,7 @@ fn after_fraction(bytes: &[u8]) -> &[u8]
 }
 
 fn fraction(bytes: &[u8]) -> Option<&[u8]>
-    ensures { MatchOption result (frac_at bytes.now ≡ refused tt) (λ rest. Cut (frac_at bytes.now) bytes.now rest.now) }
+    ensures { MatchOption result (frac_at bytes.now ≡ refused tt) (λ rest. CutBy frac_at bytes.now rest.now) }
 {
     match after_byte(bytes, b'.') {
         Some(rest) => some_digits(rest),
@@ -78,7 +78,7 @@ fn after_exponent(bytes: &[u8]) -> &[u8]
 }
 
 fn exponent(bytes: &[u8]) -> Option<&[u8]>
-    ensures { MatchOption result (exp_at bytes.now ≡ refused tt) (λ rest. Cut (exp_at bytes.now) bytes.now rest.now) }
+    ensures { MatchOption result (exp_at bytes.now ≡ refused tt) (λ rest. CutBy exp_at bytes.now rest.now) }
 {
     match after_letter(bytes) {
         Some(rest) => some_digits(after_sign(rest)),
@@ -88,7 +88,7 @@ fn exponent(bytes: &[u8]) -> Option<&[u8]>
 
 // An `e` in either case.
 fn after_letter(bytes: &[u8]) -> Option<&[u8]>
-    ensures { MatchOption result (one_of (λ b. b == 101 || b == 69) bytes.now ≡ refused tt) (λ rest. Cut (one_of (λ b. b == 101 || b == 69) bytes.now) bytes.now rest.now) }
+    ensures { MatchOption result (letter_at bytes.now ≡ refused tt) (λ rest. CutBy letter_at bytes.now rest.now) }
 {
     match after_byte(bytes, b'e') {
         Some(rest) => Some(rest),
@@ -108,7 +108,7 @@ fn after_sign(bytes: &[u8]) -> &[u8]
 // One digit or more.
 #[inline(always)]
 fn some_digits(bytes: &[u8]) -> Option<&[u8]>
-    ensures { MatchOption result (digits_at bytes.now ≡ refused tt) (λ rest. Cut (digits_at bytes.now) bytes.now rest.now) }
+    ensures { MatchOption result (digits_at bytes.now ≡ refused tt) (λ rest. CutBy digits_at bytes.now rest.now) }
 {
     let rest = skip_digits(bytes);
     if rest.len() < bytes.len() {

@@ -1,12 +1,14 @@
-ghost use Rattle.std.specs.Prelude.{◌≡◌, ◌≢◌, ◌<◌, ◌≤◌, List, ℕ, ◌∷◌, length, MatchResult, IfOk, OnOk, Ok};
-ghost use Rattle.json_spec.specs.Value.{HasDistinctNames};
+ghost use Rattle.std.specs.Prelude.{◌≡◌, ◌≢◌, ◌<◌, ◌≤◌, List, ℕ, ◌∷◌};
+ghost use Rattle.std.specs.Prelude.{length, MatchResult, IfOk, IfErr, OnOk, Ok};
 ghost use Rattle.json_spec.specs.Taken.{taken};
-ghost use Rattle.json_spec.specs.Grammar.{after_space, scalar_at, ReadsName, ReadsMember, a_pair, Reads, ReadsJson};
-ghost use Rattle.ordered_json.specs.Lists.{pairs_of};
-ghost use Rattle.ordered_json.specs.Shown.{json_of, members_of};
-ghost use Rattle.ordered_json.specs.Outcomes.{Fails, IsFault, IsWhole, WholeFails, ReadsSettled};
-ghost use Rattle.ordered_json.specs.Forests.{IsComplete, IsInside, Keeps, PutsOn};
-ghost use Rattle.ordered_json.specs.Steps.{IsShown, Begins, GoesOn, StopsAt, GoesUp, StopsAbove};
+ghost use Rattle.json_spec.specs.Grammar.{ReadsName};
+ghost use Rattle.ordered_json.specs.IsJson.{HasJson};
+ghost use Rattle.ordered_json.specs.Shown.{json_of};
+ghost use Rattle.ordered_json.specs.Outcomes.{Fails, IsFault, IsWhole, WholeFails, ReadsValue, Unread};
+ghost use Rattle.ordered_json.specs.Outcomes.{ReadsAnywhere, UnreadAnywhere, IsScalar, IsNoScalar, ReadsPair, NoPair};
+ghost use Rattle.ordered_json.specs.Outcomes.{ReadsObject, NoObject};
+ghost use Rattle.ordered_json.specs.Forests.{IsComplete, IsInside, Keeps};
+ghost use Rattle.ordered_json.specs.Steps.{IsShown, PutsRead, Begins, GoesOn, StopsAt, GoesUp, StopsAbove};
 
 use crate::fault::{JsonFault, Stop};
 use crate::forest::Forest;
@@ -21,8 +23,7 @@ use tree_spec::MOST_DEPTH;
 
 /// The value of a JSON text (RFC 8259), or its first fault.
 pub fn read(alloc: Global, bytes: &[u8]) -> Result<Value, JsonFault>
-    ensures reads { MatchResult result (λ value. ReadsJson bytes.now (Ok (json_of value))) (IsFault bytes.now) }
-    ensures distinct { IfOk result (λ value. HasDistinctNames (json_of value)) }
+    ensures { MatchResult result (HasJson bytes.now) (IsFault bytes.now) }
 {
     match read_whole(alloc, bytes) {
         Ok(value) => Ok(value),
@@ -50,8 +51,8 @@ fn read_whole(alloc: Global, bytes: &[u8]) -> Result<Value, Stop>
     }
 }
 
-// Reads the value at the front, in which this many brackets may be opened, and gives it with the bytes behind it. The forest
-// shows afterwards what it showed before.
+// Reads the value at the front, in which this many brackets may be opened, and gives it with the bytes behind it. The
+// forest shows afterwards what it showed before.
 #[cycle(read)]
 #[inline(always)]
 fn read_alone<'a>(
@@ -61,7 +62,7 @@ fn read_alone<'a>(
     bytes: &'a [u8],
 ) -> Result<(Value, &'a [u8]), Stop>
     requires { IsShown forest.old }
-    ensures reads { MatchResult result (λ x. Reads depth bytes.now (taken (json_of x.0) x.1.now)) (Fails (Reads depth bytes.now)) }
+    ensures reads { MatchResult result (λ x. ReadsValue depth bytes.now x.0 x.1.now) (Unread depth bytes.now) }
     ensures kept { OnOk result (Keeps forest.old forest.new) }
     ensures depth { OnOk result (forest.new.innermost ≡ forest.old.innermost) }
     ensures shorter { IfOk result (λ x. length x.1.now < length bytes.now) }
@@ -75,8 +76,8 @@ fn read_alone<'a>(
     Ok((value, rest))
 }
 
-// Reads the value at the front, in which this many brackets may be opened, puts it into the forest, and gives the bytes behind
-// it. The lists that are open within it are open in the forest: so lists in lists take no calls.
+// Reads the value at the front, in which this many brackets may be opened, puts it into the forest, and gives the bytes
+// behind it. The lists that are open within it are open in the forest: so lists in lists take no calls.
 #[cycle(read)]
 fn read_value<'a>(
     alloc: Global,
@@ -85,7 +86,8 @@ fn read_value<'a>(
     bytes: &'a [u8],
 ) -> Result<&'a [u8], Stop>
     requires { IsShown forest.old }
-    ensures reads { MatchResult result (λ rest. PutsOn forest.old forest.new (λ json. Reads depth bytes.now (taken json rest.now))) (Fails (Reads depth bytes.now)) }
+    ensures reads { IfOk result (λ rest. PutsRead depth bytes.now forest.old forest.new rest.now) }
+    ensures fails { IfErr result (Unread depth bytes.now) }
     ensures depth { OnOk result (forest.new.innermost ≡ forest.old.innermost) }
     ensures shorter { IfOk result (λ rest. length rest.now < length bytes.now) }
 {
@@ -106,8 +108,9 @@ fn read_value<'a>(
     }
 }
 
-// Where a value is awaited, in which this many brackets may be opened: opens a list, or reads what is no list, or a list
-// without values, and puts it into the forest. Gives whether a value is awaited still, and the bytes from there on.
+// Where a value is awaited, in which this many brackets may be opened: opens a list, or reads what is no list, or a
+// list without values, and puts it into the forest. Gives whether a value is awaited still, and the bytes from there
+// on.
 #[cycle(read)]
 #[inline(always)]
 fn begin_value<'a>(
@@ -117,7 +120,8 @@ fn begin_value<'a>(
     bytes: &'a [u8],
 ) -> Result<(bool, &'a [u8]), Stop>
     requires { IsShown forest.old }
-    ensures begins { MatchResult result (λ x. Begins depth bytes.now forest.old forest.new x.0 x.1.now) (Fails (Reads depth bytes.now)) }
+    ensures begins { IfOk result (λ x. Begins depth bytes.now forest.old forest.new x.0 x.1.now) }
+    ensures fails { IfErr result (Unread depth bytes.now) }
     ensures shorter { IfOk result (λ x. length x.1.now < length bytes.now) }
 {
     let Some(inner) = after_byte(bytes, b'[') else {
@@ -138,12 +142,13 @@ fn begin_value<'a>(
     Ok((true, inner))
 }
 
-// Behind a value: goes past the brackets that close lists, until as many are open as outside, or past a comma. Gives whether a
-// value is awaited, and the bytes from there on.
+// Behind a value: goes past the brackets that close lists, until as many are open as outside, or past a comma. Gives
+// whether a value is awaited, and the bytes from there on.
 #[inline(always)]
 fn go_up<'a>(forest: &mut Forest, outside: usize, bytes: &'a [u8]) -> Result<(bool, &'a [u8]), Stop>
     requires { IsInside forest.old }
-    ensures goes { MatchResult result (λ x. GoesUp outside bytes.now forest.old forest.new x.0 x.1.now) (StopsAbove outside bytes.now forest.old) }
+    ensures goes { IfOk result (λ x. GoesUp outside bytes.now forest.old forest.new x.0 x.1.now) }
+    ensures stops { IfErr result (StopsAbove outside bytes.now forest.old) }
     ensures shorter { IfOk result (λ x. length x.1.now ≤ length bytes.now) }
 {
     let mut rest = bytes;
@@ -157,8 +162,8 @@ fn go_up<'a>(forest: &mut Forest, outside: usize, bytes: &'a [u8]) -> Result<(bo
     Ok((false, rest))
 }
 
-// Behind a value of a list: goes past a comma, or past the bracket that closes the list, and closes it in the forest. Gives
-// whether a value is awaited, and the bytes from there on.
+// Behind a value of a list: goes past a comma, or past the bracket that closes the list, and closes it in the forest.
+// Gives whether a value is awaited, and the bytes from there on.
 #[inline(always)]
 fn go_on<'a>(forest: &mut Forest, bytes: &'a [u8]) -> Result<(bool, &'a [u8]), Stop>
     requires inside { IsInside forest.old }
@@ -188,7 +193,7 @@ fn read_other<'a>(
 ) -> Result<(Value, &'a [u8]), Stop>
     requires shown { IsShown forest.old }
     requires no_list { (rest : List ℕ) → bytes.now ≢ 91 ∷ rest }
-    ensures reads { MatchResult result (λ x. Reads depth bytes.now (taken (json_of x.0) x.1.now)) (Fails (Reads depth bytes.now)) }
+    ensures reads { MatchResult result (λ x. ReadsValue depth bytes.now x.0 x.1.now) (Unread depth bytes.now) }
     ensures whole { IfOk result (λ x. IsComplete x.0) }
     ensures kept { OnOk result (Keeps forest.old forest.new) }
     ensures depth { OnOk result (forest.new.innermost ≡ forest.old.innermost) }
@@ -218,7 +223,7 @@ fn read_object<'a>(
 ) -> Result<(Value, &'a [u8]), Stop>
     requires shown { IsShown forest.old }
     requires bracket { bytes.now ≡ 123 ∷ inner.now }
-    ensures reads { MatchResult result (λ x. Reads depth bytes.now (taken (json_of x.0) x.1.now)) (Fails (Reads depth bytes.now)) }
+    ensures reads { MatchResult result (λ x. ReadsValue depth bytes.now x.0 x.1.now) (Unread depth bytes.now) }
     ensures whole { IfOk result (λ x. IsComplete x.0) }
     ensures kept { OnOk result (Keeps forest.old forest.new) }
     ensures depth { OnOk result (forest.new.innermost ≡ forest.old.innermost) }
@@ -235,7 +240,7 @@ fn read_object<'a>(
 #[inline(always)]
 fn read_text<'a>(alloc: Global, bytes: &'a [u8], inner: &'a [u8]) -> Result<(Value, &'a [u8]), Stop>
     requires { bytes.now ≡ 34 ∷ inner.now }
-    ensures reads { MatchResult result (λ x. (depth : ℕ) → Reads depth bytes.now (taken (json_of x.0) x.1.now)) (λ stop. (depth : ℕ) → Fails (Reads depth bytes.now) stop) }
+    ensures reads { MatchResult result (λ x. ReadsAnywhere bytes.now x.0 x.1.now) (UnreadAnywhere bytes.now) }
     ensures whole { IfOk result (λ x. IsComplete x.0) }
     ensures shorter { IfOk result (λ x. length x.1.now < length bytes.now) }
 {
@@ -248,7 +253,7 @@ fn read_text<'a>(alloc: Global, bytes: &'a [u8], inner: &'a [u8]) -> Result<(Val
 // A value that is no string, list or object.
 #[inline(always)]
 fn read_scalar(alloc: Global, bytes: &[u8]) -> Result<(Value, &[u8]), Stop>
-    ensures reads { MatchResult result (λ x. scalar_at bytes.now ≡ taken (json_of x.0) x.1.now) (Fails (λ out. scalar_at bytes.now ≡ out)) }
+    ensures reads { MatchResult result (λ x. IsScalar bytes.now x.0 x.1.now) (IsNoScalar bytes.now) }
     ensures whole { IfOk result (λ x. IsComplete x.0) }
 {
     if let Some(rest) = after_word(bytes, b"true".as_slice()) {
@@ -275,7 +280,7 @@ fn read_members<'a>(
     bytes: &'a [u8],
 ) -> Result<(Members, &'a [u8]), Stop>
     requires { IsShown forest.old }
-    ensures reads { MatchResult result (λ x. ReadsSettled (Reads depth) (after_space bytes.now) (taken (members_of (pairs_of x.0)) x.1.now)) (Fails (ReadsSettled (Reads depth) (after_space bytes.now))) }
+    ensures reads { MatchResult result (λ x. ReadsObject depth bytes.now x.0 x.1.now) (NoObject depth bytes.now) }
     ensures kept { OnOk result (Keeps forest.old forest.new) }
     ensures depth { OnOk result (forest.new.innermost ≡ forest.old.innermost) }
     ensures shorter { IfOk result (λ x. length x.1.now < length bytes.now) }
@@ -314,7 +319,7 @@ fn read_member<'a>(
     bytes: &'a [u8],
 ) -> Result<(Text, Value, &'a [u8]), Stop>
     requires { IsShown forest.old }
-    ensures reads { MatchResult result (λ x. ReadsMember (Reads depth) bytes.now (taken (a_pair x.0 (json_of x.1)) x.2.now)) (Fails (ReadsMember (Reads depth) bytes.now)) }
+    ensures reads { MatchResult result (λ x. ReadsPair depth bytes.now x.0 x.1 x.2.now) (NoPair depth bytes.now) }
     ensures kept { OnOk result (Keeps forest.old forest.new) }
     ensures depth { OnOk result (forest.new.innermost ≡ forest.old.innermost) }
     ensures shorter { IfOk result (λ x. length x.2.now < length bytes.now) }

@@ -22,7 +22,7 @@ pub fn after_byte(bytes: &[u8], byte: u8) -> Option<&[u8]>
 
 /// The bytes behind a word, where they begin with it.
 pub fn after_word<'a>(bytes: &'a [u8], word: &[u8]) -> Option<&'a [u8]>
-    ensures { MatchOption result (behind word.now bytes.now ≡ None) (λ rest. behind word.now bytes.now ≡ Some rest.now) }
+    ensures { MatchOption result (behind word.now bytes.now ≡ None) (λ r. behind word.now bytes.now ≡ Some r.now) }
 {
     let mut rest = bytes;
     for letter in word {

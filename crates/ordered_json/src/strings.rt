@@ -1,7 +1,5 @@
-ghost use Rattle.std.specs.Prelude.{◌≡◌, ◌<◌, length, MatchOption, IfOk, OnOk, ◌++◌, encode_utf8, IsUtf8};
-ghost use Rattle.json_spec.specs.Taken.{taken, refused};
-ghost use Rattle.json_spec.specs.Strings.{ReadsText, ReadsString};
-ghost use Rattle.ordered_json.specs.Scanned.{after_plain, is_plain};
+ghost use Rattle.std.specs.Prelude.{◌≡◌, MatchOption, IfOk, OnOk, ◌++◌, encode_utf8, IsUtf8};
+ghost use Rattle.ordered_json.specs.Scanned.{after_plain, is_plain, NoString, TakesString, NoText, TakesText, IsTextOf};
 
 use crate::escapes::read_escape;
 use crate::scan::{after_byte, cut_first, piece_before};
@@ -12,10 +10,10 @@ const QUOTE: u8 = 34;
 
 const BACKSLASH: u8 = 92;
 
-/// The text of the string whose opening quote stands before the bytes, and the bytes behind the closing one (RFC 8259, 7).
-/// None where the string can't be read.
+/// The text of the string whose opening quote stands before the bytes, and the bytes behind the closing one (RFC 8259,
+/// 7). None where the string can't be read.
 pub fn read_string(alloc: Global, bytes: &[u8]) -> Result<Option<(Text, &[u8])>, Memory>
-    ensures { IfOk result (λ found. MatchOption found (ReadsString bytes.now (refused tt)) (λ x. ReadsString bytes.now (taken x.0 x.1.now) × (length x.1.now < length bytes.now))) }
+    ensures { IfOk result (λ found. MatchOption found (NoString bytes.now) (λ x. TakesString bytes.now x.0 x.1.now)) }
 {
     let after = skip_plain(bytes);
     let Some(rest) = after_byte(after, QUOTE) else {
@@ -34,7 +32,7 @@ fn read_escaped<'a>(
     after: &'a [u8],
 ) -> Result<Option<(Text, &'a [u8])>, Memory>
     requires { after.now ≡ after_plain bytes.now }
-    ensures { IfOk result (λ found. MatchOption found (ReadsString bytes.now (refused tt)) (λ x. ReadsString bytes.now (taken x.0 x.1.now) × (length x.1.now < length bytes.now))) }
+    ensures { IfOk result (λ found. MatchOption found (NoString bytes.now) (λ x. TakesString bytes.now x.0 x.1.now)) }
 {
     match read_characters(alloc, bytes, after)? {
         None => Ok(None),
@@ -46,7 +44,7 @@ fn read_escaped<'a>(
 }
 
 fn utf8_text(alloc: Global, bytes: Vec<u8>) -> Result<Option<Text>, Memory>
-    ensures { IfOk result (λ found. MatchOption found (IsUtf8 bytes.items → ⊥) (λ text. IsUtf8 bytes.items × (text ≡ bytes.items))) }
+    ensures { IfOk result (λ found. MatchOption found (IsUtf8 bytes.items → ⊥) (IsTextOf bytes.items)) }
 {
     match String::from_utf8(bytes) {
         Ok(text) => {
@@ -64,7 +62,7 @@ fn read_characters<'a>(
     after: &'a [u8],
 ) -> Result<Option<(Vec<u8>, &'a [u8])>, Memory>
     requires { after.now ≡ after_plain bytes.now }
-    ensures { IfOk result (λ found. MatchOption found (ReadsText bytes.now (refused tt)) (λ x. ReadsText bytes.now (taken x.0.items x.1.now) × (length x.1.now < length bytes.now))) }
+    ensures { IfOk result (λ found. MatchOption found (NoText bytes.now) (λ x. TakesText bytes.now x.0.items x.1.now)) }
 {
     let front = piece_before(bytes, after);
     let mut text = Vec::from_slice(alloc, front)?;

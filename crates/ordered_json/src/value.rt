@@ -1,5 +1,6 @@
-ghost use Rattle.std.specs.Prelude.{◌≡◌, ◌==◌, if◌then◌else◌, List, [], ◌∷◌, ◌++◌, ◌≤◌, length, take, drop, vec_capacity, slice_get, option_copied, option_map, is_ok, IfOk, MatchOption};
-ghost use Rattle.ordered_json.specs.Lists.{place_values, values_of, pairs_of, IsWaiting, IsPlaced, GetsBlock};
+ghost use Rattle.std.specs.Prelude.{◌≡◌, ◌==◌, List, [], ◌∷◌, ◌++◌, ◌≤◌, length, take, drop, vec_capacity, slice_get};
+ghost use Rattle.std.specs.Prelude.{option_copied, option_map, is_ok, IfOk};
+ghost use Rattle.ordered_json.specs.Lists.{pushed, place_values, values_of, pairs_of, IsWaiting, GetsBlock};
 
 use primitives::{Memory, Text};
 use std::alloc::{AllocError, Global};
@@ -45,8 +46,10 @@ pub enum Place {
         start: u16,
         len: u32,
     },
-    /// In a block, and behind these those that were pushed.
-    Longer(Box<(Rc<Vec<Value>>, u16, u32, Vec<Value>)>),
+    /// The same, where a number is too large to stand there.
+    WaitingLong(Box<(usize, usize)>),
+    /// In a block, whatever the numbers, and behind these those that were pushed.
+    Longer(Box<(Rc<Vec<Value>>, usize, usize, Vec<Value>)>),
 }
 
 /// The members of an object: pairs of a key and a value.
@@ -57,7 +60,8 @@ pub struct Members {
     alloc: Global,
 }
 
-/// Where the pairs of an object lie: a single one by itself, which takes one piece of memory, and more of them in a list.
+/// Where the pairs of an object lie: a single one by itself, which takes one piece of memory, and more of them in a
+/// list.
 #[cycle(value)]
 #[derive(Drop)]
 pub enum Kept {
@@ -76,16 +80,20 @@ impl Items {
 
     /// Puts a value at the end. Without memory the list stays as it was.
     pub fn push(&mut self, item: Value) -> Result<(), Memory>
-        ensures { values_of self.new ≡ (if is_ok result then values_of self.old ++ item ∷ [] else values_of self.old) }
+        ensures { values_of self.new ≡ pushed (is_ok result) (values_of self.old) item }
     {
         match &self.place {
             Place::Waiting { .. } => {
-                let none = Rc::new(self.alloc, Vec::new(self.alloc))?;
-                self.place = longer(self.alloc, none, 0, 0, item)?;
+                self.place = longer(self.alloc, no_block(self.alloc)?, 0, 0, item)?;
+                Ok(())
+            }
+            Place::WaitingLong(_) => {
+                self.place = longer(self.alloc, no_block(self.alloc)?, 0, 0, item)?;
                 Ok(())
             }
             Place::Within { start, len, block } => {
-                self.place = longer(self.alloc, block.clone()?, *start, *len, item)?;
+                let (start, len) = (*start as usize, *len as usize);
+                self.place = longer(self.alloc, block.clone()?, start, len, item)?;
                 Ok(())
             }
             Place::Longer(_) => self.push_behind(item),
@@ -94,7 +102,7 @@ impl Items {
 
     // The same of a list to which one was pushed before.
     fn push_behind(&mut self, item: Value) -> Result<(), Memory>
-        ensures { values_of self.new ≡ (if is_ok result then values_of self.old ++ item ∷ [] else values_of self.old) }
+        ensures { values_of self.new ≡ pushed (is_ok result) (values_of self.old) item }
     {
         match mem::replace(&mut self.place, Place::Waiting { start: 0, len: 0 }) {
             Place::Longer(mut parts) => match parts.3.push(item) {
@@ -141,7 +149,18 @@ impl Items {
         }
     }
 
-    // A list that waits for its values.
+    // A list that waits for its values, however many there are.
+    #[inline(always)]
+    pub(crate) fn waiting_for(alloc: Global, start: usize, len: usize) -> Result<Items, Memory>
+        ensures { IfOk result (λ list. IsWaiting list start len) }
+    {
+        if start > u16::MAX as usize || len > u32::MAX as usize {
+            return Items::waiting_long(alloc, start, len);
+        }
+        Ok(Items::waiting(alloc, start as u16, len as u32))
+    }
+
+    // The same where both numbers are small.
     pub(crate) fn waiting(alloc: Global, start: u16, len: u32) -> Items
         ensures { IsWaiting result start len }
     {
@@ -151,9 +170,25 @@ impl Items {
         }
     }
 
+    // The same where one is large.
+    #[inline(never)]
+    fn waiting_long(alloc: Global, start: usize, len: usize) -> Result<Items, Memory>
+        ensures { IfOk result (λ list. IsWaiting list start len) }
+    {
+        Ok(Items {
+            place: Place::WaitingLong(Box::new(alloc, (start, len))?),
+            alloc,
+        })
+    }
+
+    // Whether the list has nothing to drop, as it waits and its numbers are small.
+    pub(crate) fn has_nothing_to_drop(&self) -> bool {
+        matches!(&self.place, Place::Waiting { .. })
+    }
+
     // The same list with the block in which its values lie, if it waits for one.
     pub(crate) fn with_block(&self, block: &Rc<Vec<Value>>) -> Result<Option<Items>, Memory>
-        ensures { IfOk result (λ found. MatchOption found (IsPlaced self.now) (λ list. GetsBlock block.now.value.items self.now list)) }
+        ensures { IfOk result (λ found. GetsBlock block.now.value.items self.now found) }
     {
         match &self.place {
             Place::Within { .. } => Ok(None),
@@ -166,6 +201,14 @@ impl Items {
                 },
                 alloc: self.alloc,
             })),
+            Place::WaitingLong(numbers) => {
+                let (start, len) = **numbers;
+                let parts = (block.clone()?, start, len, Vec::new(self.alloc));
+                Ok(Some(Items {
+                    place: Place::Longer(Box::new(self.alloc, parts)?),
+                    alloc: self.alloc,
+                }))
+            }
         }
     }
 
@@ -175,27 +218,32 @@ impl Items {
     {
         match &self.place {
             Place::Waiting { .. } => (&[], &[]),
+            Place::WaitingLong(_) => (&[], &[]),
             Place::Within { start, len, block } => (
                 span(block.as_slice(), *start as usize, *len as usize),
                 &[],
             ),
             Place::Longer(parts) => {
                 let (block, start, len, more) = &**parts;
-                (
-                    span(block.as_slice(), *start as usize, *len as usize),
-                    more.as_slice(),
-                )
+                (span(block.as_slice(), *start, *len), more.as_slice())
             }
         }
     }
+}
+
+// A block without values.
+fn no_block(alloc: Global) -> Result<Rc<Vec<Value>>, Memory>
+    ensures { IfOk result (λ block. block.value.items ≡ []) }
+{
+    Ok(Rc::new(alloc, Vec::new(alloc))?)
 }
 
 // A list with one value more than those of a block.
 fn longer(
     alloc: Global,
     block: Rc<Vec<Value>>,
-    start: u16,
-    len: u32,
+    start: usize,
+    len: usize,
     item: Value,
 ) -> Result<Place, Memory>
     ensures { IfOk result (λ place. place_values place ≡ take len (drop start block.value.items) ++ item ∷ []) }
@@ -267,7 +315,7 @@ impl Members {
 
     /// Puts a member at the end, whatever keys are there. Without memory the list stays as it was.
     pub fn push(&mut self, key: Text, value: Value) -> Result<(), Memory>
-        ensures { pairs_of self.new ≡ (if is_ok result then pairs_of self.old ++ (key, value) ∷ [] else pairs_of self.old) }
+        ensures { pairs_of self.new ≡ pushed (is_ok result) (pairs_of self.old) (key, value) }
     {
         match &self.pairs {
             Kept::None => {
@@ -281,7 +329,7 @@ impl Members {
 
     // The same of members of which there is one.
     fn push_second(&mut self, key: Text, value: Value) -> Result<(), Memory>
-        ensures { pairs_of self.new ≡ (if is_ok result then pairs_of self.old ++ (key, value) ∷ [] else pairs_of self.old) }
+        ensures { pairs_of self.new ≡ pushed (is_ok result) (pairs_of self.old) (key, value) }
     {
         let room = Vec::with_capacity(self.alloc, 2)?;
         let mut pairs = Box::new(self.alloc, Vec::new(self.alloc))?;
@@ -300,7 +348,7 @@ impl Members {
 
     // The same of members of which there are many.
     fn push_behind(&mut self, key: Text, value: Value) -> Result<(), Memory>
-        ensures { pairs_of self.new ≡ (if is_ok result then pairs_of self.old ++ (key, value) ∷ [] else pairs_of self.old) }
+        ensures { pairs_of self.new ≡ pushed (is_ok result) (pairs_of self.old) (key, value) }
     {
         match mem::replace(&mut self.pairs, Kept::None) {
             Kept::Many(mut pairs) => match pairs.push((key, value)) {

@@ -35,7 +35,7 @@ read_members-returns-in-Some-after_byte-clause-shorter t c =
 
 pub read_members-loop-more-init : goal.read_members-loop-more-init
 read_members-loop-more-init t c =
-    let first = awaits_first_member (Reads c.args.depth) c.args.bytes.now _ _ (ap members_of c.in_ok-members.ensures) c.skip_space-start.ensures c.in_default.ensures in
+    let first = awaits_first_member (Reads c.args.depth) c.args.bytes.now _ _ c.in_ok-members.ensures c.skip_space-start.ensures c.in_default.ensures in
     record { behind = behind_one_more first _ _ _ _ _ c.in_ok-key.ensures.reads c.skip_space-rest.ensures c.in_ok-put.ensures; no_end = c.in_default-after_byte.ensures; kept = c.in_ok-key.ensures.kept; level = c.in_ok-key.ensures.depth; shorter = omega (arith, space_at_most c.args.bytes.now, ap length c.skip_space-start.ensures, c.in_ok-key.ensures.shorter, space_at_most c.in_ok-key.after.now, ap length c.skip_space-rest.ensures) }
 
 pub read_members-returns-in_default-after_byte-2-clause-reads : goal.read_members-returns-in_default-after_byte-2-clause-reads
@@ -50,7 +50,7 @@ read_members-returns-in_err-key-2-clause-reads t c =
 pub read_members-returns-in-Some-after_byte-3-clause-reads : goal.read_members-returns-in-Some-after_byte-3-clause-reads
 read_members-returns-in-Some-after_byte-3-clause-reads t c =
     let next = awaits_next_member c.loop-more.invariant.behind _ _ c.in-Some-after_byte-2.ensures c.skip_space.ensures in
-    last_member (behind_one_more next _ _ _ _ _ c.in_ok-key-2.ensures.reads c.skip_space-rest-in-loop-more.ensures (ap members_of c.in_ok-into_members.ensures ∙ c.in_ok-put-2.ensures)) _ _ refl c.in-Some-after_byte-3.ensures
+    last_member (behind_one_more next _ _ _ _ _ c.in_ok-key-2.ensures.reads c.skip_space-rest-in-loop-more.ensures (c.in_ok-into_members.ensures ∙ c.in_ok-put-2.ensures)) _ _ refl c.in-Some-after_byte-3.ensures
 
 pub read_members-returns-in-Some-after_byte-3-clause-shorter : goal.read_members-returns-in-Some-after_byte-3-clause-shorter
 read_members-returns-in-Some-after_byte-3-clause-shorter t c =
@@ -122,8 +122,8 @@ pub read_other-returns-clause-shorter : goal.read_other-returns-clause-shorter
 read_other-returns-clause-shorter t c =
     scalar_result_shorter _ c.read_scalar.result (λ x. json_of x.0) (λ x. x.1.now) c.read_scalar.ensures.reads
 
-pub begin_value-returns-then-depth-eq0-clause-begins : goal.begin_value-returns-then-depth-eq0-clause-begins
-begin_value-returns-then-depth-eq0-clause-begins t c = deep_list _ _ _ _ c.if-depth-eq0.true c.in-Some.ensures refl
+pub begin_value-returns-then-depth-eq0-clause-fails : goal.begin_value-returns-then-depth-eq0-clause-fails
+begin_value-returns-then-depth-eq0-clause-fails t c = deep_list _ _ _ _ c.if-depth-eq0.true c.in-Some.ensures refl
 
 pub begin_value-put-requires : goal.begin_value-put-requires
 begin_value-put-requires t c = shown_inside (kept_shown c.in_ok-value.ensures.kept c.requires)
@@ -150,11 +150,11 @@ read_value-loop-awaited-init t c = begins _ _ _
 pub read_value-begin_value-requires : goal.read_value-begin_value-requires
 read_value-begin_value-requires t c = (omega arith, shown_now c.loop-awaited.invariant.added c.requires)
 
-pub read_value-returns-in_err-awaited-clause-reads : goal.read_value-returns-in_err-awaited-clause-reads
-read_value-returns-in_err-awaited-clause-reads t c =
+pub read_value-returns-in_err-awaited-clause-fails : goal.read_value-returns-in_err-awaited-clause-fails
+read_value-returns-in_err-awaited-clause-fails t c =
     let p = err_from_is_err_and c.from_residual.result c.from_residual.ensures.1 in
     let awaits = c.loop-awaited.invariant in
-    rw (p.1, p.2) (read_fails awaits _ (left_is awaits _ _ c.depth.ensures c.depth-outside.ensures) _ c.in_err-awaited.ensures.begins)
+    rw (p.1, p.2) (read_fails awaits _ (left_is awaits _ _ c.depth.ensures c.depth-outside.ensures) _ c.in_err-awaited.ensures.fails)
 
 pub read_value-loop-awaited-preserved-then-awaited : goal.read_value-loop-awaited-preserved-then-awaited
 read_value-loop-awaited-preserved-then-awaited t c =
@@ -167,12 +167,12 @@ read_value-go_up-requires t c =
     let behind = begun awaits _ _ (left_is awaits _ _ c.depth.ensures c.depth-outside.ensures) false _ (rw c.if-awaited.false at c.in_ok-awaited.ensures.begins) c.in_ok-awaited.ensures.shorter in
     shown_inside (shown_now behind.added c.requires)
 
-pub read_value-returns-in_err-again-clause-reads : goal.read_value-returns-in_err-again-clause-reads
-read_value-returns-in_err-again-clause-reads t c =
+pub read_value-returns-in_err-again-clause-fails : goal.read_value-returns-in_err-again-clause-fails
+read_value-returns-in_err-again-clause-fails t c =
     let p = err_from_is_err_and c.from_residual-in_err-again.result c.from_residual-in_err-again.ensures.1 in
     let awaits = c.loop-awaited.invariant in
     let behind = begun awaits _ _ (left_is awaits _ _ c.depth.ensures c.depth-outside.ensures) false _ (rw c.if-awaited.false at c.in_ok-awaited.ensures.begins) c.in_ok-awaited.ensures.shorter in
-    rw (p.1, p.2) (stopped_above c.depth-outside.result _ c.depth-outside.ensures behind c.in_err-again.ensures.goes)
+    rw (p.1, p.2) (stopped_above c.depth-outside.result _ c.depth-outside.ensures behind c.in_err-again.ensures.stops)
 
 pub read_value-loop-awaited-preserved : goal.read_value-loop-awaited-preserved
 read_value-loop-awaited-preserved t c =

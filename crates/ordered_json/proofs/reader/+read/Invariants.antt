@@ -2,7 +2,6 @@ use Rattle.std.proofs.Common.{◌≡◌, ◌≢◌, ◌+◌, ◌*◌, ◌<◌, �
 use Rattle.json_spec.specs.Grammar.{after_space, Reads}
 use Rattle.ordered_json.specs.Gathered.{gathered}
 use Rattle.ordered_json.specs.Forests.{Keeps}
-use Rattle.ordered_json.specs.Shown.{members_of}
 use Rattle.ordered_json.proofs.GrammarLemmas.{IsBehind}
 use Rattle.ordered_json.proofs.NestLemmas.{AwaitsValue}
 use Rattle.ordered_json.proofs.reader.+read.Given as goal
@@ -35,7 +34,7 @@ abbrev pub decreases-read_value-loop-awaited : goal.decreases-read_value-loop-aw
 decreases-read_value-loop-awaited l = length l.rest
 
 abbrev pub invariant-read_members-loop-more : goal.invariant-read_members-loop-more
-invariant-read_members-loop-more l = record { behind : IsBehind (Reads l.fn.depth) (after_space l.fn.bytes) (members_of (gathered l.members)) l.rest; no_end : (end : List ℕ) → l.rest ≢ 125 ∷ end; kept : Keeps l.fn.forest l.forest; level : l.forest.innermost ≡ l.fn.forest.innermost; shorter : length l.rest < length l.fn.bytes }
+invariant-read_members-loop-more l = record { behind : IsBehind (Reads l.fn.depth) (after_space l.fn.bytes) (gathered l.members) l.rest; no_end : (end : List ℕ) → l.rest ≢ 125 ∷ end; kept : Keeps l.fn.forest l.forest; level : l.forest.innermost ≡ l.fn.forest.innermost; shorter : length l.rest < length l.fn.bytes }
 
 abbrev pub decreases-read_members-loop-more : goal.decreases-read_members-loop-more
 decreases-read_members-loop-more l = length l.rest

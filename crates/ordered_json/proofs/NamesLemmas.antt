@@ -1,0 +1,51 @@
+-- Names that ascend stand once each, and so do those that were put into that order.
+use Rattle.std.specs.Prelude.{◌≡◌, ℕ, Bool, true, false, List, [], ◌∷◌, ⊤}
+use Rattle.std.specs.Cmp.{IsTotalOrder, eq_by_cmp_equiv}
+use Rattle.std.specs.Cmp.Lexicographic.{nat_list_cmp_total}
+use Rattle.std.specs.List.{AllByRecursion, IsDistinct}
+use Rattle.std.specs.List.Sorted.{IsPermutation, IsStrictlySortedBy}
+use Rattle.std.specs.Ordering.{eq_by_cmp}
+use Rattle.std.specs.declared.cmp.Ordering.TheVariants.{Less}
+use Rattle.std.proofs.Common.{refl, ap, sym, subst, ◌∙◌}
+use Rattle.std.proofs.lemmas.Cmp.{nat_cmp_total, on_total, then_total}
+use Rattle.std.proofs.lemmas.List.Sorted.{IsPermutation-sym}
+use Rattle.std.proofs.lemmas.Map.Keys.{IsDistinct-from_sorted, IsDistinct-head, IsDistinct-tail, IsDistinct-IsPermutation}
+use Rattle.json_spec.specs.Value.{IsNewName, AreDistinct}
+use Rattle.ordered_json.specs.declared.value.Value.{Value}
+use Rattle.ordered_json.specs.Shown.{members_of}
+use Rattle.ordered_json.specs.Pairs.{by_weight, weighed, weighed_names, IsBefore, Ascend}
+
+order_total : IsTotalOrder by_weight
+order_total = then_total (on_total (λ t. t.0) nat_cmp_total) (on_total (λ t. t.1) nat_list_cmp_total)
+
+before_all : (name other : ℕ × List ℕ) (more : List (ℕ × List ℕ)) → IsBefore name other → AllByRecursion (λ y. by_weight other y ≡ Less) more → AllByRecursion (λ y. by_weight name y ≡ Less) more
+before_all name other [] b a = tt
+before_all name other (next ∷ more) b a = (order_total.trans name other next b a.0, before_all name other more b a.1)
+
+ascending_sorted : (names : List (ℕ × List ℕ)) → Ascend names → IsStrictlySortedBy by_weight names
+unfolding IsStrictlySortedBy
+ascending_sorted [] a = tt
+ascending_sorted (name ∷ []) a = (tt, tt)
+ascending_sorted (name ∷ other ∷ more) a =
+    let s = ascending_sorted (other ∷ more) a.1 in
+    ((a.0, before_all name other more a.0 s.0), s)
+
+abbrev same_name : ℕ × List ℕ → ℕ × List ℕ → Bool
+same_name = eq_by_cmp by_weight
+
+new_among : (name : List ℕ) (pairs : List (List ℕ × Value)) → AllByRecursion (λ y. same_name (weighed name) y ≡ false) (weighed_names pairs) → IsNewName name (members_of pairs)
+new_among name [] a = tt
+new_among name (pair ∷ pairs) a =
+    ((λ e. let t : same_name (weighed name) (weighed pair.0) ≡ true = subst (λ (n : List ℕ). same_name (weighed name) (weighed n) ≡ true) e ((eq_by_cmp_equiv order_total).refl (weighed name)) in let f = a.0 in absurd (cc)), new_among name pairs a.1)
+
+distinct_pairs : (pairs : List (List ℕ × Value)) → IsDistinct same_name (weighed_names pairs) → AreDistinct (members_of pairs)
+distinct_pairs [] d = tt
+distinct_pairs (pair ∷ pairs) d =
+    (new_among pair.0 pairs (IsDistinct-head same_name (weighed pair.0) (weighed_names pairs) d), distinct_pairs pairs (IsDistinct-tail same_name (weighed pair.0) (weighed_names pairs) d))
+
+pub sorted_distinct : (pairs : List (List ℕ × Value)) (names sorted : List (ℕ × List ℕ)) → names ≡ weighed_names pairs → IsPermutation names sorted → Ascend sorted → AreDistinct (members_of pairs)
+sorted_distinct pairs names sorted e p a =
+    distinct_pairs pairs
+    (subst (IsDistinct same_name) e
+    (IsDistinct-IsPermutation same_name (λ x y. (eq_by_cmp_equiv order_total).symm x y) sorted names (IsPermutation-sym names sorted p)
+    (IsDistinct-from_sorted by_weight sorted (ascending_sorted sorted a))))

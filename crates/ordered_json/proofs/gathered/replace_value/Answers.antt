@@ -1,6 +1,0 @@
-use Rattle.ordered_json.proofs.PairsLemmas.{value_set}
-use Rattle.ordered_json.proofs.gathered.replace_value.Goals as goal
-
-pub returns : goal.returns
-returns c =
-    record { all = λ before after key old e p. value_set c.args.pairs.now.items before after key old c.args.value c.args.place c.index_mut-pair.result.now c.index_mut-pair.ensures.value e p }
