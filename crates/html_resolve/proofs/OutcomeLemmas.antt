@@ -157,3 +157,27 @@ pub resolves_moved : (out : Result (List ℕ) HtmlFault) (a b : Resolution) → 
 resolves_moved out a b e h = subst (ComesTo out) e h
 
 pub ruleset outcomes = (first_fails, first_some, second_answers, answers_moved, memory_fails, key_none, key_blocked, key_found, prefix_none, prefix_blocked, prefix_found, prefix_fails)
+
+-- the same from the normalized specifier on
+module _ (m : ParsedMap) (referrer text : List ℕ) where
+  abbrev pub Normal : Option (List ℕ) → Resolution
+  Normal url = resolve_normalized (get m.imports) (scope_addresses m.scopes) referrer url text
+
+  abbrev pub Matching : Option (List ℕ) → Option Resolution
+  Matching url = first_answer (resolve_scopes_match url text referrer (scope_addresses m.scopes)) (resolve_imports_match url text (get m.imports))
+
+  normal_url : (url : List ℕ) (out : Result (Option (List ℕ)) HtmlFault) → Finds out (Matching (Some url)) → ComesTo (or_url url out) (Normal (Some url))
+  normal_url url (Ok None) h = ap (λ o. answer_or o (Resolved url)) h
+  normal_url url (Ok (Some found)) h = ap (λ o. answer_or o (Resolved url)) h
+  normal_url url (Err fault) h = record { same = fails_or fault _ (Resolved url) h.same }
+
+  normal_bare : (out : Result (Option (List ℕ)) HtmlFault) → Finds out (Matching None) → ComesTo (or_bare out) (Normal None)
+  normal_bare (Ok None) h = record { same = ap (λ o. Some (answer_or o html.Bare)) h }
+  normal_bare (Ok (Some found)) h = ap (λ o. answer_or o html.Bare) h
+  normal_bare (Err fault) h = record { same = fails_or fault _ html.Bare h.same }
+
+  pub url_normal : (parsed : Option (List ℕ)) (url : List ℕ) → parsed ≡ Some url → (out shown : Result (Option (List ℕ)) HtmlFault) → out ≡ shown → Finds out (Matching (Some url)) → ComesTo (or_url url shown) (Normal parsed)
+  url_normal parsed url e out shown is h = subst (λ p. ComesTo (or_url url shown) (Normal p)) (sym e) (normal_url url shown (subst (λ o. Finds o (Matching (Some url))) is h))
+
+  pub bare_normal : (parsed : Option (List ℕ)) → parsed ≡ None → (out shown : Result (Option (List ℕ)) HtmlFault) → out ≡ shown → Finds out (Matching None) → ComesTo (or_bare shown) (Normal parsed)
+  bare_normal parsed e out shown is h = subst (λ p. ComesTo (or_bare shown) (Normal p)) (sym e) (normal_bare shown (subst (λ o. Finds o (Matching None)) is h))

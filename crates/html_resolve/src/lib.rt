@@ -8,4 +8,4 @@ mod resolve;
 mod scopes;
 
 pub use html_fault::HtmlFault;
-pub use resolve::resolve_in;
+pub use resolve::{resolve_in, resolve_normalized};

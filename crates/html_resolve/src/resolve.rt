@@ -4,7 +4,7 @@ ghost use Rattle.url_spec.specs.Parsing.{parse_alone};
 ghost use Rattle.url_spec.specs.Specifiers.{normalized};
 ghost use Rattle.import_map_spec.specs.Resolving.{takes_prefixes};
 ghost use Rattle.import_map_spec.specs.LookUps as html;
-ghost use Rattle.import_map_spec.specs.LookUps.{resolve_imports_match, resolve_scopes_match, scope_addresses, first_answer};
+ghost use Rattle.import_map_spec.specs.LookUps.{resolve_normalized, resolve_imports_match, resolve_scopes_match, scope_addresses, first_answer};
 ghost use Rattle.html_resolve.specs.Outcomes.{Finds, ComesTo};
 
 use crate::HtmlFault;
@@ -46,6 +46,30 @@ fn answer_in(
             }
         }
         None => match match_in(alloc, map, referrer.as_str(), specifier, true) {
+            Err(fault) => Err(fault),
+            Ok(Some(found)) => Ok(found),
+            Ok(None) => Err(HtmlFault::Bare),
+        },
+    }
+}
+
+/// The same from a normalized specifier on: where it is a URL, that is the URL of the specifier.
+pub fn resolve_normalized(
+    alloc: Global,
+    map: &ParsedMap,
+    referrer: &str,
+    text: &str,
+) -> Result<WebUrl, HtmlFault>
+    ensures { ComesTo result (resolve_normalized (get map.now.imports) (scope_addresses map.now.scopes) referrer.now
+        (parse_alone text.now) text.now) }
+{
+    match WebUrl::parse(alloc, text)? {
+        Some(url) => match match_in(alloc, map, referrer, text, url.is_special()) {
+            Err(fault) => Err(fault),
+            Ok(Some(found)) => Ok(found),
+            Ok(None) => Ok(url),
+        },
+        None => match match_in(alloc, map, referrer, text, true) {
             Err(fault) => Err(fault),
             Ok(Some(found)) => Ok(found),
             Ok(None) => Err(HtmlFault::Bare),
