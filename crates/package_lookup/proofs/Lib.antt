@@ -5,3 +5,4 @@ mod SightAnswers
 mod Folders
 pub mod Questions
 pub mod Searches
+pub mod RecordAnswers

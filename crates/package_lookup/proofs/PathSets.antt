@@ -56,12 +56,14 @@ pub distinct_one : (path : List ℕ) → IsDistinct bytes_eq (path ∷ [])
 unfolding IsDistinct
 distinct_one path = (tt, tt)
 
+abbrev pub trail_of : List (List ℕ) → ℕ → List (List ℕ) → Trail
+trail_of paths size question = record { paths = paths; size = size; question = question }
+
 -- a path that is new behind the paths of a trail
 pub appended : (paths : List (List ℕ)) (size : ℕ) (question after : List (List ℕ)) (path : List ℕ) (old : Trail)
-    → record { paths = paths; size = size; question = question } ≡ old → is_seen path old.paths ≡ false
+    → trail_of paths size question ≡ old → is_seen path old.paths ≡ false
     → after ≡ insert_key bytes_eq paths path
-    → record { paths = after; size = size; question = question }
-    ≡ record { paths = old.paths ++ path ∷ []; size = old.size; question = old.question }
+    → trail_of after size question ≡ trail_of (old.paths ++ path ∷ []) old.size old.question
 appended paths size question after path old same new inserts =
     let unseen : is_seen path paths ≡ false = ap (λ (t : Trail). is_seen path t.paths) same ∙ new in
     let keys : after ≡ paths ++ path ∷ [] = inserts ∙ inserted_new path paths unseen in

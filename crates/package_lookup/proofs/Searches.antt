@@ -3,7 +3,7 @@
 --     search_ends, search_accepts, search_fails, search_tops, search_rises
 --                                                what that says of the nearest folder
 use Rattle.std.proofs.Common.{◌≡◌, [], ◌∷◌, ℕ, List, Option, Some, None, Bool, true, false, Err, refl, sym, ap, ◌∙◌, subst}
-use Rattle.std.specs.Prelude.{codes, if◌then◌else◌}
+use Rattle.std.specs.Prelude.{codes, option_map, if◌then◌else◌}
 use Rattle.std.proofs.lemmas.Bool.{cond-true, cond-false, cases_Bool}
 use Rattle.std.proofs.Common.{⊎_elim}
 use Rattle.asking_spec.specs.Askings.{answered, and_then}
@@ -16,6 +16,7 @@ use Rattle.url_spec.proofs.PathDecisions.{path_by_test, test_by_path}
 use Rattle.url_spec.specs.PathTests.{is_path}
 use Rattle.node_spec.specs.FileLooks.{look_at_text}
 use Rattle.node_spec.specs.Nearest.{Search, is_accepted, nearest_in, nearest}
+use Rattle.node_spec.specs.PackageResolve.{packages, package_at, package_folder}
 use Rattle.package_lookup.specs.declared.fault.LookupFault.{LookupFault}
 use Rattle.package_lookup.specs.Responses.{Response, given, fails, never, by_fault}
 use Rattle.package_lookup.specs.Answered.{State, Answered}
@@ -151,3 +152,25 @@ module _ (search : Search) where
       (sym (judged_on now at (nearest search parent) (nearest_parent parent at is) free))
       (left_goes now now later (and_then (is_accepted search at) next) (is_accepted search at) next false
       (left_begins now (and_then (is_accepted search at) next)) a)
+
+-- ---- a package's folder
+
+pub package_none : (before after : State) (from name : List ℕ)
+    → Answered before (nearest (packages name) from) (given None) after
+    → Answered before (package_folder from name) (given None) after
+package_none before after from name a =
+    then_given before after after (nearest (packages name) from) (λ found. answered (option_map (package_at name) found))
+    None (given None) a (now_given after None)
+
+pub package_found : (before after : State) (from name at : List ℕ)
+    → Answered before (nearest (packages name) from) (given (Some at)) after
+    → Answered before (package_folder from name) (given (Some (package_at name at))) after
+package_found before after from name at a =
+    then_given before after after (nearest (packages name) from) (λ found. answered (option_map (package_at name) found))
+    (Some at) (given (Some (package_at name at))) a (now_given after (Some (package_at name at)))
+
+pub package_fails : (before after : State) (from name : List ℕ) (fault : LookupFault)
+    → Answered before (nearest (packages name) from) (by_fault (fails never) (fails never) fault) after
+    → Answered before (package_folder from name) (by_fault (fails never) (fails never) fault) after
+package_fails before after from name fault a =
+    looked_on before after (nearest (packages name) from) (λ found. answered (option_map (package_at name) found)) fault a

@@ -37,7 +37,7 @@ returns-in_err-count-in-Some-clause-answered g c =
 
 pub returns-in-None-clause-answered : goal.returns-in-None-clause-answered
 returns-in-None-clause-answered g c =
-    rw c.limit.ensures
+    rw c.limit-in-None.ensures
     (sight_large (g.F.Folder.state c.args.folder.now) (g.F.Folder.state c.hold.new.folder) c.args.self.now
     c.hold.new.self c.args.trail.now c.args.path.now
     (subst (λ look. Fetches (g.F.Folder.state c.args.folder.now) c.args.self.now c.args.path.now (Ok look)
