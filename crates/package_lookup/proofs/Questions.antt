@@ -459,3 +459,7 @@ pub resolved_err : {X Y : Type 0} (shown : X → Y) (before after : State) (aski
     → Answered before asking (resolved shown result) after
 resolved_err shown before after asking result fault e a =
     subst (λ r. Answered before asking (resolved shown r) after) (sym (handed result fault e)) a
+
+pub given_as : {X : Type 0} (before after : State) (asking : LookAsking X) (value other : X) → other ≡ value
+    → Answered before asking (given value) after → Answered before asking (given other) after
+given_as before after asking value other same a = subst (λ v. Answered before asking (given v) after) (sym same) a

@@ -1,11 +1,10 @@
-use Rattle.std.proofs.Common.{subst, sym}
 use Rattle.node_spec.specs.LookupPackageScope.{scopes}
 use Rattle.node_spec.specs.Nearest.{is_accepted}
-use Rattle.package_lookup.specs.Answered.{state, Answered}
-use Rattle.package_lookup.specs.Responses.{itself, given}
+use Rattle.package_lookup.specs.Answered.{state}
+use Rattle.package_lookup.specs.Responses.{itself}
 use Rattle.package_lookup.specs.SeenLooks.{entry_of}
 use Rattle.package_lookup.specs.declared.fault.LookupFault.TheVariants.{Memory}
-use Rattle.package_lookup.proofs.Questions.{looked_err, no_memory_now}
+use Rattle.package_lookup.proofs.Questions.{looked_err, no_memory_now, given_as}
 use Rattle.package_lookup.proofs.Searches.{nothing_there, fault_there, seen_there}
 use Rattle.package_lookup.proofs.packages.holds_record.Goals as goal
 
@@ -29,6 +28,6 @@ returns-in-Err g c =
 pub returns : goal.returns
 returns g c =
     let is = rw c.in-Some.is at c.in_ok-join.ensures in
-    subst (λ held. Answered _ (is_accepted scopes c.args.at.now) (given held) _) (sym c.is_file.ensures)
+    given_as _ _ (is_accepted scopes c.args.at.now) _ c.is_file.result c.is_file.ensures
     (seen_there scopes _ _ c.args.at.now c.in-Some.path (entry_of c.in-Ok.seen) is.0 is.1
     (rw c.in-Ok.is at c.look.ensures.answered))
