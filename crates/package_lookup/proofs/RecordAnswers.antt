@@ -2,11 +2,12 @@
 use Rattle.std.proofs.Common.{◌≡◌, ◌≢◌, ◌⊎◌, ℕ, List, Option, Some, None, Result, Ok, Err, refl, sym, ap, ◌∙◌, subst, inl, inr, ⊎_elim}
 use Rattle.std.specs.declared.alloc.Global.{Global}
 use Rattle.std.specs.declared.rc.Rc.{Rc}
+use Rattle.std.specs.Result.{IsErrAnd}
 use Rattle.std.proofs.lemmas.Bool.{cond-true, cond-false}
 use Rattle.std.specs.Prelude.{codes, true, false}
 use Rattle.asking_spec.specs.Askings.{answered, and_then}
 use Rattle.tree_spec.specs.FoldersAbove.{folder_of}
-use Rattle.tree_spec.specs.LookAskings.{look_at}
+use Rattle.tree_spec.specs.LookAskings.{LookAsking, look_at}
 use Rattle.tree_spec.specs.Paths.{IsPath}
 use Rattle.tree_spec.specs.declared.Entry.{Entry}
 use Rattle.node_spec.specs.EsmFileFormat as spec
@@ -20,6 +21,7 @@ use Rattle.node_spec.specs.declared.Cause.TheVariants as cause
 use Rattle.package_record.specs.Shown.{record_shown}
 use Rattle.package_record.specs.declared.package_json.Package.{Package}
 use Rattle.package_lookup.specs.declared.fault.LookupFault.{LookupFault}
+use Rattle.package_lookup.specs.declared.fault.LookupFault.TheVariants.{Memory}
 use Rattle.package_lookup.specs.declared.format.Format.{Format}
 use Rattle.package_lookup.specs.declared.format.Format.TheVariants.{Module, Detect, Not}
 use Rattle.package_lookup.specs.declared.format.Reason.TheVariants as reason
@@ -29,7 +31,7 @@ use Rattle.package_lookup.specs.Recorded.{shown_record, IsRecorded}
 use Rattle.package_lookup.specs.Responses.{Response, passes, not_read, no_memory, never, given, fails, by_fault, bad_config, deep_config, resolved}
 use Rattle.package_lookup.specs.Formats.{by_format, formatted, IsByEnding}
 use Rattle.package_lookup.specs.Answered.{State, state, Answered}
-use Rattle.package_lookup.proofs.Questions.{then_given, now_given, unfinished, no_memory_now, fault_on, looked_to, known_on}
+use Rattle.package_lookup.proofs.Questions.{then_given, now_given, unfinished, no_memory_now, fault_on, looked_to, known_on, handed}
 use Rattle.package_lookup.proofs.Searches.{text_seen, text_unseen}
 
 -- ---- the record of a folder
@@ -117,6 +119,30 @@ pub scope_fails : (before after : State) (from : List ℕ) (fault : LookupFault)
 scope_fails before after from fault a =
     looked_to before after (package_scope from) format_in (fails never) deep_config fault a
 
+pub response_as : {X : Type 0} (before after : State) (asking : LookAsking X) (one other : Response X) → other ≡ one
+    → Answered before asking one after → Answered before asking other after
+response_as before after asking one other same a = subst (λ r. Answered before asking r after) (sym same) a
+
+pub formatted_err : (before after : State) (asking : LookAsking (Result spec.Format Refusal))
+    (result : Result Format LookupFault) → IsErrAnd result (λ given. given ≡ Memory)
+    → Answered {X = Result spec.Format Refusal} before asking (fails no_memory) after
+    → Answered before asking (formatted result) after
+formatted_err before after asking result e a =
+    subst (λ r. Answered before asking (formatted r) after) (sym (handed result Memory e)) a
+
+abbrev pub by_scope : List ℕ → LookAsking (Result spec.Format Refusal)
+by_scope from = and_then (package_scope from) format_in
+
+pub scope_no_memory : (before : State) (path : List ℕ)
+    → Answered {X = Result spec.Format Refusal} before (by_scope (folder_of path)) (fails no_memory) before
+scope_no_memory before path = no_memory_now before (by_scope (folder_of path))
+
+pub scope_of_file : (before after : State) (from path : List ℕ) (response : Response (Result spec.Format Refusal))
+    → from ≡ folder_of path → Answered before (by_scope from) response after
+    → Answered before (by_scope (folder_of path)) response after
+scope_of_file before after from path response same a =
+    subst (λ f. Answered before (by_scope f) response after) same a
+
 -- ---- the ending of a name
 
 module _ (path : List ℕ) where
@@ -153,5 +179,17 @@ module _ (path : List ℕ) where
     refl,
     cond-false _ _ _ a ∙ (cond-false _ _ _ b ∙ (cond-false _ _ _ c ∙ (cond-false _ _ _ d ∙ cond-false _ _ _ e))),
   )
+
+pub format_known : (before : State) (path : List ℕ) (found : Format) → IsByEnding path (Some found)
+    → Answered before (file_format path) (by_format found) before
+format_known before path found is =
+    response_as before before (file_format path) (given is.0) (by_format found) is.1
+    (subst (λ asking. Answered before asking (given is.0) before) (sym is.2) (now_given before is.0))
+
+pub format_scoped : (before after : State) (path : List ℕ) (response : Response (Result spec.Format Refusal))
+    → IsByEnding path None → Answered before (by_scope (folder_of path)) response after
+    → Answered before (file_format path) response after
+format_scoped before after path response is a =
+    subst (λ asking. Answered before asking response after) (sym is) a
 
 pub ruleset by_endings = (ends_mjs, ends_cjs, ends_json, ends_node, ends_js, ends_otherwise)
