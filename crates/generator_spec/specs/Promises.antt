@@ -86,8 +86,10 @@ pub record Shows (before after : FolderState) (out out_after : SinkState) (resul
   pub looks : after.look_faults ≢ before.look_faults → (result ≡ read_fault_status) ⊎ (result ≡ write_fault_status)
   pub writes : after.write_faults ≢ before.write_faults → result ≡ write_fault_status
   pub output : out_after.faults ≢ out.faults → result ≡ write_fault_status
-  pub looks_alone : after.look_faults ≢ before.look_faults → (Rose out.faults out_after.faults → ⊥) → result ≡ read_fault_status
-  pub read_alone : result ≡ read_fault_status → (after.write_faults ≡ before.write_faults) × (out_after.faults ≡ out.faults)
+  pub looks_alone :
+      after.look_faults ≢ before.look_faults → (Rose out.faults out_after.faults → ⊥) → result ≡ read_fault_status
+  pub read_alone :
+      result ≡ read_fault_status → (after.write_faults ≡ before.write_faults) × (out_after.faults ≡ out.faults)
 
 -- own: the tree is as it was, and no fault was counted
 pub record Untouched (before after : FolderState) : Type 0 where
@@ -102,9 +104,11 @@ pub record Promises (words : List (List ℕ)) (before after : FolderState) (out 
   pub kept : IsRefusalStatus result → after.holds ≡ before.holds
   pub done : result ≡ done_status → IfSome before.holds (λ tree. Linked words tree after.holds)
   pub write_fault :
-      result ≡ write_fault_status → (after.holds ≡ before.holds) ⊎ IfSome before.holds (λ tree. Linked words tree after.holds)
+      result ≡ write_fault_status
+      → (after.holds ≡ before.holds) ⊎ IfSome before.holds (λ tree. Linked words tree after.holds)
   pub read : result ≡ read_fault_status → Rose before.look_faults after.look_faults
-  pub write : result ≡ write_fault_status → Rose before.write_faults after.write_faults ⊎ Rose out.faults out_after.faults
+  pub write :
+      result ≡ write_fault_status → Rose before.write_faults after.write_faults ⊎ Rose out.faults out_after.faults
   pub told : Tells out.got out_after.got (IfSome before.holds (λ tree. Linked words tree after.holds))
   pub meets : IfSome before.holds (λ tree. Meets words tree before after out out_after result)
   pub shows : Shows before after out out_after result
