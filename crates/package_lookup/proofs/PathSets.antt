@@ -10,7 +10,7 @@ use Rattle.tree_spec.specs.LookAskings.{is_seen, with_seen}
 use Rattle.tree_spec.specs.LookLimits.{Trail}
 use Rattle.indexmap.specs.IndexSet.{insert_key}
 
-same_either_way : (one other : List ℕ) → bytes_eq one other ≡ bytes_eq other one
+pub same_either_way : (one other : List ℕ) → bytes_eq one other ≡ bytes_eq other one
 same_either_way one other =
     one_answer {P = one ≡ other} (bytes_eq one other) (bytes_eq other one) (bytes_eq-Decides one other)
     ((λ e. sym ((bytes_eq-Decides other one).0 e)), (λ e. (bytes_eq-Decides other one).1 (sym e)))
