@@ -44,7 +44,7 @@ unfolding IsDistinct
 distinct_append [] ys some more apart = more
 distinct_append (x ∷ xs) ys some more apart = (
   apart_append (λ y. bytes_eq x y ≡ false) xs ys some.0
-  (recursion_from_All (λ y. bytes_eq x y ≡ false) ys (All-head (Apart ys) x xs apart)),
+      (recursion_from_All (λ y. bytes_eq x y ≡ false) ys (All-head (Apart ys) x xs apart)),
   distinct_append xs ys some.1 more (All-tail (Apart ys) x xs apart),
 )
 

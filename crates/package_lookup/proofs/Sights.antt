@@ -1,9 +1,9 @@
 -- Something can stand at each path as looks tell it.
-use Rattle.std.proofs.Common.{◌≡◌, ℕ, nat_lt, true, List, length, Option, Some, None, refl, ap, ◌∙◌}
+use Rattle.std.proofs.Common.{◌≡◌, ◌+◌, ℕ, nat_lt, true, List, length, Option, Some, None, refl, ap, ◌∙◌, arith}
 use Rattle.std.specs.Prelude.{replicate}
 use Rattle.std.proofs.lemmas.List.{length-replicate}
 use Rattle.std.specs.FinMap.{get}
-use Rattle.std.proofs.lemmas.Bool.{cond-true, cond-false, cond_both}
+use Rattle.std.proofs.lemmas.Bool.{cond-true, cond-false, cond_both, lt-ltb}
 use Rattle.tree_spec.specs.LookLimits.{look_limits}
 use Rattle.tree_spec.specs.Trees.{Tree}
 use Rattle.tree_spec.specs.declared.Entry.{Entry}
@@ -14,12 +14,19 @@ use Rattle.package_lookup.specs.declared.known.Known.{Known}
 use Rattle.package_lookup.specs.SeenLooks.{within_limit, seen_as}
 use Rattle.package_lookup.specs.Looked.{known_at, look_or, look_in, SomeSights}
 
+-- there are longer lists than any number says
+longer_than : (n : ℕ) → (bytes : List ℕ) × (nat_lt n (length bytes) ≡ true)
+longer_than n = (
+  replicate (n + 1) 0,
+  ap (nat_lt n) (length-replicate (n + 1) 0) ∙ lt-ltb n (n + 1) (omega arith),
+)
+
 -- a file that is too large
 large_file : List ℕ
-large_file = replicate 16777217 0
+large_file = (longer_than look_limits.file).0
 
 -- what may stand where a look answers this
-entry_by : Look → Option Entry
+abbrev entry_by : Look → Option Entry
 entry_by Absent = None
 entry_by Folder = Some Directory
 entry_by (File bytes) = Some (Stored bytes)
@@ -27,7 +34,7 @@ entry_by TooLarge = Some (Stored large_file)
 
 is_large : nat_lt look_limits.file (length large_file) ≡ true
 unfolding large_file
-is_large = ap (nat_lt look_limits.file) (length-replicate 16777217 0)
+is_large = (longer_than look_limits.file).1
 
 within_twice : (look : Look) → within_limit (within_limit look) ≡ within_limit look
 within_twice Absent = refl

@@ -11,9 +11,9 @@ mod held;
 mod known;
 mod over;
 mod packages;
-mod trail;
 #[cfg(test)]
 mod tests;
+mod trail;
 
 pub use fault::LookupFault;
 pub use format::{Format, Reason, format_of};

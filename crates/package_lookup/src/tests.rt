@@ -118,7 +118,11 @@ fn records(rt: HostRuntime) -> Result<(), Fail> {
     assert!(rt; Rc::as_ptr(&first) == Rc::as_ptr(&again));
     let mut over = Over::new(alloc);
     let place = Path::parse(alloc, "/lib/package.json")?;
-    over.set(alloc, &place, Look::File(primitives::Bytes::of(alloc, b"{")?))?;
+    over.set(
+        alloc,
+        &place,
+        Look::File(primitives::Bytes::of(alloc, b"{")?),
+    )?;
     let mut copy = over.copy(alloc)?;
     known.lay(&mut copy);
     let laid = record_of(alloc, &mut known, &mut folder, &mut trail, &lib);
@@ -148,7 +152,11 @@ fn too_large(rt: HostRuntime) -> Result<(), Fail> {
     }
     let other = Path::parse(alloc, "/other.mjs")?;
     let mut over = Over::new(alloc);
-    over.set(alloc, &other, Look::File(primitives::Bytes::from_vec(bytes)))?;
+    over.set(
+        alloc,
+        &other,
+        Look::File(primitives::Bytes::from_vec(bytes)),
+    )?;
     known.lay(&mut over);
     let seen = known.look(alloc, &mut folder, &other, &mut trail);
     assert_eq!(rt; seen.err(), Some(limit));

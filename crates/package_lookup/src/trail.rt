@@ -118,8 +118,11 @@ impl Trail {
     // Puts a path that is new at the end of the paths.
     fn add(&mut self, path: Path) -> Result<(), Memory>
         requires { is_seen path self.old.paths ≡ false }
-        ensures { OnOk result (self.new ≡ record { paths = self.old.paths ++ path ∷ []; size = self.old.size;
-            question = self.old.question }) }
+        ensures { OnOk result (self.new ≡ record {
+          paths = self.old.paths ++ path ∷ [];
+          size = self.old.size;
+          question = self.old.question;
+        }) }
     {
         self.paths.insert(path)?;
         Ok(())
