@@ -5,12 +5,10 @@ use Rattle.std.proofs.lemmas.List.{length-replicate}
 use Rattle.std.specs.FinMap.{get}
 use Rattle.std.proofs.lemmas.Bool.{cond-true, cond-false, cond_both, lt-ltb}
 use Rattle.tree_spec.specs.LookLimits.{look_limits}
-use Rattle.tree_spec.specs.Trees.{Tree}
 use Rattle.tree_spec.specs.declared.Entry.{Entry}
 use Rattle.tree_spec.specs.declared.Entry.TheVariants.{Stored, Directory}
 use Rattle.tree_spec.specs.declared.Look.{Look}
 use Rattle.tree_spec.specs.declared.Look.TheVariants.{Absent, Folder, File, TooLarge}
-use Rattle.package_lookup.specs.declared.known.Known.{Known}
 use Rattle.package_lookup.specs.SeenLooks.{within_limit, seen_as}
 use Rattle.package_lookup.specs.Looked.{known_at, look_or, look_in, SomeSights}
 
