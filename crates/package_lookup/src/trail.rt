@@ -12,8 +12,8 @@ use std::marker::Model;
 use tree_model::{Path, Paths};
 use tree_spec::{LimitName, MOST_BYTES, MOST_FILE_BYTES, MOST_LOOKS};
 
-/// The distinct paths that one generation looked at, how many bytes the files among them have together, and the distinct
-/// paths of the present question.
+/// The distinct paths that one generation looked at, how many bytes the files among them have together, and the
+/// distinct paths of the present question.
 #[derive(Drop)]
 pub struct Trail {
     alloc: Global,
