@@ -3,6 +3,8 @@ mod PathSets
 mod LookCounts
 mod SightAnswers
 mod Folders
+mod Copies
+mod Sights
 pub mod Questions
 pub mod Searches
 pub mod RecordAnswers

@@ -1,8 +1,8 @@
 -- Lists of distinct paths.
-use Rattle.std.proofs.Common.{◌≡◌, ℕ, Bool, true, false, List, [], ◌∷◌, ◌++◌, refl, sym, ap, ◌∙◌, subst}
+use Rattle.std.proofs.Common.{◌≡◌, ℕ, false, List, [], ◌∷◌, ◌++◌, refl, sym, ap, ◌∙◌}
 use Rattle.std.specs.Prelude.{◌||◌, bytes_eq, All, if◌then◌else◌}
 use Rattle.std.specs.List.{list_any, IsDistinct, AllByRecursion}
-use Rattle.std.specs.Bool.{one_answer, Decides}
+use Rattle.std.specs.Bool.{one_answer}
 use Rattle.std.proofs.lemmas.Bool.{cond-false}
 use Rattle.std.proofs.lemmas.List.Elements.{All-head, All-tail, recursion_from_All}
 use Rattle.std.proofs.lemmas.Slice.Eq.{bytes_eq-Decides}
@@ -10,7 +10,7 @@ use Rattle.tree_spec.specs.LookAskings.{is_seen, with_seen}
 use Rattle.tree_spec.specs.LookLimits.{Trail}
 use Rattle.indexmap.specs.IndexSet.{insert_key}
 
-same_either_way : (one other : List ℕ) → bytes_eq one other ≡ bytes_eq other one
+pub same_either_way : (one other : List ℕ) → bytes_eq one other ≡ bytes_eq other one
 same_either_way one other =
     one_answer {P = one ≡ other} (bytes_eq one other) (bytes_eq other one) (bytes_eq-Decides one other)
     ((λ e. sym ((bytes_eq-Decides other one).0 e)), (λ e. (bytes_eq-Decides other one).1 (sym e)))
@@ -44,7 +44,7 @@ unfolding IsDistinct
 distinct_append [] ys some more apart = more
 distinct_append (x ∷ xs) ys some more apart = (
   apart_append (λ y. bytes_eq x y ≡ false) xs ys some.0
-  (recursion_from_All (λ y. bytes_eq x y ≡ false) ys (All-head (Apart ys) x xs apart)),
+      (recursion_from_All (λ y. bytes_eq x y ≡ false) ys (All-head (Apart ys) x xs apart)),
   distinct_append xs ys some.1 more (All-tail (Apart ys) x xs apart),
 )
 

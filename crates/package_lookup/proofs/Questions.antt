@@ -5,10 +5,9 @@
 --     looked_on, resolved_on ..    a fault of a part is the fault of the whole
 --     known_on                     what is known is the same in another form
 --     Left before whole middle rest      whatever the rest comes to from here, the whole comes to
-use Rattle.std.proofs.Common.{◌≡◌, ◌≢◌, ◌≤◌, ◌++◌, [], ℕ, Bool, true, false, List, Option, Some, None, Result, Ok, Err, IfSome, refl, sym, ap, ◌∙◌, subst, arith}
+use Rattle.std.proofs.Common.{◌≡◌, ◌++◌, [], ℕ, true, false, List, Option, Some, None, Result, Err, IfSome, refl, sym, ap, ◌∙◌, subst, arith}
 use Rattle.std.specs.Prelude.{is_some, bytes_eq, All}
 use Rattle.std.specs.FinMap.{get}
-use Rattle.std.specs.List.{IsDistinct}
 use Rattle.std.proofs.Common.{append_assoc, append-nil}
 use Rattle.std.specs.Option.{option_or}
 use Rattle.std.specs.Result.{IsErrAnd}
@@ -19,7 +18,7 @@ use Rattle.std.proofs.lemmas.List.Elements.{All-append, All-weaker, All-nil}
 use Rattle.std.proofs.lemmas.Slice.Eq.{bytes_eq-Decides}
 use Rattle.asking_spec.proofs.EvaluationLemmas.{evaluated_then}
 use Rattle.asking_spec.specs.Askings.{answered, and_then, on_ok, and_ok}
-use Rattle.asking_spec.specs.Evaluation.{Ended, ends, stopped, then_ended, evaluated}
+use Rattle.asking_spec.specs.Evaluation.{Ended, then_ended, evaluated}
 use Rattle.node_spec.specs.NodeAnswers.{Refusal, by_cause, too_deep, Resolving}
 use Rattle.node_spec.specs.declared.Cause.TheVariants as cause
 use Rattle.tree_spec.specs.Counts.{Rose}

@@ -3,7 +3,7 @@ use Rattle.std.proofs.Common.{◌≡◌, ℕ, List, Option, Some, Result, Ok, re
 use Rattle.std.specs.declared.alloc.Global.{Global}
 use Rattle.std.specs.declared.rc.Rc.{Rc}
 use Rattle.node_spec.proofs.RecordLooks.{record_is_read}
-use Rattle.node_spec.specs.ReadPackageJson.{read_record, record_or_refusal, record_of_entry}
+use Rattle.node_spec.specs.ReadPackageJson.{record_or_refusal}
 use Rattle.node_spec.specs.Records.{ReadsRecord}
 use Rattle.package_record.specs.Shown.{record_shown}
 use Rattle.package_record.specs.declared.package_json.Package.{Package}

@@ -1,5 +1,5 @@
 -- The record of a folder, and the format of a file, as answers to the askings for them.
-use Rattle.std.proofs.Common.{◌≡◌, ◌≢◌, ◌⊎◌, ℕ, List, Option, Some, None, Result, Ok, Err, refl, sym, ap, ◌∙◌, subst, inl, inr, ⊎_elim}
+use Rattle.std.proofs.Common.{◌≡◌, ◌≢◌, ◌⊎◌, ℕ, List, Option, Some, None, Result, Ok, Err, refl, sym, ◌∙◌, subst, inl, inr}
 use Rattle.std.specs.declared.alloc.Global.{Global}
 use Rattle.std.specs.declared.rc.Rc.{Rc}
 use Rattle.std.specs.Result.{IsErrAnd}
@@ -18,12 +18,11 @@ use Rattle.node_spec.specs.NodeAnswers.{Refusal, by_cause, too_deep}
 use Rattle.node_spec.specs.ReadPackageJson.{record_at, record_of_entry}
 use Rattle.node_spec.specs.Records.{Record}
 use Rattle.node_spec.specs.declared.Cause.TheVariants as cause
-use Rattle.package_record.specs.Shown.{record_shown}
 use Rattle.package_record.specs.declared.package_json.Package.{Package}
 use Rattle.package_lookup.specs.declared.fault.LookupFault.{LookupFault}
 use Rattle.package_lookup.specs.declared.fault.LookupFault.TheVariants.{Memory}
 use Rattle.package_lookup.specs.declared.format.Format.{Format}
-use Rattle.package_lookup.specs.declared.format.Format.TheVariants.{Module, Detect, Not}
+use Rattle.package_lookup.specs.declared.format.Format.TheVariants.{Module, Not}
 use Rattle.package_lookup.specs.declared.format.Reason.TheVariants as reason
 use Rattle.package_lookup.specs.declared.known.Known.{Known}
 use Rattle.package_lookup.specs.Looked.{IsSameKnown}

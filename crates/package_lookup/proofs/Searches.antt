@@ -2,7 +2,7 @@
 --     seen_there, nothing_there, fault_there     whether a folder is accepted, by a look at its place
 --     search_ends, search_accepts, search_fails, search_tops, search_rises
 --                                                what that says of the nearest folder
-use Rattle.std.proofs.Common.{◌≡◌, [], ◌∷◌, ℕ, List, Option, Some, None, Bool, true, false, Err, refl, sym, ap, ◌∙◌, subst}
+use Rattle.std.proofs.Common.{◌≡◌, ℕ, List, Option, Some, None, Bool, true, false, refl, sym, ap, ◌∙◌, subst}
 use Rattle.std.specs.Prelude.{codes, option_map, if◌then◌else◌}
 use Rattle.std.proofs.lemmas.Bool.{cond-true, cond-false, cases_Bool}
 use Rattle.std.proofs.Common.{⊎_elim}

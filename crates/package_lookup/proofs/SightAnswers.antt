@@ -1,9 +1,9 @@
 -- A look at a path, as an answer to the asking for it.
-use Rattle.std.proofs.Common.{◌≡◌, ◌≢◌, ◌⊎◌, ◌++◌, [], ◌∷◌, ℕ, Bool, true, false, List, Option, Some, None, Result, Ok, Err, IfSome, refl, sym, ap, ◌∙◌, subst, inl, inr, append-nil, ⊎_elim}
-use Rattle.std.specs.Prelude.{is_some, All, if◌then◌else◌}
+use Rattle.std.proofs.Common.{◌≡◌, ◌≢◌, ◌⊎◌, ◌++◌, [], ◌∷◌, ℕ, true, false, List, Option, Some, None, Result, Ok, Err, IfSome, refl, sym, ap, ◌∙◌, subst, inl, inr, append-nil, ⊎_elim}
+use Rattle.std.specs.Prelude.{is_some, if◌then◌else◌}
 use Rattle.std.specs.FinMap.{get}
 use Rattle.std.proofs.lemmas.List.Elements.{All-cons, All-nil}
-use Rattle.asking_spec.specs.Evaluation.{Ended, ends, stopped, then_ended, evaluated}
+use Rattle.asking_spec.specs.Evaluation.{Ended, ends, then_ended, evaluated}
 use Rattle.tree_spec.specs.LookAskings.{Sights, look_at}
 use Rattle.tree_spec.specs.LookLimits.{Trail, look_limits, counted, told, limited}
 use Rattle.tree_spec.specs.States.{FolderState, OnlyLooks}

@@ -4,7 +4,7 @@
 --     AsksOnce before after done            the folder was asked for no path that was known, and for none twice
 --     Answered before asking response after what the call does
 --     Asks before path after                the folder was asked for the path where it isn't known, and only there
-use Rattle.std.specs.Prelude.{◌≡◌, ◌≢◌, ◌++◌, [], ◌∷◌, ℕ, List, Option, Some, None, All, ⊤, IfSome, is_some, Bool, true, bytes_eq, not, ◌&&◌, if◌then◌else◌}
+use Rattle.std.specs.Prelude.{◌≡◌, ◌≢◌, ◌++◌, [], ◌∷◌, ℕ, List, Some, None, All, ⊤, IfSome, is_some, Bool, true, bytes_eq, not, ◌&&◌, if◌then◌else◌}
 use Rattle.std.specs.List.{IsDistinct}
 use Rattle.asking_spec.specs.Evaluation.{Ended, ends, stopped, evaluated}
 use Rattle.tree_spec.specs.LookAskings.{Sights, LookAsking}

@@ -36,4 +36,5 @@ formatted (Err fault) = by_fault (fails never) deep_config fault
 abbrev pub IsByEnding : List ℕ → Option Format → Type 0
 IsByEnding path None = spec.file_format path ≡ and_then (package_scope (folder_of path)) spec.format_in
 IsByEnding path (Some found) =
-    (value : Result spec.Format Refusal) × (by_format found ≡ given value) × (spec.file_format path ≡ answered value)
+    (value : Result spec.Format Refusal) × (by_format found ≡ given value)
+    × (spec.file_format path ≡ answered value)

@@ -4,7 +4,7 @@
 --     look_of seen                 the same; none is a file above the limit
 --     within_limit look            the look, where a file above the limit is too large
 --     seen_as found                what a look answers where this stands there
-use Rattle.std.specs.Prelude.{ℕ, nat_lt, List, length, Option, Some, None, if◌then◌else◌}
+use Rattle.std.specs.Prelude.{nat_lt, length, Option, Some, None, if◌then◌else◌}
 use Rattle.tree_spec.specs.Limits.{limit_number}
 use Rattle.tree_spec.specs.declared.Entry.{Entry}
 use Rattle.tree_spec.specs.declared.Entry.TheVariants.{Stored, Directory}

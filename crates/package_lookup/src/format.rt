@@ -40,8 +40,8 @@ pub enum Reason {
     Unreadable { at: usize },
 }
 
-/// The format of a file (Node.js, ECMAScript modules: ESM_FILE_FORMAT). It begins a question; where the text decides, the
-/// caller goes on in that question with a look at the file.
+/// The format of a file (Node.js, ECMAScript modules: ESM_FILE_FORMAT). It begins a question; where the text decides,
+/// the caller goes on in that question with a look at the file.
 pub fn format_of<F: Folder>(
     alloc: Global,
     known: &mut Known,

@@ -105,7 +105,7 @@ impl Held {
     }
 
     /// What was seen, and what was read of its bytes.
-    pub fn read(seen: Seen, reading: Reading) -> Held
+    pub(crate) fn read(seen: Seen, reading: Reading) -> Held
         requires { IsReadingOf (look_seen seen) reading }
         ensures { result ≡ look_seen seen }
     {

@@ -145,7 +145,12 @@ impl Known {
     }
 
     /// Keeps what was read of the bytes that stand at a path beside the look that is held for it.
-    pub(crate) fn keep_reading(&mut self, path: Path, seen: Seen, reading: Reading) -> Result<(), Memory>
+    pub(crate) fn keep_reading(
+        &mut self,
+        path: Path,
+        seen: Seen,
+        reading: Reading,
+    ) -> Result<(), Memory>
         requires held { known_at self.old path ≡ Some (look_seen seen) }
         requires reading { IsReadingOf (look_seen seen) reading }
         ensures { IsSameKnown self.old self.new }

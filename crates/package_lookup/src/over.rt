@@ -42,6 +42,17 @@ impl Over {
         Ok(())
     }
 
+    /// An equal one, with all bytes and records shared.
+    pub fn copy(&self, alloc: Global) -> Result<Over, Memory>
+        ensures { IfOk result (λ copy. (path : List ℕ) → over_at copy path ≡ over_at self.now path) }
+    {
+        let mut copy = Over::new(alloc);
+        for (path, held) in self.looks.iter() {
+            copy.put(path.copy(alloc)?, held.copy()?)?;
+        }
+        Ok(copy)
+    }
+
     /// The look at a path.
     pub(crate) fn find(&self, path: &Path) -> Option<&Held>
         ensures { option_copied result ≡ over_at self.now path.now }

@@ -12,8 +12,8 @@ use std::marker::Model;
 use tree_model::{Path, Paths};
 use tree_spec::{LimitName, MOST_BYTES, MOST_FILE_BYTES, MOST_LOOKS};
 
-/// The distinct paths that one generation looked at, how many bytes the files among them have together, and the distinct
-/// paths of the present question.
+/// The distinct paths that one generation looked at, how many bytes the files among them have together, and the
+/// distinct paths of the present question.
 #[derive(Drop)]
 pub struct Trail {
     alloc: Global,
@@ -118,8 +118,11 @@ impl Trail {
     // Puts a path that is new at the end of the paths.
     fn add(&mut self, path: Path) -> Result<(), Memory>
         requires { is_seen path self.old.paths ≡ false }
-        ensures { OnOk result (self.new ≡ record { paths = self.old.paths ++ path ∷ []; size = self.old.size;
-            question = self.old.question }) }
+        ensures { OnOk result (self.new ≡ record {
+          paths = self.old.paths ++ path ∷ [];
+          size = self.old.size;
+          question = self.old.question;
+        }) }
     {
         self.paths.insert(path)?;
         Ok(())

@@ -1,4 +1,4 @@
-use Rattle.std.proofs.Common.{◌≡◌, true, false, sym, ◌∙◌}
+use Rattle.std.proofs.Common.{sym, ◌∙◌}
 use Rattle.package_lookup.proofs.RecordAnswers.{ends_json, ends_node, ends_otherwise}
 use Rattle.package_lookup.proofs.format.format_by_ending.Goals as goal
 

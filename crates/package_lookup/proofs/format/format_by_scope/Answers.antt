@@ -1,7 +1,4 @@
-use Rattle.std.proofs.Common.{◌≡◌, Some, None, subst, sym, ap}
-use Rattle.node_spec.specs.LookupPackageScope.{package_scope}
 use Rattle.package_lookup.specs.Answered.{state}
-use Rattle.package_lookup.specs.declared.fault.LookupFault.TheVariants.{Memory}
 use Rattle.package_lookup.proofs.RecordAnswers.{no_scope, in_scope, scope_fails, scope_of_file, formatted_err, scope_no_memory}
 use Rattle.package_lookup.proofs.format.format_by_scope.Goals as goal
 

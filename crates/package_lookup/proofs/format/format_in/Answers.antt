@@ -1,4 +1,4 @@
-use Rattle.std.proofs.Common.{◌≡◌, Some, None, Ok, subst, sym, ap, ◌∙◌}
+use Rattle.std.proofs.Common.{Some, None, Ok, ap, ◌∙◌}
 use Rattle.node_spec.specs.EsmFileFormat.{format_in, format_of_kind}
 use Rattle.package_record.specs.Shown.{record_shown}
 use Rattle.package_record.specs.declared.package_json.Package.{Package}

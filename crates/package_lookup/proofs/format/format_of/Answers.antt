@@ -1,4 +1,4 @@
-use Rattle.std.proofs.Common.{◌≡◌, Some, None, subst}
+use Rattle.std.proofs.Common.{subst}
 use Rattle.node_spec.specs.EsmFileFormat.{file_format}
 use Rattle.package_lookup.specs.Answered.{state, Answered}
 use Rattle.package_lookup.specs.Formats.{by_format, formatted}

@@ -1,7 +1,7 @@
-use Rattle.std.proofs.Common.{◌≡◌, Some, None, true, false, refl, sym, ap, ◌∙◌}
+use Rattle.std.proofs.Common.{Some, None, false, refl, ap, ◌∙◌}
 use Rattle.tree_spec.specs.Paths.{joined}
 use Rattle.node_spec.specs.Nearest.{nearest, is_accepted}
-use Rattle.node_spec.specs.PackageResolve.{packages, package_at, package_folder}
+use Rattle.node_spec.specs.PackageResolve.{packages, package_folder}
 use Rattle.package_lookup.specs.Answered.{state}
 use Rattle.package_lookup.specs.Responses.{given, fails, no_memory, never, by_fault, itself}
 use Rattle.package_lookup.specs.declared.fault.LookupFault.TheVariants.{Memory}

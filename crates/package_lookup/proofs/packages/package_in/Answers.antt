@@ -1,10 +1,7 @@
-use Rattle.std.proofs.Common.{subst, sym, ap, ◌∙◌, ◌≡◌, None, Some, false, true}
 use Rattle.std.specs.Prelude.{is_some}
-use Rattle.tree_spec.specs.Paths.{IsPath, joined}
 use Rattle.node_spec.specs.Nearest.{is_accepted}
-use Rattle.node_spec.specs.PackageResolve.{packages, package_at}
+use Rattle.node_spec.specs.PackageResolve.{packages}
 use Rattle.package_lookup.specs.Answered.{state}
-use Rattle.package_lookup.specs.SeenLooks.{entry_of}
 use Rattle.package_lookup.specs.declared.fault.LookupFault.TheVariants.{Memory}
 use Rattle.package_lookup.proofs.Questions.{looked_err, no_memory_now}
 use Rattle.package_lookup.proofs.Searches.{nothing_there, fault_there, seen_there}

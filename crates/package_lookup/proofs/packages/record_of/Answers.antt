@@ -1,4 +1,3 @@
-use Rattle.std.proofs.Common.{subst, sym}
 use Rattle.node_spec.specs.ReadPackageJson.{record_at}
 use Rattle.package_lookup.specs.Answered.{state}
 use Rattle.package_lookup.specs.Recorded.{shown_record}

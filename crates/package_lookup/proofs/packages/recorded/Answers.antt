@@ -1,7 +1,6 @@
-use Rattle.std.proofs.Common.{subst, sym, ap, ◌∙◌}
-use Rattle.package_lookup.specs.Readings.{IsReadingOf}
+use Rattle.std.proofs.Common.{subst, sym}
 use Rattle.package_lookup.specs.Recorded.{IsRecorded}
-use Rattle.package_lookup.specs.SeenLooks.{entry_of, look_seen}
+use Rattle.package_lookup.specs.SeenLooks.{entry_of}
 use Rattle.package_lookup.proofs.ReadingLemmas.{read_before}
 use Rattle.package_lookup.proofs.packages.recorded.Goals as goal
 

@@ -1,4 +1,4 @@
-use Rattle.std.proofs.Common.{◌≡◌, Some, None, true, false, sym, ◌∙◌}
+use Rattle.std.proofs.Common.{Some, None, false, sym, ◌∙◌}
 use Rattle.node_spec.specs.LookupPackageScope.{package_scope, scopes}
 use Rattle.node_spec.specs.Nearest.{is_accepted}
 use Rattle.package_lookup.specs.Answered.{state}

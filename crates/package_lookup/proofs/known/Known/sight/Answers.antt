@@ -1,12 +1,7 @@
-use Rattle.std.proofs.Common.{◌≡◌, Ok, Err, Some, true, false, sym, ap, ◌∙◌, subst}
+use Rattle.std.proofs.Common.{Ok, sym, ap, ◌∙◌, subst}
 use Rattle.tree_spec.specs.LookAskings.{look_at}
-use Rattle.tree_spec.specs.declared.Look.{Look}
-use Rattle.tree_spec.specs.declared.Look.TheVariants.{TooLarge}
-use Rattle.package_lookup.specs.Answered.{state, Answered}
 use Rattle.package_lookup.specs.Fetching.{Fetches}
-use Rattle.package_lookup.specs.Responses.{by_fault, fails, never}
-use Rattle.package_lookup.specs.SeenLooks.{entry_of, look_of, look_seen}
-use Rattle.package_lookup.specs.Trails.{has_room}
+use Rattle.package_lookup.specs.SeenLooks.{entry_of, look_of}
 use Rattle.package_lookup.proofs.Questions.{looked_err}
 use Rattle.package_lookup.proofs.SightAnswers.{sight_many, sight_failed, sight_large, sight_fault, sight_given}
 use Rattle.package_lookup.proofs.known.Known.sight.Goals as goal

@@ -1,7 +1,4 @@
-use Rattle.std.proofs.Common.{sym, ap, ◌∙◌, ◌≡◌, false}
-use Rattle.tree_spec.specs.LookAskings.{is_seen}
-use Rattle.tree_spec.specs.LookLimits.{Trail}
-use Rattle.package_lookup.proofs.PathSets.{inserted_new, appended}
+use Rattle.package_lookup.proofs.PathSets.{appended}
 use Rattle.package_lookup.proofs.trail.Trail.add.Goals as goal
 
 pub returns : goal.returns
