@@ -9,7 +9,7 @@ const PAGE: &str = "https://app.test/dir/index.html";
 
 /// Maps, each with questions under it: the referrer (`-` is the page), the specifier (`~` is the empty text), and what comes
 /// of it.
-static CASES: &str = r#"{}
+static CASES: &str = r##"{}
 - ./x https://app.test/dir/x
 - /x https://app.test/x
 - ../x https://app.test/x
@@ -253,7 +253,7 @@ https://app.test/app.mjs z https://app.test/node_modules/z/z.mjs
 - ui/a.mjs https://app.test/node_modules/ui/a.mjs
 - ui/b.mjs Blocked
 - z https://app.test/dir/wrong.mjs
-- ./app.mjs https://app.test/app.mjs"#;
+- ./app.mjs https://app.test/app.mjs"##;
 
 fn answer(alloc: Global, map: &ParsedMap, referrer: &str, specifier: &str) -> Result<String, Fail> {
     let referrer = WebUrl::parse(alloc, referrer)?.ok_or("no referrer")?;
