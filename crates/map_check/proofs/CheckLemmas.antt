@@ -15,33 +15,6 @@ use Rattle.map_check.specs.declared.difference.Got.{Got}
 use Rattle.map_check.specs.declared.difference.Got.TheVariants.{Url, Blocked, Bare, Backtrack, BadRest}
 use Rattle.map_check.specs.Shown.{got_of, shown, DiffersBy}
 
-pub served : (m : ParsedMap) (need : Need) (url : List ℕ) → gets m need ≡ Resolved url → url ≡ need.target → gets m need ≡ Resolved need.target
-served m need url e same = e ∙ ap Resolved same
-
-pub other_url : (m : ParsedMap) (need : Need) (url : List ℕ) (got : Got) → gets m need ≡ Resolved url → bytes_eq url need.target ≡ false → got ≡ Url url → DiffersBy m need got
-other_url m need url got e other is = record { got_is = e ∙ sym (ap got_of is); differs = ap (λ r. is_url r need.target) e ∙ other }
-
-pub no_url : (m : ParsedMap) (need : Need) (got : Got) (r : Resolution) → Some (gets m need) ≡ Some r → r ≡ got_of got → is_url r need.target ≡ false → DiffersBy m need got
-no_url m need got r e is other = let same : gets m need ≡ r = cc in record { got_is = same ∙ is; differs = ap (λ x. is_url x need.target) same ∙ other }
-
-pub none_put : (m : ParsedMap) (number : ℕ) (need : Need) (found : List definition.Difference) → gets m need ≡ Resolved need.target
-    → (more : List Need) → found ++ differences_from m number (need ∷ more) ≡ found ++ differences_from m (number + 1) more
-none_put m number need found e more =
-    let test : is_url (gets m need) need.target ≡ true = ap (λ r. is_url r need.target) e ∙ (bytes_eq-Decides need.target need.target).1 refl in
-    ap (λ ds. found ++ ds) (cond-true _ _ _ test ∙ ap (λ n. differences_from m n more) (let same : suc number ≡ number + 1 = omega arith in same))
-
-pub one_put : (m : ParsedMap) (number : ℕ) (need : Need) (got : Got) (old new : List Difference) → DiffersBy m need got → new ≡ old ++ record { need = number; got = got } ∷ []
-    → (more : List Need) → map shown old ++ differences_from m number (need ∷ more) ≡ map shown new ++ differences_from m (number + 1) more
-one_put m number need got old new by e more =
-    let here : definition.Difference = record { need = number; got = gets m need } in
-    let rest = differences_from m (suc number) more in
-    let same : here ≡ shown (record { need = number; got = got }) = λ i. record { need = number; got = by.got_is i } in
-    ap (λ ds. map shown old ++ ds) (cond-false _ _ _ by.differs)
-    ∙ (sym (append_assoc (map shown old) (here ∷ []) rest)
-    ∙ (ap (λ d. (map shown old ++ d ∷ []) ++ rest) same
-    ∙ (ap (λ ds. ds ++ rest) (sym (ap (map shown) e ∙ map-append shown old _))
-    ∙ ap (λ n. map shown new ++ differences_from m n more) (let one_more : suc number ≡ number + 1 = omega arith in one_more))))
-
 split_at : (xs : List Need) (i : ℕ) (x : Need) → slice_get xs i ≡ Some x → drop i xs ≡ x ∷ drop (suc i) xs
 split_at [] i x e = absurd (cc)
 split_at (y ∷ ys) zero x e = ap (λ z. z ∷ ys) (same y x e)
