@@ -8,6 +8,8 @@ mod parse;
 mod parsed_map;
 mod parts;
 mod scopes;
+#[cfg(test)]
+mod tests;
 mod text_map;
 mod url_text;
 
