@@ -66,12 +66,16 @@ above_above text place higher c d =
       folder = b.folder;
     })
 
--- what is above a place of a referrer is a place of it too
-pub higher_place : (referrer place higher : List ℕ) → Contains (places referrer) place → Contains (above place) higher → Contains (places referrer) higher
-higher_place referrer place higher c d = elim (contains_cases place referrer (above referrer) c) [
-  | inl is ↦ contains_there higher referrer (above referrer) (subst (λ p. Contains (above p) higher) (sym is) d)
-  | inr a ↦ contains_there higher referrer (above referrer) (above_above referrer place higher a d)
+-- what is above a place of a referrer is above the referrer
+pub higher_above : (referrer place higher : List ℕ) → Contains (places referrer) place → Contains (above place) higher → Contains (above referrer) higher
+higher_above referrer place higher c d = elim (contains_cases place referrer (above referrer) c) [
+  | inl is ↦ subst (λ p. Contains (above p) higher) (sym is) d
+  | inr a ↦ above_above referrer place higher a d
 ]
+
+-- so it is a place of it too
+pub higher_place : (referrer place higher : List ℕ) → Contains (places referrer) place → Contains (above place) higher → Contains (places referrer) higher
+higher_place referrer place higher c d = contains_there higher referrer (above referrer) (higher_above referrer place higher c d)
 
 -- the longest of them is the place above
 longest_is : (texts : List (List ℕ)) (text : List ℕ) → longest texts ≡ Some text → Contains texts text
