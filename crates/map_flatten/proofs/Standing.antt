@@ -4,7 +4,7 @@ use Rattle.std.proofs.Math.Seq.{take-length}
 use Rattle.std.proofs.lemmas.Bool.{cases_Bool, cases_lt, cases_eq, true≢false}
 use Rattle.std.proofs.lemmas.List.{length-take-le}
 use Rattle.std.proofs.lemmas.Slice.Eq.{bytes_eq-Decides}
-use Rattle.std.specs.Prelude.{◌≡◌, ◌⊎◌, ℕ, ◌<◌, ◌≤◌, true, false, List, [], length, take, bytes_eq, Contains}
+use Rattle.std.specs.Prelude.{◌≡◌, ◌⊎◌, ℕ, ◌<◌, ◌≤◌, List, [], length, take, bytes_eq, Contains, ◌∷◌}
 use mathlib.Core.Logic.{inl, inr}
 use Rattle.layout_spec.proofs.AgreedLaws.{agrees_below}
 use Rattle.layout_spec.proofs.Contained.{contains_here, contains_there, contains_cases}
@@ -13,7 +13,7 @@ use Rattle.layout_spec.proofs.PlaceLemmas.{IsAbove, above_is, above_from, folder
 use Rattle.layout_spec.proofs.SomeAgreed.{AllAgree}
 use Rattle.layout_spec.specs.AgreedLayout.{IsUnder, AgreesOn, Stands}
 use Rattle.layout_spec.specs.Needs.{NoClash}
-use Rattle.layout_spec.specs.Places.{is_folder, above, places, place_above, IsFolder}
+use Rattle.layout_spec.specs.Places.{is_folder, above, places, IsFolder}
 use Rattle.layout_spec.specs.declared.Need.{Need}
 use Rattle.map_flatten.proofs.CommonFronts.{common_within, within_common}
 use Rattle.map_flatten.specs.Reaches.{common, Differs, IsReach, nobody, nearest, IsShortest, IsOwnPlace, IsMapped}

@@ -10,6 +10,7 @@ use Rattle.json_spec.specs.Value.{Json, a_text, an_object, no_members, a_member}
 use Rattle.layout_spec.specs.PrintedMap.{members_of, with_part}
 use Rattle.scope_builder.specs.declared.keyed.Layout.{Layout}
 use Rattle.map_print.specs.PrintedLists.{mappings_value, layout_value}
+use Rattle.map_print.proofs.Appends.{part_before}
 use Rattle.map_print.specs.Sizes.{escaped_size, quoted_size, member_size, pair_size, mappings_size, scope_size, scopes_size, integrity_size, map_size}
 
 escaped_length : (text : List ℕ) → length (escaped text) ≡ sum_by escaped_size text
@@ -78,3 +79,14 @@ scopes_length (scope ∷ more) rest = let object = object_length mappings_value 
 integrity_length : (pairs : List (List ℕ × List ℕ)) (rest : List ℕ) → length (printed_members 1 (with_part (codes "integrity") (members_of a_text pairs) no_members) rest) ≡ integrity_size pairs + length rest
 integrity_length [] rest = refl
 integrity_length (pair ∷ more) rest = let object = mappings_measured 1 (pair ∷ more) rest in omega arith
+
+pub map_length : (layout : Layout) (integrity : List (List ℕ × List ℕ)) → length (printed 0 (layout_value layout integrity) (10 ∷ [])) ≡ map_size layout integrity
+map_length layout integrity =
+    let scopes = members_of mappings_value layout.scopes in
+    let digests = with_part (codes "integrity") (members_of a_text integrity) no_members in
+    let end : List ℕ = 10 ∷ 125 ∷ 10 ∷ [] in
+    let behind : List ℕ = printed_members 1 (with_part (codes "scopes") scopes digests) end in
+    let imports = mappings_measured 1 layout.imports behind in
+    let parts : length behind ≡ scopes_size layout.scopes + (integrity_size integrity + 3) =
+    ap length (part_before (codes "scopes") scopes digests end) ∙ (scopes_length layout.scopes (printed_members 1 digests end) ∙ ap (λ n. scopes_size layout.scopes + n) (integrity_length integrity end)) in
+    omega arith
