@@ -12,7 +12,8 @@ use Rattle.map_flatten.specs.Grouped.{addresses_of, scopes_of}
 use Rattle.map_flatten.specs.declared.laid.Laid.{Laid}
 
 abbrev pub laid_map : Laid → ParsedMap
-laid_map laid = record { imports = addresses_of laid.imports.entries; scopes = scopes_of laid.scopes; integrity = empty }
+laid_map laid =
+    record { imports = addresses_of laid.imports.entries; scopes = scopes_of laid.scopes; integrity = empty }
 
 -- own: the lists are the entries of the agreed layout
 pub record AgreedLists (needs : List Need) (layout : Layout) : Type 0 where

@@ -30,7 +30,9 @@ pub data IsReach (others : List Need) (need : Need) (n : ℕ) : Type 0 where
 -- own: the reach that a need gets from its neighbor and the reach of that
 abbrev pub next_reach : Need → ℕ → Need → ℕ
 next_reach neighbor reach need =
-    if bytes_eq neighbor.asked need.asked then (if bytes_eq neighbor.target need.target then min reach (suc (common need.referrer neighbor.referrer)) else suc (common need.referrer neighbor.referrer)) else 0
+    let near = suc (common need.referrer neighbor.referrer) in
+    if bytes_eq neighbor.asked need.asked then (if bytes_eq neighbor.target need.target then min reach near else near)
+    else 0
 
 -- own: the same by all needs on one side, the nearest first
 abbrev pub reach_from : List Need → Need → ℕ

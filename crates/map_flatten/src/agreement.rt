@@ -49,7 +49,8 @@ fn lay_rows(alloc: Global, rows: &[Row]) -> Result<Laid, Memory>
 
 // The mapping of a need is put at the shortest place that it reaches.
 fn lay(alloc: Global, laid: &mut Laid, need: &Need, reach: usize) -> Result<(), Memory>
-    ensures mapped { OnOk result (IsMapped need.now reach → IsPut need.now reach (laid_map laid.old) (laid_map laid.new)) }
+    ensures mapped { OnOk result (IsMapped need.now reach
+        → IsPut need.now reach (laid_map laid.old) (laid_map laid.new)) }
     ensures left_out { OnOk result ((IsMapped need.now reach → ⊥) → laid_map laid.new ≡ laid_map laid.old) }
 {
     if !is_mapped(alloc, need, reach)? {

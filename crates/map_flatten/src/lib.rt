@@ -1,5 +1,5 @@
-//! The layouts of needs: the flat one, with a mapping for each need in the scope of its referrer, and the agreed one, in
-//! which mappings stand as high as all needs below agree on their targets.
+//! The layouts of needs: the flat one, with a mapping for each need in the scope of its referrer, and the agreed one,
+//! with each mapping at the highest place below which all needs for its specifier have its target.
 #![tactic(auto)]
 
 mod agreement;

@@ -27,7 +27,7 @@ quoted_length text rest =
     omega arith
 
 margin_length : (n : ℕ) (rest : List ℕ) → length (margin n rest) ≡ 2 * n + length rest
-margin_length zero rest = refl
+margin_length zero rest = omega arith
 margin_length (suc n) rest = let more = margin_length n rest in omega arith
 
 -- the sizes of values of one kind
@@ -48,7 +48,7 @@ module _ {X : Type 0} (value : X → Json) (size : X → ℕ) (level : ℕ) (mea
       omega arith
 
   members_length : (members : List (List ℕ × X)) (rest : List ℕ) → length (printed_members level (members_of value members) rest) ≡ sum_by of_member members + length rest
-  members_length [] rest = refl
+  members_length [] rest = omega arith
   members_length (member ∷ more) rest =
       let here = member_length member (printed_members level (members_of value more) rest) in
       let later = members_length more rest in
@@ -73,11 +73,11 @@ mappings_measured level (pair ∷ more) rest =
     object_length a_text quoted_size (level + 1) (text_measured (level + 1)) level pair more rest (omega arith)
 
 scopes_length : (scopes : List (List ℕ × List (List ℕ × List ℕ))) (rest : List ℕ) → length (printed_members 1 (with_part (codes "scopes") (members_of mappings_value scopes) no_members) rest) ≡ scopes_size scopes + length rest
-scopes_length [] rest = refl
+scopes_length [] rest = omega arith
 scopes_length (scope ∷ more) rest = let object = object_length mappings_value (mappings_size 2) 2 (mappings_measured 2) 1 scope more rest refl in omega arith
 
 integrity_length : (pairs : List (List ℕ × List ℕ)) (rest : List ℕ) → length (printed_members 1 (with_part (codes "integrity") (members_of a_text pairs) no_members) rest) ≡ integrity_size pairs + length rest
-integrity_length [] rest = refl
+integrity_length [] rest = omega arith
 integrity_length (pair ∷ more) rest = let object = mappings_measured 1 (pair ∷ more) rest in omega arith
 
 pub map_length : (layout : Layout) (integrity : List (List ℕ × List ℕ)) → length (printed 0 (layout_value layout integrity) (10 ∷ [])) ≡ map_size layout integrity

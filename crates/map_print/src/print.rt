@@ -38,14 +38,15 @@ impl From<AllocError> for PrintFault {
     }
 }
 
-/// The text of a map: one object, each member on its own line, two spaces deeper than its object. Nothing of a text that
-/// is too large is written.
+/// The text of a map: one object, each member on its own line, two spaces deeper than its object. A text that is too
+/// large is told before anything of it is written.
 pub fn print_map(
     alloc: Global,
     layout: &Layout,
     integrity: &Mappings,
 ) -> Result<Vec<u8>, PrintFault>
-    ensures text { IfOk result (λ bytes. (m : ParsedMap) → Lists layout.now integrity.now m → bytes.items ≡ map_text m) }
+    ensures text { IfOk result (λ bytes. (m : ParsedMap)
+        → Lists layout.now integrity.now m → bytes.items ≡ map_text m) }
     ensures within { IfOk result (λ bytes. length bytes.items ≤ limit_number Map) }
     ensures too_large { result ≡ Err PrintFault.MapTooLarge
         → (m : ParsedMap) → Lists layout.now integrity.now m → limit_number Map < length (map_text m) }
