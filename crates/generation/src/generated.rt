@@ -39,7 +39,8 @@ fn map_of(alloc: Global, trace: &Trace) -> Result<Generated, Memory>
     let layout = layout(alloc, trace.needs())?;
     let map = match print_map(alloc, &layout, &Mappings::new(alloc)) {
         Ok(map) => map,
-        Err(PrintFault::Memory) => return Err(AllocError),
+        // A text above the limit counts as want of memory.
+        Err(PrintFault::MapTooLarge | PrintFault::Memory) => return Err(AllocError),
     };
     let mappings = mappings(&layout).ok_or(AllocError)?;
     Ok(Generated {

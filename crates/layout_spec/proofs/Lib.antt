@@ -4,6 +4,12 @@ pub mod PlaceLemmas
 pub mod Lays
 pub mod LayoutServes
 pub mod OneLayout
+pub mod NestedPlaces
+pub mod Laying
+pub mod OneMap
+pub mod AgreedLaws
+pub mod SomeAgreed
+pub mod Uncaptured
 pub mod MapMembers
 pub mod MapBack
 pub mod TextBack

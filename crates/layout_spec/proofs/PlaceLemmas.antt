@@ -106,7 +106,7 @@ place_is referrer place c = elim (contains_cases place referrer (above referrer)
   | inr higher ↦ from_above referrer place (above_is referrer place higher)
 ]
 
-top_place : (referrer : List ℕ) → Contains (places referrer) []
+pub top_place : (referrer : List ℕ) → Contains (places referrer) []
 top_place [] = contains_here [] (above [])
 top_place (b ∷ rest) = contains_there [] (b ∷ rest) (above (b ∷ rest)) (top_above b rest)
 

@@ -2,6 +2,7 @@ pub mod Needs
 pub mod Places
 pub mod Layout
 pub mod Serving
+pub mod AgreedLayout
 pub mod Counting
 pub mod PrintedMap
 pub mod Laws

@@ -2,6 +2,7 @@
 --     counted needs      each need once, at its first place
 --     AreDistinct needs      no need stands twice
 --     NoClash needs      needs of one referrer and one specifier have one target
+--     IsAskedByFile need      the referrer is the URL of a file
 --     NamesFiles need      the texts are those of URLs, and neither the referrer nor what is asked for is a folder
 use Rattle.std.specs.List.{list_any}
 use Rattle.std.specs.Prelude.{Bool, ◌&&◌, not, bytes_eq, List, [], ◌∷◌, ◌++◌, if◌then◌else◌, ◌≡◌, Contains, ⊤, false}
@@ -41,6 +42,11 @@ NoClash needs =
 abbrev pub AreDistinct : List Need → Type 0
 AreDistinct [] = ⊤
 AreDistinct (need ∷ more) = (Contains more need → ⊥) × AreDistinct more
+
+-- own: the referrer of a need is a URL, and no folder
+pub record IsAskedByFile (need : Need) : Type 0 where
+  pub referrer : IsUrl need.referrer
+  pub is_file : ends_in_slash need.referrer ≡ false
 
 -- own: the texts of a need are those of URLs, and neither its referrer nor what it asks for is a folder
 pub record NamesFiles (need : Need) : Type 0 where

@@ -1,10 +1,11 @@
 -- The places of a referrer: where in a map the mappings for it can stand.
 --     places referrer      the referrer, the folders above it, and the top level, longest first
 --     above text      the same without the text itself
+--     place_above place      the next shorter place
 --     is_folder text      the text is that of a URL and ends in `/`
 --     IsPlace referrer place      the same as `places`, by cases
 --     AreShrinking texts      each text is a shorter front of all that stand before it
-use Rattle.std.specs.Prelude.{◌≡◌, ◌<◌, ℕ, zero, suc, Bool, ◌&&◌, true, List, [], ◌∷◌, ◌++◌, length, take, if◌then◌else◌, Contains, ⊤}
+use Rattle.std.specs.Prelude.{◌≡◌, ◌<◌, ℕ, zero, suc, Bool, ◌&&◌, true, List, [], ◌∷◌, ◌++◌, length, take, if◌then◌else◌, Contains, ⊤, Option, Some, None}
 use Rattle.url_spec.specs.Parsing.{IsUrl, is_text, parse_alone}
 use Rattle.url_spec.specs.Specifiers.{ends_in_slash}
 
@@ -26,6 +27,14 @@ above (b ∷ rest) = folders (b ∷ rest) (length rest) ++ [] ∷ []
 -- own: the places of a referrer, longest first: itself, and those above it
 abbrev pub places : List ℕ → List (List ℕ)
 places referrer = referrer ∷ above referrer
+
+abbrev pub longest : List (List ℕ) → Option (List ℕ)
+longest [] = None
+longest (place ∷ shorter) = Some place
+
+-- own: the longest of the places above a place; above the top level there is none
+abbrev pub place_above : List ℕ → Option (List ℕ)
+place_above place = longest (above place)
 
 -- ---- the same by cases
 

@@ -2,7 +2,10 @@
 //! their laws.
 #![tactic(auto)]
 
-ghost use Rattle.layout_spec.specs.Laws.{CountedKeeps, CountedOnce, LayoutLays, LayoutServes, OneLayout, PlacesByCases, PlacesShrink, TextsArePlain, TextsReadBack};
+ghost use Rattle.layout_spec.specs.Laws.{AgreedInAnyOrder, AgreedLayoutCapturesNothing, AgreedOfNeeds, AgreedOnce};
+ghost use Rattle.layout_spec.specs.Laws.{CountedKeeps, CountedOnce, LayoutLays, LayoutServes, OneAgreedLayout, OneLayout};
+ghost use Rattle.layout_spec.specs.Laws.{PlacesByCases, PlacesNest, PlacesShrink, SomeAgreedLayout, TextsArePlain};
+ghost use Rattle.layout_spec.specs.Laws.{TextsReadBack};
 ghost use Rattle.layout_spec.specs.WorkedExamples.{WorkedExamples};
 
 use primitives::Text;
@@ -37,6 +40,42 @@ pub fn places_by_cases()
 #[tactic(auto, using(crate::proofs::PlaceLemmas::places_shrink))]
 pub fn places_shrink()
     ensures { PlacesShrink }
+{}
+
+/// What stands behind a place of a referrer is what is above it; so the place above one is the next of the referrer's.
+pub fn places_nest()
+    ensures { PlacesNest }
+{}
+
+/// Needs have one agreed layout at most.
+pub fn one_agreed_layout()
+    ensures { OneAgreedLayout }
+{}
+
+/// All needs have an agreed layout, also such as clash.
+pub fn some_agreed_layout()
+    ensures { SomeAgreedLayout }
+{}
+
+/// The order of the needs doesn't matter for their agreed layout, and how often one stands among them.
+pub fn agreed_in_any_order()
+    ensures { AgreedInAnyOrder }
+{}
+
+/// Under the agreed layout at most one place of a referrer holds a specifier.
+pub fn agreed_once()
+    ensures { AgreedOnce }
+{}
+
+/// Each mapping of the agreed layout is that of a need, at a place of its referrer.
+pub fn agreed_of_needs()
+    ensures { AgreedOfNeeds }
+{}
+
+/// The agreed layout captures no need of a file where no two needs clash: a mapping never stands above a need for its
+/// specifier with another target, unless a nearer place holds that target.
+pub fn agreed_layout_captures_nothing()
+    ensures { AgreedLayoutCapturesNothing }
 {}
 
 /// The layout of needs of which no two clash has the mappings that they want, each in the scope of its referrer, and

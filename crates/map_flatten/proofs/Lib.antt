@@ -2,3 +2,12 @@ pub mod Updates
 pub mod Ordered
 pub mod Steps
 pub mod Counts
+pub mod CommonFronts
+pub mod Reaching
+pub mod Standing
+pub mod Fronts
+pub mod Counted
+pub mod Sorting
+pub mod Putting
+pub mod Sweeping
+pub mod Mapped

@@ -25,7 +25,7 @@ entries_mapped f es h =
     (λ q. get-from_entries nat_list_cmp_total (mapped f es) q ∙ sym (get-from_sorted (slice_cmp nat_cmp) (mapped f es) q (subst T (sym (sorted (mapped f es) order)) tt))))
     ∙ entries_of (mapped f es) order
 
-scopes_listed : (es : List (List ℕ × Scope)) → All (λ scope. InKeyOrder scope.1) (map listed_scope es) → map scope_entries (map scope_of es) ≡ map scope_entry (map listed_scope es)
+pub scopes_listed : (es : List (List ℕ × Scope)) → All (λ scope. InKeyOrder scope.1) (map listed_scope es) → map scope_entries (map scope_of es) ≡ map scope_entry (map listed_scope es)
 scopes_listed [] each = refl
 scopes_listed (e ∷ es) each =
     let here : InKeyOrder e.1.entries = All-head (λ (scope : List ℕ × List (List ℕ × List ℕ)). InKeyOrder scope.1) (listed_scope e) (map listed_scope es) each in

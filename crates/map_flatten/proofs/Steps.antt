@@ -7,7 +7,7 @@ use Rattle.import_map_spec.specs.ParsedMap.{Texts, Addresses}
 use Rattle.layout_spec.specs.declared.Need.{Need}
 use Rattle.layout_spec.specs.Layout.{with_need, scopes_onto}
 
-read : {X : Type 0} (xs : List X) (i : ℕ) (x : X) → Some x ≡ slice_get xs i → (i < length xs) × (get_or xs i x ≡ x)
+pub read : {X : Type 0} (xs : List X) (i : ℕ) (x : X) → Some x ≡ slice_get xs i → (i < length xs) × (get_or xs i x ≡ x)
 read xs i x e =
     ⊎_elim
     (λ there. let same : there.0 ≡ x = (let f = there.2 in cc) in (there.1, ap (get_or xs i) (sym same) ∙ (there.3 ∙ same)))

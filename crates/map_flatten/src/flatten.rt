@@ -12,7 +12,7 @@ use std::alloc::Global;
 use std::collections::BTreeMap;
 
 /// Specifiers and the URLs to which they are mapped.
-type Scope = BTreeMap<Text, Text>;
+pub(crate) type Scope = BTreeMap<Text, Text>;
 
 /// The layout of needs: in the scope of each referrer a mapping for each of its needs but those that lead to their
 /// target by themselves.
@@ -60,7 +60,7 @@ fn add_need(alloc: Global, scopes: &mut BTreeMap<Text, Scope>, need: &Need) -> R
     Ok(())
 }
 
-fn listed(alloc: Global, grouped: BTreeMap<Text, Scope>) -> Result<Scopes, Memory>
+pub(crate) fn listed(alloc: Global, grouped: BTreeMap<Text, Scope>) -> Result<Scopes, Memory>
     ensures scopes { IfOk result (λ scopes. scopes ≡ map listed_scope grouped.entries) }
     ensures in_order { IfOk result (λ scopes. InKeyOrder scopes × All (λ scope. InKeyOrder scope.1) scopes) }
 {

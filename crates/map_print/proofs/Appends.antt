@@ -58,7 +58,7 @@ module _ {X : Type 0} (value : X → Json) where
   no_part name (member ∷ more) none = absurd (omega arith)
 
 -- a part writes the same whatever stands behind it
-part_before : (name : List ℕ) (part more : Members) (rest : List ℕ) → printed_members 1 (with_part name part more) rest ≡ printed_members 1 (with_part name part no_members) (printed_members 1 more rest)
+pub part_before : (name : List ℕ) (part more : Members) (rest : List ℕ) → printed_members 1 (with_part name part more) rest ≡ printed_members 1 (with_part name part no_members) (printed_members 1 more rest)
 part_before name no_members more rest = refl
 part_before name (a_member key value others) more rest = refl
 

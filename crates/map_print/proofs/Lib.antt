@@ -1,2 +1,4 @@
 pub mod Appends
 pub mod Listing
+pub mod Sizes
+pub mod Limits

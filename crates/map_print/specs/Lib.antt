@@ -1,2 +1,3 @@
 pub mod PrintedLists
 pub mod Appending
+pub mod Sizes

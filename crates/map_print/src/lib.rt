@@ -2,6 +2,7 @@
 #![tactic(auto)]
 
 mod print;
+mod size;
 #[cfg(test)]
 mod tests;
 

@@ -1,4 +1,7 @@
-ghost use Rattle.std.specs.Prelude.{◌≡◌, ◌<◌, ◌∷◌, ◌++◌, IfOk, OnOk, codes};
+ghost use Rattle.std.specs.Prelude.{◌≡◌, ◌<◌, ◌≤◌, ◌∷◌, ◌++◌, ◌↔◌, length, Err, IfOk, OnOk, IsTrue, codes};
+ghost use Rattle.tree_spec.specs.Limits.{limit_number};
+ghost use Rattle.tree_spec.specs.declared.LimitName.TheVariants.{Map};
+ghost use Rattle.map_print.specs.Sizes as sizes;
 ghost use Rattle.json_spec.specs.PrintedString.{quoted};
 ghost use Rattle.json_spec.specs.Value.{a_text, an_object, no_members};
 ghost use Rattle.json_spec.specs.PrintedValue.{line, printed, printed_members, printed_text};
@@ -8,14 +11,18 @@ ghost use Rattle.scope_builder.specs.Lists.{Lists};
 ghost use Rattle.map_print.specs.PrintedLists.{mappings_value, layout_value};
 ghost use Rattle.map_print.specs.Appending.{Appends};
 
+use crate::size::map_size;
 use ordered_json::print_text;
 use primitives::{Memory, Text};
 use scope_builder::{Layout, Mappings};
 use std::alloc::{AllocError, Global};
+use tree_spec::MOST_MAP_BYTES;
 
 /// Why a map isn't printed.
 #[derive(Clone, Copy, Debug, PartialEq, Eq)]
 pub enum PrintFault {
+    /// The text has more than 67,108,864 bytes.
+    MapTooLarge,
     /// Want of memory.
     Memory,
 }
@@ -31,17 +38,34 @@ impl From<AllocError> for PrintFault {
     }
 }
 
-/// The text of a map: one object, each member on its own line, two spaces deeper than its object.
+/// The text of a map: one object, each member on its own line, two spaces deeper than its object. A text that is too
+/// large is told before anything of it is written.
 pub fn print_map(
     alloc: Global,
     layout: &Layout,
     integrity: &Mappings,
 ) -> Result<Vec<u8>, PrintFault>
-    ensures { IfOk result (λ bytes. (m : ParsedMap) → Lists layout.now integrity.now m → bytes.items ≡ map_text m) }
+    ensures text { IfOk result (λ bytes. (m : ParsedMap)
+        → Lists layout.now integrity.now m → bytes.items ≡ map_text m) }
+    ensures within { IfOk result (λ bytes. length bytes.items ≤ limit_number Map) }
+    ensures too_large { result ≡ Err PrintFault.MapTooLarge
+        → (m : ParsedMap) → Lists layout.now integrity.now m → limit_number Map < length (map_text m) }
 {
+    if !is_within_limit(layout, integrity) {
+        return Err(PrintFault::MapTooLarge);
+    }
     let mut out = Vec::new(alloc);
     push_map(&mut out, layout, integrity)?;
     Ok(out)
+}
+
+fn is_within_limit(layout: &Layout, integrity: &Mappings) -> bool
+    ensures { IsTrue result ↔ (sizes.map_size layout.now integrity.now ≤ limit_number Map) }
+{
+    match map_size(layout, integrity) {
+        None => false,
+        Some(size) => size <= MOST_MAP_BYTES,
+    }
 }
 
 fn push_map(out: &mut Vec<u8>, layout: &Layout, integrity: &Mappings) -> Result<(), Memory>

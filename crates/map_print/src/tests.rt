@@ -1,4 +1,4 @@
-use crate::print_map;
+use crate::{PrintFault, print_map};
 use primitives::Text;
 use scope_builder::{Layout, Mappings, Scopes};
 use std::alloc::Global;
@@ -51,6 +51,41 @@ fn maps(rt: HostRuntime) -> Result<(), Fail> {
         };
         let map = print_map(alloc, &layout, &mappings(alloc, digests)?)?;
         assert_eq!(rt; map.as_slice(), expected.as_bytes());
+    }
+    Ok(())
+}
+
+/// How many bytes the one address of a map has, and whether the map is printed: its text has 35 bytes more.
+static ADDRESSES: [(usize, bool); 2] = [(67_108_829, true), (67_108_830, false)];
+
+fn map_of_one(alloc: Global, size: usize) -> Result<Layout, Fail> {
+    let mut address = String::new(alloc);
+    for _ in 0..size {
+        address.push('x')?;
+    }
+    let mut imports = BTreeMap::new(alloc);
+    imports.insert(Text::of(alloc, "a")?, Text::from_string(alloc, address)?)?;
+    Ok(Layout {
+        imports: Mappings::from_map(alloc, imports)?,
+        scopes: Scopes::new(alloc),
+    })
+}
+
+#[test]
+fn the_limit(rt: HostRuntime) -> Result<(), Fail> {
+    let alloc = rt.alloc();
+    for (size, is_printed) in ADDRESSES {
+        let layout = map_of_one(alloc, size)?;
+        match print_map(alloc, &layout, &Mappings::new(alloc)) {
+            Ok(map) => {
+                assert!(rt; is_printed);
+                assert_eq!(rt; map.len(), 67_108_864);
+            }
+            Err(fault) => {
+                assert!(rt; !is_printed);
+                assert_eq!(rt; fault, PrintFault::MapTooLarge);
+            }
+        }
     }
     Ok(())
 }

@@ -1,5 +1,5 @@
 -- The need that is found where another asks alike.
-use Rattle.std.proofs.Common.{◌≡◌, ◌<◌, ℕ, Bool, true, false, List, [], ◌∷◌, ◌++◌, length, get_or, Option, Some, None, Result, Ok, Err, Contains, refl, sym, ap, ◌∙◌, subst, ⊎_elim}
+use Rattle.std.proofs.Common.{◌≡◌, ℕ, Bool, true, false, List, [], ◌∷◌, ◌++◌, get_or, Some, Result, Ok, Err, Contains, refl, sym, ap, ◌∙◌, subst, ⊎_elim}
 use Rattle.std.specs.Prelude.{◌≢◌, ◌⊎◌, IfErr, ◌&&◌, ◌||◌, not, slice_get, bytes_eq}
 use mathlib.Core.Logic.{inl, inr}
 use Rattle.std.specs.List.{find, list_any, IsDistinct, AllByRecursion}
@@ -8,7 +8,7 @@ use Rattle.std.proofs.lemmas.Bool.{cases_Bool, cond-true, cond-false, and_parts,
 use Rattle.std.proofs.lemmas.Option.{slice_get_cases}
 use Rattle.std.proofs.lemmas.Slice.Eq.{bytes_eq-Decides}
 use Rattle.layout_spec.specs.declared.Need.{Need}
-use Rattle.layout_spec.specs.Needs.{is_need, clashes}
+use Rattle.layout_spec.specs.Needs.{is_need, clashes, NoClash}
 use Rattle.layout_spec.proofs.Contained.{contains_here, contains_there, contains_cases, contains_none}
 use Rattle.need_table.specs.declared.needs.NeedFault.{NeedFault}
 use Rattle.need_table.specs.declared.needs.NeedFault.TheVariants.{Clash}
@@ -139,6 +139,10 @@ one_row (first ∷ needs) apart one other c d e =
         | inr later_too ↦ one_row needs apart.1 one other later later_too e
       ]
     ]
+
+pub no_clash : (needs : List Need) → IsDistinct asks_alike needs → NoClash needs
+no_clash needs apart one other c d referrer asked =
+    ap (λ (need : Need). need.target) (one_row needs apart one other c d (both _ _ ((bytes_eq-Decides one.referrer other.referrer).1 referrer) ((bytes_eq-Decides one.asked other.asked).1 asked)))
 
 pub is_known : (needs : List Need) (need other : Need) (first : ℕ) → IsDistinct asks_alike needs → slice_get needs first ≡ Some other → asks_alike need other ≡ true → other.target ≡ need.target → IsKnown needs need
 is_known needs need other first apart stored alike target =

@@ -1,5 +1,6 @@
 ghost use Rattle.std.specs.Prelude.{◌≡◌, ◌≢◌, ◌==◌, ◌++◌, ◌∷◌, List, [], ℕ, Bool, length, true, false, slice_get, option_copied, Some, OnOk, OnErr, IfErr, MatchOption};
 ghost use Rattle.std.specs.List.{list_any};
+ghost use Rattle.layout_spec.specs.Needs.{NoClash};
 ghost use Rattle.layout_spec.specs.declared.Need.{Need};
 ghost use Rattle.need_table.specs.Rows.{asks_alike, IsFresh, IsKnown, ClashesAt};
 
@@ -55,7 +56,8 @@ impl Needs {
 
     /// The number of needs.
     pub fn len(&self) -> usize
-        ensures { result ≡ length self.now }
+        ensures len { result ≡ length self.now }
+        ensures no_clash { NoClash self.now }
     {
         self.rows.len()
     }

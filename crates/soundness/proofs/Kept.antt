@@ -13,11 +13,13 @@ use Rattle.url_spec.specs.Specifiers.{normalized, ends_in_slash}
 use Rattle.import_map_spec.proofs.Entries.{get_nowhere}
 use Rattle.import_map_spec.specs.ParsedMap.{Texts, Addresses, ParsedMap}
 use Rattle.import_map_spec.specs.Parsing.{is_empty, fitting}
+use Rattle.layout_spec.proofs.TextBack.{texts_read_back}
 use Rattle.layout_spec.specs.Needs.{NamesFiles}
 use Rattle.layout_spec.specs.PrintedMap.{IsKeptAddress, IsKeptKey, IsKeptScope, IsKept}
 use Rattle.layout_spec.specs.Serving.{held, OfNeeds}
 use Rattle.layout_spec.specs.declared.Need.{Need}
 use Rattle.soundness.proofs.Leading.{scope_url}
+use Rattle.soundness.specs.Soundness.{MapsReadBack}
 
 url_not_empty : (url : List ℕ) → IsUrl url → is_empty url ≡ false
 url_not_empty [] is = absurd (none-some _ (sym no_urls.1 ∙ is))
@@ -62,3 +64,6 @@ module _ (base : List ℕ) (is_base : IsUrl base) (needs : List Need) (m : Parse
     scopes = scope_kept;
     integrity = λ key text e. absurd (none-some text (sym (ap (λ (texts : Texts (List ℕ)). get texts key) no_digests ∙ get_nowhere key) ∙ e));
   }
+
+pub maps_read_back : MapsReadBack
+maps_read_back base needs m is_base of_needs files no_digests = texts_read_back base m (map_kept base is_base needs m of_needs files no_digests)

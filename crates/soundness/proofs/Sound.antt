@@ -12,10 +12,12 @@ use Rattle.import_map_spec.proofs.ResolvesByCases.{resolves_by_cases}
 use Rattle.import_map_spec.specs.ParsedMap.{ParsedMap}
 use Rattle.import_map_spec.specs.Parsing.{ParsesMap}
 use Rattle.import_map_spec.specs.Resolving as html
+use Rattle.layout_spec.proofs.AgreedLaws.{agreed_of_needs}
 use Rattle.layout_spec.proofs.LayoutServes.{layout_serves}
 use Rattle.layout_spec.proofs.TextBack.{texts_read_back}
+use Rattle.layout_spec.proofs.Uncaptured.{agreed_layout_captures_nothing}
 use Rattle.layout_spec.specs.Layout.{layout}
-use Rattle.layout_spec.specs.Needs.{NamesFiles}
+use Rattle.layout_spec.specs.Needs.{IsAskedByFile, NamesFiles}
 use Rattle.layout_spec.specs.PrintedMap.{map_text}
 use Rattle.layout_spec.specs.Serving.{NoCapture, OfNeeds}
 use Rattle.layout_spec.specs.declared.Need.{Need}
@@ -31,7 +33,7 @@ use Rattle.generator_spec.specs.Serves.{Reachable, Leads, AllLead, Serves}
 use Rattle.soundness.proofs.Kept.{map_kept}
 use Rattle.soundness.proofs.Leading.{need_leads}
 use Rattle.soundness.proofs.Reaching.{reached, is_named, needs_name}
-use Rattle.soundness.specs.Soundness.{Soundness}
+use Rattle.soundness.specs.Soundness.{MapsServe, AgreedMapsServe, Soundness}
 
 normal_by_url : (referrer specifier asked : List ℕ) → as_url referrer specifier ≡ Some asked → normalized referrer specifier ≡ asked
 unfolding normalized
@@ -81,6 +83,20 @@ module _ (tree : Tree) (config : Config) (all : Gathered) (is_traced : traced (g
         parses = subst (λ written. ParsesMap page.name written (Ok m)) (sym text) (texts_read_back page.name m kept);
         all_lead = all_lead;
       }
+
+pub maps_serve : MapsServe
+maps_serve tree config all m traces page_is_file no_capture of_needs no_digests =
+    text_serves tree config all traces page_is_file m no_capture of_needs no_digests (map_text m) refl
+
+by_file : (need : Need) → NamesFiles need → IsAskedByFile need
+by_file need names = record { referrer = names.referrer; is_file = names.referrer_is_file }
+
+pub agreed_maps_serve : AgreedMapsServe
+agreed_maps_serve tree config all m traces page_is_file agreed =
+    maps_serve tree config all m traces page_is_file
+    (agreed_layout_captures_nothing all.needs m (needs_are_requests (get tree) config all traces).no_clash
+    (λ need c. by_file need (needs_name tree config all traces page_is_file need c)) agreed)
+    (agreed_of_needs all.needs m agreed) agreed.no_digests
 
 pub sound : Soundness
 sound tree config bytes is =

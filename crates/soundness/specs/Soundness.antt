@@ -1,9 +1,45 @@
--- The theorem of this project.
-use Rattle.std.specs.Prelude.{ℕ, List}
+-- The theorem of this project, and what it rests on.
+--     MapsServe      a map that captures no need, and has no mappings but theirs, serves
+--     MapsReadBack      the text of such a map is read as that map
+--     AgreedMapsServe      the agreed layout of the trace's needs serves
+--     Soundness      what is generated serves
+use Rattle.std.specs.FinMap.{get, empty}
+use Rattle.std.specs.Prelude.{◌≡◌, ℕ, List, Ok, Contains}
 use Rattle.tree_spec.specs.Trees.{Tree}
+use Rattle.url_spec.specs.Parsing.{IsUrl}
+use Rattle.import_map_spec.specs.ParsedMap.{ParsedMap}
+use Rattle.import_map_spec.specs.Parsing.{ParsesMap}
+use Rattle.layout_spec.specs.AgreedLayout.{IsAgreedLayout}
+use Rattle.layout_spec.specs.Needs.{NamesFiles}
+use Rattle.layout_spec.specs.PrintedMap.{map_text}
+use Rattle.layout_spec.specs.Serving.{NoCapture, OfNeeds}
+use Rattle.layout_spec.specs.declared.Need.{Need}
+use Rattle.trace_spec.specs.Checks.{Gathered}
 use Rattle.trace_spec.specs.Modules.{Config}
-use Rattle.generator_spec.specs.Generation.{Generates}
+use Rattle.trace_spec.specs.Traces.{traced}
+use Rattle.generator_spec.specs.Generation.{PageIsFile, Generates}
 use Rattle.generator_spec.specs.Serves.{Serves}
+
+-- own law: the text of a map serves, wherever its mappings stand, where it captures none of the trace's needs and has
+-- no mappings but theirs
+abbrev pub MapsServe : Type 0
+MapsServe =
+    (tree : Tree) (config : Config) (all : Gathered) (m : ParsedMap) → traced (get tree) config ≡ Ok all
+    → PageIsFile config → NoCapture all.needs m → OfNeeds all.needs m → m.integrity ≡ empty
+    → Serves tree config (map_text m)
+
+-- own law: the text of a map that has no mappings but those of needs of files, read against a map base, is that map:
+-- no mapping is dropped, replaced or made null
+abbrev pub MapsReadBack : Type 0
+MapsReadBack =
+    (base : List ℕ) (needs : List Need) (m : ParsedMap) → IsUrl base → OfNeeds needs m
+    → ((need : Need) → Contains needs need → NamesFiles need) → m.integrity ≡ empty → ParsesMap base (map_text m) (Ok m)
+
+-- own law: the text of the agreed layout of the trace's needs serves
+abbrev pub AgreedMapsServe : Type 0
+AgreedMapsServe =
+    (tree : Tree) (config : Config) (all : Gathered) (m : ParsedMap) → traced (get tree) config ≡ Ok all
+    → PageIsFile config → IsAgreedLayout all.needs m → Serves tree config (map_text m)
 
 -- own law: what is generated serves
 abbrev pub Soundness : Type 0

@@ -3,10 +3,26 @@
 //! It rests on what any map owes to needs, and not on where this layout puts its mappings.
 #![tactic(auto)]
 
-ghost use Rattle.soundness.specs.Soundness.{Soundness};
+ghost use Rattle.soundness.specs.Soundness.{AgreedMapsServe, MapsReadBack, MapsServe, Soundness};
 
 /// Wherever generation gives a map's text, this text serves: through it every request of the page
 /// and of each module that the page reaches leads to exactly the file that Node's resolver gives.
 pub fn map_is_sound()
     ensures { Soundness }
+{}
+
+/// What soundness rests on: a map's text serves wherever its mappings stand, if the map captures no need of the trace
+/// and has no mappings but those of needs.
+pub fn maps_serve()
+    ensures { MapsServe }
+{}
+
+/// The text of such a map, read against a map base, has exactly the map's mappings.
+pub fn maps_read_back()
+    ensures { MapsReadBack }
+{}
+
+/// So the agreed layout serves.
+pub fn agreed_maps_serve()
+    ensures { AgreedMapsServe }
 {}

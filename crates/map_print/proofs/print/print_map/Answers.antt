@@ -1,7 +1,14 @@
-use Rattle.std.proofs.Common.{◌∙◌}
+use Rattle.std.proofs.Common.{rules, ◌∙◌}
 use Rattle.map_print.proofs.Appends.{from_nothing}
+use Rattle.map_print.proofs.Limits.{above_limit, not_within, printed_within}
 use Rattle.map_print.proofs.Listing.{lists_text}
 use Rattle.map_print.proofs.print.print_map.Goals as goal
 
-pub returns : goal.returns
-returns c = λ m l. from_nothing c.new-out.ensures.items (c.in_ok-push_map.ensures) ∙ lists_text c.args.layout.now c.args.integrity.now m l
+pub returns-clause-text : goal.returns-clause-text
+returns-clause-text c = λ m l. from_nothing c.new-out.ensures.items (c.in_ok-push_map.ensures) ∙ lists_text c.args.layout.now c.args.integrity.now m l
+
+pub returns-clause-within : goal.returns-clause-within
+returns-clause-within c = printed_within c.args.layout.now c.args.integrity.now c.push_map.new.out.items (search rules) (from_nothing c.new-out.ensures.items (c.in_ok-push_map.ensures))
+
+pub returns-then-not-is_within_limit-clause-too_large : goal.returns-then-not-is_within_limit-clause-too_large
+returns-then-not-is_within_limit-clause-too_large c = λ _ m l. above_limit c.args.layout.now c.args.integrity.now m (not_within c.is_within_limit.result c.is_within_limit.ensures (search rules)) l

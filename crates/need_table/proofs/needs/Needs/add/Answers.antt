@@ -1,11 +1,4 @@
-use Rattle.std.proofs.Common.{◌≡◌, ◌≢◌, ℕ, Result, Ok, Err, ap, sym, subst}
-use Rattle.std.specs.Prelude.{IfErr}
-use Rattle.layout_spec.specs.declared.Need.{Need}
-use Rattle.need_table.specs.Rows.{ClashesAt}
-use Rattle.need_table.specs.declared.needs.NeedFault.{NeedFault}
-use Rattle.need_table.specs.declared.needs.NeedFault.TheVariants.{Clash}
-use Rattle.need_table.specs.declared.needs.Added.{Added}
-use Rattle.need_table.proofs.Found.{fresh, is_known, clashes_at, clash_by}
+use Rattle.need_table.proofs.Found.{fresh, is_known, clash_by}
 use Rattle.need_table.proofs.needs.Needs.add.Goals as goal
 
 pub returns-in-Some-clause-known : goal.returns-in-Some-clause-known

@@ -1,0 +1,85 @@
+ghost use Rattle.std.specs.Prelude.{◌≡◌, [], Some, IfOk, OnOk};
+ghost use Rattle.std.specs.FinMap.{insert};
+ghost use Rattle.layout_spec.specs.Layout.{scope_of};
+ghost use Rattle.layout_spec.proofs.Laying.{nothing_mapped, with_address};
+ghost use Rattle.scope_builder.specs.Lists.{Lists};
+ghost use Rattle.map_flatten.specs.Grouped.{scopes_of};
+ghost use Rattle.map_flatten.specs.Laid.{laid_map};
+
+use crate::flatten::{Scope, listed};
+use primitives::{Memory, Text};
+use scope_builder::{Layout, Mappings};
+use std::alloc::Global;
+use std::collections::BTreeMap;
+
+/// Mappings that are laid, by their places.
+#[derive(Drop)]
+pub(crate) struct Laid {
+    imports: Scope,
+    scopes: BTreeMap<Text, Scope>,
+}
+
+impl Laid {
+    pub(crate) fn new(alloc: Global) -> Laid
+        ensures { laid_map result ≡ nothing_mapped }
+    {
+        Laid {
+            imports: BTreeMap::new(alloc),
+            scopes: BTreeMap::new(alloc),
+        }
+    }
+
+    /// Puts a mapping at a place, over one that is there.
+    pub(crate) fn put(
+        &mut self,
+        alloc: Global,
+        place: &str,
+        asked: &Text,
+        target: &Text,
+    ) -> Result<(), Memory>
+        ensures { OnOk result (laid_map self.new ≡ with_address place.now asked.now target.now (laid_map self.old)) }
+    {
+        let asked = asked.copy(alloc)?;
+        let target = target.copy(alloc)?;
+        if place.is_empty() {
+            self.imports.insert(asked, target)?;
+            return Ok(());
+        }
+        let place = Text::of(alloc, place)?;
+        put_in_scope(alloc, &mut self.scopes, place, asked, target)
+    }
+
+    /// The lists of the mappings.
+    pub(crate) fn into_layout(self, alloc: Global) -> Result<Layout, Memory>
+        ensures { IfOk result (λ layout. Lists layout [] (laid_map self)) }
+    {
+        let Laid { imports, scopes } = self;
+        Ok(Layout {
+            imports: Mappings::from_map(alloc, imports)?,
+            scopes: listed(alloc, scopes)?,
+        })
+    }
+}
+
+fn put_in_scope(
+    alloc: Global,
+    scopes: &mut BTreeMap<Text, Scope>,
+    place: Text,
+    asked: Text,
+    target: Text,
+) -> Result<(), Memory>
+    ensures { OnOk result (scopes_of scopes.new ≡ insert (scopes_of scopes.old) place
+        (insert (scope_of (scopes_of scopes.old) place) asked (Some target))) }
+{
+    match scopes.get_mut(&place) {
+        Some(scope) => {
+            scope.insert(asked, target)?;
+        }
+        None => {
+            let mut scope = BTreeMap::new(alloc);
+            scope.insert(asked, target)?;
+            scopes.insert(place, scope)?;
+        }
+    }
+    Ok(())
+}
