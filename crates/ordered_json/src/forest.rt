@@ -1,7 +1,7 @@
 ghost use Rattle.std.specs.Prelude.{◌≡◌, ◌<◌, ◌+◌, [], length, IfOk, OnOk};
 ghost use Rattle.ordered_json.specs.Forests.{IsFresh, IsClosed, IsLeft, GetsItems, Fills, FillsAt, FillsAll, Seals};
 ghost use Rattle.ordered_json.specs.Forests.{Keeps, Shows, IsInside, HoldsOne, AddsValue, OpensList, ClosesList};
-ghost use Rattle.ordered_json.specs.Forests.{TakesValue};
+ghost use Rattle.ordered_json.specs.Forests.{TakesValue, StaysThere, GoesDeeper, GoesOut};
 
 use crate::value::{Items, Value};
 use primitives::Memory;
@@ -215,8 +215,7 @@ impl Forest {
     pub fn put(&mut self, value: Value) -> Result<(), Memory>
         requires { IsInside self.old }
         ensures adds { OnOk result (AddsValue value self.old self.new) }
-        ensures depth { OnOk result (self.new.innermost ≡ self.old.innermost) }
-        ensures inside { OnOk result (IsInside self.new) }
+        ensures stands { OnOk result (StaysThere self.old self.new) }
     {
         self.levels[self.innermost].values.push(value)?;
         Ok(())
@@ -227,8 +226,7 @@ impl Forest {
     pub fn open(&mut self) -> Result<(), Memory>
         requires { IsInside self.old }
         ensures opens { OnOk result (OpensList self.old self.new) }
-        ensures depth { OnOk result (self.new.innermost ≡ self.old.innermost + 1) }
-        ensures inside { OnOk result (IsInside self.new) }
+        ensures stands { OnOk result (GoesDeeper self.old self.new) }
     {
         let inner = self.innermost + 1;
         if inner == self.levels.as_slice().len() {
@@ -244,8 +242,7 @@ impl Forest {
         requires inside { IsInside self.old }
         requires around { 0 < self.old.innermost }
         ensures closes { OnOk result (ClosesList self.old self.new) }
-        ensures depth { OnOk result (self.old.innermost ≡ self.new.innermost + 1) }
-        ensures inside { OnOk result (IsInside self.new) }
+        ensures stands { OnOk result (GoesOut self.old self.new) }
     {
         if self.close_innermost()? {
             return self.make_room();
@@ -259,8 +256,7 @@ impl Forest {
         requires inside { IsInside self.old }
         requires around { 0 < self.old.innermost }
         ensures closes { OnOk result (ClosesList self.old self.new) }
-        ensures depth { OnOk result (self.old.innermost ≡ self.new.innermost + 1) }
-        ensures inside { OnOk result (IsInside self.new) }
+        ensures stands { OnOk result (GoesOut self.old self.new) }
     {
         let inner = self.innermost;
         let outer = inner - 1;
@@ -275,8 +271,7 @@ impl Forest {
     fn make_room(&mut self) -> Result<(), Memory>
         requires { IsInside self.old }
         ensures kept { OnOk result (Keeps self.old self.new) }
-        ensures depth { OnOk result (self.new.innermost ≡ self.old.innermost) }
-        ensures inside { OnOk result (IsInside self.new) }
+        ensures stands { OnOk result (StaysThere self.old self.new) }
     {
         if !have_enough(&self.levels.as_slice()[self.innermost + 1..]) {
             return Ok(());
@@ -290,8 +285,7 @@ impl Forest {
     fn fill(&mut self) -> Result<(), Memory>
         requires { IsInside self.old }
         ensures filled { OnOk result (FillsAll self.old self.new) }
-        ensures depth { OnOk result (self.new.innermost ≡ self.old.innermost) }
-        ensures inside { OnOk result (IsInside self.new) }
+        ensures stands { OnOk result (StaysThere self.old self.new) }
     {
         fill_at(self.alloc, self.levels.as_mut_slice(), self.innermost)
     }
