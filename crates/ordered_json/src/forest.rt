@@ -158,7 +158,15 @@ fn drop_waiting(waited: Value) {
     };
     if nothing {
         mem::forget(waited);
+    } else {
+        drop_value(waited);
     }
+}
+
+// Stands by itself, so that the code for it isn't where lists are filled.
+#[inline(never)]
+fn drop_value(value: Value) {
+    drop(value);
 }
 
 // Makes a block of each level's values, from the outermost, which is the first, up to the first that has none. Gives

@@ -1,6 +1,6 @@
 ghost use Rattle.std.specs.Prelude.{◌≡◌, ◌==◌, List, [], ◌∷◌, ◌++◌, ◌≤◌, length, take, drop, vec_capacity, slice_get};
 ghost use Rattle.std.specs.Prelude.{option_copied, option_map, is_ok, IfOk};
-ghost use Rattle.ordered_json.specs.Lists.{pushed, place_values, values_of, pairs_of, IsWaiting, GetsBlock};
+ghost use Rattle.ordered_json.specs.Lists.{pushed, place_values, values_of, pairs_of, IsWaiting, GetsValues, GetsBlock};
 
 use primitives::{Memory, Text};
 use std::alloc::{AllocError, Global};
@@ -203,13 +203,22 @@ impl Items {
             })),
             Place::WaitingLong(numbers) => {
                 let (start, len) = **numbers;
-                let parts = (block.clone()?, start, len, Vec::new(self.alloc));
-                Ok(Some(Items {
-                    place: Place::Longer(Box::new(self.alloc, parts)?),
-                    alloc: self.alloc,
-                }))
+                Ok(Some(self.with_long(block, start, len)?))
             }
         }
+    }
+
+    // The same of a list that waits and has a large number.
+    #[inline(never)]
+    fn with_long(&self, block: &Rc<Vec<Value>>, start: usize, len: usize) -> Result<Items, Memory>
+        requires { IsWaiting self.now start len }
+        ensures { IfOk result (λ list. GetsValues block.now.value.items self.now list) }
+    {
+        let parts = (block.clone()?, start, len, Vec::new(self.alloc));
+        Ok(Items {
+            place: Place::Longer(Box::new(self.alloc, parts)?),
+            alloc: self.alloc,
+        })
     }
 
     // Lends the values of the block, and those that were pushed.
