@@ -66,11 +66,30 @@ impl Level {
         ensures left { OnOk result (IsLeft self.old self.new) }
     {
         let count = self.values.as_slice().len();
-        let len = count.saturating_sub(self.start);
-        let list = Items::waiting_for(alloc, self.start, len)?;
+        let start = self.start;
+        let len = count.saturating_sub(start);
+        if start > u16::MAX as usize || len > u32::MAX as usize {
+            return self.close_long(alloc);
+        }
         self.start = count;
         let lacks = lacks_room(count, len, self.values.capacity());
-        Ok((Value::List(list), lacks))
+        Ok((
+            Value::List(Items::waiting(alloc, start as u16, len as u32)),
+            lacks,
+        ))
+    }
+
+    // The same where a number is large.
+    #[inline(never)]
+    fn close_long(&mut self, alloc: Global) -> Result<(Value, bool), Memory>
+        ensures closed { IfOk result (λ list. IsClosed self.old list.0) }
+        ensures left { OnOk result (IsLeft self.old self.new) }
+    {
+        let count = self.values.as_slice().len();
+        let len = count.saturating_sub(self.start);
+        let list = Items::waiting_long(alloc, self.start, len)?;
+        self.start = count;
+        Ok((Value::List(list), true))
     }
 
     // Gives each list that waits its span of the block.

@@ -149,18 +149,7 @@ impl Items {
         }
     }
 
-    // A list that waits for its values, however many there are.
-    #[inline(always)]
-    pub(crate) fn waiting_for(alloc: Global, start: usize, len: usize) -> Result<Items, Memory>
-        ensures { IfOk result (λ list. IsWaiting list start len) }
-    {
-        if start > u16::MAX as usize || len > u32::MAX as usize {
-            return Items::waiting_long(alloc, start, len);
-        }
-        Ok(Items::waiting(alloc, start as u16, len as u32))
-    }
-
-    // The same where both numbers are small.
+    // A list that waits for its values, where both numbers are small.
     pub(crate) fn waiting(alloc: Global, start: u16, len: u32) -> Items
         ensures { IsWaiting result start len }
     {
@@ -170,9 +159,8 @@ impl Items {
         }
     }
 
-    // The same where one is large.
-    #[inline(never)]
-    fn waiting_long(alloc: Global, start: usize, len: usize) -> Result<Items, Memory>
+    // The same whatever the numbers are.
+    pub(crate) fn waiting_long(alloc: Global, start: usize, len: usize) -> Result<Items, Memory>
         ensures { IfOk result (λ list. IsWaiting list start len) }
     {
         Ok(Items {
