@@ -1,5 +1,5 @@
 -- What the reader's steps do to the forest.
-use Rattle.std.specs.Prelude.{◌≡◌, ℕ, List, [], ◌∷◌, ◌++◌}
+use Rattle.std.specs.Prelude.{◌≡◌, ◌<◌, ℕ, List, [], ◌∷◌, ◌++◌, length, Result, Ok, Err, IfOk}
 use Rattle.std.proofs.Common.{ap, sym, ◌∙◌}
 use Rattle.json_spec.specs.Value.{Json, a_list, no_items}
 use Rattle.json_spec.specs.Taken.{taken}
@@ -8,8 +8,10 @@ use Rattle.ordered_json.specs.declared.value.Value as value
 use Rattle.ordered_json.specs.declared.value.Value.{Value}
 use Rattle.ordered_json.specs.declared.value.Items.{Items, out-Items}
 use Rattle.ordered_json.specs.declared.value.Place.{out-Place}
+use Rattle.ordered_json.specs.declared.fault.Stop.{Stop}
 use Rattle.ordered_json.specs.declared.forest.Forest.{Forest}
 use Rattle.ordered_json.specs.Lists.{IsWaiting}
+use Rattle.ordered_json.specs.Outcomes.{IsLeft}
 use Rattle.ordered_json.specs.Shown.{json_of, items_of}
 use Rattle.ordered_json.specs.Forests.{IsComplete, IsInside, HoldsOne, Keeps, PutsOn, AddsValue, OpensList, TakesValue}
 use Rattle.ordered_json.specs.Steps.{IsShown, Puts}
@@ -23,6 +25,10 @@ empty_is items w = json_of_list items ∙ ap (λ values. a_list (items_of values
 
 pub empty_complete : (items : Items) → IsWaiting items 0 0 → IsComplete (value.List items)
 empty_complete items w inner = waiting_list inner items 0 0 w ∙ sym (empty_is items w)
+
+pub left_of : {A : Type 0} (bytes : List ℕ) (result : Result A Stop) (value : A → Value) (rest : A → List ℕ) → IfOk result (λ x. IsComplete (value x)) → IfOk result (λ x. length (rest x) < length bytes) → IfOk result (λ x. IsLeft bytes (value x) (rest x))
+left_of bytes (Ok x) value rest w s = record { whole = w; shorter = s }
+left_of bytes (Err stop) value rest w s = tt
 
 pub puts_value : {depth : ℕ} {bytes rest : List ℕ} {before middle after : Forest} (v : Value) → IsComplete v → Keeps before middle → AddsValue v middle after → Reads depth bytes (taken (json_of v) rest) → middle.innermost ≡ before.innermost → after.innermost ≡ middle.innermost → Puts depth bytes before after rest
 puts_value v c k a r l m = record {

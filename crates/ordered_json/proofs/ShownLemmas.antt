@@ -1,7 +1,7 @@
 -- What the lists that hold items and members show.
-use Rattle.std.specs.Prelude.{◌≡◌, ℕ, Bool, true, false, cond, List, [], ◌∷◌, ◌++◌, bytes_eq, map, take, drop}
+use Rattle.std.specs.Prelude.{◌≡◌, ℕ, List, ◌++◌, map, take, drop}
 use Rattle.std.proofs.lemmas.List.{map-append}
-use Rattle.std.proofs.Common.{rules, refl, ap, sym, ◌∙◌}
+use Rattle.std.proofs.Common.{rules, ap, sym, ◌∙◌}
 use Rattle.std.specs.List.{take-map, drop-map}
 use Rattle.json_spec.specs.Value.{a_text, a_list, an_object, a_member, put}
 use Rattle.ordered_json.specs.declared.value.Value as value

@@ -15,6 +15,8 @@
 --         these items
 --     HoldsOne forest      the forest shows lists, of which the innermost has one value, and another is around it
 --     IsInside forest      the number of the innermost list is that of a level
+--     StaysThere before after, GoesDeeper before after, GoesOut before after      as many lists are open as before, one
+--         more, or one fewer
 -- Of the calls of the forest:
 --     Keeps before after      what was shown is shown still
 --     AddsValue value before after      a value that waits for none is put behind the innermost list's
@@ -27,7 +29,7 @@
 --     FillsAt place before after      the values of the level with this number are the same, and none waits; the levels
 --         around it are as they were, and those within have no values that count
 --     FillsAll before after      the same is shown, and no list of the innermost level waits
-use Rattle.std.specs.Prelude.{◌≡◌, ◌≤◌, ◌<◌, ℕ, ◌-◌, List, [], ◌∷◌, ◌++◌, map, length, take, drop}
+use Rattle.std.specs.Prelude.{◌≡◌, ◌≤◌, ◌<◌, ℕ, ◌+◌, ◌-◌, List, [], ◌∷◌, ◌++◌, map, length, take, drop}
 use Rattle.std.specs.Prelude.{Option, None, Some, Vec}
 use Rattle.std.specs.declared.alloc.Global.{Global}
 use Rattle.std.specs.declared.rc.Rc.{Rc}
@@ -108,6 +110,18 @@ pub record HoldsOne (forest : Forest) : Type 0 where
 
 abbrev pub IsInside : Forest → Type 0
 IsInside forest = forest.innermost < length forest.levels.items
+
+pub record StaysThere (before after : Forest) : Type 0 where
+  pub depth : after.innermost ≡ before.innermost
+  pub inside : IsInside after
+
+pub record GoesDeeper (before after : Forest) : Type 0 where
+  pub depth : after.innermost ≡ before.innermost + 1
+  pub inside : IsInside after
+
+pub record GoesOut (before after : Forest) : Type 0 where
+  pub depth : before.innermost ≡ after.innermost + 1
+  pub inside : IsInside after
 
 -- ---- what the forest's calls do
 

@@ -3,9 +3,10 @@
 --     ReadsValue depth bytes value rest, Unread depth bytes stop      of one value, in which depth brackets may be open
 --     ReadsAnywhere bytes value rest, UnreadAnywhere bytes stop      the same at every depth
 --     IsScalar bytes value rest, IsNoScalar bytes stop      of a value that is no string, list or object
+--     IsLeft bytes value rest      the value waits for nothing, and the rest is shorter than the bytes
 --     ReadsPair depth bytes key value rest, NoPair depth bytes stop      of a name, a colon and a value
 --     ReadsObject depth bytes members rest, NoObject depth bytes stop      of what stands behind an opening brace
-use Rattle.std.specs.Prelude.{◌≡◌, ℕ, List, ⊤, Result, Err}
+use Rattle.std.specs.Prelude.{◌≡◌, ◌<◌, ℕ, List, length, ⊤, Result, Err}
 use Rattle.json_spec.specs.Value.{Json, Members, settled}
 use Rattle.json_spec.specs.Taken.{taken, refused, and_then}
 use Rattle.json_spec.specs.Grammar as grammar
@@ -19,11 +20,17 @@ use Rattle.ordered_json.specs.declared.value.Value.{Value}
 use Rattle.ordered_json.specs.declared.value.Members.{Members as MembersOfCode}
 use Rattle.ordered_json.specs.Lists.{pairs_of}
 use Rattle.ordered_json.specs.Shown.{json_of, members_of}
+use Rattle.ordered_json.specs.Forests.{IsComplete}
 
 abbrev pub Fails : {A : Type 0} → (Reading A → Type 0) → Stop → Type 0
 Fails Is (Unreadable left) = Is (refused (grammar.NotJson left))
 Fails Is (Deep left) = Is (refused (grammar.TooDeep left))
 Fails Is NoMemory = ⊤
+
+-- the value waits for nothing, and something was read
+pub record IsLeft (bytes : List ℕ) (value : Value) (rest : List ℕ) : Type 0 where
+  pub whole : IsComplete value
+  pub shorter : length rest < length bytes
 
 -- what stands between an object's brackets, with each name once
 abbrev pub settle : Reading Members → Reading Members

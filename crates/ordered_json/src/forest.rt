@@ -1,7 +1,7 @@
 ghost use Rattle.std.specs.Prelude.{◌≡◌, ◌<◌, ◌+◌, [], length, IfOk, OnOk};
 ghost use Rattle.ordered_json.specs.Forests.{IsFresh, IsClosed, IsLeft, GetsItems, Fills, FillsAt, FillsAll, Seals};
 ghost use Rattle.ordered_json.specs.Forests.{Keeps, Shows, IsInside, HoldsOne, AddsValue, OpensList, ClosesList};
-ghost use Rattle.ordered_json.specs.Forests.{TakesValue};
+ghost use Rattle.ordered_json.specs.Forests.{TakesValue, StaysThere, GoesDeeper, GoesOut};
 
 use crate::value::{Items, Value};
 use primitives::Memory;
@@ -66,11 +66,30 @@ impl Level {
         ensures left { OnOk result (IsLeft self.old self.new) }
     {
         let count = self.values.as_slice().len();
-        let len = count.saturating_sub(self.start);
-        let list = Items::waiting_for(alloc, self.start, len)?;
+        let start = self.start;
+        let len = count.saturating_sub(start);
+        if start > u16::MAX as usize || len > u32::MAX as usize {
+            return self.close_long(alloc);
+        }
         self.start = count;
         let lacks = lacks_room(count, len, self.values.capacity());
-        Ok((Value::List(list), lacks))
+        Ok((
+            Value::List(Items::waiting(alloc, start as u16, len as u32)),
+            lacks,
+        ))
+    }
+
+    // The same where a number is large.
+    #[inline(never)]
+    fn close_long(&mut self, alloc: Global) -> Result<(Value, bool), Memory>
+        ensures closed { IfOk result (λ list. IsClosed self.old list.0) }
+        ensures left { OnOk result (IsLeft self.old self.new) }
+    {
+        let count = self.values.as_slice().len();
+        let len = count.saturating_sub(self.start);
+        let list = Items::waiting_long(alloc, self.start, len)?;
+        self.start = count;
+        Ok((Value::List(list), true))
     }
 
     // Gives each list that waits its span of the block.
@@ -158,7 +177,15 @@ fn drop_waiting(waited: Value) {
     };
     if nothing {
         mem::forget(waited);
+    } else {
+        drop_value(waited);
     }
+}
+
+// Stands by itself, so that the code for it isn't where lists are filled.
+#[inline(never)]
+fn drop_value(value: Value) {
+    drop(value);
 }
 
 // Makes a block of each level's values, from the outermost, which is the first, up to the first that has none. Gives
@@ -215,8 +242,7 @@ impl Forest {
     pub fn put(&mut self, value: Value) -> Result<(), Memory>
         requires { IsInside self.old }
         ensures adds { OnOk result (AddsValue value self.old self.new) }
-        ensures depth { OnOk result (self.new.innermost ≡ self.old.innermost) }
-        ensures inside { OnOk result (IsInside self.new) }
+        ensures stands { OnOk result (StaysThere self.old self.new) }
     {
         self.levels[self.innermost].values.push(value)?;
         Ok(())
@@ -227,8 +253,7 @@ impl Forest {
     pub fn open(&mut self) -> Result<(), Memory>
         requires { IsInside self.old }
         ensures opens { OnOk result (OpensList self.old self.new) }
-        ensures depth { OnOk result (self.new.innermost ≡ self.old.innermost + 1) }
-        ensures inside { OnOk result (IsInside self.new) }
+        ensures stands { OnOk result (GoesDeeper self.old self.new) }
     {
         let inner = self.innermost + 1;
         if inner == self.levels.as_slice().len() {
@@ -244,8 +269,7 @@ impl Forest {
         requires inside { IsInside self.old }
         requires around { 0 < self.old.innermost }
         ensures closes { OnOk result (ClosesList self.old self.new) }
-        ensures depth { OnOk result (self.old.innermost ≡ self.new.innermost + 1) }
-        ensures inside { OnOk result (IsInside self.new) }
+        ensures stands { OnOk result (GoesOut self.old self.new) }
     {
         if self.close_innermost()? {
             return self.make_room();
@@ -259,8 +283,7 @@ impl Forest {
         requires inside { IsInside self.old }
         requires around { 0 < self.old.innermost }
         ensures closes { OnOk result (ClosesList self.old self.new) }
-        ensures depth { OnOk result (self.old.innermost ≡ self.new.innermost + 1) }
-        ensures inside { OnOk result (IsInside self.new) }
+        ensures stands { OnOk result (GoesOut self.old self.new) }
     {
         let inner = self.innermost;
         let outer = inner - 1;
@@ -275,8 +298,7 @@ impl Forest {
     fn make_room(&mut self) -> Result<(), Memory>
         requires { IsInside self.old }
         ensures kept { OnOk result (Keeps self.old self.new) }
-        ensures depth { OnOk result (self.new.innermost ≡ self.old.innermost) }
-        ensures inside { OnOk result (IsInside self.new) }
+        ensures stands { OnOk result (StaysThere self.old self.new) }
     {
         if !have_enough(&self.levels.as_slice()[self.innermost + 1..]) {
             return Ok(());
@@ -290,8 +312,7 @@ impl Forest {
     fn fill(&mut self) -> Result<(), Memory>
         requires { IsInside self.old }
         ensures filled { OnOk result (FillsAll self.old self.new) }
-        ensures depth { OnOk result (self.new.innermost ≡ self.old.innermost) }
-        ensures inside { OnOk result (IsInside self.new) }
+        ensures stands { OnOk result (StaysThere self.old self.new) }
     {
         fill_at(self.alloc, self.levels.as_mut_slice(), self.innermost)
     }

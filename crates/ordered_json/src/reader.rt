@@ -6,7 +6,7 @@ ghost use Rattle.ordered_json.specs.IsJson.{HasJson};
 ghost use Rattle.ordered_json.specs.Shown.{json_of};
 ghost use Rattle.ordered_json.specs.Outcomes.{Fails, IsFault, IsWhole, WholeFails, ReadsValue, Unread};
 ghost use Rattle.ordered_json.specs.Outcomes.{ReadsAnywhere, UnreadAnywhere, IsScalar, IsNoScalar, ReadsPair, NoPair};
-ghost use Rattle.ordered_json.specs.Outcomes.{ReadsObject, NoObject};
+ghost use Rattle.ordered_json.specs.Outcomes.{ReadsObject, NoObject, IsLeft};
 ghost use Rattle.ordered_json.specs.Forests.{IsComplete, IsInside, Keeps};
 ghost use Rattle.ordered_json.specs.Steps.{IsShown, PutsRead, Begins, GoesOn, StopsAt, GoesUp, StopsAbove};
 
@@ -194,10 +194,9 @@ fn read_other<'a>(
     requires shown { IsShown forest.old }
     requires no_list { (rest : List ℕ) → bytes.now ≢ 91 ∷ rest }
     ensures reads { MatchResult result (λ x. ReadsValue depth bytes.now x.0 x.1.now) (Unread depth bytes.now) }
-    ensures whole { IfOk result (λ x. IsComplete x.0) }
+    ensures left { IfOk result (λ x. IsLeft bytes.now x.0 x.1.now) }
     ensures kept { OnOk result (Keeps forest.old forest.new) }
     ensures depth { OnOk result (forest.new.innermost ≡ forest.old.innermost) }
-    ensures shorter { IfOk result (λ x. length x.1.now < length bytes.now) }
 {
     let Some((first, rest)) = cut_first(bytes) else {
         return Err(Stop::Unreadable(0));
@@ -224,10 +223,9 @@ fn read_object<'a>(
     requires shown { IsShown forest.old }
     requires bracket { bytes.now ≡ 123 ∷ inner.now }
     ensures reads { MatchResult result (λ x. ReadsValue depth bytes.now x.0 x.1.now) (Unread depth bytes.now) }
-    ensures whole { IfOk result (λ x. IsComplete x.0) }
+    ensures left { IfOk result (λ x. IsLeft bytes.now x.0 x.1.now) }
     ensures kept { OnOk result (Keeps forest.old forest.new) }
     ensures depth { OnOk result (forest.new.innermost ≡ forest.old.innermost) }
-    ensures shorter { IfOk result (λ x. length x.1.now < length bytes.now) }
 {
     if depth == 0 {
         return Err(Stop::Deep(bytes.len()));
@@ -241,8 +239,7 @@ fn read_object<'a>(
 fn read_text<'a>(alloc: Global, bytes: &'a [u8], inner: &'a [u8]) -> Result<(Value, &'a [u8]), Stop>
     requires { bytes.now ≡ 34 ∷ inner.now }
     ensures reads { MatchResult result (λ x. ReadsAnywhere bytes.now x.0 x.1.now) (UnreadAnywhere bytes.now) }
-    ensures whole { IfOk result (λ x. IsComplete x.0) }
-    ensures shorter { IfOk result (λ x. length x.1.now < length bytes.now) }
+    ensures left { IfOk result (λ x. IsLeft bytes.now x.0 x.1.now) }
 {
     match read_string(alloc, inner)? {
         Some((text, end)) => Ok((Value::Text(text), end)),

@@ -1,4 +1,4 @@
-use Rattle.std.proofs.Common.{sym, subst, ◌∙◌}
+use Rattle.std.proofs.Common.{subst}
 use Rattle.ordered_json.specs.Lists.{GetsBlock, GetsValues, IsPlaced}
 use Rattle.ordered_json.proofs.ForestLemmas.{stays_as_it_was, list_got, list_kept}
 use Rattle.ordered_json.proofs.forest.fill_value.Goals as goal

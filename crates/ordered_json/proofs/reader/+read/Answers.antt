@@ -8,7 +8,7 @@ use Rattle.ordered_json.specs.Shown.{json_of, members_of}
 use Rattle.ordered_json.proofs.ShownLemmas.{json_of_object}
 use Rattle.ordered_json.proofs.GrammarLemmas.{no_value, at_depth, scalar_result, scalar_result_shorter, if_taken, deep_list, deep_object, not_bracket, below_depth, object_value, object_fails, no_members_read, awaits_first_member, member_read, name_fails, value_fails, members_fail, behind_one_more, awaits_next_member, last_member, no_more_members, shorter_by_close, shorter_by_member}
 use Rattle.ordered_json.proofs.NestLemmas.{empty_list, begins, left_is, read_fails, begun, ends, level_again, shown_now, went_up, stopped_above}
-use Rattle.ordered_json.proofs.ForestFacts.{empty_is, empty_complete, puts_value, kept_same, kept_twice, kept_shown, shown_inside, opened_shown, taken_kept, taken_is}
+use Rattle.ordered_json.proofs.ForestFacts.{left_of, empty_is, empty_complete, puts_value, kept_same, kept_twice, kept_shown, shown_inside, opened_shown, taken_kept, taken_is}
 use Rattle.ordered_json.proofs.reader.+read.Goals as goal
 
 pub read_members-returns-in-Some-clause-reads : goal.read_members-returns-in-Some-clause-reads
@@ -118,9 +118,10 @@ read_other-returns-clause-reads t c =
 pub read_other-returns-clause-kept : goal.read_other-returns-clause-kept
 read_other-returns-clause-kept t c = if_taken c.read_scalar.result (kept_same refl)
 
-pub read_other-returns-clause-shorter : goal.read_other-returns-clause-shorter
-read_other-returns-clause-shorter t c =
-    scalar_result_shorter _ c.read_scalar.result (λ x. json_of x.0) (λ x. x.1.now) c.read_scalar.ensures.reads
+pub read_other-returns-clause-left : goal.read_other-returns-clause-left
+read_other-returns-clause-left t c =
+    left_of _ c.read_scalar.result (λ x. x.0) (λ x. x.1.now) c.read_scalar.ensures.whole
+    (scalar_result_shorter _ c.read_scalar.result (λ x. json_of x.0) (λ x. x.1.now) c.read_scalar.ensures.reads)
 
 pub begin_value-returns-then-depth-eq0-clause-fails : goal.begin_value-returns-then-depth-eq0-clause-fails
 begin_value-returns-then-depth-eq0-clause-fails t c = deep_list _ _ _ _ c.if-depth-eq0.true c.in-Some.ensures refl
@@ -130,11 +131,11 @@ begin_value-put-requires t c = shown_inside (kept_shown c.in_ok-value.ensures.ke
 
 pub begin_value-returns-in_default-clause-begins : goal.begin_value-returns-in_default-clause-begins
 begin_value-returns-in_default-clause-begins t c =
-    puts_value _ c.in_ok-value.ensures.whole c.in_ok-value.ensures.kept c.in_ok-put.ensures.adds c.in_ok-value.ensures.reads c.in_ok-value.ensures.depth c.in_ok-put.ensures.depth
+    puts_value _ c.in_ok-value.ensures.left.whole c.in_ok-value.ensures.kept c.in_ok-put.ensures.adds c.in_ok-value.ensures.reads c.in_ok-value.ensures.depth c.in_ok-put.ensures.stands.depth
 
 pub begin_value-returns-in-Some-after_byte-clause-begins : goal.begin_value-returns-in-Some-after_byte-clause-begins
 begin_value-returns-in-Some-after_byte-clause-begins t c =
-    puts_value _ (empty_complete _ c.waiting.ensures) (kept_same refl) c.in_ok-put-2.ensures.adds (rw (empty_is _ c.waiting.ensures) (empty_list c.if-depth-eq0.false c.in-Some.ensures c.skip_space-inner.ensures c.in-Some-after_byte.ensures)) refl c.in_ok-put-2.ensures.depth
+    puts_value _ (empty_complete _ c.waiting.ensures) (kept_same refl) c.in_ok-put-2.ensures.adds (rw (empty_is _ c.waiting.ensures) (empty_list c.if-depth-eq0.false c.in-Some.ensures c.skip_space-inner.ensures c.in-Some-after_byte.ensures)) refl c.in_ok-put-2.ensures.stands.depth
 
 pub begin_value-returns-in-Some-after_byte-clause-shorter : goal.begin_value-returns-in-Some-after_byte-clause-shorter
 begin_value-returns-in-Some-after_byte-clause-shorter t c =
