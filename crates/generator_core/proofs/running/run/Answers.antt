@@ -1,11 +1,7 @@
 use Rattle.std.proofs.Common.{rules, Ok, Err, ap, ◌∙◌}
-use Rattle.generator_spec.proofs.Configs.{refused_or_config}
 use Rattle.command_words.specs.Splitting.{texts}
 use Rattle.generator_core.proofs.Endings.{words_end}
 use Rattle.generator_core.proofs.running.run.Goals as goal
-
-pub returns-in-Ok-clause-words : goal.returns-in-Ok-clause-words
-returns-in-Ok-clause-words g c = λ why refuses. absurd (refused_or_config (texts c.args.words.now) why c.in-Ok.config refuses c.in-Ok.ensures.config)
 
 pub returns-in-Err-Refused-clause-end : goal.returns-in-Err-Refused-clause-end
 returns-in-Err-Refused-clause-end g c =
