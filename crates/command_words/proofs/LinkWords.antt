@@ -1,13 +1,12 @@
 -- Words of a command line.
-use Rattle.std.proofs.Common.{◌≡◌, ◌≢◌, codes, ◌<◌, ◌+◌, ℕ, List, [], ◌∷◌, ◌++◌, length, take, map, get_or, All, sym, refl, ap, ◌∙◌, if◌then◌else◌}
+use Rattle.std.proofs.Common.{◌≡◌, ◌<◌, ◌+◌, ℕ, List, [], ◌∷◌, ◌++◌, length, take, map, get_or, All, sym, refl, ap, ◌∙◌, if◌then◌else◌}
 use Rattle.std.specs.Prelude.{bytes_eq}
 use Rattle.std.specs.List.{list_any}
 use Rattle.std.proofs.lemmas.List.{take_more}
 use Rattle.std.proofs.lemmas.List.Elements.{All-head, All-tail, All-cons, All-nil, All-same}
 use Rattle.indexmap.specs.IndexSet.{insert_key}
-use Rattle.generator_spec.specs.declared.Command.TheVariants.{Link, Inject}
-use Rattle.generator_spec.specs.Words.{word_of, IsEntry, IsCall, once_onto}
-use Rattle.command_words.specs.Splitting.{NoWord, NoWordAfter, NoCommand, NoCommandWord, NoCall}
+use Rattle.generator_spec.specs.Words.{IsEntry, once_onto}
+use Rattle.command_words.specs.Splitting.{NoCall}
 
 once_onto-append : (seen xs ys : List (List ℕ)) → once_onto seen (xs ++ ys) ≡ once_onto (once_onto seen xs) ys
 once_onto-append seen [] ys = refl
@@ -34,25 +33,3 @@ all_of_map P f (x ∷ xs) all = All-cons (λ x. P (f x)) x xs (All-head P (f x) 
 pub no_call : {A : Type 0} (f : A → List ℕ) (words : List (List ℕ)) (entries : List A) (word option base : List ℕ) → words ≡ word ∷ option ∷ base ∷ map f entries → (All (λ word. IsEntry (f word)) entries → ⊥) → NoCall words
 no_call f words entries word option base split none command other others is =
     none (all_of_map IsEntry f entries (let e = is.split in let same : map f entries ≡ others = cc in All-same IsEntry (map f entries) others same is.are_entries))
-
--- words without a command's word are no call, and neither are those without the option or the base
-pub no_command_word : (words : List (List ℕ)) → NoCommandWord words → NoCall words
-no_command_word words none command base entries is = none command _ is.split
-
-pub no_option : (words rest : List (List ℕ)) (word : List ℕ) → words ≡ word ∷ rest → NoWordAfter rest (codes "--base") → NoCall words
-no_option words rest word split none command base entries is = none _ (let e = is.split in cc)
-
-pub no_base : (words rest : List (List ℕ)) (word option : List ℕ) → words ≡ word ∷ option ∷ rest → NoWord rest → NoCall words
-no_base words rest word option split none command base entries is = none base entries (let e = is.split in cc)
-
--- ---- the command
-
-pub neither : (word : List ℕ) → word ≢ codes "link" → word ≢ codes "inject" → NoCommand word
-neither word no_link no_inject Link = no_link
-neither word no_link no_inject Inject = no_inject
-
-pub no_first : (words : List (List ℕ)) → NoWord words → NoCommandWord words
-no_first words none command rest e = none _ rest e
-
-pub other_first : (words rest : List (List ℕ)) (first : List ℕ) → words ≡ first ∷ rest → NoCommand first → NoCommandWord words
-other_first words rest first split none command others e = none command (cc)

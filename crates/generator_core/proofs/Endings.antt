@@ -218,9 +218,9 @@ module _ (words : List (List ℕ)) (command : Command) (config : Config) (is_con
   write_says status line (writes.written s l placed w) =
       subst (λ n. Says words before after n line) (sym s) (subst (λ t. Says words before after 0 t) (sym l)
       (says.outcome (shaped.done refl counted)
-      (written_told before.holds after.holds is.prepared (subst (λ holds. IfSome holds (λ tree. IsFileWritten tree prepared.path prepared.file.items after.holds)) is.looks.tree placed)) looks (w ∙ is.looks.writes)))
+      (written_told before.holds after.holds is.is_prepared (subst (λ holds. IfSome holds (λ tree. IsFileWritten tree prepared.path prepared.file.items after.holds)) is.looks.tree placed)) looks (w ∙ is.looks.writes)))
   write_says status line (writes.write_fault s l h rose) =
-      says.write_fault (map_of before.holds is.prepared) done_here counted (generated_told before.holds is.prepared) s l (h ∙ is.looks.tree) looks (subst (λ n. Rose n after.write_faults) is.looks.writes rose)
+      says.write_fault (map_of before.holds is.is_prepared) done_here counted (generated_told before.holds is.is_prepared) s l (h ∙ is.looks.tree) looks (subst (λ n. Rose n after.write_faults) is.looks.writes rose)
   write_says status line (writes.memory s l h w) = says.memory s l (h ∙ is.looks.tree) looks (w ∙ is.looks.writes)
 
   pub write_end : EndsAs words before after out out_after result

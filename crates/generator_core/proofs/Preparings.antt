@@ -114,7 +114,7 @@ module _ (config : Config) (before after : FolderState) where
   pub ready : (command : Command) (generated : Generated) (prepared : Prepared) → Generating config before (Ok generated) after → HasCounts generated prepared → IfSome before.holds (λ tree. Writes tree config generated.map.items command prepared.path prepared.file.items) → Prepares command config before (Ok prepared) after
   ready command generated prepared is counts wrote = record {
     ready = record {
-      prepared = if_two before.holds (λ tree writes_so is_generated. prepared_of command tree generated prepared counts writes_so is_generated) wrote is.generated;
+      is_prepared = if_two before.holds (λ tree writes_so is_generated. prepared_of command tree generated prepared counts writes_so is_generated) wrote is.generated;
       looks = generated_looks generated is;
     };
     stopped = tt;
@@ -148,7 +148,7 @@ module _ (config : Config) (before middle after : FolderState) where
   earlier_end command Memory looks is = record { refused = tt; kind = tt; looks = then_looks before middle after looks is.looks }
 
   earlier_ready : (command : Command) (prepared : Prepared) → OnlyLooks before middle ⊥ → IsReady command config middle after prepared → IsReady command config before after prepared
-  earlier_ready command prepared looks is = record { prepared = subst (λ held. IfSome held (λ tree. IsPrepared command config tree prepared)) looks.tree is.prepared; looks = then_looks before middle after looks is.looks }
+  earlier_ready command prepared looks is = record { is_prepared = subst (λ held. IfSome held (λ tree. IsPrepared command config tree prepared)) looks.tree is.is_prepared; looks = then_looks before middle after looks is.looks }
 
   pub page_refused : (stop : Stop) → OpensPage config before (Err stop) after → Prepares Inject config before (Err stop) after
   page_refused stop is = record { ready = tt; stopped = is.stopped }
@@ -222,3 +222,22 @@ module _ (config : Config) (path : List ℕ) (is_page : path ≡ config.page) (b
       looks = record { tree = is.tree; writes = is.writes; later = is.later; cause = λ e. absurd (cc); quiet = λ none. is.quiet (λ same. cc) };
     };
   }
+
+  -- ---- the same, as the look tells it
+
+  told_by : (found : Look) (stop other : Stop) (exact : Look) → found ≡ exact → stop ≡ other → (IsLooked before path (limit_number File) (Ok exact) after → OpensPage config before (Err other) after) → IsLooked before path (limit_number File) (Ok found) after → OpensPage config before (Err stop) after
+  told_by found stop other exact f s ends is = subst (λ t. OpensPage config before (Err t) after) (sym s) (ends (subst (λ l. IsLooked before path (limit_number File) (Ok l) after) f is))
+
+  pub absent_end : (found : Look) (stop : Stop) → found ≡ look.Absent → stop ≡ Refused (Page Absent) → IsLooked before path (limit_number File) (Ok found) after → OpensPage config before (Err stop) after
+  absent_end found stop f s is = told_by found stop (Refused (Page Absent)) look.Absent f s page_absent is
+
+  pub folder_end : (found : Look) (stop : Stop) → found ≡ look.Folder → stop ≡ Refused (Page Absent) → IsLooked before path (limit_number File) (Ok found) after → OpensPage config before (Err stop) after
+  folder_end found stop f s is = told_by found stop (Refused (Page Absent)) look.Folder f s page_folder is
+
+  pub too_large_end : (found : Look) (stop : Stop) → found ≡ look.TooLarge → stop ≡ Refused (Page TooLarge) → IsLooked before path (limit_number File) (Ok found) after → OpensPage config before (Err stop) after
+  too_large_end found stop f s is = told_by found stop (Refused (Page TooLarge)) look.TooLarge f s page_too_large is
+
+  pub keeps_out_end : (found : Look) (stop : Stop) (bytes slice : List ℕ) (why : InjectFault) → found ≡ look.File bytes → stop ≡ Refused (Page (KeepsMapsOut why)) → slice ≡ bytes → injection.KeepsMapsOut slice why → IsLooked before path (limit_number File) (Ok found) after → OpensPage config before (Err stop) after
+  keeps_out_end found stop bytes slice why f s same keeps is =
+      told_by found stop (Refused (Page (KeepsMapsOut why))) (look.File bytes) f s
+      (λ looked_so. page_keeps_out bytes why looked_so (subst (λ b. injection.KeepsMapsOut b why) same keeps)) is

@@ -86,7 +86,7 @@ pub record IsPrepared (command : Command) (config : Config) (tree : Tree) (prepa
   pub writes : Writes tree config (map_text (layout all.needs)) command prepared.path prepared.file.items
 
 pub record IsReady (command : Command) (config : Config) (before after : FolderState) (prepared : Prepared) : Type 0 where
-  pub prepared : IfSome before.holds (λ tree. IsPrepared command config tree prepared)
+  pub is_prepared : IfSome before.holds (λ tree. IsPrepared command config tree prepared)
   pub looks : OnlyLooks before after ⊥
 
 pub record Prepares (command : Command) (config : Config) (before : FolderState) (result : Result Prepared Stop)

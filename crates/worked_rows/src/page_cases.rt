@@ -45,10 +45,7 @@ const INJECTED: &[(&str, &str)] = &[
 
 const WITHOUT_PAGE: &[(&str, &str)] = &[("/app.mjs", "import \"./q.mjs\";")];
 
-const MISSING: &[(&str, &str)] = &[
-    ("/index.html", HEAD),
-    ("/app.mjs", "import \"./q.mjs\";"),
-];
+const MISSING: &[(&str, &str)] = &[("/index.html", HEAD), ("/app.mjs", "import \"./q.mjs\";")];
 
 const LOOKS: Fails = Fails {
     looks: &[1],
@@ -140,10 +137,7 @@ pub static PAGE_CASES: [PageCase; 19] = [
     },
     PageCase {
         words: INJECT,
-        files: &[
-            ("/index.html", "<p>"),
-            ("/app.mjs", "import \"./q.mjs\";"),
-        ],
+        files: &[("/index.html", "<p>"), ("/app.mjs", "import \"./q.mjs\";")],
         fails: NONE,
         status: 1,
         line: "refused: NoPlace\n",
@@ -177,7 +171,10 @@ pub static PAGE_CASES: [PageCase; 19] = [
         words: INJECT,
         files: &[
             ("/index.html", HEAD),
-            ("/package.json", "{\"imports\":{\"#</script>\":\"./x.mjs\"}}"),
+            (
+                "/package.json",
+                "{\"imports\":{\"#</script>\":\"./x.mjs\"}}",
+            ),
             ("/app.mjs", "import \"#</script>\";"),
             ("/x.mjs", ""),
         ],

@@ -52,7 +52,10 @@ fn each_cut_of_a_page_ends_as_it_must(rt: HostRuntime) -> Result<(), Fail> {
         put(alloc, &mut folder, PAGE_PATH, &page[..length])?;
         let outcome = ended(alloc, INJECT, folder, &[])?;
         let (status, line) = cut_at(length);
-        assert!(rt; ends(&outcome, status, line), "{length} bytes must end with {line}");
+        assert!(rt;
+            ends(&outcome, status, line),
+            "{length} bytes must end with {line}"
+        );
     }
     Ok(())
 }
@@ -73,7 +76,12 @@ fn pages_of_one_byte(rt: HostRuntime) -> Result<(), Fail> {
 #[test]
 fn a_page_with_its_map_stays_as_it_is(rt: HostRuntime) -> Result<(), Fail> {
     let alloc = rt.alloc();
-    let first = ended(alloc, INJECT, folder_of(alloc, PAGE_CASES[0].files, &NONE)?, &[])?;
+    let first = ended(
+        alloc,
+        INJECT,
+        folder_of(alloc, PAGE_CASES[0].files, &NONE)?,
+        &[],
+    )?;
     let second = ended(alloc, INJECT, first.folder, &[])?;
     assert!(rt; ends(&second, 0, PAGE_CASES[0].line));
     assert!(rt; stands(alloc, &second.folder, PAGE_PATH, Some(WITH_MAP))?);

@@ -2,7 +2,7 @@ use Rattle.std.proofs.Common.{◌∷◌, List, ℕ, codes, map, IsTrue, ap, ◌�
 use Rattle.std.specs.Prelude.{string_bytes}
 use Rattle.std.proofs.lemmas.List.Elements.{All-map}
 use Rattle.generator_spec.specs.Words.{word_of, IsEntry}
-use Rattle.command_words.proofs.LinkWords.{no_call, no_command_word, no_option, no_base}
+use Rattle.command_words.proofs.LinkWords.{no_call}
 use Rattle.command_words.proofs.words.call_words.Goals as goal
 
 pub returns-then-not-are_entries : goal.returns-then-not-are_entries

@@ -29,8 +29,8 @@ returns-in-Err-page_file g c =
     let page = (subst (λ r. OpensPage c.args.config.now before r middle) c.in-Ok.is c.open_page.ensures).opened in
     page_lacks c.args.config.now before middle after c.in-Ok.page c.in-Ok-generate.generated page (subst (λ r. Generating c.args.config.now middle r after) c.in-Ok-generate.is c.generate.ensures)
 
-pub returns-in-Ok-page_file : goal.returns-in-Ok-page_file
-returns-in-Ok-page_file g c =
+pub returns : goal.returns
+returns g c =
     let before = g.F.Folder.state c.args.folder.now in
     let middle = g.F.Folder.state c.open_page.new.folder in
     let after = g.F.Folder.state c.generate.new.folder in
