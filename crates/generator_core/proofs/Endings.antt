@@ -199,7 +199,7 @@ module _ (words : List (List ℕ)) (command : Command) (config : Config) (is_con
   }
 
   -- the map of a told tree
-  map_of : (held : Option Tree) → IfSome held (λ tree. IsPrepared command config tree prepared) → List ℕ
+  abbrev map_of : (held : Option Tree) → IfSome held (λ tree. IsPrepared command config tree prepared) → List ℕ
   map_of None ready = []
   map_of (Some tree) ready = map_text (layout ready.all.needs)
 
@@ -209,6 +209,7 @@ module _ (words : List (List ℕ)) (command : Command) (config : Config) (is_con
 
   written_told : (held told : Option Tree) → IfSome held (λ tree. IsPrepared command config tree prepared) → IfSome held (λ tree. IsFileWritten tree prepared.path prepared.file.items told)
       → IfSome held (λ tree. (later : Tree) × Outcome words tree 0 done_here later × (told ≡ Some later))
+  unfolding generated_of
   written_told held told ready written =
       if_two held (λ tree is_ready wrote_so.
       let so = generated_of tree is_ready in
