@@ -1,6 +1,6 @@
 -- The traces of the sites, by computation.
 use Rattle.std.proofs.Common.{◌≡◌, refl, ◌∙◌}
-use Rattle.std.specs.Prelude.{List, [], ◌∷◌, codes, Err}
+use Rattle.std.specs.Prelude.{List, [], ◌∷◌, ◌++◌, codes, Err}
 use Rattle.std.specs.Char.{encode_utf8}
 use Rattle.std.specs.Str.{is_utf8, chars}
 use Rattle.std.specs.FinMap.{get}
@@ -16,7 +16,7 @@ use Rattle.trace_spec.specs.declared.TraceFault.{TraceFault}
 use Rattle.trace_spec.specs.Modules.{Config}
 use Rattle.trace_spec.specs.declared.TraceFault.TheVariants.{Refused, RequestNotBuilt}
 use Rattle.trace_spec.specs.Traces.{traced}
-use Rattle.generator_examples.specs.Sites.{Files, based, page_text, tree_of, spelling, spelling_all, levels, levels_all, site, site_all, missing, clashing}
+use Rattle.generator_examples.specs.Sites.{Files, based, page_text, tree_of, spelling, spelling_all, levels, levels_all, site, site_all, paged, missing, clashing}
 use Rattle.generator_examples.specs.Examples.{IsTraced}
 use Rattle.generator_examples.proofs.Known.{Known, known_trace}
 use Rattle.generator_examples.proofs.Reading.{a_folder, of_one_line, of_lines, an_other}
@@ -49,6 +49,19 @@ known_spelling =
 pub spelling_traced : IsTraced spelling (based "https://app.test/" ("./app.mjs" ∷ [])) spelling_all
 unfolding as_url web file_text escaped holds_escape percent_encode_byte percent_decode names_host url_path spelled_path parse_alone parse_against text_of url_on_literals is_utf8 chars encode_utf8
 spelling_traced = known_trace known_spelling (based "https://app.test/" ("./app.mjs" ∷ [])) ∙ refl
+
+abbrev known_paged : List Known
+unfolding is_utf8 chars encode_utf8
+known_paged =
+    a_folder "/"
+    ∷ an_other "/index.html" (codes "<head></head>" ++ 10 ∷ []) refl
+    ∷ of_one_line "/app" ("./a%62.mjs" ∷ []) refl
+    ∷ of_one_line "/ab" [] refl
+    ∷ []
+
+pub paged_traced : IsTraced paged (based "https://app.test/" ("./app.mjs" ∷ [])) spelling_all
+unfolding as_url web file_text escaped holds_escape percent_encode_byte percent_decode names_host url_path spelled_path parse_alone parse_against text_of url_on_literals is_utf8 chars encode_utf8
+paged_traced = known_trace known_paged (based "https://app.test/" ("./app.mjs" ∷ [])) ∙ refl
 
 abbrev known_site : List Known
 unfolding is_utf8 chars encode_utf8

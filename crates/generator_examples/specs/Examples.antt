@@ -1,7 +1,7 @@
 -- Worked examples of generation.
 --     IsTraced files config all       the tables of the trace of these files
 --     IsMapped files config text      the files have a map with this text, which serves
---     Ends files base asked status line after      how a command ends: its status, its line, the files that it leaves
+--     Ends files words status line after      how a command ends: its status, its line, the files that it leaves
 --     with_map files text             the files, with the map beside them
 --     Trees, TraceExamples, MapExamples      that the sites are trees; their traces; their maps
 --     EndExamples                     how commands end
@@ -15,7 +15,8 @@ use Rattle.trace_spec.specs.Traces.{traced}
 use Rattle.generator_spec.specs.Generation.{Generates}
 use Rattle.generator_spec.specs.Serves.{Serves}
 use Rattle.generator_spec.specs.Outcome.{Outcome}
-use Rattle.generator_examples.specs.Sites.{Files, tree_of, file, based, links, levels, levels_all, spelling, spelling_all, spelling_map, site, site_all, site_map, missing, clashing}
+use Rattle.generator_examples.specs.Sites.{Files, tree_of, file, based, links, injects, levels, levels_all, spelling, spelling_all, spelling_map, site, site_all, site_map}
+use Rattle.generator_examples.specs.Sites.{paged, paged_after, missing, clashing}
 
 -- own: nothing is refused, and these are the tables of the trace
 abbrev pub IsTraced : Files → Config → Gathered → Type 0
@@ -26,16 +27,16 @@ pub record IsMapped (files : Files) (config : Config) (text : List ℕ) : Type 0
   pub generates : Generates (tree_of files) config text
   pub serves : Serves (tree_of files) config text
 
--- own: the command with this base and these entries ends so, and leaves these files
-abbrev pub Ends : Files → String → List String → ℕ → String → Files → Type 0
-Ends files base asked status line after =
-    Outcome (links base asked) (tree_of files) status (codes line) (tree_of after)
+-- own: the command of these words ends so, and leaves these files
+abbrev pub Ends : Files → List (List ℕ) → ℕ → String → Files → Type 0
+Ends files words status line after = Outcome words (tree_of files) status (codes line) (tree_of after)
 
 -- the files make trees: their paths are paths, and their parents are folders
 pub record Trees : Type 0 where
   pub of_levels : IsTree (tree_of levels)
   pub of_spelling : IsTree (tree_of spelling)
   pub of_site : IsTree (tree_of site)
+  pub of_paged : IsTree (tree_of paged)
   pub of_missing : IsTree (tree_of missing)
   pub of_clashing : IsTree (tree_of clashing)
 
@@ -54,16 +55,22 @@ with_map files text = files ++ file "/importmap.json" text ∷ []
 
 pub record EndExamples : Type 0 where
   pub two_spellings :
-      Ends spelling "https://app.test/" ("./app.mjs" ∷ []) 0 "ok: 2 modules, 2 requests, 1 mappings\n"
+      Ends spelling (links "https://app.test/" ("./app.mjs" ∷ [])) 0 "ok: 2 modules, 2 requests, 1 mappings\n"
       (with_map spelling spelling_map)
   pub of_site :
-      Ends site "https://app.test/" ("./app.mjs" ∷ []) 0 "ok: 5 modules, 8 requests, 2 mappings\n"
+      Ends site (links "https://app.test/" ("./app.mjs" ∷ [])) 0 "ok: 5 modules, 8 requests, 2 mappings\n"
       (with_map site site_map)
+  pub in_page :
+      Ends paged (injects "https://app.test/" ("./app.mjs" ∷ [])) 0 "ok: 2 modules, 2 requests, 1 mappings\n"
+      paged_after
+  pub no_page :
+      Ends missing (injects "https://app.test/" ("./a.mjs" ∷ "./b.mjs" ∷ [])) 7 "bad file: page absent\n" missing
   pub second_entry :
-      Ends missing "https://app.test/" ("./a.mjs" ∷ "./b.mjs" ∷ []) 1
+      Ends missing (links "https://app.test/" ("./a.mjs" ∷ "./b.mjs" ∷ [])) 1
       "refused: NotFound from \"/b.mjs\" for \"./q.mjs\"\n" missing
   pub two_targets :
-      Ends clashing "https://app.test/app/" ("./m.mjs" ∷ []) 9 "not built: from \"/m.mjs\" for \"./x.mjs\"\n" clashing
+      Ends clashing (links "https://app.test/app/" ("./m.mjs" ∷ [])) 9
+      "not built: from \"/m.mjs\" for \"./x.mjs\"\n" clashing
   -- whatever the tree
   pub no_base :
       (tree : Tree)

@@ -1,8 +1,10 @@
--- The theorem of this project, and what it rests on.
+-- The theorems of this project, and what they rest on.
 --     MapsServe      a map that captures no need, and has no mappings but theirs, serves
 --     MapsReadBack      the text of such a map is read as that map
 --     AgreedMapsServe      the agreed layout of the trace's needs serves
 --     Soundness      what is generated serves
+--     MapsArePlain      what is generated holds no markup
+--     OneMapInPage      a page into which it is put has it as its one map
 use Rattle.std.specs.FinMap.{get, empty}
 use Rattle.std.specs.Prelude.{◌≡◌, ℕ, List, Ok, Contains}
 use Rattle.tree_spec.specs.Trees.{Tree}
@@ -14,6 +16,9 @@ use Rattle.layout_spec.specs.Needs.{NamesFiles}
 use Rattle.layout_spec.specs.PrintedMap.{map_text}
 use Rattle.layout_spec.specs.Serving.{NoCapture, OfNeeds}
 use Rattle.layout_spec.specs.declared.Need.{Need}
+use Rattle.page_spec.specs.ImportMaps.{IsOneMap}
+use Rattle.page_spec.specs.Injection.{Injection}
+use Rattle.page_spec.specs.Laws.{IsPlainMap}
 use Rattle.trace_spec.specs.Checks.{Gathered}
 use Rattle.trace_spec.specs.Modules.{Config}
 use Rattle.trace_spec.specs.Traces.{traced}
@@ -44,3 +49,13 @@ AgreedMapsServe =
 -- own law: what is generated serves
 abbrev pub Soundness : Type 0
 Soundness = (tree : Tree) (config : Config) (bytes : List ℕ) → Generates tree config bytes → Serves tree config bytes
+
+-- own law: no tag of a page is read in what is generated
+abbrev pub MapsArePlain : Type 0
+MapsArePlain = (tree : Tree) (config : Config) (map : List ℕ) → Generates tree config map → IsPlainMap map
+
+-- own law: put into a page, what is generated is the raw text of the page's one import map element
+abbrev pub OneMapInPage : Type 0
+OneMapInPage =
+    (tree : Tree) (config : Config) (map page new : List ℕ) → Generates tree config map → Injection map page (Ok new)
+    → IsOneMap map new
