@@ -60,13 +60,13 @@ got_within before after block values start len was is holds = record {
   are = ap place_values is ∙ ap values_at (within_out start len block) ∙ ap (λ xs. take len (drop start xs)) holds;
 }
 
-pub got_longer : (before after : Items) (start len : ℕ) (parts : Parts) (values : List Value) → IsWaiting before start len → (out-Items after).place ≡ Longer parts → parts.value.0.value.items ≡ values → parts.value.1 ≡ start → parts.value.2 ≡ len → parts.value.3.items ≡ [] → GetsValues values before after
-got_longer before after start len parts values waits is holds from count none = record {
-  start = start;
-  len = len;
-  waits = waits;
+pub got_longer : (before after : Items) (numbers : Box (ℕ × ℕ) Global) (parts : Parts) (values : List Value) → (out-Items before).place ≡ WaitingLong numbers → (out-Items after).place ≡ Longer parts → parts.value.0.value.items ≡ values → parts.value.1 ≡ numbers.value.0 → parts.value.2 ≡ numbers.value.1 → parts.value.3.items ≡ [] → GetsValues values before after
+got_longer before after numbers parts values was is holds start len none = record {
+  start = numbers.value.0;
+  len = numbers.value.1;
+  waits = waiting_long_is before numbers was;
   placed = longer_placed after parts is;
-  are = ap place_values is ∙ longer_values parts ∙ rw (holds, from, count, none) (append-nil (take len (drop start values)));
+  are = ap place_values is ∙ longer_values parts ∙ rw (holds, start, len, none) (append-nil (take numbers.value.1 (drop numbers.value.0 values)));
 }
 
 -- what the parts hold, by a value more at their end

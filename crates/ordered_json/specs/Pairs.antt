@@ -1,8 +1,8 @@
 -- The pairs of an object that is read, and their names.
 --     weight_behind weight name      a number that is made of the name's bytes, behind others that made this one
 --     weighed_names pairs      the names in their order, each with its number
---     IsBefore name other, Ascend names      one stands before the other by number and then by the name, each before the
---         next
+--     IsBefore name other, Ascend names      one stands before the other by number and then by the name, each before
+--         the next
 --     PutsPair name value before after      the pairs are the members before, with that one put
 --     place_of name pairs      where the first pair stands that has the name
 --     IsIndexed places pairs      the map has the place of each name

@@ -11,8 +11,8 @@ use std::cmp::Ordering;
 /// In how many pairs each name is looked for among those behind it. The names of more are sorted.
 const FEW: usize = 8;
 
-// A name with a number that is made of it. They are sorted by that number first, as numbers are compared faster, and names
-// that differ mostly differ in it.
+// A name with a number that is made of it. They are sorted by that number first, as numbers are compared faster, and
+// names that differ mostly differ in it.
 type Weighed = (u64, Text);
 
 /// Whether no name stands twice among the pairs. It takes n log n comparisons of names, whatever they are, so names

@@ -1,6 +1,7 @@
 ghost use Rattle.std.specs.Prelude.{◌≡◌, ◌<◌, ◌+◌, [], length, IfOk, OnOk};
 ghost use Rattle.ordered_json.specs.Forests.{IsFresh, IsClosed, IsLeft, GetsItems, Fills, FillsAt, FillsAll, Seals};
 ghost use Rattle.ordered_json.specs.Forests.{Keeps, Shows, IsInside, HoldsOne, AddsValue, OpensList, ClosesList};
+ghost use Rattle.ordered_json.specs.declared.value.Value.{List};
 ghost use Rattle.ordered_json.specs.Forests.{TakesValue, StaysThere, GoesDeeper, GoesOut};
 
 use crate::value::{Items, Value};
@@ -66,30 +67,11 @@ impl Level {
         ensures left { OnOk result (IsLeft self.old self.new) }
     {
         let count = self.values.as_slice().len();
-        let start = self.start;
-        let len = count.saturating_sub(start);
-        if start > u16::MAX as usize || len > u32::MAX as usize {
-            return self.close_long(alloc);
-        }
+        let len = count.saturating_sub(self.start);
+        let list = Items::waiting_for(alloc, self.start, len)?;
         self.start = count;
         let lacks = lacks_room(count, len, self.values.capacity());
-        Ok((
-            Value::List(Items::waiting(alloc, start as u16, len as u32)),
-            lacks,
-        ))
-    }
-
-    // The same where a number is large.
-    #[inline(never)]
-    fn close_long(&mut self, alloc: Global) -> Result<(Value, bool), Memory>
-        ensures closed { IfOk result (λ list. IsClosed self.old list.0) }
-        ensures left { OnOk result (IsLeft self.old self.new) }
-    {
-        let count = self.values.as_slice().len();
-        let len = count.saturating_sub(self.start);
-        let list = Items::waiting_long(alloc, self.start, len)?;
-        self.start = count;
-        Ok((Value::List(list), true))
+        Ok((Value::List(list), lacks))
     }
 
     // Gives each list that waits its span of the block.
@@ -157,35 +139,30 @@ fn fill_value(value: &mut Value, block: &Rc<Vec<Value>>) -> Result<(), Memory>
     ensures { OnOk result (GetsItems block.now.value.items value.old value.new) }
 {
     match value {
-        Value::List(items) => match items.with_block(block)? {
-            Some(list) => {
-                drop_waiting(mem::replace(value, Value::List(list)));
-                Ok(())
+        Value::List(items) => {
+            let nothing = items.has_nothing_to_drop();
+            match items.with_block(block)? {
+                Some(list) => {
+                    put_list(value, list, nothing);
+                    Ok(())
+                }
+                None => Ok(()),
             }
-            None => Ok(()),
-        },
+        }
         _ => Ok(()),
     }
 }
 
-// Drops a list that waited, which mostly has nothing to drop.
+// Puts a list in the place of one that waited, which mostly has nothing to drop.
 #[inline(always)]
-fn drop_waiting(waited: Value) {
-    let nothing = match &waited {
-        Value::List(items) => items.has_nothing_to_drop(),
-        _ => false,
-    };
+fn put_list(value: &mut Value, list: Items, nothing: bool)
+    ensures { value.new ≡ List list }
+{
     if nothing {
-        mem::forget(waited);
+        mem::forget(mem::replace(value, Value::List(list)));
     } else {
-        drop_value(waited);
+        *value = Value::List(list);
     }
-}
-
-// Stands by itself, so that the code for it isn't where lists are filled.
-#[inline(never)]
-fn drop_value(value: Value) {
-    drop(value);
 }
 
 // Makes a block of each level's values, from the outermost, which is the first, up to the first that has none. Gives

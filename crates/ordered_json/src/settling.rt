@@ -16,8 +16,8 @@ struct Settling {
     alloc: Global,
 }
 
-/// The members of an object whose text writes these pairs: a name that is repeated stands where it is written first, with
-/// the value that is written last.
+/// The members of an object whose text writes these pairs: a name that is repeated stands where it is written first,
+/// with the value that is written last.
 pub fn settle(alloc: Global, written: Vec<(Text, Value)>) -> Result<Vec<(Text, Value)>, Memory>
     ensures { IfOk result (λ kept. members_of kept.items ≡ settled (members_of written.items)) }
 {

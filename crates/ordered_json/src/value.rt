@@ -1,6 +1,6 @@
 ghost use Rattle.std.specs.Prelude.{◌≡◌, ◌==◌, List, [], ◌∷◌, ◌++◌, ◌≤◌, length, take, drop, vec_capacity, slice_get};
 ghost use Rattle.std.specs.Prelude.{option_copied, option_map, is_ok, IfOk};
-ghost use Rattle.ordered_json.specs.Lists.{pushed, place_values, values_of, pairs_of, IsWaiting, GetsValues, GetsBlock};
+ghost use Rattle.ordered_json.specs.Lists.{pushed, place_values, values_of, pairs_of, IsWaiting, GetsBlock};
 
 use primitives::{Memory, Text};
 use std::alloc::{AllocError, Global};
@@ -149,7 +149,18 @@ impl Items {
         }
     }
 
-    // A list that waits for its values, where both numbers are small.
+    // A list that waits for its values, however many there are.
+    #[inline(always)]
+    pub(crate) fn waiting_for(alloc: Global, start: usize, len: usize) -> Result<Items, Memory>
+        ensures { IfOk result (λ list. IsWaiting list start len) }
+    {
+        if start > u16::MAX as usize || len > u32::MAX as usize {
+            return Items::waiting_long(alloc, start, len);
+        }
+        Ok(Items::waiting(alloc, start as u16, len as u32))
+    }
+
+    // The same where both numbers are small.
     pub(crate) fn waiting(alloc: Global, start: u16, len: u32) -> Items
         ensures { IsWaiting result start len }
     {
@@ -159,8 +170,9 @@ impl Items {
         }
     }
 
-    // The same whatever the numbers are.
-    pub(crate) fn waiting_long(alloc: Global, start: usize, len: usize) -> Result<Items, Memory>
+    // The same where one is large.
+    #[inline(never)]
+    fn waiting_long(alloc: Global, start: usize, len: usize) -> Result<Items, Memory>
         ensures { IfOk result (λ list. IsWaiting list start len) }
     {
         Ok(Items {
@@ -191,22 +203,13 @@ impl Items {
             })),
             Place::WaitingLong(numbers) => {
                 let (start, len) = **numbers;
-                Ok(Some(self.with_long(block, start, len)?))
+                let parts = (block.clone()?, start, len, Vec::new(self.alloc));
+                Ok(Some(Items {
+                    place: Place::Longer(Box::new(self.alloc, parts)?),
+                    alloc: self.alloc,
+                }))
             }
         }
-    }
-
-    // The same of a list that waits and has a large number.
-    #[inline(never)]
-    fn with_long(&self, block: &Rc<Vec<Value>>, start: usize, len: usize) -> Result<Items, Memory>
-        requires { IsWaiting self.now start len }
-        ensures { IfOk result (λ list. GetsValues block.now.value.items self.now list) }
-    {
-        let parts = (block.clone()?, start, len, Vec::new(self.alloc));
-        Ok(Items {
-            place: Place::Longer(Box::new(self.alloc, parts)?),
-            alloc: self.alloc,
-        })
     }
 
     // Lends the values of the block, and those that were pushed.
