@@ -70,7 +70,7 @@ module _ (text left : List ℕ) (e : left ≡ take (length left) text) where
         within = omega arith;
         none = subst (λ m. NoneBetween text m (length left)) (sym long) (none_above k absent);
         left = b ∙ (ap (take k) e ∙ (take-take k (length left) text (omega arith) ∙ ap (λ n. take n text) (sym short)));
-        shorter = omega arith
+        shorter = omega arith;
       }
     where
       ap2 : front ≡ take (suc k) text → rest ≡ drop (suc k) text → take (suc k) text ++ drop (suc k) text ≡ front ++ rest
