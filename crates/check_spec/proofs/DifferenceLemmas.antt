@@ -1,6 +1,6 @@
 -- The differences are those that they should be, in order.
-use Rattle.std.proofs.Common.{◌≡◌, ℕ, zero, suc, ◌<◌, ◌≤◌, ◌+◌, Bool, true, false, cond, List, [], ◌∷◌, length, Option, Some, None, refl, sym, ap, ◌∙◌, subst, arith, ⊎_elim}
-use Rattle.std.specs.Prelude.{◌≢◌, ◌↔◌, ⊤, map, slice_get, slice_index, bytes_eq, Contains}
+use Rattle.std.proofs.Common.{◌≡◌, ℕ, zero, suc, ◌<◌, ◌≤◌, ◌+◌, true, false, List, [], ◌∷◌, length, Some, refl, sym, ap, ◌∙◌, subst, arith}
+use Rattle.std.specs.Prelude.{◌≢◌, ⊤, map, slice_get, slice_index, Contains}
 use Rattle.std.proofs.lemmas.Bool.{cases_Bool, cond-true, cond-false, true≢false}
 use Rattle.std.proofs.lemmas.Slice.Eq.{bytes_eq-Decides}
 use mathlib.Core.Logic.{inl, inr}
@@ -102,14 +102,15 @@ rises n (x ∷ y ∷ xs) a zero l = let b = a.1.0 in omega arith
 rises n (x ∷ y ∷ xs) a (suc k) l = rises (suc x) (y ∷ xs) a.1 k (omega arith)
 
 pub differences_are_exact : DifferencesAreExact
-differences_are_exact m needs d =
-    ((λ c. let f = from_list m 0 needs d c in record {
-      need = f.need;
-      stands = ap (slice_get needs) (let e = f.number_is in let same : d.need ≡ f.place = omega arith in same) ∙ f.stands;
-      got_is = f.got_is;
-      differs = f.differs;
-    }),
-    (λ (f : IsDifference m needs d). to_list m 0 needs d d.need f.need (omega arith) f.stands f.got_is f.differs))
+differences_are_exact m needs d = (
+  (λ c. let f = from_list m 0 needs d c in record {
+    need = f.need;
+    stands = ap (slice_get needs) (let e = f.number_is in let same : d.need ≡ f.place = omega arith in same) ∙ f.stands;
+    got_is = f.got_is;
+    differs = f.differs;
+  }),
+  (λ (f : IsDifference m needs d). to_list m 0 needs d d.need f.need (omega arith) f.stands f.got_is f.differs),
+)
 
 pub differences_ascend : DifferencesAscend
 differences_ascend m needs k l = let e : k + 1 ≡ suc k = omega arith in subst (λ j. slice_index (numbers m (differences m needs)) k < slice_index (numbers m (differences m needs)) j) (sym e) (rises 0 _ (above m 0 needs) k (omega (arith, l)))

@@ -1,16 +1,14 @@
 -- What a need comes to is what its specifiers do.
-use Rattle.std.proofs.Common.{◌≡◌, ℕ, Bool, true, false, ◌==◌, List, [], ◌∷◌, Option, Some, None, refl, sym, ap, ◌∙◌, subst, ⊎_elim}
+use Rattle.std.proofs.Common.{◌≡◌, ℕ, true, false, ◌==◌, List, [], ◌∷◌, Option, Some, None, refl, sym, ap, ◌∙◌, subst, ⊎_elim}
 use Rattle.std.specs.FinMap.{get}
 use Rattle.std.specs.Prelude.{unwrap_or}
-use Rattle.std.proofs.lemmas.Bool.{eqb-true, cases_Bool, true≢false, cond-true, cond-false}
+use Rattle.std.proofs.lemmas.Bool.{eqb-true, cases_Bool, true≢false, cond-false}
 use Rattle.url_spec.proofs.NoUrls.{no_urls}
 use Rattle.url_spec.proofs.OwnUrls.{own_urls}
 use Rattle.url_spec.specs.Laws.{IsNoStart}
-use Rattle.url_spec.specs.Parsing.{parse_alone, IsUrl}
+use Rattle.url_spec.specs.Parsing.{parse_alone}
 use Rattle.url_spec.specs.Specifiers.{is_relative, as_url, normalized}
 use Rattle.import_map_spec.specs.LookUps.{resolve_in, resolve_normalized, scope_addresses}
-use Rattle.import_map_spec.specs.ParsedMap.{ParsedMap}
-use Rattle.layout_spec.specs.declared.Need.{Need}
 use Rattle.check_spec.specs.Laws.{SpecifiersAgree}
 
 neither_mark : (b : ℕ) (rest : List ℕ) → (47 == b) ≡ false → (46 == b) ≡ false → is_relative (b ∷ rest) ≡ false

@@ -1,12 +1,12 @@
 -- The last `/` of a text, and the fronts of that text.
-use Rattle.std.proofs.Common.{◌≡◌, ◌≢◌, ℕ, zero, suc, ◌<◌, ◌≤◌, ◌+◌, ◌-◌, ◌++◌, Bool, true, false, List, [], ◌∷◌, take, drop, length, Option, Some, None, refl, sym, ap, ◌∙◌, subst, arith, rules, get_or, min}
+use Rattle.std.proofs.Common.{◌≡◌, ◌≢◌, ℕ, zero, suc, ◌<◌, ◌≤◌, ◌+◌, ◌-◌, ◌++◌, true, false, List, [], ◌∷◌, take, drop, length, sym, ap, ◌∙◌, subst, arith, get_or, min}
 use Rattle.std.specs.Prelude.{nat_eq, codes, ◌&&◌}
 use Rattle.std.specs.Prelude.{IsUtf8, IsCharBoundary}
 use Rattle.std.proofs.lemmas.Str.{IsCharBoundary-from_take}
 use Rattle.std.specs.Cmp.Lexicographic.{pointwise}
 use Rattle.std.proofs.Math.Seq.{take-suc}
 use Rattle.std.proofs.lemmas.Bool.{ne_eqb}
-use Rattle.std.proofs.lemmas.List.{get_or-take, length-take, length-append, take-take, take-append-drop, drop_at, take_at, length-take-le}
+use Rattle.std.proofs.lemmas.List.{get_or-take, length-take, length-append, take-take, take-append-drop, drop_at, length-take-le}
 use Rattle.html_resolve.specs.Fronts.{NoneBetween, HasNoFront, IsNextFront}
 use Rattle.url_spec.specs.Specifiers.{ends_in_slash}
 
@@ -70,7 +70,7 @@ module _ (text left : List ℕ) (e : left ≡ take (length left) text) where
         within = omega arith;
         none = subst (λ m. NoneBetween text m (length left)) (sym long) (none_above k absent);
         left = b ∙ (ap (take k) e ∙ (take-take k (length left) text (omega arith) ∙ ap (λ n. take n text) (sym short)));
-        shorter = omega arith
+        shorter = omega arith;
       }
     where
       ap2 : front ≡ take (suc k) text → rest ≡ drop (suc k) text → take (suc k) text ++ drop (suc k) text ≡ front ++ rest

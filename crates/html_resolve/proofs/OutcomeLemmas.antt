@@ -1,6 +1,6 @@
 -- How answers are put together.
-use Rattle.std.proofs.Common.{◌≡◌, ℕ, Bool, true, false, List, Option, Some, None, refl, sym, ap, ◌∙◌, subst}
-use Rattle.std.specs.Prelude.{Result, Ok, Err, if◌then◌else◌, unwrap_or}
+use Rattle.std.proofs.Common.{◌≡◌, ℕ, true, false, List, Option, Some, None, sym, ap, ◌∙◌, subst}
+use Rattle.std.specs.Prelude.{Result, Ok, Err, unwrap_or}
 use Rattle.import_map_spec.specs.Resolving as html
 use Rattle.import_map_spec.specs.Resolving.{Resolution, Resolved}
 use Rattle.import_map_spec.specs.LookUps as looked

@@ -1,11 +1,10 @@
 -- The walk over the fronts of a text, by those of them that end in `/`.
-use Rattle.std.proofs.Common.{◌≡◌, ℕ, zero, suc, ◌<◌, ◌≤◌, ◌+◌, ◌++◌, Bool, true, false, List, take, drop, length, Option, Some, None, refl, sym, ap, ◌∙◌, subst, arith}
+use Rattle.std.proofs.Common.{◌≡◌, ℕ, zero, suc, ◌≤◌, Bool, false, List, take, drop, length, Option, None, sym, ap, ◌∙◌, arith}
 use Rattle.std.specs.Prelude.{if◌then◌else◌}
 use Rattle.std.proofs.lemmas.Bool.{cond-true, cond-false, cases_eq}
 use Rattle.std.proofs.lemmas.List.{take_at, drop_at}
 use mathlib.Core.Logic.{inl, inr}
 use Rattle.url_spec.specs.Specifiers.{ends_in_slash}
-use Rattle.import_map_spec.specs.Resolving.{Resolution}
 use Rattle.import_map_spec.specs.LookUps.{first_answer, longest_front, prefix_match, prefix_key, scope_match, prefix_scope, Lookup}
 use Rattle.html_resolve.specs.Fronts.{NoneBetween, HasNoFront, IsNextFront}
 

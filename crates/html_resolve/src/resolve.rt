@@ -39,7 +39,13 @@ fn answer_in(
 {
     match as_url(alloc, specifier, referrer)? {
         Some(url) => {
-            match match_in(alloc, map, referrer.as_str(), url.as_str(), url.is_special()) {
+            match match_in(
+                alloc,
+                map,
+                referrer.as_str(),
+                url.as_str(),
+                url.is_special(),
+            ) {
                 Err(fault) => Err(fault),
                 Ok(Some(found)) => Ok(found),
                 Ok(None) => Ok(url),

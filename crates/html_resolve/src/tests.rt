@@ -41,10 +41,7 @@ https://other.test/q/m.js a https://app.test/dir/x"##,
         r##"{"imports":{"a":"https://H:443/b/../c"}}"##,
         r##"- a https://h/c"##,
     ),
-    (
-        r##"{"imports":{"a":"x"}}"##,
-        r##"- a Blocked"##,
-    ),
+    (r##"{"imports":{"a":"x"}}"##, r##"- a Blocked"##),
     (
         r##"{"imports":{"a":null}}"##,
         r##"- a Blocked
@@ -57,14 +54,8 @@ https://other.test/q/m.js a https://app.test/dir/x"##,
 - c Blocked
 - d Blocked"##,
     ),
-    (
-        r##"{"imports":{"a":"//["}}"##,
-        r##"- a Blocked"##,
-    ),
-    (
-        r##"{"imports":{"":"/x"}}"##,
-        r##"- ~ Bare"##,
-    ),
+    (r##"{"imports":{"a":"//["}}"##, r##"- a Blocked"##),
+    (r##"{"imports":{"":"/x"}}"##, r##"- ~ Bare"##),
     (
         r##"{"imports":{"./m":"/x"}}"##,
         r##"- ./m https://app.test/x
@@ -119,14 +110,8 @@ https://app.test/q/r.js ./m https://app.test/q/m"##,
         r##"- u/w Blocked
 - u/ Blocked"##,
     ),
-    (
-        r##"{"imports":{"u/":"/v/?q"}}"##,
-        r##"- u/w Blocked"##,
-    ),
-    (
-        r##"{"imports":{"u/":"/v?q/"}}"##,
-        r##"- u/w Backtrack"##,
-    ),
+    (r##"{"imports":{"u/":"/v/?q"}}"##, r##"- u/w Blocked"##),
+    (r##"{"imports":{"u/":"/v?q/"}}"##, r##"- u/w Backtrack"##),
     (
         r##"{"imports":{"u/":null}}"##,
         r##"- u/w Blocked
@@ -242,10 +227,7 @@ https://app.test/q/r.js ./m https://app.test/q/m"##,
         r##"- a Bare
 - b https://app.test/y"##,
     ),
-    (
-        r##"{"Imports":{"a":"/x"},"more":3}"##,
-        r##"- a Bare"##,
-    ),
+    (r##"{"Imports":{"a":"/x"},"more":3}"##, r##"- a Bare"##),
     (
         r##"{"imports":{},"scopes":{},"integrity":{}}"##,
         r##"- a Bare"##,

@@ -137,12 +137,12 @@ module _ {X : Type 0} where
   other_at q xs i e up point at other =
       get-from_entries nat_list_cmp_total xs q
       ∙ found_none q xs (λ k d l.
-        elim (cases_lt k i) [
-          | inl before ↦ below_is_other _ q (point.0 k d (omega arith) before)
-          | inr behind ↦ let here : slice_index_or xs i d ≡ e = sym (at.1 d) in
+      elim (cases_lt k i) [
+        | inl before ↦ below_is_other _ q (point.0 k d (omega arith) before)
+        | inr behind ↦ let here : slice_index_or xs i d ≡ e = sym (at.1 d) in
             above_is_other (slice_index_or xs i d).0 _ q (sorted_far below (ranks_by nat_list_cmp_total (λ (y : List ℕ × X). y.0)) xs up i k d behind l) (point.1 i d (omega arith) at.0)
             (ap (λ y. same_key q y.0) here ∙ other)
-        ])
+      ])
 
   -- what the search by halves answers, where these entries are those of the map
   pub looked_nothing : (m : FinMap (slice_cmp nat_cmp) X) (q : List ℕ) (xs ys : List (List ℕ × X)) (i : ℕ) → m ≡ first_wins xs → ys ≡ xs → IsPoint q ys i → length ys ≤ i → None ≡ get m q

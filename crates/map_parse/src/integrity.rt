@@ -12,7 +12,11 @@ use std::alloc::Global;
 use web_url::{WebUrl, as_url};
 
 /// The integrity that the members of an object give.
-pub fn integrity_of(alloc: Global, base: &WebUrl, members: &Members) -> Result<TextMap<Text>, Memory>
+pub fn integrity_of(
+    alloc: Global,
+    base: &WebUrl,
+    members: &Members,
+) -> Result<TextMap<Text>, Memory>
     ensures { IfOk result (λ digests. digests ≡ normalized_integrity base.now (members_of (pairs_of members.now))) }
 {
     let digests = gathered(alloc, base, members)?;

@@ -18,7 +18,11 @@ use web_url::WebUrl;
 
 /// The scopes that the members of an object give.
 #[tactic(auto, using(crate::proofs::FaultLemmas::faults))]
-pub fn scopes_of(alloc: Global, base: &WebUrl, members: &Members) -> Result<TextMap<Addresses>, MapFault>
+pub fn scopes_of(
+    alloc: Global,
+    base: &WebUrl,
+    members: &Members,
+) -> Result<TextMap<Addresses>, MapFault>
     ensures { MatchResult result
         (λ scopes. normalized_scopes base.now (members_of (pairs_of members.now)) ≡ Ok scopes)
         (λ fault. FailsPart fault (normalized_scopes base.now (members_of (pairs_of members.now)))) }

@@ -36,7 +36,8 @@ null => Top
 {"imports":{"a":tru}} => NotJson 16"#;
 
 /// A map that has all parts.
-const WHOLE: &str = r#"{"imports":{"a":"/x","b":null},"scopes":{"/y/":{"u/":"/v/"}},"integrity":{"/x":"sha384-e"}}"#;
+const WHOLE: &str =
+    r#"{"imports":{"a":"/x","b":null},"scopes":{"/y/":{"u/":"/v/"}},"integrity":{"/x":"sha384-e"}}"#;
 
 /// Its strings and words: where each begins, and where it ends.
 static WHOLE_TOKENS: [(usize, usize); 12] = [

@@ -1,6 +1,6 @@
 -- The members by number, one more at a time, and the others behind them.
-use Rattle.std.proofs.Common.{◌≡◌, ℕ, suc, ◌<◌, ◌≤◌, ◌+◌, Bool, true, false, cond, List, [], ◌∷◌, ◌++◌, refl, sym, ap, ◌∙◌, subst, arith}
-use Rattle.std.specs.Prelude.{map, nat_lt, if◌then◌else◌, ⊤}
+use Rattle.std.proofs.Common.{◌≡◌, ℕ, ◌+◌, Bool, true, false, cond, List, [], ◌∷◌, ◌++◌, refl, sym, ap, ◌∙◌, subst, arith}
+use Rattle.std.specs.Prelude.{nat_lt}
 use Rattle.std.specs.declared.cmp.Ordering.{Ordering}
 use Rattle.std.specs.declared.cmp.Ordering.TheVariants.{Less, Equal, Greater}
 use Rattle.std.specs.Ordering.{nat_cmp, is_lt, ordering_then, match_ordering}
@@ -11,8 +11,8 @@ use Rattle.std.proofs.lemmas.Bool.Decides.{nat_tests}
 use Rattle.std.proofs.lemmas.Bool.{cond-true, cond-false}
 use denote.Ref.{Bor}
 use Rattle.json_spec.specs.PropertyOrder.{number_of, is_array_index, by_number, index_members, other_members, joined, in_property_order}
-use Rattle.json_spec.specs.Value.{Json, Members, no_members, a_member}
-use Rattle.ordered_json.specs.Shown.{json_of, members_of}
+use Rattle.json_spec.specs.Value.{Members, no_members, a_member}
+use Rattle.ordered_json.specs.Shown.{json_of}
 use Rattle.ordered_json.specs.declared.value.Value.{Value}
 use Rattle.property_order.specs.Lent.{lent, AreNumbered, HasIndices}
 

@@ -1,4 +1,4 @@
-use Rattle.std.proofs.Common.{None, Some, lit<, refl}
+use Rattle.std.proofs.Common.{None, Some, lit<}
 use Rattle.std.proofs.lemmas.Str.Pattern.{rfind_char}
 use native.Mathlib.Numerals.{unary_clauses}
 use Rattle.html_resolve.proofs.FrontLemmas.{no_front, next_one, cut}

@@ -1,4 +1,4 @@
-use Rattle.std.proofs.Common.{rules, refl, sym, ap, ◌≡◌, Option, Some, None, Ok, Err}
+use Rattle.std.proofs.Common.{rules, refl, sym, ap, ◌≡◌, Some, None, Ok, Err}
 use Rattle.url_spec.specs.Specifiers.{as_url}
 use Rattle.html_resolve.proofs.OutcomeLemmas.{url_by, bare_by}
 use Rattle.html_resolve.proofs.resolve.answer_in.Goals as goal

@@ -1,4 +1,4 @@
-use Rattle.std.proofs.Common.{rules, refl, sym, ap, ◌≡◌, Option, Some, None, Ok, Err}
+use Rattle.std.proofs.Common.{rules, refl, sym, ap, ◌≡◌, Some, None, Ok, Err}
 use Rattle.url_spec.specs.Parsing.{parse_alone}
 use Rattle.html_resolve.proofs.OutcomeLemmas.{url_normal, bare_normal}
 use Rattle.html_resolve.proofs.resolve.resolve_normalized.Goals as goal
