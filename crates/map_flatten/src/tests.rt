@@ -56,46 +56,88 @@ static LAYOUTS: [(&[Three], &[Three]); 36] = [
     // no needs
     (&[], &[]),
     // a need that its target's URL itself serves
-    (&[("https://h/m.mjs", "https://h/x.mjs", "https://h/x.mjs")], &[]),
+    (
+        &[("https://h/m.mjs", "https://h/x.mjs", "https://h/x.mjs")],
+        &[],
+    ),
     // one need, bare and by URL
-    (&[("https://h/a/m.mjs", "c", "https://h/c.mjs")], &[("", "c", "https://h/c.mjs")]),
+    (
+        &[("https://h/a/m.mjs", "c", "https://h/c.mjs")],
+        &[("", "c", "https://h/c.mjs")],
+    ),
     (
         &[("https://h/m.mjs", "https://h/a%62.mjs", "https://h/ab.mjs")],
         &[("", "https://h/a%62.mjs", "https://h/ab.mjs")],
     ),
     // two needs that agree
     (
-        &[("https://h/a/m.mjs", "c", "https://h/c.mjs"), ("https://h/b/m.mjs", "c", "https://h/c.mjs")],
+        &[
+            ("https://h/a/m.mjs", "c", "https://h/c.mjs"),
+            ("https://h/b/m.mjs", "c", "https://h/c.mjs"),
+        ],
         &[("", "c", "https://h/c.mjs")],
     ),
     // hosts that agree
     (
-        &[("https://h/m.mjs", "c", "https://k/c.mjs"), ("https://k/m.mjs", "c", "https://k/c.mjs")],
+        &[
+            ("https://h/m.mjs", "c", "https://k/c.mjs"),
+            ("https://k/m.mjs", "c", "https://k/c.mjs"),
+        ],
         &[("", "c", "https://k/c.mjs")],
     ),
     // hosts that don't
     (
-        &[("https://h/m.mjs", "c", "https://h/c.mjs"), ("https://k/m.mjs", "c", "https://k/c.mjs")],
-        &[("https://h/", "c", "https://h/c.mjs"), ("https://k/", "c", "https://k/c.mjs")],
+        &[
+            ("https://h/m.mjs", "c", "https://h/c.mjs"),
+            ("https://k/m.mjs", "c", "https://k/c.mjs"),
+        ],
+        &[
+            ("https://h/", "c", "https://h/c.mjs"),
+            ("https://k/", "c", "https://k/c.mjs"),
+        ],
     ),
     // ports and schemes are of the host's part
     (
-        &[("https://h:8/m.mjs", "c", "https://h:8/c.mjs"), ("https://h/m.mjs", "c", "https://h/c.mjs")],
-        &[("https://h/", "c", "https://h/c.mjs"), ("https://h:8/", "c", "https://h:8/c.mjs")],
+        &[
+            ("https://h:8/m.mjs", "c", "https://h:8/c.mjs"),
+            ("https://h/m.mjs", "c", "https://h/c.mjs"),
+        ],
+        &[
+            ("https://h/", "c", "https://h/c.mjs"),
+            ("https://h:8/", "c", "https://h:8/c.mjs"),
+        ],
     ),
     (
-        &[("http://h/m.mjs", "c", "http://h/c.mjs"), ("https://h/m.mjs", "c", "https://h/c.mjs")],
-        &[("http://h/", "c", "http://h/c.mjs"), ("https://h/", "c", "https://h/c.mjs")],
+        &[
+            ("http://h/m.mjs", "c", "http://h/c.mjs"),
+            ("https://h/m.mjs", "c", "https://h/c.mjs"),
+        ],
+        &[
+            ("http://h/", "c", "http://h/c.mjs"),
+            ("https://h/", "c", "https://h/c.mjs"),
+        ],
     ),
     // two folders, with their own versions
     (
-        &[("https://h/a/m.mjs", "c", "https://h/a/c.mjs"), ("https://h/b/m.mjs", "c", "https://h/b/c.mjs")],
-        &[("https://h/a/", "c", "https://h/a/c.mjs"), ("https://h/b/", "c", "https://h/b/c.mjs")],
+        &[
+            ("https://h/a/m.mjs", "c", "https://h/a/c.mjs"),
+            ("https://h/b/m.mjs", "c", "https://h/b/c.mjs"),
+        ],
+        &[
+            ("https://h/a/", "c", "https://h/a/c.mjs"),
+            ("https://h/b/", "c", "https://h/b/c.mjs"),
+        ],
     ),
     // the order of the needs doesn't matter
     (
-        &[("https://h/b/m.mjs", "c", "https://h/b/c.mjs"), ("https://h/a/m.mjs", "c", "https://h/a/c.mjs")],
-        &[("https://h/a/", "c", "https://h/a/c.mjs"), ("https://h/b/", "c", "https://h/b/c.mjs")],
+        &[
+            ("https://h/b/m.mjs", "c", "https://h/b/c.mjs"),
+            ("https://h/a/m.mjs", "c", "https://h/a/c.mjs"),
+        ],
+        &[
+            ("https://h/a/", "c", "https://h/a/c.mjs"),
+            ("https://h/b/", "c", "https://h/b/c.mjs"),
+        ],
     ),
     // most agree, and yet nothing is hoisted
     (
@@ -114,24 +156,52 @@ static LAYOUTS: [(&[Three], &[Three]); 36] = [
     (
         &[
             ("https://h/m.mjs", "c", "https://h/node_modules/c/i.mjs"),
-            ("https://h/node_modules/d/i.mjs", "c", "https://h/node_modules/d/node_modules/c/i.mjs"),
+            (
+                "https://h/node_modules/d/i.mjs",
+                "c",
+                "https://h/node_modules/d/node_modules/c/i.mjs",
+            ),
         ],
         &[
             ("https://h/m.mjs", "c", "https://h/node_modules/c/i.mjs"),
-            ("https://h/node_modules/", "c", "https://h/node_modules/d/node_modules/c/i.mjs"),
+            (
+                "https://h/node_modules/",
+                "c",
+                "https://h/node_modules/d/node_modules/c/i.mjs",
+            ),
         ],
     ),
     (
         &[
             ("https://h/src/m.mjs", "c", "https://h/node_modules/c/i.mjs"),
             ("https://h/src/n.mjs", "c", "https://h/node_modules/c/i.mjs"),
-            ("https://h/node_modules/d/i.mjs", "c", "https://h/node_modules/d/node_modules/c/i.mjs"),
-            ("https://h/node_modules/d/j.mjs", "c", "https://h/node_modules/d/node_modules/c/i.mjs"),
-            ("https://h/node_modules/e/i.mjs", "c", "https://h/node_modules/c/i.mjs"),
+            (
+                "https://h/node_modules/d/i.mjs",
+                "c",
+                "https://h/node_modules/d/node_modules/c/i.mjs",
+            ),
+            (
+                "https://h/node_modules/d/j.mjs",
+                "c",
+                "https://h/node_modules/d/node_modules/c/i.mjs",
+            ),
+            (
+                "https://h/node_modules/e/i.mjs",
+                "c",
+                "https://h/node_modules/c/i.mjs",
+            ),
         ],
         &[
-            ("https://h/node_modules/d/", "c", "https://h/node_modules/d/node_modules/c/i.mjs"),
-            ("https://h/node_modules/e/", "c", "https://h/node_modules/c/i.mjs"),
+            (
+                "https://h/node_modules/d/",
+                "c",
+                "https://h/node_modules/d/node_modules/c/i.mjs",
+            ),
+            (
+                "https://h/node_modules/e/",
+                "c",
+                "https://h/node_modules/c/i.mjs",
+            ),
             ("https://h/src/", "c", "https://h/node_modules/c/i.mjs"),
         ],
     ),
@@ -141,12 +211,21 @@ static LAYOUTS: [(&[Three], &[Three]); 36] = [
             ("https://h/a/m.mjs", "c", "https://h/1.mjs"),
             ("https://h/a/b/d/m.mjs", "c", "https://h/2.mjs"),
         ],
-        &[("https://h/a/b/", "c", "https://h/2.mjs"), ("https://h/a/m.mjs", "c", "https://h/1.mjs")],
+        &[
+            ("https://h/a/b/", "c", "https://h/2.mjs"),
+            ("https://h/a/m.mjs", "c", "https://h/1.mjs"),
+        ],
     ),
     // two files of one folder
     (
-        &[("https://h/a/m.mjs", "c", "https://h/1.mjs"), ("https://h/a/n.mjs", "c", "https://h/2.mjs")],
-        &[("https://h/a/m.mjs", "c", "https://h/1.mjs"), ("https://h/a/n.mjs", "c", "https://h/2.mjs")],
+        &[
+            ("https://h/a/m.mjs", "c", "https://h/1.mjs"),
+            ("https://h/a/n.mjs", "c", "https://h/2.mjs"),
+        ],
+        &[
+            ("https://h/a/m.mjs", "c", "https://h/1.mjs"),
+            ("https://h/a/n.mjs", "c", "https://h/2.mjs"),
+        ],
     ),
     // three depths
     (
@@ -164,10 +243,22 @@ static LAYOUTS: [(&[Three], &[Three]); 36] = [
     // a free need counts: below it nothing is captured
     (
         &[
-            ("https://h/app/m.mjs", "https://h/app/x.mjs", "https://h/app/app/x.mjs"),
-            ("https://h/app/n.mjs", "https://h/app/x.mjs", "https://h/app/x.mjs"),
+            (
+                "https://h/app/m.mjs",
+                "https://h/app/x.mjs",
+                "https://h/app/app/x.mjs",
+            ),
+            (
+                "https://h/app/n.mjs",
+                "https://h/app/x.mjs",
+                "https://h/app/x.mjs",
+            ),
         ],
-        &[("https://h/app/m.mjs", "https://h/app/x.mjs", "https://h/app/app/x.mjs")],
+        &[(
+            "https://h/app/m.mjs",
+            "https://h/app/x.mjs",
+            "https://h/app/app/x.mjs",
+        )],
     ),
     // a free need below a folder that disagrees
     (
@@ -198,21 +289,42 @@ static LAYOUTS: [(&[Three], &[Three]); 36] = [
     ),
     // one referrer begins with another, which is no place of it
     (
-        &[("https://h/m.mjs", "c", "https://h/1.mjs"), ("https://h/m.mjs?a/x", "c", "https://h/2.mjs")],
-        &[("https://h/m.mjs", "c", "https://h/1.mjs"), ("https://h/m.mjs?a/", "c", "https://h/2.mjs")],
+        &[
+            ("https://h/m.mjs", "c", "https://h/1.mjs"),
+            ("https://h/m.mjs?a/x", "c", "https://h/2.mjs"),
+        ],
+        &[
+            ("https://h/m.mjs", "c", "https://h/1.mjs"),
+            ("https://h/m.mjs?a/", "c", "https://h/2.mjs"),
+        ],
     ),
     (
-        &[("https://h/m.mjs", "c", "https://h/1.mjs"), ("https://h/m.mjsx", "c", "https://h/2.mjs")],
-        &[("https://h/m.mjs", "c", "https://h/1.mjs"), ("https://h/m.mjsx", "c", "https://h/2.mjs")],
+        &[
+            ("https://h/m.mjs", "c", "https://h/1.mjs"),
+            ("https://h/m.mjsx", "c", "https://h/2.mjs"),
+        ],
+        &[
+            ("https://h/m.mjs", "c", "https://h/1.mjs"),
+            ("https://h/m.mjsx", "c", "https://h/2.mjs"),
+        ],
     ),
     // queries with slashes
     (
-        &[("https://h/m.mjs?a/x", "c", "https://h/1.mjs"), ("https://h/m.mjs?b/x", "c", "https://h/1.mjs")],
+        &[
+            ("https://h/m.mjs?a/x", "c", "https://h/1.mjs"),
+            ("https://h/m.mjs?b/x", "c", "https://h/1.mjs"),
+        ],
         &[("", "c", "https://h/1.mjs")],
     ),
     (
-        &[("https://h/m.mjs?a/x", "c", "https://h/1.mjs"), ("https://h/m.mjs?b/x", "c", "https://h/2.mjs")],
-        &[("https://h/m.mjs?a/", "c", "https://h/1.mjs"), ("https://h/m.mjs?b/", "c", "https://h/2.mjs")],
+        &[
+            ("https://h/m.mjs?a/x", "c", "https://h/1.mjs"),
+            ("https://h/m.mjs?b/x", "c", "https://h/2.mjs"),
+        ],
+        &[
+            ("https://h/m.mjs?a/", "c", "https://h/1.mjs"),
+            ("https://h/m.mjs?b/", "c", "https://h/2.mjs"),
+        ],
     ),
     (
         &[
@@ -220,12 +332,21 @@ static LAYOUTS: [(&[Three], &[Three]); 36] = [
             ("https://h/m.mjs?a/b/y", "c", "https://h/1.mjs"),
             ("https://h/m.mjs?a/c", "c", "https://h/2.mjs"),
         ],
-        &[("https://h/m.mjs?a/b/", "c", "https://h/1.mjs"), ("https://h/m.mjs?a/c", "c", "https://h/2.mjs")],
+        &[
+            ("https://h/m.mjs?a/b/", "c", "https://h/1.mjs"),
+            ("https://h/m.mjs?a/c", "c", "https://h/2.mjs"),
+        ],
     ),
     // fragments too
     (
-        &[("https://h/m.mjs#a/x", "c", "https://h/1.mjs"), ("https://h/m.mjs#b", "c", "https://h/2.mjs")],
-        &[("https://h/m.mjs#a/", "c", "https://h/1.mjs"), ("https://h/m.mjs#b", "c", "https://h/2.mjs")],
+        &[
+            ("https://h/m.mjs#a/x", "c", "https://h/1.mjs"),
+            ("https://h/m.mjs#b", "c", "https://h/2.mjs"),
+        ],
+        &[
+            ("https://h/m.mjs#a/", "c", "https://h/1.mjs"),
+            ("https://h/m.mjs#b", "c", "https://h/2.mjs"),
+        ],
     ),
     // base paths of several segments, and empty segments
     (
@@ -233,11 +354,20 @@ static LAYOUTS: [(&[Three], &[Three]); 36] = [
             ("https://h/x/y/z/a/m.mjs", "c", "https://h/x/y/z/1.mjs"),
             ("https://h/x/y/z/b/m.mjs", "c", "https://h/x/y/z/2.mjs"),
         ],
-        &[("https://h/x/y/z/a/", "c", "https://h/x/y/z/1.mjs"), ("https://h/x/y/z/b/", "c", "https://h/x/y/z/2.mjs")],
+        &[
+            ("https://h/x/y/z/a/", "c", "https://h/x/y/z/1.mjs"),
+            ("https://h/x/y/z/b/", "c", "https://h/x/y/z/2.mjs"),
+        ],
     ),
     (
-        &[("https://h/a//m.mjs", "c", "https://h/1.mjs"), ("https://h/a/m.mjs", "c", "https://h/2.mjs")],
-        &[("https://h/a//", "c", "https://h/1.mjs"), ("https://h/a/m.mjs", "c", "https://h/2.mjs")],
+        &[
+            ("https://h/a//m.mjs", "c", "https://h/1.mjs"),
+            ("https://h/a/m.mjs", "c", "https://h/2.mjs"),
+        ],
+        &[
+            ("https://h/a//", "c", "https://h/1.mjs"),
+            ("https://h/a/m.mjs", "c", "https://h/2.mjs"),
+        ],
     ),
     // several specifiers of one referrer: each is laid by itself
     (
@@ -246,7 +376,11 @@ static LAYOUTS: [(&[Three], &[Three]); 36] = [
             ("https://h/a/m.mjs", "c", "https://h/1.mjs"),
             ("https://h/b/m.mjs", "c", "https://h/2.mjs"),
         ],
-        &[("", "d", "https://h/d.mjs"), ("https://h/a/", "c", "https://h/1.mjs"), ("https://h/b/", "c", "https://h/2.mjs")],
+        &[
+            ("", "d", "https://h/d.mjs"),
+            ("https://h/a/", "c", "https://h/1.mjs"),
+            ("https://h/b/", "c", "https://h/2.mjs"),
+        ],
     ),
     // keys stand in the order of their bytes, whatever the order of the needs
     (
@@ -255,17 +389,30 @@ static LAYOUTS: [(&[Three], &[Three]); 36] = [
             ("https://h/m.mjs", "a", "https://h/a.mjs"),
             ("https://h/m.mjs", "A", "https://h/b.mjs"),
         ],
-        &[("", "A", "https://h/b.mjs"), ("", "a", "https://h/a.mjs"), ("", "z", "https://h/z.mjs")],
+        &[
+            ("", "A", "https://h/b.mjs"),
+            ("", "a", "https://h/a.mjs"),
+            ("", "z", "https://h/z.mjs"),
+        ],
     ),
     // a specifier that begins with another one
     (
-        &[("https://h/m.mjs", "c/x", "https://h/x.mjs"), ("https://h/m.mjs", "c", "https://h/c.mjs")],
+        &[
+            ("https://h/m.mjs", "c/x", "https://h/x.mjs"),
+            ("https://h/m.mjs", "c", "https://h/c.mjs"),
+        ],
         &[("", "c", "https://h/c.mjs"), ("", "c/x", "https://h/x.mjs")],
     ),
     // what differs is the last byte before the end
     (
-        &[("https://h/aa/m.mjs", "c", "https://h/1.mjs"), ("https://h/ab/m.mjs", "c", "https://h/2.mjs")],
-        &[("https://h/aa/", "c", "https://h/1.mjs"), ("https://h/ab/", "c", "https://h/2.mjs")],
+        &[
+            ("https://h/aa/m.mjs", "c", "https://h/1.mjs"),
+            ("https://h/ab/m.mjs", "c", "https://h/2.mjs"),
+        ],
+        &[
+            ("https://h/aa/", "c", "https://h/1.mjs"),
+            ("https://h/ab/", "c", "https://h/2.mjs"),
+        ],
     ),
     // two that agree stand between two that don't
     (
@@ -283,12 +430,21 @@ static LAYOUTS: [(&[Three], &[Three]); 36] = [
     ),
     // a referrer that is a folder is a place of those below, where two targets meet; it has no place of its own
     (
-        &[("https://h/a/", "c", "https://h/1.mjs"), ("https://h/a/m.mjs", "c", "https://h/2.mjs")],
+        &[
+            ("https://h/a/", "c", "https://h/1.mjs"),
+            ("https://h/a/m.mjs", "c", "https://h/2.mjs"),
+        ],
         &[("https://h/a/m.mjs", "c", "https://h/2.mjs")],
     ),
     (
-        &[("https://h/a/", "c", "https://h/1.mjs"), ("https://h/b/m.mjs", "c", "https://h/2.mjs")],
-        &[("https://h/a/", "c", "https://h/1.mjs"), ("https://h/b/", "c", "https://h/2.mjs")],
+        &[
+            ("https://h/a/", "c", "https://h/1.mjs"),
+            ("https://h/b/m.mjs", "c", "https://h/2.mjs"),
+        ],
+        &[
+            ("https://h/a/", "c", "https://h/1.mjs"),
+            ("https://h/b/", "c", "https://h/2.mjs"),
+        ],
     ),
 ];
 
@@ -332,7 +488,10 @@ fn agreed_layouts(rt: HostRuntime) -> Result<(), Fail> {
     let alloc = rt.alloc();
     for (rows, expected) in LAYOUTS {
         let layout = agreed(alloc, &needs_of(alloc, rows)?)?;
-        assert_eq!(rt; told(alloc, &layout)?.as_str(), typed(alloc, expected)?.as_str());
+        assert_eq!(rt;
+            told(alloc, &layout)?.as_str(),
+            typed(alloc, expected)?.as_str()
+        );
     }
     Ok(())
 }

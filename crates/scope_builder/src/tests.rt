@@ -37,10 +37,7 @@ static PLACES: [(&str, &str); 6] = [
         "https://h/a//m.mjs#x/y",
         "https://h/a//m.mjs#x/y https://h/a//m.mjs#x/ https://h/a// https://h/a/ https://h/  ",
     ),
-    (
-        "file:///a/m.mjs",
-        "file:///a/m.mjs file:///a/ file:///  ",
-    ),
+    ("file:///a/m.mjs", "file:///a/m.mjs file:///a/ file:///  "),
     ("data:a/b/c", "data:a/b/c data:a/b/ data:a/  "),
 ];
 

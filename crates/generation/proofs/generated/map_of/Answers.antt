@@ -17,7 +17,7 @@ returns c =
     let lists : Lists c.in_ok-layout.layout [] (definition.layout needs) = subst (λ ns. Lists c.in_ok-layout.layout [] (definition.layout ns)) c.needs.ensures.needs c.in_ok-layout.ensures in
     let printed : Lists c.in_ok-layout.layout c.new.result (definition.layout needs) = subst (λ pairs. Lists c.in_ok-layout.layout pairs (definition.layout needs)) (sym c.new.ensures) lists in
     record {
-      map = c.in-Ok.ensures (definition.layout needs) printed;
+      map = c.in-Ok.ensures.text (definition.layout needs) printed;
       modules = c.len.ensures.modules;
       requests = c.request_count.ensures;
       mappings =
