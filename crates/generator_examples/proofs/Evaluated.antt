@@ -54,9 +54,9 @@ abbrev known_paged : List Known
 unfolding is_utf8 chars encode_utf8
 known_paged =
     a_folder "/"
-    ∷ an_other "/index.html" (codes "<head></head>" ++ 10 ∷ []) refl
     ∷ of_one_line "/app" ("./a%62.mjs" ∷ []) refl
     ∷ of_one_line "/ab" [] refl
+    ∷ an_other "/index.html" (codes "<head></head>" ++ 10 ∷ []) refl
     ∷ []
 
 pub paged_traced : IsTraced paged (based "https://app.test/" ("./app.mjs" ∷ [])) spelling_all

@@ -1,13 +1,18 @@
 -- The worked examples.
-use Rattle.std.proofs.Common.{◌≡◌, refl, sym, ap, ◌∙◌, lit≤, ◌++◌, Ok}
+use Rattle.std.proofs.Common.{◌≡◌, ◌≢◌, ◌⊎◌, inl, inr, refl, sym, ap, ◌∙◌, lit≤, ◌++◌, Ok}
 use Rattle.std.specs.Prelude.{◌+◌, ℕ, List, [], ◌∷◌, drop, codes, Some, None}
 use Prim.Native.String.{String}
 use Rattle.std.specs.Fmt.{digits}
 use Rattle.url.proofs.OnLiterals.{url_on_literals}
 use Rattle.tree_spec.specs.declared.Entry.TheVariants.{Stored}
-use Rattle.tree_spec.specs.Trees.{IsTree, Places}
+use Rattle.tree_spec.specs.Trees.{Tree, IsTree, Places}
+use Rattle.tree_spec.specs.LookAskings.{Sights}
+use Rattle.tree_spec.specs.declared.Entry.{Entry}
+use Rattle.tree_spec.proofs.ByteLists.{text_same_or_not}
+use Rattle.tree_spec.proofs.Insertion.{same_tree, get_here, get_other}
 use Rattle.tree_spec.proofs.Placings.{in_root}
-use Rattle.std.specs.FinMap.{insert}
+use Rattle.std.specs.FinMap.{get, insert}
+use Rattle.import_map_spec.proofs.examples.WrittenMaps.{get_map_of}
 use Rattle.url_spec.specs.Bases.{base_of}
 use Rattle.url_spec.specs.Parsing.{text_of, parse_alone}
 use Rattle.layout_spec.proofs.examples.LaidLists.{listed_layout, layout_listed}
@@ -25,7 +30,7 @@ use Rattle.generator_spec.proofs.MapPaths.{map_in_root, page_in_root}
 use Rattle.generator_spec.proofs.PageNames.{page_of_words_is_file}
 use Rattle.generator_spec.specs.Generation.{Generates}
 use Rattle.generator_spec.specs.Lines.{counts_line}
-use Rattle.generator_spec.specs.Commands.{map_path}
+use Rattle.generator_spec.specs.Commands.{IsPage, map_path}
 use Rattle.generator_spec.specs.Commands.Opens.{nothing}
 use Rattle.generator_spec.specs.Commands.Refuses.{page, trace}
 use Rattle.generator_spec.specs.Commands.RefusesPage.{absent}
@@ -36,9 +41,9 @@ use Rattle.page_spec.specs.Attributes.{attribute}
 use Rattle.page_spec.specs.ImportMaps.{is_map_start}
 use Rattle.page_spec.specs.Injection.{Injection}
 use Rattle.page_spec.specs.Injection.Injection.{utf8}
-use Rattle.page_spec.specs.Pieces.{first_piece}
+use Rattle.page_spec.specs.declared.kinds.PieceKind.TheVariants.{Start, End, Text}
+use Rattle.page_spec.specs.Pieces.{first_piece, Part, part, Pieces}
 use Rattle.page_spec.specs.Pieces.Pieces.{none, piece}
-use Rattle.std.specs.Char.{encode_utf8}
 use Rattle.std.specs.Str.{is_utf8, chars}
 use Rattle.generator_spec.specs.Words.RefusesWords.{bad_base}
 use Rattle.soundness.proofs.Sound.{sound}
@@ -137,20 +142,44 @@ placed files text is same = (in_root (tree_of files) (codes "/importmap.json") (
 abbrev page_after : List ℕ
 page_after = codes "<head><script type=\"importmap\">" ++ (spelling_map ++ (codes "</script>" ++ (10 ∷ (codes "</head>" ++ 10 ∷ []))))
 
-page_takes : Injection spelling_map (codes "<head></head>" ++ 10 ∷ []) (Ok page_after)
-unfolding first_piece attribute is_map_start is_utf8 chars encode_utf8
-page_takes = utf8 refl (piece refl refl (piece refl refl (piece refl refl (none refl))))
+abbrev page_text : List ℕ
+page_text = codes "<head></head>" ++ 10 ∷ []
+
+abbrev page_parts : List Part
+page_parts = part Start (codes "<head>") ∷ part End (codes "</head>") ∷ part Text (10 ∷ []) ∷ []
+
+page_pieces : Pieces None page_text page_parts
+unfolding first_piece
+page_pieces = piece refl refl (piece refl refl (piece refl refl (none refl)))
+
+page_takes : Injection spelling_map page_text (Ok page_after)
+unfolding attribute is_map_start is_utf8 chars lib.Utf8.encode
+page_takes = utf8 refl page_pieces
+
+page_stands : IsPage (tree_of paged) (based "https://app.test/" ("./app.mjs" ∷ [])) page_text
+page_stands = record { stands = get_here (tree_of spelling) page_path (Stored page_text); small = lit≤ tt }
+
+-- what is placed again is placed once
+twice : (tree : Tree) (path : List ℕ) (old new : Entry) → insert (insert tree path old) path new ≡ insert tree path new
+twice tree path old new = same_tree _ _ (λ other. by other (text_same_or_not other path))
+  where
+    by : (other : List ℕ) → (other ≡ path) ⊎ (other ≢ path) → get (insert (insert tree path old) path new) other ≡ get (insert tree path new) other
+    by other (inl e) = ap (get (insert (insert tree path old) path new)) e ∙ (get_here (insert tree path old) path new ∙ sym (ap (get (insert tree path new)) e ∙ get_here tree path new))
+    by other (inr n) = get_other (insert tree path old) path new other n ∙ (get_other tree path old other n ∙ sym (get_other tree path new other n))
 
 page_placed : Places (tree_of paged) page_path (Stored page_after) (tree_of paged_after)
-page_placed = (in_root (tree_of paged) page_path (Stored page_after) (tree_of paged_after) trees.of_paged page_in_root).1 refl
+page_placed = (in_root (tree_of paged) page_path (Stored page_after) (tree_of paged_after) trees.of_paged page_in_root).1 (sym (twice (tree_of spelling) page_path (Stored page_text) (Stored page_after)))
+
+no_page : get (tree_of missing) page_path ≡ None
+no_page = ap (λ (f : Sights). f page_path) (get_map_of missing) ∙ refl
 
 end_examples : EndExamples
 unfolding digits
 end_examples = record {
   two_spellings = done Link _ spelling_map map_path spelling_map app_gives spelling_generates map_alone refl (sym (ap (counts_line 2 2) spelling_mappings)) (placed spelling spelling_map trees.of_spelling refl);
   of_site = done Link _ site_map map_path site_map app_gives site_generates map_alone refl (sym (ap (counts_line 5 8) site_mappings)) (placed site site_map trees.of_site refl);
-  in_page = done Inject _ spelling_map page_path page_after paged_gives paged_generates (in_page _ page_after (record { stands = refl; small = lit≤ tt }) page_takes) refl (sym (ap (counts_line 2 2) spelling_mappings)) page_placed;
-  no_page = refused Inject _ (Page Absent) no_page_gives (page Absent (absent refl)) refl refl refl;
+  in_page = done Inject _ spelling_map page_path page_after paged_gives paged_generates (in_page page_text page_after page_stands page_takes) refl (sym (ap (counts_line 2 2) spelling_mappings)) page_placed;
+  no_page = refused Inject _ (Page Absent) no_page_gives (page Absent (absent no_page)) refl refl refl;
   second_entry = refused Link _ (Trace _) missing_gives (trace Link _ nothing missing_traced) refl refl refl;
   two_targets = refused Link _ (Trace _) clashing_gives (trace Link _ nothing clashing_traced) refl refl refl;
   no_base = λ tree. words_refused (BadBase (codes "ftp://h/")) (bad_base Link (codes "ftp://h/") _ (is_call Link _ "ftp://h/" ("./app.mjs" ∷ []) refl refl) ftp_is_none) refl refl refl;

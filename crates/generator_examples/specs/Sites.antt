@@ -121,8 +121,7 @@ spelling_map =
 -- ---- the same with a page, without its map and with it
 
 abbrev pub paged_with : List ℕ → Files
-paged_with page =
-    folder "/" ∷ file "/index.html" page ∷ file "/app.mjs" spelled_text ∷ file "/ab.mjs" [] ∷ []
+paged_with page = spelling ++ file "/index.html" page ∷ []
 
 abbrev pub paged : Files
 paged = paged_with (lines ("<head></head>" ∷ []))
