@@ -344,8 +344,8 @@ impl Members {
         }
     }
 
-    // Lends the pairs.
-    fn as_slice(&self) -> &[(Text, Value)]
+    /// Lends the pairs.
+    pub fn as_slice(&self) -> &[(Text, Value)]
         ensures { result.now ≡ pairs_of self.now }
     {
         match &self.pairs {
