@@ -14,11 +14,11 @@ use Rattle.node_spec.specs.declared.BareAnswer.{BareAnswer}
 use Rattle.node_spec.specs.declared.BareAnswer.TheVariants.{Stop}
 use Rattle.node_spec.specs.declared.Outcome.{Outcome}
 use Rattle.package_lookup.specs.Answered.{State, Answered}
-use Rattle.package_lookup.specs.Responses.{Response, given, fails, Failing, passes, not_read, no_memory, never}
+use Rattle.package_lookup.specs.Responses.{Response, given, fails, Failing, never}
 use Rattle.node_resolve.specs.declared.bare_texts.Refusal.{Refusal}
 use Rattle.node_resolve.specs.declared.bare_texts.Refusal.TheVariants.{ByCause, TooDeep}
 use Rattle.node_resolve.specs.declared.fault.NodeFault.{NodeFault}
-use Rattle.node_resolve.specs.declared.fault.NodeFault.TheVariants.{Refused, ReadFault, Limit, Memory}
+use Rattle.node_resolve.specs.Responses.{by_node_fault}
 
 abbrev pub found_shown : Result (List ℕ) Refusal → target.Found
 found_shown (Ok url) = Ok url
@@ -28,12 +28,13 @@ found_shown (Err TooDeep) = Err spec.too_deep
 abbrev pub last_shown : Option (Result (List ℕ) Refusal) → Option target.Found
 last_shown last = option_map found_shown last
 
+abbrev pub failing_in : {X : Type 0} → Response X → Failing
+failing_in (given value) = never
+failing_in (fails failing) = failing
+
 -- a refusal is an answer
 abbrev pub failing_of : NodeFault → Failing
-failing_of (Refused cause) = never
-failing_of ReadFault = not_read
-failing_of (Limit which) = passes which
-failing_of Memory = no_memory
+failing_of fault = failing_in (by_node_fault {X = Url} fault)
 
 abbrev pub split_shown : Result (Result (List ℕ) Refusal) NodeFault → Response target.Found
 split_shown (Ok found) = given (found_shown found)
