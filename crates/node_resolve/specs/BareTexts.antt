@@ -54,10 +54,10 @@ kept state last fault = record { state = state; last = last_shown last; fault = 
 
 pub data GivesBare (ask : List ℕ → Resolving Url) (before : Kept) (text : List ℕ) : BareAnswer → Kept → Type 0 where
   a_value :
-      (found : target.Found) (answer : BareAnswer) (after : Kept)
+      {found : target.Found} {answer : BareAnswer} {after : Kept}
       → Answered before.state (ask text) (given found) after.state → answer ≡ judge_bare found
       → after.last ≡ Some found → after.fault ≡ before.fault → GivesBare ask before text answer after
   a_fault :
-      (failing : Failing) (answer : BareAnswer) (after : Kept)
+      {failing : Failing} {answer : BareAnswer} {after : Kept}
       → Answered before.state (ask text) (fails failing) after.state → answer ≡ Stop → after.fault ≡ Some failing
       → GivesBare ask before text answer after

@@ -38,7 +38,7 @@ struct BareTexts<'a, F: Folder> {
     known: &'a mut Known,
     folder: &'a mut F,
     trail: &'a mut Trail,
-    package: &'a Path,
+    package_folder: &'a Path,
     conditions: &'a Conditions,
     last: Option<Result<FileUrl, Refusal>>,
     fault: Option<NodeFault>,
@@ -51,8 +51,8 @@ impl<'a, F: Folder> BareTarget for BareTexts<'a, F> {
 
     ghost gives = { λ old text answer new. (new.known.ghost_name ≡ old.known.ghost_name)
         × (new.folder.ghost_name ≡ old.folder.ghost_name) × (new.trail.ghost_name ≡ old.trail.ghost_name)
-        × (new.package ≡ old.package) × (new.conditions ≡ old.conditions)
-        × GivesBare (package_resolve old.conditions.now old.package.now)
+        × (new.package_folder ≡ old.package_folder) × (new.conditions ≡ old.conditions)
+        × GivesBare (package_resolve old.conditions.now old.package_folder.now)
         (kept (state (F.state old.folder.now) old.known.now old.trail.now) old.last old.fault) text answer
         (kept (state (F.state new.folder.now) new.known.now new.trail.now) new.last new.fault) };
 
@@ -64,7 +64,7 @@ impl<'a, F: Folder> BareTarget for BareTexts<'a, F> {
             self.known,
             self.folder,
             self.trail,
-            self.package,
+            self.package_folder,
             text,
             self.conditions,
         );
@@ -113,19 +113,19 @@ pub fn import_target<F: Folder>(
     known: &mut Known,
     folder: &mut F,
     trail: &mut Trail,
-    package: &Path,
+    package_folder: &Path,
     target: &Value,
     star: Option<&str>,
     conditions: &Conditions,
 ) -> Result<FileUrl, NodeFault>
     ensures { Answered (state (F.state folder.old) known.old trail.old)
-        (package_target (bares_from conditions.now package.now)
+        (package_target (bares_from conditions.now package_folder.now)
         (judged_by conditions.now (option_map (λ part. part.now) star.entry) true)
-        package.now ImportNotDefined (json_of target.now))
+        package_folder.now ImportNotDefined (json_of target.now))
         (responded itself result) (state (F.state folder.new) known.new trail.new) }
 {
-    let (outcome, last) = chosen(alloc, known, folder, trail, package, target, star, conditions)?;
-    url_of(alloc, package, outcome, last)
+    let (outcome, last) = chosen(alloc, known, folder, trail, package_folder, target, star, conditions)?;
+    url_of(alloc, package_folder, outcome, last)
 }
 
 /// What a target comes to, and the answer to the bare text that was asked for last.
@@ -134,13 +134,13 @@ fn chosen<F: Folder>(
     known: &mut Known,
     folder: &mut F,
     trail: &mut Trail,
-    package: &Path,
+    package_folder: &Path,
     target: &Value,
     star: Option<&str>,
     conditions: &Conditions,
 ) -> Result<(Outcome, Option<Result<FileUrl, Refusal>>), NodeFault>
     ensures answered { Answered (state (F.state folder.old) known.old trail.old)
-        (target_comes (bares_from conditions.now package.now)
+        (target_comes (bares_from conditions.now package_folder.now)
         (judged_by conditions.now (option_map (λ part. part.now) star.entry) true) (json_of target.now) None)
         (chosen_shown result) (state (F.state folder.new) known.new trail.new) }
     ensures place { IfOk result (λ found. BeginsWithDotSlash found.0) }
@@ -149,7 +149,7 @@ fn chosen<F: Folder>(
         known,
         folder,
         trail,
-        package,
+        package_folder,
         conditions,
         last: None,
         fault: None,
@@ -167,17 +167,17 @@ fn chosen<F: Folder>(
 /// The URL by what a target comes to.
 fn url_of(
     alloc: Global,
-    package: &Path,
+    package_folder: &Path,
     outcome: Outcome,
     last: Option<Result<FileUrl, Refusal>>,
 ) -> Result<FileUrl, NodeFault>
     requires { BeginsWithDotSlash outcome }
-    ensures { Gives itself (target_url package.now ImportNotDefined (came outcome (last_shown last))) result }
+    ensures { Gives itself (target_url package_folder.now ImportNotDefined (came outcome (last_shown last))) result }
 {
     match outcome {
         Outcome::Bare => last_url(last),
         Outcome::Stopped => last_url(last),
-        own => own_url(alloc, package, Cause::ImportNotDefined, own),
+        own => own_url(alloc, package_folder, Cause::ImportNotDefined, own),
     }
 }
 

@@ -39,14 +39,14 @@ pub fn main_file<F: Folder>(
     known: &mut Known,
     folder: &mut F,
     trail: &mut Trail,
-    package: &Path,
+    package_folder: &Path,
     main: Option<&str>,
 ) -> Result<FileUrl, NodeFault>
     ensures { Answered (state (F.state folder.old) known.old trail.old)
-        (main_file package.now (option_map (λ text. text.now) main.entry))
+        (main_file package_folder.now (option_map (λ text. text.now) main.entry))
         (responded itself result) (state (F.state folder.new) known.new trail.new) }
 {
-    let url = folder_url(alloc, package)?;
+    let url = folder_url(alloc, package_folder)?;
     let Some(main) = main else {
         return index_file(alloc, known, folder, trail, &url);
     };
@@ -63,13 +63,13 @@ fn index_file<F: Folder>(
     known: &mut Known,
     folder: &mut F,
     trail: &mut Trail,
-    package: &FileUrl,
+    package_url: &FileUrl,
 ) -> Result<FileUrl, NodeFault>
-    ensures { (path : List ℕ) → package.now ≡ file_text path true
+    ensures { (path : List ℕ) → package_url.now ≡ file_text path true
         → Answered (state (F.state folder.old) known.old trail.old) (first_file path index_files)
         (responded itself result) (state (F.state folder.new) known.new trail.new) }
 {
-    match first_served(alloc, known, folder, trail, package, "", &INDEX_FILES) {
+    match first_served(alloc, known, folder, trail, package_url, "", &INDEX_FILES) {
         Err(fault) => Err(behind(fault)),
         Ok(Some(found)) => Ok(found),
         Ok(None) => Err(NodeFault::Refused(Cause::NotFound)),
@@ -82,21 +82,20 @@ fn first_served<F: Folder>(
     known: &mut Known,
     folder: &mut F,
     trail: &mut Trail,
-    package: &FileUrl,
+    package_url: &FileUrl,
     front: &str,
     ends: &[&str],
 ) -> Result<Option<FileUrl>, LookupFault>
-    ensures { (path : List ℕ) → package.now ≡ file_text path true
+    ensures { (path : List ℕ) → package_url.now ≡ file_text path true
         → Answered (state (F.state folder.old) known.old trail.old)
         (first_served path (map (λ end. front.now ++ end) (texts_of ends.now)))
         (looked itself result) (state (F.state folder.new) known.new trail.new) }
 {
-    let mut rest = ends;
-    while let Some((end, more)) = rest.split_first() {
-        match served(alloc, known, folder, trail, package, front, end) {
+    for end in ends {
+        match served(alloc, known, folder, trail, package_url, front, end) {
             Err(fault) => return Err(fault),
             Ok(Some(found)) => return Ok(Some(found)),
-            Ok(None) => rest = more,
+            Ok(None) => {}
         }
     }
     Ok(None)
@@ -108,17 +107,17 @@ fn served<F: Folder>(
     known: &mut Known,
     folder: &mut F,
     trail: &mut Trail,
-    package: &FileUrl,
+    package_url: &FileUrl,
     front: &str,
     end: &str,
 ) -> Result<Option<FileUrl>, LookupFault>
-    ensures { (path : List ℕ) → package.now ≡ file_text path true
+    ensures { (path : List ℕ) → package_url.now ≡ file_text path true
         → Answered (state (F.state folder.old) known.old trail.old)
         (served_at (url_in path (codes "./" ++ (front.now ++ end.now))))
         (looked itself result) (state (F.state folder.new) known.new trail.new) }
 {
     let text = relative_text(alloc, front, end)?;
-    let Some(url) = join(alloc, package, text.as_str())? else {
+    let Some(url) = join(alloc, package_url, text.as_str())? else {
         return Ok(None);
     };
     match serves(alloc, known, folder, trail, &url) {

@@ -23,21 +23,21 @@ use web_url::FileUrl;
 /// The URL that the package at a folder gives for a subpath, which is `.` or begins with `./`.
 pub fn exported(
     alloc: Global,
-    package: &Path,
+    package_folder: &Path,
     subpath: &str,
     exports: &Value,
     conditions: &Conditions,
 ) -> Result<FileUrl, NodeFault>
     requires { HasDistinctNames (json_of exports.now) }
-    ensures { Gives itself (exported conditions.now package.now subpath.now (json_of exports.now)) result }
+    ensures { Gives itself (exported conditions.now package_folder.now subpath.now (json_of exports.now)) result }
 {
     if is_mixed_object(exports) {
         return Err(NodeFault::Refused(Cause::InvalidConfig));
     }
     if subpath == "." {
-        main_export(alloc, package, exports, conditions)
+        main_export(alloc, package_folder, exports, conditions)
     } else {
-        subpath_export(alloc, package, subpath, exports, conditions)
+        subpath_export(alloc, package_folder, subpath, exports, conditions)
     }
 }
 
@@ -57,23 +57,23 @@ fn is_mixed_object(exports: &Value) -> bool
 /// The URL for the subpath `.`.
 fn main_export(
     alloc: Global,
-    package: &Path,
+    package_folder: &Path,
     exports: &Value,
     conditions: &Conditions,
 ) -> Result<FileUrl, NodeFault>
-    ensures { Gives itself (main_export conditions.now package.now (json_of exports.now)) result }
+    ensures { Gives itself (main_export conditions.now package_folder.now (json_of exports.now)) result }
 {
     match exports {
         Value::Null => Err(NodeFault::Refused(Cause::NotExported)),
         Value::Bool(_) => Err(NodeFault::Refused(Cause::NotExported)),
         Value::Number(_) => Err(NodeFault::Refused(Cause::NotExported)),
-        Value::Text(_) => export_target(alloc, package, exports, None, conditions),
-        Value::List(_) => export_target(alloc, package, exports, None, conditions),
+        Value::Text(_) => export_target(alloc, package_folder, exports, None, conditions),
+        Value::List(_) => export_target(alloc, package_folder, exports, None, conditions),
         Value::Object(members) => {
             if has_dotted(members) {
-                dot_export(alloc, package, members, conditions)
+                dot_export(alloc, package_folder, members, conditions)
             } else {
-                export_target(alloc, package, exports, None, conditions)
+                export_target(alloc, package_folder, exports, None, conditions)
             }
         }
     }
@@ -82,34 +82,34 @@ fn main_export(
 /// The URL of the member `.`.
 fn dot_export(
     alloc: Global,
-    package: &Path,
+    package_folder: &Path,
     members: &Members,
     conditions: &Conditions,
 ) -> Result<FileUrl, NodeFault>
-    ensures { Gives itself (main_target conditions.now package.now
+    ensures { Gives itself (main_target conditions.now package_folder.now
         (field (codes ".") (members_of (pairs_of members.now)))) result }
 {
     match field(members, ".") {
-        None => export_target(alloc, package, &Value::Null, None, conditions),
-        Some(target) => export_target(alloc, package, target, None, conditions),
+        None => export_target(alloc, package_folder, &Value::Null, None, conditions),
+        Some(target) => export_target(alloc, package_folder, target, None, conditions),
     }
 }
 
 /// The URL for another subpath.
 fn subpath_export(
     alloc: Global,
-    package: &Path,
+    package_folder: &Path,
     subpath: &str,
     exports: &Value,
     conditions: &Conditions,
 ) -> Result<FileUrl, NodeFault>
     requires { HasDistinctNames (json_of exports.now) }
-    ensures { Gives itself (subpath_export conditions.now package.now subpath.now (json_of exports.now)) result }
+    ensures { Gives itself (subpath_export conditions.now package_folder.now subpath.now (json_of exports.now)) result }
 {
     match exports {
         Value::Object(members) => {
             if are_dotted(members) {
-                export_at(alloc, package, subpath, members, conditions)
+                export_at(alloc, package_folder, subpath, members, conditions)
             } else {
                 Err(NodeFault::Refused(Cause::NotExported))
             }
@@ -125,17 +125,17 @@ fn subpath_export(
 /// The URL of the target of the key that is taken.
 fn export_at(
     alloc: Global,
-    package: &Path,
+    package_folder: &Path,
     subpath: &str,
     members: &Members,
     conditions: &Conditions,
 ) -> Result<FileUrl, NodeFault>
     requires { AreDistinct (members_of (pairs_of members.now)) }
-    ensures { Gives itself (by_key (export_paths conditions.now package.now (members_of (pairs_of members.now)))
+    ensures { Gives itself (by_key (export_paths conditions.now package_folder.now (members_of (pairs_of members.now)))
         subpath.now) result }
 {
     match target_of(members, subpath) {
         None => Err(NodeFault::Refused(Cause::NotExported)),
-        Some((target, star)) => export_target(alloc, package, target, star, conditions),
+        Some((target, star)) => export_target(alloc, package_folder, target, star, conditions),
     }
 }

@@ -72,14 +72,14 @@ fn imported_at<F: Folder>(
     match record_of(alloc, known, folder, trail, scope) {
         Err(fault) => Err(behind(fault)),
         Ok(None) => Err(NodeFault::Refused(Cause::ImportNotDefined)),
-        Ok(Some(record)) => imported(
+        Ok(Some(of_scope)) => imported(
             alloc,
             known,
             folder,
             trail,
             scope,
             text,
-            &record.imports,
+            &of_scope.imports,
             conditions,
         ),
     }

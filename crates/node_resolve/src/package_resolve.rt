@@ -103,12 +103,12 @@ fn resolve_in_modules<F: Folder>(
     match find_package(alloc, known, folder, trail, from, asked.name) {
         Err(fault) => Err(behind(fault)),
         Ok(None) => Err(NodeFault::Refused(Cause::NotFound)),
-        Ok(Some(package)) => resolve_in_folder(
+        Ok(Some(package_folder)) => resolve_in_folder(
             alloc,
             known,
             folder,
             trail,
-            &package,
+            &package_folder,
             asked.subpath.as_str(),
             conditions,
         ),
@@ -121,19 +121,19 @@ fn resolve_in_folder<F: Folder>(
     known: &mut Known,
     folder: &mut F,
     trail: &mut Trail,
-    package: &Path,
+    package_folder: &Path,
     subpath: &str,
     conditions: &Conditions,
 ) -> Result<FileUrl, NodeFault>
     ensures { Answered (state (F.state folder.old) known.old trail.old)
-        (spec.in_folder conditions.now subpath.now (Some package.now))
+        (spec.in_folder conditions.now subpath.now (Some package_folder.now))
         (responded itself result) (state (F.state folder.new) known.new trail.new) }
 {
-    match record_of(alloc, known, folder, trail, package) {
+    match record_of(alloc, known, folder, trail, package_folder) {
         Err(fault) => Err(behind(fault)),
-        Ok(None) => resolve_file(alloc, known, folder, trail, package, subpath, None),
-        Ok(Some(record)) => resolve_by_record(
-            alloc, known, folder, trail, package, subpath, &record, conditions,
+        Ok(None) => resolve_file(alloc, known, folder, trail, package_folder, subpath, None),
+        Ok(Some(of_package)) => resolve_by_record(
+            alloc, known, folder, trail, package_folder, subpath, &of_package, conditions,
         ),
     }
 }
@@ -143,27 +143,27 @@ fn resolve_by_record<F: Folder>(
     known: &mut Known,
     folder: &mut F,
     trail: &mut Trail,
-    package: &Path,
+    package_folder: &Path,
     subpath: &str,
-    record: &Package,
+    of_package: &Package,
     conditions: &Conditions,
 ) -> Result<FileUrl, NodeFault>
-    requires { HasDistinctNames (json_of record.now.exports) }
+    requires { HasDistinctNames (json_of of_package.now.exports) }
     ensures { Answered (state (F.state folder.old) known.old trail.old)
-        (spec.by_record conditions.now package.now subpath.now (Some (record_shown record.now)))
+        (spec.by_record conditions.now package_folder.now subpath.now (Some (record_shown of_package.now)))
         (responded itself result) (state (F.state folder.new) known.new trail.new) }
 {
-    if !is_null(&record.exports) {
-        return exported(alloc, package, subpath, &record.exports, conditions);
+    if !is_null(&of_package.exports) {
+        return exported(alloc, package_folder, subpath, &of_package.exports, conditions);
     }
-    match &record.main {
-        None => resolve_file(alloc, known, folder, trail, package, subpath, None),
+    match &of_package.main {
+        None => resolve_file(alloc, known, folder, trail, package_folder, subpath, None),
         Some(main) => resolve_file(
             alloc,
             known,
             folder,
             trail,
-            package,
+            package_folder,
             subpath,
             Some(main.as_str()),
         ),
@@ -176,19 +176,19 @@ fn resolve_file<F: Folder>(
     known: &mut Known,
     folder: &mut F,
     trail: &mut Trail,
-    package: &Path,
+    package_folder: &Path,
     subpath: &str,
     main: Option<&str>,
 ) -> Result<FileUrl, NodeFault>
     requires { subpath.now ≢ codes "." → is_relative subpath.now ≡ true }
     ensures { Answered (state (F.state folder.old) known.old trail.old)
-        (spec.by_files package.now subpath.now (option_map (λ text. text.now) main.entry))
+        (spec.by_files package_folder.now subpath.now (option_map (λ text. text.now) main.entry))
         (responded itself result) (state (F.state folder.new) known.new trail.new) }
 {
     if subpath == "." {
-        return main_file(alloc, known, folder, trail, package, main);
+        return main_file(alloc, known, folder, trail, package_folder, main);
     }
-    let base = folder_url(alloc, package)?;
+    let base = folder_url(alloc, package_folder)?;
     let found = join(alloc, &base, subpath)?;
     inside(&base, found)
 }

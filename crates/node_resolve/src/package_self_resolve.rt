@@ -59,7 +59,7 @@ fn self_at<F: Folder>(
     match record_of(alloc, known, folder, trail, scope) {
         Err(fault) => Err(behind(fault)),
         Ok(None) => Ok(None),
-        Ok(Some(package)) => self_in(alloc, scope, asked, &package, conditions),
+        Ok(Some(of_scope)) => self_in(alloc, scope, asked, &of_scope, conditions),
     }
 }
 
@@ -67,30 +67,30 @@ fn self_in(
     alloc: Global,
     scope: &Path,
     asked: &Subpath<'_>,
-    package: &Package,
+    of_scope: &Package,
     conditions: &Conditions,
 ) -> Result<Option<FileUrl>, NodeFault>
-    requires { HasDistinctNames (json_of package.now.exports) }
+    requires { HasDistinctNames (json_of of_scope.now.exports) }
     ensures { Gives itself (named_itself_in conditions.now scope.now (subpath_of asked.now)
-        (Some (record_shown package.now))) result }
+        (Some (record_shown package_folder.now))) result }
 {
-    if !has_name(package, asked.name) || is_null(&package.exports) {
+    if !has_name(of_scope, asked.name) || is_null(&of_scope.exports) {
         return Ok(None);
     }
     let url = exported(
         alloc,
         scope,
         asked.subpath.as_str(),
-        &package.exports,
+        &of_scope.exports,
         conditions,
     )?;
     Ok(Some(url))
 }
 
-fn has_name(package: &Package, name: &str) -> bool
-    ensures { result ≡ has_name package.now.name name.now }
+fn has_name(of_scope: &Package, name: &str) -> bool
+    ensures { result ≡ has_name of_scope.now.name name.now }
 {
-    match &package.name {
+    match &of_scope.name {
         None => false,
         Some(own) => own.as_str() == name,
     }

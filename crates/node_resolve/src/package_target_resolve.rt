@@ -38,31 +38,31 @@ impl BareTarget for NoBares {
 /// The URL that a target in `exports` gives in the package at a folder.
 pub fn export_target(
     alloc: Global,
-    package: &Path,
+    package_folder: &Path,
     target: &Value,
     star: Option<&str>,
     conditions: &Conditions,
 ) -> Result<FileUrl, NodeFault>
     ensures { Gives itself (package_target no_bares
         (judged_by conditions.now (option_map (λ part. part.now) star.entry) false)
-        package.now NotExported (json_of target.now)) result }
+        package_folder.now NotExported (json_of target.now)) result }
 {
     let outcome = choose(alloc, target, conditions, star, false, &mut NoBares)?;
-    own_url(alloc, package, Cause::NotExported, outcome)
+    own_url(alloc, package_folder, Cause::NotExported, outcome)
 }
 
 /// The URL of what a target comes to by itself; `nothing` is the cause where it gives nothing.
 pub(crate) fn own_url(
     alloc: Global,
-    package: &Path,
+    package_folder: &Path,
     nothing: Cause,
     outcome: Outcome,
 ) -> Result<FileUrl, NodeFault>
     requires { BeginsWithDotSlash outcome }
-    ensures { Gives itself (own_url package.now nothing outcome) result }
+    ensures { Gives itself (own_url package_folder.now nothing outcome) result }
 {
     match outcome {
-        Outcome::Place(text) => place_url(alloc, package, text.as_str()),
+        Outcome::Place(text) => place_url(alloc, package_folder, text.as_str()),
         Outcome::Undefined => Err(NodeFault::Refused(nothing)),
         Outcome::Null => Err(NodeFault::Refused(nothing)),
         Outcome::InvalidSpecifier => Err(NodeFault::Refused(Cause::InvalidSpecifier)),
@@ -74,10 +74,10 @@ pub(crate) fn own_url(
 }
 
 /// The URL of a text that begins with `./`, in the package at a folder.
-fn place_url(alloc: Global, package: &Path, text: &str) -> Result<FileUrl, NodeFault>
+fn place_url(alloc: Global, package_folder: &Path, text: &str) -> Result<FileUrl, NodeFault>
     requires { begins text.now (codes "./") ≡ true }
-    ensures { Gives itself (check_url (url_in package.now text.now)) result }
+    ensures { Gives itself (check_url (url_in package_folder.now text.now)) result }
 {
-    let base = folder_url(alloc, package)?;
+    let base = folder_url(alloc, package_folder)?;
     check_url(join(alloc, &base, text)?)
 }

@@ -17,7 +17,7 @@ use node_spec::Cause;
 use package_lookup::{Known, LookupFault, Seen, Trail};
 use std::alloc::Global;
 use tree_model::{Folder, Path};
-use web_url::{FileUrl, Suffix, place_of};
+use web_url::{FileUrl, Place, Suffix, place_of};
 
 /// The module at a URL (Node.js, ECMAScript modules: ESM_RESOLVE, "If resolved is a "file:" URL").
 pub fn judged<F: Folder>(
@@ -30,16 +30,21 @@ pub fn judged<F: Folder>(
     ensures { Answered (state (F.state folder.old) known.old trail.old) (judged url.now)
         (responded module_at result) (state (F.state folder.new) known.new trail.new) }
 {
-    let place = place_of(alloc, url)?;
-    if place.escaped {
+    let Place {
+        path,
+        folder_only,
+        escaped,
+        suffix,
+    } = place_of(alloc, url)?;
+    if escaped {
         return Err(NodeFault::Refused(Cause::InvalidSpecifier));
     }
-    let Some(path) = place.path else {
+    let Some(path) = path else {
         return Err(NodeFault::Refused(Cause::NotFound));
     };
     match known.look(alloc, folder, &path, trail) {
         Err(fault) => Err(behind(fault)),
-        Ok(seen) => module_of(path, place.folder_only, place.suffix, seen),
+        Ok(seen) => module_of(path, folder_only, suffix, seen),
     }
 }
 
@@ -77,13 +82,15 @@ pub fn serves<F: Folder>(
         (and_then (look_at_url url.now) (λ found. answered (serves url.now found)))
         (looked itself result) (state (F.state folder.new) known.new trail.new) }
 {
-    let place = place_of(alloc, url)?;
-    let Some(path) = place.path else {
+    let Place {
+        path, folder_only, ..
+    } = place_of(alloc, url)?;
+    let Some(path) = path else {
         return Ok(false);
     };
     match known.look(alloc, folder, &path, trail) {
         Err(fault) => Err(fault),
-        Ok(seen) => Ok(is_file(&seen) && !place.folder_only),
+        Ok(seen) => Ok(is_file(&seen) && !folder_only),
     }
 }
 
