@@ -4,16 +4,17 @@
 --     AsksOnce before after done            the folder was asked for no path that was known, and for none twice
 --     Answered before asking response after what the call does
 --     Asks before path after                the folder was asked for the path where it isn't known, and only there
-use Rattle.std.specs.Prelude.{◌≡◌, ◌≢◌, ◌++◌, [], ◌∷◌, ℕ, nat_lt, List, length, Option, Some, None, All, ⊤, IfSome, is_some, Bool, true, bytes_eq, not, ◌&&◌, ◌||◌, if◌then◌else◌}
+use Rattle.std.specs.Prelude.{◌≡◌, ◌≢◌, ◌++◌, [], ◌∷◌, ℕ, List, Option, Some, None, All, ⊤, IfSome, is_some, Bool, true, bytes_eq, not, ◌&&◌, if◌then◌else◌}
 use Rattle.std.specs.List.{IsDistinct}
 use Rattle.asking_spec.specs.Evaluation.{Ended, ends, stopped, evaluated}
-use Rattle.tree_spec.specs.LookAskings.{Sights, LookAsking, is_seen}
+use Rattle.tree_spec.specs.LookAskings.{Sights, LookAsking}
 use Rattle.tree_spec.specs.LookLimits.{Trail, look_limits, limited}
 use Rattle.tree_spec.specs.States.{FolderState, OnlyLooks}
 use Rattle.tree_spec.specs.Trees.{Tree}
 use Rattle.tree_spec.specs.declared.LimitName.{LimitName}
 use Rattle.package_lookup.specs.declared.known.Known.{Known}
 use Rattle.package_lookup.specs.Looked.{known_at, look_in, Sees, Grows}
+use Rattle.package_lookup.specs.Trails.{has_room}
 use Rattle.package_lookup.specs.Responses.{Failing, passes, not_read, no_memory, never, Response, given, fails}
 
 pub record State : Type 0 where
@@ -65,9 +66,7 @@ pub record Answered {X : Type 0} (before : State) (asking : LookAsking X) (respo
 
 -- own: what is known isn't asked for, and neither is what is a path too many
 abbrev pub is_asked : State → List ℕ → Bool
-is_asked before path =
-    not (is_some (known_at before.known path))
-    && (is_seen path before.trail.paths || nat_lt (length before.trail.paths) look_limits.looks)
+is_asked before path = has_room before.trail path && not (is_some (known_at before.known path))
 
 -- own: a look that failed isn't listed
 abbrev pub Asks : {X : Type 0} → State → List ℕ → Response X → State → Type 0

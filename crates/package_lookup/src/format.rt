@@ -1,13 +1,12 @@
-ghost use Rattle.std.specs.Prelude.{◌≡◌, Option, Some, None, IfOk};
+ghost use Rattle.std.specs.Prelude.{◌≡◌, Ok, Some, IfOk};
 ghost use Rattle.asking_spec.specs.Askings.{and_then};
-ghost use Rattle.node_spec.specs.EsmFileFormat.{file_format, format_in, format_of_kind};
+ghost use Rattle.node_spec.specs.EsmFileFormat.{file_format, format_in, format_of_kind, has_ending, HasBadConfig};
 ghost use Rattle.node_spec.specs.LookupPackageScope.{package_scope};
-ghost use Rattle.node_spec.specs.declared.PackageKind.{PackageKind};
 ghost use Rattle.tree_spec.specs.FoldersAbove.{folder_of};
 ghost use Rattle.tree_spec.specs.LookLimits.{begun};
 ghost use Rattle.package_lookup.specs.Answered.{state, Answered};
-ghost use Rattle.package_lookup.specs.Formats.{by_format, formatted};
-ghost use Rattle.package_lookup.specs.Responses.{given};
+ghost use Rattle.package_lookup.specs.Formats.{by_format, formatted, IsByEnding};
+ghost use Rattle.package_lookup.specs.Responses.{given, by_fault, deep_config};
 
 use crate::packages::{record_of, scope_of};
 use crate::{Known, LookupFault, Trail};
@@ -54,20 +53,36 @@ pub fn format_of<F: Folder>(
         (formatted result) (state (F.state folder.new) known.new trail.new) }
 {
     trail.begin();
-    let text = path.as_str();
-    if text.ends_with(".mjs") {
-        Ok(Format::Module)
-    } else if text.ends_with(".cjs") {
-        Ok(Format::Not(Reason::CommonJs))
-    } else if text.ends_with(".json") {
-        Ok(Format::Not(Reason::Json))
-    } else if text.ends_with(".node") {
-        Ok(Format::Not(Reason::Addon))
-    } else if text.ends_with(".js") {
-        format_by_scope(alloc, known, folder, trail, path)
-    } else {
-        Ok(Format::Not(Reason::Other))
+    match format_by_ending(path) {
+        Some(format) => Ok(format),
+        None => format_by_scope(alloc, known, folder, trail, path),
     }
+}
+
+// What the ending of a file's name says of its format; none where its package scope decides.
+#[tactic(auto, using(crate::proofs::RecordAnswers::by_endings))]
+fn format_by_ending(path: &Path) -> Option<Format>
+    ensures { IsByEnding path.now result }
+{
+    if has_ending(path, b".mjs") {
+        Some(Format::Module)
+    } else if has_ending(path, b".cjs") {
+        Some(Format::Not(Reason::CommonJs))
+    } else if has_ending(path, b".json") {
+        Some(Format::Not(Reason::Json))
+    } else if has_ending(path, b".node") {
+        Some(Format::Not(Reason::Addon))
+    } else if has_ending(path, b".js") {
+        None
+    } else {
+        Some(Format::Not(Reason::Other))
+    }
+}
+
+fn has_ending(path: &Path, ending: &[u8]) -> bool
+    ensures { result ≡ has_ending path.now ending.now }
+{
+    path.as_str().as_bytes().ends_with(ending)
 }
 
 // What the package scope of a file says of its format.
@@ -112,8 +127,19 @@ fn format_in<F: Folder>(
     match record_of(alloc, known, folder, trail, scope) {
         Ok(None) => Ok(Format::Detect),
         Ok(Some(package)) => Ok(format_of_kind(package.kind)),
-        Err(LookupFault::InvalidConfig) => Ok(Format::Not(Reason::Config)),
-        Err(fault) => Err(fault),
+        Err(fault) => without_record(fault),
+    }
+}
+
+// What it says where its package.json isn't well formed.
+fn without_record(fault: LookupFault) -> Result<Format, LookupFault>
+    ensures { formatted result ≡ by_fault (given (Ok HasBadConfig)) deep_config fault }
+{
+    match fault {
+        LookupFault::InvalidConfig => Ok(Format::Not(Reason::Config)),
+        LookupFault::Limit { which } => Err(LookupFault::Limit { which }),
+        LookupFault::ReadFault => Err(LookupFault::ReadFault),
+        LookupFault::Memory => Err(LookupFault::Memory),
     }
 }
 

@@ -119,15 +119,10 @@ impl Held {
     pub fn copy(&self) -> Result<Held, Memory>
         ensures { IfOk result (λ copy. copy ≡ self.now) }
     {
-        let seen = match &self.seen {
-            None => None,
-            Some(seen) => Some(seen.copy()?),
-        };
-        let reading = match &self.reading {
-            None => None,
-            Some(reading) => Some(reading.copy()?),
-        };
-        Ok(Held { seen, reading })
+        Ok(Held {
+            seen: copy_of(&self.seen)?,
+            reading: reading_copy(&self.reading)?,
+        })
     }
 
     /// What was seen, none where that is a file above the limit, and what was read of it.
@@ -136,5 +131,23 @@ impl Held {
         ensures reading { AreReadingsOf self result.1 }
     {
         (self.seen, self.reading)
+    }
+}
+
+fn copy_of(seen: &Option<Seen>) -> Result<Option<Seen>, Memory>
+    ensures { IfOk result (λ copy. look_of copy ≡ look_of seen.now) }
+{
+    match seen {
+        None => Ok(None),
+        Some(seen) => Ok(Some(seen.copy()?)),
+    }
+}
+
+fn reading_copy(reading: &Option<Reading>) -> Result<Option<Reading>, Memory>
+    ensures { IfOk result (λ copy. (look : Look) → AreReadingsOf look reading.now → AreReadingsOf look copy) }
+{
+    match reading {
+        None => Ok(None),
+        Some(reading) => Ok(Some(reading.copy()?)),
     }
 }

@@ -2,7 +2,7 @@ ghost use Rattle.std.specs.Prelude.{◌≡◌, ◌||◌, ◌<◌, ◌++◌, ◌�
 ghost use Rattle.tree_spec.specs.LookAskings.{is_seen, with_seen};
 ghost use Rattle.tree_spec.specs.LookLimits.{begun, counted, look_limits, no_trail, seen_again, size_at};
 ghost use Rattle.tree_spec.specs.declared.Entry.{Entry};
-ghost use Rattle.package_lookup.specs.Trails.{OnCount};
+ghost use Rattle.package_lookup.specs.Trails.{has_room, OnCount};
 
 use crate::LookupFault;
 use indexmap::IndexSet;
@@ -65,7 +65,7 @@ impl Trail {
 
     /// Whether a look at a path isn't one path too many.
     pub(crate) fn has_room(&self, path: &Path) -> bool
-        ensures { result ≡ (nat_lt (length self.now.paths) look_limits.looks || is_seen path.now self.now.paths) }
+        ensures { result ≡ has_room self.now path.now }
     {
         self.paths.len() < MOST_LOOKS || self.paths.contains(path)
     }
@@ -132,9 +132,11 @@ impl Trail {
         if self.asked.contains(path) {
             return Ok(());
         }
+        let first = path.copy(alloc)?;
+        let second = path.copy(alloc)?;
         self.asked.reserve(1)?;
-        self.question.push(path.copy(alloc)?)?;
-        self.asked.insert(path.copy(alloc)?)?;
+        self.question.push(first)?;
+        self.asked.insert(second)?;
         Ok(())
     }
 }

@@ -1,0 +1,10 @@
+use Rattle.std.proofs.Common.{sym, ap, ◌∙◌, ◌≡◌, false}
+use Rattle.tree_spec.specs.LookAskings.{is_seen}
+use Rattle.tree_spec.specs.LookLimits.{Trail}
+use Rattle.package_lookup.proofs.PathSets.{inserted_new, appended}
+use Rattle.package_lookup.proofs.trail.Trail.add.Goals as goal
+
+pub returns : goal.returns
+returns c =
+    appended c.self.inside.paths.keys c.self.inside.size c.self.inside.question c.insert.new.self.keys c.args.path
+    c.args.self.now c.self.view_is c.requires c.in_ok-insert.ensures.keys
