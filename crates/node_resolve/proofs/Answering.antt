@@ -17,11 +17,12 @@ use Rattle.node_spec.specs.NodeAnswers.{Refusal, by_cause, too_deep, Resolving}
 use Rattle.node_spec.specs.declared.Cause.{Cause}
 use Rattle.node_spec.specs.declared.Cause.TheVariants.{InvalidConfig}
 use Rattle.package_lookup.specs.Answered.{State, Comes, Tells, AsksOnce, Answered}
-use Rattle.package_lookup.specs.Responses.{Response, given, fails, not_read, no_memory, never, by_fault, bad_config, deep_config}
+use Rattle.package_lookup.specs.Responses.{Response, given, fails, passes, not_read, no_memory, never, by_fault, bad_config, deep_config}
 use Rattle.package_lookup.specs.declared.fault.LookupFault.{LookupFault}
 use Rattle.package_lookup.specs.declared.fault.LookupFault.TheVariants as lookup
-use Rattle.package_lookup.proofs.Questions.{then_given, then_fails, now_given, no_memory_now, nothing, looked_to, refused_on, resolved_on, unfinished}
-use Rattle.node_resolve.specs.Responses.{node_fault, by_node_fault, responded, NeedsNoLook, FailsNow, Gives}
+use Rattle.std.specs.Result.{IsErrAnd}
+use Rattle.package_lookup.proofs.Questions.{handed, then_given, then_fails, now_given, no_memory_now, nothing, looked_to, refused_on, resolved_on, unfinished}
+use Rattle.node_resolve.specs.Responses.{node_fault, by_node_fault, responded, NeedsNoLook, ComesNow, Gives}
 use Rattle.node_resolve.specs.declared.fault.NodeFault.{NodeFault}
 use Rattle.node_resolve.specs.declared.fault.NodeFault.TheVariants.{Refused, ReadFault, Limit, Memory}
 
@@ -32,17 +33,17 @@ pub needs_none : {X : Type 0} (before : State) (asking : LookAsking X) (value : 
 needs_none before asking value e =
     nothing before asking (given value) (λ sights. e sights before.trail) (λ e. cc) (λ e. cc)
 
-fails_now : {Y : Type 0} (before : State) (asking : Resolving Y) (fault : NodeFault) → FailsNow asking fault
-    → Answered before asking (by_node_fault fault) before
-fails_now before asking (Refused cause) e = needs_none before asking (Err (by_cause cause)) e
-fails_now before asking ReadFault e = absurd e
-fails_now before asking (Limit which) e = absurd e
-fails_now before asking Memory e = no_memory_now before asking
+pub comes_now : {X : Type 0} (before : State) (asking : LookAsking X) (response : Response X) → ComesNow asking response
+    → Answered before asking response before
+comes_now before asking (given value) e = needs_none before asking value e
+comes_now before asking (fails (passes name)) e = absurd e
+comes_now before asking (fails not_read) e = absurd e
+comes_now before asking (fails no_memory) e = no_memory_now before asking
+comes_now before asking (fails never) e = absurd e
 
 pub now_comes : {X Y : Type 0} (shown : X → Y) (before : State) (asking : Resolving Y) (result : Result X NodeFault)
     → Gives shown asking result → Answered before asking (responded shown result) before
-now_comes shown before asking (Ok value) e = needs_none before asking (Ok (shown value)) e
-now_comes shown before asking (Err fault) e = fails_now before asking fault e
+now_comes shown before asking result e = comes_now before asking (responded shown result) e
 
 pub refused_now : {Y : Type 0} (before : State) (cause : Cause)
     → Answered {X = Result Y Refusal} before (answered (Err (by_cause cause))) (given (Err (by_cause cause))) before
@@ -65,18 +66,18 @@ limit_same : {Y : Type 0} (which : LimitName) → by_fault (bad_config {X = Y}) 
 limit_same which = refl
 
 module _ {Y : Type 0} (before after : State) where
-  pub looked_fails : {X : Type 0} (part : LookAsking X) (next : X → Resolving Y) (fault : LookupFault)
-      → Answered before part (by_fault (fails never) (fails never) fault) after
-      → Answered before (and_then part next) (by_node_fault (node_fault fault)) after
-  looked_fails part next fault a =
-      subst (λ r. Answered before (and_then part next) r after) (fault_same fault)
+  pub looked_fails : {X : Type 0} (part : LookAsking X) (next : X → Resolving Y) (fault : LookupFault) (other : NodeFault)
+      → other ≡ node_fault fault → Answered before part (by_fault (fails never) (fails never) fault) after
+      → Answered before (and_then part next) (by_node_fault other) after
+  looked_fails part next fault other e a =
+      subst (λ r. Answered before (and_then part next) r after) (fault_same fault ∙ ap by_node_fault (sym e))
       (looked_to before after part next bad_config deep_config fault a)
 
-  pub record_fails : {X : Type 0} (part : Resolving X) (next : X → Resolving Y) (fault : LookupFault)
-      → Answered before part (by_fault bad_config deep_config fault) after
-      → Answered before (and_ok part next) (by_node_fault (node_fault fault)) after
-  record_fails part next fault a =
-      subst (λ r. Answered before (and_ok part next) r after) (fault_same fault)
+  pub record_fails : {X : Type 0} (part : Resolving X) (next : X → Resolving Y) (fault : LookupFault) (other : NodeFault)
+      → other ≡ node_fault fault → Answered before part (by_fault bad_config deep_config fault) after
+      → Answered before (and_ok part next) (by_node_fault other) after
+  record_fails part next fault other e a =
+      subst (λ r. Answered before (and_ok part next) r after) (fault_same fault ∙ ap by_node_fault (sym e))
       (resolved_on before after part next fault a)
 
   pub resolved_fails : {X : Type 0} (part : Resolving X) (next : X → Resolving Y) (fault : NodeFault)
@@ -141,3 +142,20 @@ reframed before after one other r q a memory read back possible comes = record {
   };
   possible = λ e. a.possible (possible e);
 }
+
+-- ---- what is returned where a call fails
+
+pub responded_err : {X Y : Type 0} (shown : X → Y) (before after : State) (asking : Resolving Y)
+    (result : Result X NodeFault) (fault : NodeFault) → IsErrAnd result (λ given. given ≡ fault)
+    → Answered before asking (by_node_fault fault) after → Answered before asking (responded shown result) after
+responded_err shown before after asking result fault e a =
+    subst (λ r. Answered before asking (responded shown r) after) (sym (handed result fault e)) a
+
+pub memory_err : {X Y : Type 0} (shown : X → Y) (before : State) (asking : Resolving Y) (result : Result X NodeFault)
+    → IsErrAnd result (λ given. given ≡ Memory) → Answered before asking (responded shown result) before
+memory_err shown before asking result e =
+    responded_err shown before before asking result Memory e (no_memory_now before asking)
+
+pub gives_err : {X Y : Type 0} (shown : X → Y) (asking : Resolving Y) (result : Result X NodeFault)
+    → IsErrAnd result (λ given. given ≡ Memory) → Gives shown asking result
+gives_err shown asking result e = subst (λ r. Gives shown asking r) (sym (handed result Memory e)) tt

@@ -4,3 +4,6 @@ pub mod PlaceLemmas
 pub mod MemberLemmas
 pub mod TargetLemmas
 pub mod BareLemmas
+pub mod NameLemmas
+pub mod Folders
+pub mod MainLemmas

@@ -56,7 +56,7 @@ pub field_here : (name : List ℕ) (pair : List ℕ × Value) (pairs : Pairs) �
 field_here name pair pairs e = cond-true _ (json_of pair.1) (field name (members_of pairs)) e
 
 itself : (name : List ℕ) → bytes_eq name name ≡ true
-itself name = ⊎_elim (λ e. e) (λ e. absurd ((bytes_eq-Decides name name).1 e refl)) (cases_Bool (bytes_eq name name))
+itself name = (bytes_eq-Decides name name).1 refl
 
 another : (name other : List ℕ) → name ≢ other → bytes_eq name other ≡ false
 another name other n =
@@ -108,6 +108,12 @@ name_at (other ∷ pairs) zero pair key e f =
     let name : other.0 ≡ key = cc in
     sym name ∙ ap (λ (p : List ℕ × Value). p.0) same
 name_at (other ∷ pairs) (suc i) pair key e f = name_at pairs i pair key e f
+
+pub not_there : (pairs : Pairs) (i : ℕ) (key : List ℕ)
+    → slice_get (map (λ (p : List ℕ × Value). p.0) pairs) i ≡ Some key → slice_get pairs i ≡ None → ⊥
+not_there [] i key e f = cc
+not_there (pair ∷ pairs) zero key e f = cc
+not_there (pair ∷ pairs) (suc i) key e f = not_there pairs i key e f
 
 pub none_first : (pairs : Pairs) (asked : List ℕ) → MatchesNone (map (λ (pair : List ℕ × Value). pair.0) pairs) asked
     → first_key asked (keys_of (members_of pairs)) ≡ None

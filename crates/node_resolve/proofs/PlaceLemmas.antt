@@ -29,6 +29,7 @@ use Rattle.package_lookup.specs.declared.fault.LookupFault.{LookupFault}
 use Rattle.package_lookup.proofs.Questions.{then_given, now_given, looked_on, asking_as}
 use Rattle.node_resolve.specs.Places.{judged_there}
 use Rattle.node_resolve.specs.Responses.{node_fault, by_node_fault}
+use Rattle.node_resolve.specs.declared.fault.NodeFault.{NodeFault}
 use Rattle.node_resolve.proofs.Answering.{looked_fails}
 
 named_some : (url path : List ℕ) → NamesPath (url_path url) path → named_path url ≡ Some path
@@ -101,9 +102,9 @@ judged_nameless before url folder_only escaped suffix is e =
     (now_given before (Err (by_cause NotFound)))
 
 module _ (before after : State) (url path : List ℕ) (folder_only escaped : Bool) (suffix : List ℕ)
-    (is : IsPlace url (Some path) folder_only escaped suffix) (e : escaped ≡ false) where
+    (is : IsPlace url (Some path) folder_only escaped suffix) (plain : escaped ≡ false) where
   judged_same : and_then (look_at path) (there url folder_only suffix path) ≡ esm.judged url
-  judged_same = sym (named_is url folder_only suffix path (subst (λ b. IsPlace url (Some path) folder_only b suffix) e is))
+  judged_same = sym (named_is url folder_only suffix path (subst (λ b. IsPlace url (Some path) folder_only b suffix) plain is))
 
   pub judged_seen : (found : Option Entry) (response : Response (Result Module Refusal))
       → Answered before (look_at path) (given found) after
@@ -117,15 +118,16 @@ module _ (before after : State) (url path : List ℕ) (folder_only escaped : Boo
       (given (as_node (judged_there path folder_only suffix found))) a
       (now_given after (as_node (judged_there path folder_only suffix found)))))
 
-  pub judged_unseen : (fault : LookupFault) → Answered before (look_at path) (by_fault (fails never) (fails never) fault) after
-      → Answered before (esm.judged url) (by_node_fault (node_fault fault)) after
-  judged_unseen fault a =
-      asking_as before after _ (esm.judged url) (by_node_fault (node_fault fault)) judged_same
-      (looked_fails before after (look_at path) (there url folder_only suffix path) fault a)
+  pub judged_unseen : (fault : LookupFault) (other : NodeFault) → other ≡ node_fault fault
+      → Answered before (look_at path) (by_fault (fails never) (fails never) fault) after
+      → Answered before (esm.judged url) (by_node_fault other) after
+  judged_unseen fault other e a =
+      asking_as before after _ (esm.judged url) (by_node_fault other) judged_same
+      (looked_fails before after (look_at path) (there url folder_only suffix path) fault other e a)
 
 -- ---- whether a file stands there
 
-abbrev serving : List ℕ → LookAsking Bool
+abbrev pub serving : List ℕ → LookAsking Bool
 serving url = and_then (look_at_url url) (λ found. answered (serves url found))
 
 nothing_named : (url : List ℕ) → ((path : List ℕ) → NamesPath (url_path url) path → ⊥)

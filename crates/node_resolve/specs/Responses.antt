@@ -2,14 +2,15 @@
 --     node_fault fault             the fault of a question behind a resolution, as its own
 --     responded shown result       of a call whose asking may be refused, its value as it is shown
 --     NeedsNoLook asking value     the asking comes to this without a look
---     Gives shown asking result    so does a call that looks at nothing, unless memory is wanting
+--     ComesNow asking response     the same, unless memory is wanting
+--     Gives shown asking result    so does a call that looks at nothing
 use Rattle.std.specs.Prelude.{◌≡◌, ⊤, Option, Result, Ok, Err}
 use Rattle.asking_spec.specs.Evaluation.{ends, evaluated}
 use Rattle.tree_spec.specs.LookAskings.{Sights, LookAsking}
 use Rattle.tree_spec.specs.LookLimits.{Trail, look_limits, limited}
 use Rattle.node_spec.specs.NodeAnswers.{Refusal, by_cause, Resolving}
 use Rattle.node_spec.specs.declared.Cause.TheVariants.{InvalidConfig}
-use Rattle.package_lookup.specs.Responses.{Response, given, fails, not_read, no_memory, by_limit, deep_config}
+use Rattle.package_lookup.specs.Responses.{Response, given, fails, Failing, passes, not_read, no_memory, never, by_limit, deep_config}
 use Rattle.package_lookup.specs.declared.fault.LookupFault.{LookupFault}
 use Rattle.package_lookup.specs.declared.fault.LookupFault.TheVariants as lookup
 use Rattle.node_resolve.specs.declared.fault.NodeFault.{NodeFault}
@@ -36,12 +37,15 @@ abbrev pub NeedsNoLook : {X : Type 0} → LookAsking X → X → Type 0
 NeedsNoLook asking value =
     (sights : Sights) (trail : Trail) → evaluated (limited look_limits sights) trail asking ≡ ends value trail
 
-abbrev pub FailsNow : {Y : Type 0} → Resolving Y → NodeFault → Type 0
-FailsNow asking (Refused cause) = NeedsNoLook asking (Err (by_cause cause))
-FailsNow asking ReadFault = ⊥
-FailsNow asking (Limit which) = ⊥
-FailsNow asking Memory = ⊤
+abbrev pub IsMemory : Failing → Type 0
+IsMemory (passes name) = ⊥
+IsMemory not_read = ⊥
+IsMemory no_memory = ⊤
+IsMemory never = ⊥
+
+abbrev pub ComesNow : {X : Type 0} → LookAsking X → Response X → Type 0
+ComesNow asking (given value) = NeedsNoLook asking value
+ComesNow asking (fails failing) = IsMemory failing
 
 abbrev pub Gives : {X Y : Type 0} → (X → Y) → Resolving Y → Result X NodeFault → Type 0
-Gives shown asking (Ok value) = NeedsNoLook asking (Ok (shown value))
-Gives shown asking (Err fault) = FailsNow asking fault
+Gives shown asking result = ComesNow asking (responded shown result)

@@ -1,6 +1,8 @@
 //! The names of the modules that Node brings itself (Node.js, Modules: built-in modules).
-ghost use Rattle.std.specs.Prelude.{◌≡◌};
+ghost use Rattle.std.specs.Prelude.{◌≡◌, bytes_eq};
+ghost use Rattle.std.specs.List.{list_any};
 ghost use Rattle.node_spec.specs.BuiltinNames.{is_builtin};
+ghost use Rattle.node_resolve.specs.MainFiles.{texts_of};
 
 static NAMES: [&str; 54] = [
     "assert",
@@ -64,5 +66,11 @@ static NAMES: [&str; 54] = [
 pub fn is_builtin(text: &str) -> bool
     ensures { result ≡ is_builtin text.now }
 {
-    NAMES.iter().any(|name| text == *name)
+    is_among(text, &NAMES)
+}
+
+fn is_among(text: &str, names: &[&str]) -> bool
+    ensures { result ≡ list_any (bytes_eq text.now) (texts_of names.now) }
+{
+    names.iter().any(|name| text == *name)
 }

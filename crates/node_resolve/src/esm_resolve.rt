@@ -1,6 +1,6 @@
 //! A specifier in a file (Node.js, ECMAScript modules: ESM_RESOLVE).
-ghost use Rattle.std.specs.Prelude.{◌≡◌, ◌+◌, true, codes, IfOk};
-ghost use Rattle.url_spec.specs.Specifiers.{begins, is_relative};
+ghost use Rattle.std.specs.Prelude.{◌≡◌, ◌+◌, true, IfOk};
+ghost use Rattle.url_spec.specs.Specifiers.{is_relative};
 ghost use Rattle.tree_spec.specs.FoldersAbove.{folder_of};
 ghost use Rattle.tree_spec.specs.LookLimits.{begun};
 ghost use Rattle.node_spec.specs.EsmResolve as spec;
@@ -17,6 +17,7 @@ use crate::found::{Found, copy_paths};
 use crate::package_imports_resolve::imports_resolve;
 use crate::package_resolve::package_resolve;
 use crate::places::judged;
+use crate::texts::begins;
 use condition_match::Conditions;
 use node_spec::Cause;
 use package_lookup::{Known, Trail};
@@ -95,18 +96,11 @@ fn no_url<F: Folder>(
         return relative_url(alloc, parent, specifier);
     }
     let from = folder_of(alloc, parent)?;
-    if is_import(specifier) {
+    if begins(specifier, "#") {
         imports_resolve(alloc, known, folder, trail, &from, specifier, conditions)
     } else {
         package_resolve(alloc, known, folder, trail, &from, specifier, conditions)
     }
-}
-
-#[tactic(auto, using(std::proofs::lemmas::Str::Pattern::starts_text))]
-fn is_import(specifier: &str) -> bool
-    ensures { result ≡ begins specifier.now (codes "#") }
-{
-    specifier.starts_with("#")
 }
 
 /// The URL of a relative specifier.

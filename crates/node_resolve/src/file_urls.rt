@@ -1,5 +1,5 @@
 //! URLs in a folder.
-ghost use Rattle.std.specs.Prelude.{◌≡◌, true, IfOk, option_map};
+ghost use Rattle.std.specs.Prelude.{◌≡◌, ℕ, List, true, IfOk};
 ghost use Rattle.url_spec.specs.FileUrls.{file_text};
 ghost use Rattle.url_spec.specs.Parsing.{parse_against};
 ghost use Rattle.url_spec.specs.Specifiers.{is_relative};
@@ -9,6 +9,7 @@ ghost use Rattle.node_resolve.specs.Responses.{Gives};
 ghost use Rattle.package_lookup.specs.Responses.{itself};
 
 use crate::NodeFault;
+use crate::texts::begins;
 use node_spec::Cause;
 use primitives::Memory;
 use std::alloc::Global;
@@ -50,14 +51,13 @@ pub fn check_url(found: Option<FileUrl>) -> Result<FileUrl, NodeFault>
 }
 
 /// A URL that is there, and that begins with the URL of this folder.
-#[tactic(auto, using(std::proofs::lemmas::Str::Pattern::starts_text))]
 pub fn inside(folder: &FileUrl, found: Option<FileUrl>) -> Result<FileUrl, NodeFault>
     ensures { (path : List ℕ) → folder.now ≡ file_text path true → Gives itself (inside path found) result }
 {
     match found {
         None => Err(NodeFault::Refused(Cause::InvalidSpecifier)),
         Some(url) => {
-            if url.as_str().starts_with(folder.as_str()) {
+            if begins(url.as_str(), folder.as_str()) {
                 Ok(url)
             } else {
                 Err(NodeFault::Refused(Cause::InvalidSpecifier))

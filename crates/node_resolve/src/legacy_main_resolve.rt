@@ -1,6 +1,6 @@
 //! The main file of a package without exports (Node.js, CommonJS modules: LOAD_AS_DIRECTORY; ECMAScript modules:
 //! PACKAGE_RESOLVE).
-ghost use Rattle.std.specs.Prelude.{◌≡◌, ◌++◌, List, ℕ, true, codes, map, IfOk, option_map};
+ghost use Rattle.std.specs.Prelude.{◌≡◌, ◌++◌, List, ℕ, true, codes, map, Some, IfOk, option_map};
 ghost use Rattle.std.specs.String.{string_bytes};
 ghost use Rattle.url_spec.specs.FileUrls.{file_text};
 ghost use Rattle.node_spec.specs.FileLooks.{url_in};
@@ -47,13 +47,29 @@ pub fn main_file<F: Folder>(
         (responded itself result) (state (F.state folder.new) known.new trail.new) }
 {
     let url = folder_url(alloc, package_folder)?;
-    let Some(main) = main else {
-        return index_file(alloc, known, folder, trail, &url);
-    };
-    match first_served(alloc, known, folder, trail, &url, main, &MAIN_ENDS) {
+    match main {
+        None => index_file(alloc, known, folder, trail, &url),
+        Some(main) => named_file(alloc, known, folder, trail, &url, main),
+    }
+}
+
+/// The URL of the file that `main` names in the folder with this URL, or of the index file.
+fn named_file<F: Folder>(
+    alloc: Global,
+    known: &mut Known,
+    folder: &mut F,
+    trail: &mut Trail,
+    package_url: &FileUrl,
+    main: &str,
+) -> Result<FileUrl, NodeFault>
+    ensures { (path : List ℕ) → package_url.now ≡ file_text path true
+        → Answered (state (F.state folder.old) known.old trail.old) (main_file path (Some main.now))
+        (responded itself result) (state (F.state folder.new) known.new trail.new) }
+{
+    match first_served(alloc, known, folder, trail, package_url, main, &MAIN_ENDS) {
         Err(fault) => Err(behind(fault)),
         Ok(Some(found)) => Ok(found),
-        Ok(None) => index_file(alloc, known, folder, trail, &url),
+        Ok(None) => index_file(alloc, known, folder, trail, package_url),
     }
 }
 
@@ -91,14 +107,14 @@ fn first_served<F: Folder>(
         (first_served path (map (λ end. front.now ++ end) (texts_of ends.now)))
         (looked itself result) (state (F.state folder.new) known.new trail.new) }
 {
-    for end in ends {
-        match served(alloc, known, folder, trail, package_url, front, end) {
-            Err(fault) => return Err(fault),
-            Ok(Some(found)) => return Ok(Some(found)),
-            Ok(None) => {}
-        }
+    match ends.split_first() {
+        None => Ok(None),
+        Some((end, more)) => match served(alloc, known, folder, trail, package_url, front, end) {
+            Err(fault) => Err(fault),
+            Ok(Some(found)) => Ok(Some(found)),
+            Ok(None) => first_served(alloc, known, folder, trail, package_url, front, more),
+        },
     }
-    Ok(None)
 }
 
 /// The URL of the file that a text with this end names, if it is there.
@@ -117,13 +133,13 @@ fn served<F: Folder>(
         (looked itself result) (state (F.state folder.new) known.new trail.new) }
 {
     let text = relative_text(alloc, front, end)?;
-    let Some(url) = join(alloc, package_url, text.as_str())? else {
-        return Ok(None);
-    };
-    match serves(alloc, known, folder, trail, &url) {
-        Err(fault) => Err(fault),
-        Ok(true) => Ok(Some(url)),
-        Ok(false) => Ok(None),
+    match join(alloc, package_url, text.as_str())? {
+        None => Ok(None),
+        Some(url) => match serves(alloc, known, folder, trail, &url) {
+            Err(fault) => Err(fault),
+            Ok(true) => Ok(Some(url)),
+            Ok(false) => Ok(None),
+        },
     }
 }
 

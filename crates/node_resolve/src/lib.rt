@@ -18,6 +18,7 @@ mod package_resolve;
 mod package_self_resolve;
 mod package_target_resolve;
 mod places;
+mod texts;
 
 pub use esm_resolve::resolve;
 pub use fault::NodeFault;

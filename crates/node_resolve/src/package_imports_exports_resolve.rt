@@ -21,9 +21,13 @@ pub fn target_of<'a, 'b>(
         (λ found. IsTarget (members_of (pairs_of members.now)) asked.now (json_of found.0.now)
         (option_map (λ part. part.now) found.1)) }
 {
-    let found = best_match(members, asked)?;
-    let (_, target) = members.at(found.index)?;
-    Some((target, part_of(asked, found)))
+    match best_match(members, asked) {
+        None => None,
+        Some(found) => match members.at(found.index) {
+            None => None,
+            Some((_, target)) => Some((target, part_of(asked, found))),
+        },
+    }
 }
 
 /// What stands for `*`, where the key that matches has one.

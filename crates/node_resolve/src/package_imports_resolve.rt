@@ -14,7 +14,7 @@ use crate::NodeFault;
 use crate::bare_texts::import_target;
 use crate::fault::behind;
 use crate::package_imports_exports_resolve::target_of;
-use crate::package_resolve::ends_in_slash;
+use crate::texts::{begins, ends_in_slash};
 use condition_match::Conditions;
 use node_spec::Cause;
 use ordered_json::{Members, Value};
@@ -48,12 +48,11 @@ pub fn imports_resolve<F: Folder>(
 }
 
 /// Whether no key of `imports` may be asked for by this text.
-#[tactic(auto, using(std::proofs::lemmas::Str::Pattern::starts_text))]
 fn is_refused(text: &str) -> bool
     ensures { result ≡ (bytes_eq text.now (codes "#")
         || (begins text.now (codes "#/") || ends_in_slash text.now)) }
 {
-    text == "#" || text.starts_with("#/") || ends_in_slash(text)
+    text == "#" || begins(text, "#/") || ends_in_slash(text)
 }
 
 fn imported_at<F: Folder>(

@@ -2,11 +2,11 @@
 //! PACKAGE_RESOLVE).
 ghost use Rattle.std.specs.Prelude.{◌≡◌, ◌+◌, ◌<◌, length, true, false, IfOk, MatchOption, IsCharBoundary, bytes_eq};
 ghost use Rattle.std.specs.List.{list_any};
-ghost use Rattle.url_spec.specs.Specifiers.{begins};
 ghost use Rattle.url_spec.specs.ServedPaths.{segments};
 ghost use Rattle.node_spec.specs.PackageResolve as spec;
 ghost use Rattle.node_resolve.specs.Asked.{IsSplit};
 
+use crate::texts::begins;
 use primitives::{Memory, Text};
 use std::alloc::Global;
 
@@ -49,13 +49,6 @@ fn name_length(text: &str) -> Option<usize>
     Some(first + 1 + until_slash(&text[first + 1..]))
 }
 
-#[tactic(auto, using(std::proofs::lemmas::Str::Pattern::starts_text))]
-fn begins(text: &str, front: &str) -> bool
-    ensures { result ≡ begins text.now front.now }
-{
-    text.starts_with(front)
-}
-
 /// How much stands before the first `/`.
 fn until_slash(text: &str) -> usize
     ensures is { result ≡ spec.until_slash text.now }
@@ -90,13 +83,11 @@ fn is_refused_byte(byte: u8) -> bool
 fn holds_refused_part(name: &str) -> bool
     ensures { result ≡ list_any spec.is_refused_part (segments name.now) }
 {
-    name.as_bytes()
-        .split(|byte| *byte == b'/')
-        .any(|part| is_refused_part(part))
+    name.split('/').any(|part| is_refused_part(part))
 }
 
-fn is_refused_part(part: &[u8]) -> bool
+fn is_refused_part(part: &str) -> bool
     ensures { result ≡ spec.is_refused_part part.now }
 {
-    part.is_empty() || part == b".".as_slice() || part == b"..".as_slice()
+    part.is_empty() || part == "." || part == ".."
 }

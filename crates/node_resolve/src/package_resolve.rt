@@ -1,7 +1,7 @@
 //! A bare specifier from a folder (Node.js, ECMAScript modules: PACKAGE_RESOLVE).
 ghost use Rattle.std.specs.Prelude.{◌≡◌, ◌≢◌, Some, true, codes, option_map};
 ghost use Rattle.json_spec.specs.Value.{HasDistinctNames};
-ghost use Rattle.url_spec.specs.Specifiers.{ends_in_slash, is_relative};
+ghost use Rattle.url_spec.specs.Specifiers.{is_relative};
 ghost use Rattle.node_spec.specs.PackageResolve as spec;
 ghost use Rattle.ordered_json.specs.Shown.{json_of};
 ghost use Rattle.package_lookup.specs.Answered.{state, Answered};
@@ -18,6 +18,7 @@ use crate::legacy_main_resolve::main_file;
 use crate::package_exports_resolve::exported;
 use crate::package_name::{Subpath, is_package_name};
 use crate::package_self_resolve::{is_null, package_self_resolve};
+use crate::texts::ends_in_slash;
 use condition_match::Conditions;
 use node_spec::Cause;
 use package_lookup::{Known, Trail, find_package, record_of};
@@ -53,13 +54,6 @@ pub fn package_resolve<F: Folder>(
         return Err(NodeFault::Refused(Cause::InvalidSpecifier));
     };
     resolve_name(alloc, known, folder, trail, from, &asked, conditions)
-}
-
-#[tactic(auto, using(std::proofs::lemmas::Str::Pattern::ends_text))]
-pub(crate) fn ends_in_slash(text: &str) -> bool
-    ensures { result ≡ ends_in_slash text.now }
-{
-    text.ends_with("/")
 }
 
 /// The URL of a package's name with a subpath: the package itself goes before every `node_modules`.

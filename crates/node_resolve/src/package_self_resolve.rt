@@ -72,7 +72,7 @@ fn self_in(
 ) -> Result<Option<FileUrl>, NodeFault>
     requires { HasDistinctNames (json_of of_scope.now.exports) }
     ensures { Gives itself (named_itself_in conditions.now scope.now (subpath_of asked.now)
-        (Some (record_shown package_folder.now))) result }
+        (Some (record_shown of_scope.now))) result }
 {
     if !has_name(of_scope, asked.name) || is_null(&of_scope.exports) {
         return Ok(None);

@@ -1,5 +1,6 @@
 //! What stands at the place of a URL.
-ghost use Rattle.std.specs.Prelude.{◌≡◌};
+ghost use Rattle.std.specs.Prelude.{◌≡◌, ◌&&◌, not, ℕ, List};
+ghost use Rattle.url_spec.specs.FileUrls.{IsPlace};
 ghost use Rattle.asking_spec.specs.Askings.{answered, and_then};
 ghost use Rattle.node_spec.specs.EsmResolve.{judged};
 ghost use Rattle.node_spec.specs.FileLooks.{is_file, look_at_url};
@@ -30,21 +31,36 @@ pub fn judged<F: Folder>(
     ensures { Answered (state (F.state folder.old) known.old trail.old) (judged url.now)
         (responded module_at result) (state (F.state folder.new) known.new trail.new) }
 {
+    let place = place_of(alloc, url)?;
+    judged_at(alloc, known, folder, trail, place)
+}
+
+fn judged_at<F: Folder>(
+    alloc: Global,
+    known: &mut Known,
+    folder: &mut F,
+    trail: &mut Trail,
+    place: Place,
+) -> Result<(Path, Suffix), NodeFault>
+    ensures { (url : List ℕ) → IsPlace url place.path place.folder_only place.escaped place.suffix
+        → Answered (state (F.state folder.old) known.old trail.old) (judged url)
+        (responded module_at result) (state (F.state folder.new) known.new trail.new) }
+{
     let Place {
         path,
         folder_only,
         escaped,
         suffix,
-    } = place_of(alloc, url)?;
+    } = place;
     if escaped {
         return Err(NodeFault::Refused(Cause::InvalidSpecifier));
     }
-    let Some(path) = path else {
-        return Err(NodeFault::Refused(Cause::NotFound));
-    };
-    match known.look(alloc, folder, &path, trail) {
-        Err(fault) => Err(behind(fault)),
-        Ok(seen) => module_of(path, folder_only, suffix, seen),
+    match path {
+        None => Err(NodeFault::Refused(Cause::NotFound)),
+        Some(path) => match known.look(alloc, folder, &path, trail) {
+            Err(fault) => Err(behind(fault)),
+            Ok(seen) => module_of(path, folder_only, suffix, seen),
+        },
     }
 }
 
@@ -82,24 +98,40 @@ pub fn serves<F: Folder>(
         (and_then (look_at_url url.now) (λ found. answered (serves url.now found)))
         (looked itself result) (state (F.state folder.new) known.new trail.new) }
 {
+    let place = place_of(alloc, url)?;
+    serves_at(alloc, known, folder, trail, place)
+}
+
+fn serves_at<F: Folder>(
+    alloc: Global,
+    known: &mut Known,
+    folder: &mut F,
+    trail: &mut Trail,
+    place: Place,
+) -> Result<bool, LookupFault>
+    ensures { (url : List ℕ) → IsPlace url place.path place.folder_only place.escaped place.suffix
+        → Answered (state (F.state folder.old) known.old trail.old)
+        (and_then (look_at_url url) (λ found. answered (serves url found)))
+        (looked itself result) (state (F.state folder.new) known.new trail.new) }
+{
     let Place {
         path, folder_only, ..
-    } = place_of(alloc, url)?;
-    let Some(path) = path else {
-        return Ok(false);
-    };
-    match known.look(alloc, folder, &path, trail) {
-        Err(fault) => Err(fault),
-        Ok(seen) => Ok(is_file(&seen) && !folder_only),
+    } = place;
+    match path {
+        None => Ok(false),
+        Some(path) => match known.look(alloc, folder, &path, trail) {
+            Err(fault) => Err(fault),
+            Ok(seen) => Ok(is_served(&seen, folder_only)),
+        },
     }
 }
 
-fn is_file(seen: &Seen) -> bool
-    ensures { result ≡ is_file (entry_of seen.now) }
+fn is_served(seen: &Seen, folder_only: bool) -> bool
+    ensures { result ≡ (is_file (entry_of seen.now) && not folder_only) }
 {
     match seen {
         Seen::Absent => false,
         Seen::Folder => false,
-        Seen::File(_) => true,
+        Seen::File(_) => !folder_only,
     }
 }
