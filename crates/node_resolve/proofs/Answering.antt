@@ -159,3 +159,7 @@ memory_err shown before asking result e =
 pub gives_err : {X Y : Type 0} (shown : X → Y) (asking : Resolving Y) (result : Result X NodeFault)
     → IsErrAnd result (λ given. given ≡ Memory) → Gives shown asking result
 gives_err shown asking result e = subst (λ r. Gives shown asking r) (sym (handed result Memory e)) tt
+
+pub gives_as : {X Y : Type 0} (shown : X → Y) (one other : Resolving Y) (result : Result X NodeFault) → other ≡ one
+    → Gives shown one result → Gives shown other result
+gives_as shown one other result e gives = subst (λ asking. Gives shown asking result) (sym e) gives

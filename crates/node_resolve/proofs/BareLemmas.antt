@@ -1,6 +1,7 @@
 -- What a target in `imports` comes to, by what the object that answers its bare texts keeps.
---     calls_seen                   calls of the object, by what it keeps
---     choice_answered              the whole target
+--     calls_seen, calls_keep       calls of the object, by what it keeps
+--     choice_answered, choice_lost      the whole target
+--     moved, chosen_fails          what is handed on
 use Rattle.std.proofs.Common.{◌≡◌, ℕ, List, [], ◌∷◌, ◌++◌, Bool, true, false, Option, Some, None, IfSome, Result, Ok, Err, refl, sym, ap, ◌∙◌, subst}
 use Rattle.std.specs.Prelude.{All, ⊤}
 use Rattle.std.proofs.lemmas.List.Elements.{All-head, All-tail}
@@ -11,7 +12,13 @@ use Rattle.tree_spec.specs.LookAskings.{Sights, LookAsking}
 use Rattle.tree_spec.specs.LookLimits.{Trail, look_limits, limited}
 use Rattle.tree_spec.specs.Trees.{Tree}
 use Rattle.tree_spec.specs.declared.Entry.{Entry}
+use Rattle.tree_spec.specs.States.{FolderState}
 use Rattle.tree_spec.specs.declared.LimitName.{LimitName}
+use Rattle.tree_spec.specs.declared.LimitName.TheVariants.{File, Bytes, Looks, Modules, ModuleRequests, Requests, Specifier, Entries, Brackets, Depth, Session, Map, Choices}
+use Rattle.package_lookup.specs.declared.known.Known.{Known}
+use Rattle.node_resolve.specs.Responses.{by_node_fault}
+use Rattle.node_resolve.specs.declared.fault.NodeFault.{NodeFault}
+use Rattle.node_resolve.specs.declared.fault.NodeFault.TheVariants.{Refused, ReadFault, Limit, Memory}
 use Rattle.node_spec.proofs.DecidingCall.{deciding_call_is_last}
 use Rattle.node_spec.proofs.TargetsAnswered.{target_answered}
 use Rattle.node_spec.specs.BareCalls.{WasInvalid, IsDecided, by_found, by_stop, by_target}
@@ -24,12 +31,12 @@ use Rattle.node_spec.specs.declared.BareAnswer.{BareAnswer}
 use Rattle.node_spec.specs.declared.BareAnswer.TheVariants as bare_answer
 use Rattle.node_spec.specs.declared.Outcome.{Outcome}
 use Rattle.condition_match.specs.Choosing as choosing
-use Rattle.package_lookup.specs.Answered.{State, Fails, Comes, Tells, AsksOnce, Answered}
+use Rattle.package_lookup.specs.Answered.{State, state, Comes, Tells, Answered}
 use Rattle.package_lookup.specs.Looked.{look_in, Sees}
 use Rattle.package_lookup.specs.Responses.{Failing, passes, not_read, no_memory, never, Response, given, fails}
 use Rattle.package_lookup.proofs.Questions.{then_given, then_fails, now_given}
 use Rattle.node_resolve.proofs.Answering.{reframed}
-use Rattle.node_resolve.specs.BareTexts.{Kept, GivesBare, a_value, a_fault}
+use Rattle.node_resolve.specs.BareTexts.{Kept, GivesBare, a_value, a_fault, failing_of, lost_by}
 
 -- ---- no call behind a `Stop`
 
@@ -106,20 +113,35 @@ stopped_there (stopped limit state) name after at e =
     let p : (limit, state) ≡ (name, after) = cc in
     λ i. stopped ((p i).0) ((p i).1)
 
+-- ---- the object, by what it keeps
+
+pub calls_seen : {B : Type 0} (gives : B → List ℕ → BareAnswer → B → Type 0) (see : B → Kept)
+    (ask_of : B → List ℕ → Resolving Url)
+    → ((old new : B) (text : List ℕ) (answer : BareAnswer) → gives old text answer new
+    → (ask_of new ≡ ask_of old) × GivesBare (ask_of old) (see old) text answer (see new))
+    → (old new : B) (asked : List Call) → choosing.Calls gives old asked new
+    → Calls (GivesBare (ask_of old)) (see old) asked (see new)
+calls_seen gives see ask_of says old new [] calls = ap see calls
+calls_seen gives see ask_of says old new (call ∷ more) calls =
+    let one = says old calls.0 call.0 call.1 calls.1 in (
+      see calls.0,
+      one.1,
+      subst (λ ask. Calls (GivesBare ask) (see calls.0) more (see new)) one.0
+          (calls_seen gives see ask_of says calls.0 new more calls.2),
+    )
+
+pub calls_keep : {B N : Type 0} (gives : B → List ℕ → BareAnswer → B → Type 0) (name : B → N)
+    → ((old new : B) (text : List ℕ) (answer : BareAnswer) → gives old text answer new → name new ≡ name old)
+    → (old new : B) (asked : List Call) → choosing.Calls gives old asked new → name new ≡ name old
+calls_keep gives name keeps old new [] calls = ap name calls
+calls_keep gives name keeps old new (call ∷ more) calls =
+    calls_keep gives name keeps calls.0 new more calls.2 ∙ keeps old calls.0 call.0 call.1 calls.1
+
 -- ---- one call, and what it tells
 
 module _ (ask : List ℕ → Resolving Url) where
   abbrev bares : Bares Found
   bares = record { ask = ask; judge = judge_bare }
-
-  pub calls_seen : {B : Type 0} (gives : B → List ℕ → BareAnswer → B → Type 0) (see : B → Kept)
-      → ((old new : B) (text : List ℕ) (answer : BareAnswer) → gives old text answer new
-      → GivesBare ask (see old) text answer (see new))
-      → (old new : B) (asked : List Call) → choosing.Calls gives old asked new
-      → Calls (GivesBare ask) (see old) asked (see new)
-  calls_seen gives see says old new [] calls = ap see calls
-  calls_seen gives see says old new (call ∷ more) calls =
-      (see calls.0, says old calls.0 call.0 call.1 calls.1, calls_seen gives see says calls.0 new more calls.2)
 
   nothing_called : (before after : Kept) (more : List Call) → Calls (GivesBare ask) before more after → more ≡ []
       → after ≡ before
@@ -263,7 +285,15 @@ module _ (ask : List ℕ → Resolving Url) where
 
   -- ---- the whole target
 
-  abbrev response_of : Outcome → Option Found → Option Failing → Response (Came Found)
+  there : (failing other : Failing) → fails {X = Unit {0}} failing ≡ fails other
+      → fails {X = Came Found} failing ≡ fails other
+  there failing other e = (let same : failing ≡ other = cc in ap fails same)
+
+  back : (failing other : Failing) → fails {X = Came Found} failing ≡ fails other
+      → fails {X = Unit {0}} failing ≡ fails other
+  back failing other e = (let same : failing ≡ other = cc in ap fails same)
+
+  abbrev pub response_of : Outcome → Option Found → Option Failing → Response (Came Found)
   response_of out last None = given (came out last)
   response_of out last (Some failing) = fails failing
 
@@ -276,45 +306,45 @@ module _ (ask : List ℕ → Resolving Url) where
     abbrev whole : LookAsking (Came Found)
     whole = target_comes bares rules goal None
 
+    abbrev end : Sights → Ended (Came Found) Trail LimitName
+    end sights = evaluated (limited look_limits sights) before.state.trail whole
+
+    abbrev other_end : Sights → Ended (Came Found) Trail Stop
+    other_end sights = evaluated (tagged (limited look_limits sights)) before.state.trail whole
+
+    same_end : (sights : Sights) → other_end sights ≡ tag (end sights)
+    same_end sights = tag_is (limited look_limits sights) before.state.trail whole
+
+    by_fault : (sights : Sights) (fault : Option Failing) → after.fault ≡ fault
+        → (is_lost after.fault ≡ false → stop_of after.fault after.state.trail ≡ None
+        → other_end sights ≡ ends (came out after.last) after.state.trail)
+        → ((stop : Stop) → is_lost after.fault ≡ false → stop_of after.fault after.state.trail ≡ Some stop
+        → (at : Trail) × (other_end sights ≡ stopped stop at))
+        → Comes (end sights) (response_of out after.last fault) after.state.trail
+    by_fault sights None f value limit =
+        ends_there (end sights) (came out after.last) after.state.trail
+        (sym (same_end sights) ∙ value (ap is_lost f) (ap (λ g. stop_of g after.state.trail) f))
+    by_fault sights (Some (passes name)) f value limit =
+        let found = limit (name, after.state.trail) (ap is_lost f) (ap (λ g. stop_of g after.state.trail) f) in
+        stopped_there (end sights) name after.state.trail found.0 (sym (same_end sights) ∙ found.1)
+    by_fault sights (Some not_read) f value limit = tt
+    by_fault sights (Some no_memory) f value limit = tt
+    by_fault sights (Some never) f value limit =
+        absurd ((rows before after asked free stops calls).possible (ap row_response f))
+
     comes_by : (tree : Tree) (sights : Sights) → before.state.folder.holds ≡ Some tree
         → Sees tree before.state.known sights → (fault : Option Failing) → after.fault ≡ fault
-        → Comes (evaluated (limited look_limits sights) before.state.trail whole) (response_of out after.last fault)
-        after.state.trail
+        → Comes (end sights) (response_of out after.last fault) after.state.trail
     comes_by tree sights e sees fault f =
         let asks = target_answered (tagged (limited look_limits sights)) bares rules goal (answerer before) asked out
         (answerer after) (ap (λ g. stop_of g before.state.trail) free) is
         (all_given tree sights before after asked free stops e sees calls) in
-        by_fault fault f (λ kept alone. subst (λ last. evaluated (tagged (limited look_limits sights)) before.state.trail
+        by_fault sights fault f
+        (λ kept alone. subst (λ last. evaluated (tagged (limited look_limits sights)) before.state.trail
         (target_comes bares rules goal last) ≡ ends (came out after.last) after.state.trail) none (asks.value kept alone))
         (λ stop kept some. (let found = asks.limit stop kept some in (found.0,
         subst (λ last. evaluated (tagged (limited look_limits sights)) before.state.trail
         (target_comes bares rules goal last) ≡ stopped stop found.0) none found.1)))
-      where
-        abbrev end : Ended (Came Found) Trail LimitName
-        end = evaluated (limited look_limits sights) before.state.trail whole
-
-        abbrev other_end : Ended (Came Found) Trail Stop
-        other_end = evaluated (tagged (limited look_limits sights)) before.state.trail whole
-
-        same : other_end ≡ tag end
-        same = tag_is (limited look_limits sights) before.state.trail whole
-
-        by_fault : (fault : Option Failing) → after.fault ≡ fault
-            → (is_lost after.fault ≡ false → stop_of after.fault after.state.trail ≡ None
-            → other_end ≡ ends (came out after.last) after.state.trail)
-            → ((stop : Stop) → is_lost after.fault ≡ false → stop_of after.fault after.state.trail ≡ Some stop
-            → (at : Trail) × (other_end ≡ stopped stop at))
-            → Comes end (response_of out after.last fault) after.state.trail
-        by_fault None f value limit =
-            ends_there end (came out after.last) after.state.trail
-            (sym same ∙ value (ap is_lost f) (ap (λ g. stop_of g after.state.trail) f))
-        by_fault (Some (passes name)) f value limit =
-            let found = limit (name, after.state.trail) (ap is_lost f) (ap (λ g. stop_of g after.state.trail) f) in
-            stopped_there end name after.state.trail found.0 (sym same ∙ found.1)
-        by_fault (Some not_read) f value limit = tt
-        by_fault (Some no_memory) f value limit = tt
-        by_fault (Some never) f value limit =
-            absurd ((rows before after asked free stops calls).possible (ap row_response f))
 
     whole_by : (fault : Option Failing) → after.fault ≡ fault
         → Answered before.state (row asked) (row_response fault) after.state
@@ -324,13 +354,72 @@ module _ (ask : List ℕ → Resolving Url) where
         (λ e. absurd (cc)) (λ e. absurd (cc)) (λ e. absurd (cc)) (λ tree sights e sees. comes_by tree sights e sees None f)
     whole_by (Some failing) f a =
         reframed before.state after.state (row asked) whole (fails failing) (fails failing) a
-        (carried_there no_memory) (carried_there not_read) (carried_back not_read) (carried_back never) (λ tree sights e sees. comes_by tree sights e sees (Some failing) f)
-      where
-        carried_there : (other : Failing) → fails {X = Unit {0}} failing ≡ fails other → fails {X = Came Found} failing ≡ fails other
-        carried_there other e = (let same : failing ≡ other = cc in ap fails same)
-
-        carried_back : (other : Failing) → fails {X = Came Found} failing ≡ fails other → fails {X = Unit {0}} failing ≡ fails other
-        carried_back other e = (let same : failing ≡ other = cc in ap fails same)
+        (there failing no_memory) (there failing not_read) (back failing not_read) (back failing never) (λ tree sights e sees. comes_by tree sights e sees (Some failing) f)
 
     pub choice_answered : Answered before.state whole (response_of out after.last after.fault) after.state
     choice_answered = whole_by after.fault refl (rows before after asked free stops calls)
+
+  -- ---- where memory was wanting on the way
+
+  module _ (rules : Rules) (goal : Json) (asked more : List Call) (out : Outcome)
+      (is : ResolvesTarget rules goal (asked ++ more) out) (before after : Kept) (free : before.fault ≡ None)
+      (calls : Calls (GivesBare ask) before asked after) where
+    lost_when : (fault : Option Failing) → Answered before.state (row asked) (row_response fault) after.state
+        → Answered {X = Came Found} before.state (target_comes bares rules goal None) (fails (lost_by fault)) after.state
+    lost_when None a =
+        reframed before.state after.state (row asked) (target_comes bares rules goal None) (given tt) (fails no_memory) a
+        (λ e. refl) (λ e. absurd (cc)) (λ e. absurd (cc)) (λ e. absurd (cc)) (λ tree sights e sees. tt)
+    lost_when (Some (passes name)) a =
+        reframed before.state after.state (row asked) (target_comes bares rules goal None) (fails (passes name))
+        (fails no_memory) a (λ e. refl) (λ e. absurd (cc)) (λ e. absurd (cc)) (λ e. absurd (cc))
+        (λ tree sights e sees. tt)
+    lost_when (Some not_read) a =
+        reframed before.state after.state (row asked) (target_comes bares rules goal None) (fails not_read)
+        (fails not_read) a (λ e. absurd (cc)) (λ e. refl) (λ e. refl) (λ e. absurd (cc)) (λ tree sights e sees. tt)
+    lost_when (Some no_memory) a =
+        reframed before.state after.state (row asked) (target_comes bares rules goal None) (fails no_memory)
+        (fails no_memory) a (λ e. refl) (λ e. absurd (cc)) (λ e. absurd (cc)) (λ e. absurd (cc))
+        (λ tree sights e sees. tt)
+    lost_when (Some never) a = absurd (a.possible refl)
+
+    pub choice_lost : Answered {X = Came Found} before.state (target_comes bares rules goal None)
+        (fails (lost_by after.fault)) after.state
+    choice_lost =
+        lost_when after.fault
+        (rows before after asked free
+        (stops_front asked more (stops_last (asked ++ more) out (deciding_call_is_last rules goal (asked ++ more) out is)))
+        calls)
+
+-- ---- what is handed on
+
+pub moved : {X : Type 0} (before : State) (asking : LookAsking X) (response : Response X) (folder other_folder : FolderState)
+    (known other_known : Known) (trail other_trail : Trail) → other_folder ≡ folder → other_known ≡ known
+    → other_trail ≡ trail → Answered before asking response (state folder known trail)
+    → Answered before asking response (state other_folder other_known other_trail)
+moved before asking response folder other_folder known other_known trail other_trail f k t a =
+    subst (λ s. Answered before asking response s) (λ i. state (sym f i) (sym k i) (sym t i)) a
+
+limit_on : {X : Type 0} (before after : State) (part : LookAsking X) (next : X → Resolving Url) (which : LimitName)
+    → Answered {X = X} before part (fails (failing_of (Limit which))) after
+    → Answered before (and_then part next) (by_node_fault (Limit which)) after
+limit_on before after part next File a = then_fails before after part next (passes File) a
+limit_on before after part next Bytes a = then_fails before after part next (passes Bytes) a
+limit_on before after part next Looks a = then_fails before after part next (passes Looks) a
+limit_on before after part next Modules a = absurd (a.possible refl)
+limit_on before after part next ModuleRequests a = absurd (a.possible refl)
+limit_on before after part next Requests a = absurd (a.possible refl)
+limit_on before after part next Specifier a = absurd (a.possible refl)
+limit_on before after part next Entries a = absurd (a.possible refl)
+limit_on before after part next Brackets a = absurd (a.possible refl)
+limit_on before after part next Depth a = absurd (a.possible refl)
+limit_on before after part next Session a = absurd (a.possible refl)
+limit_on before after part next Map a = absurd (a.possible refl)
+limit_on before after part next Choices a = absurd (a.possible refl)
+
+pub chosen_fails : {X : Type 0} (before after : State) (part : LookAsking X) (next : X → Resolving Url) (fault : NodeFault)
+    → Answered {X = X} before part (fails (failing_of fault)) after
+    → Answered before (and_then part next) (by_node_fault fault) after
+chosen_fails before after part next (Refused cause) a = absurd (a.possible refl)
+chosen_fails before after part next ReadFault a = then_fails before after part next not_read a
+chosen_fails before after part next (Limit which) a = limit_on before after part next which a
+chosen_fails before after part next Memory a = then_fails before after part next no_memory a

@@ -7,3 +7,7 @@ pub mod BareLemmas
 pub mod NameLemmas
 pub mod Folders
 pub mod MainLemmas
+pub mod KeyLemmas
+pub mod RuleLemmas
+pub mod SelfLemmas
+pub mod ValueLemmas

@@ -1,6 +1,7 @@
 -- Answers to the bare texts of a target in `imports`.
 --     found_shown found            the answer to a bare text
 --     last_shown last              the same, where a text was answered
+--     lost_by fault                why nothing is told where memory is wanting
 --     split_shown result           of a call, an answer or what kept the text from being answered
 --     chosen_shown result          what a target comes to, and the answer to the text that was asked for last
 --     Kept, kept state last fault  what the object that answers keeps
@@ -14,7 +15,7 @@ use Rattle.node_spec.specs.declared.BareAnswer.{BareAnswer}
 use Rattle.node_spec.specs.declared.BareAnswer.TheVariants.{Stop}
 use Rattle.node_spec.specs.declared.Outcome.{Outcome}
 use Rattle.package_lookup.specs.Answered.{State, Answered}
-use Rattle.package_lookup.specs.Responses.{Response, given, fails, Failing, never}
+use Rattle.package_lookup.specs.Responses.{Response, given, fails, Failing, passes, not_read, no_memory, never}
 use Rattle.node_resolve.specs.declared.bare_texts.Refusal.{Refusal}
 use Rattle.node_resolve.specs.declared.bare_texts.Refusal.TheVariants.{ByCause, TooDeep}
 use Rattle.node_resolve.specs.declared.fault.NodeFault.{NodeFault}
@@ -35,6 +36,14 @@ failing_in (fails failing) = failing
 -- a refusal is an answer
 abbrev pub failing_of : NodeFault → Failing
 failing_of fault = failing_in (by_node_fault {X = Url} fault)
+
+-- where memory is wanting, unless a look had failed
+abbrev pub lost_by : Option Failing → Failing
+lost_by None = no_memory
+lost_by (Some (passes name)) = no_memory
+lost_by (Some not_read) = not_read
+lost_by (Some no_memory) = no_memory
+lost_by (Some never) = no_memory
 
 abbrev pub split_shown : Result (Result (List ℕ) Refusal) NodeFault → Response target.Found
 split_shown (Ok found) = given (found_shown found)

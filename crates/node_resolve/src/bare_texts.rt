@@ -8,7 +8,7 @@ ghost use Rattle.ordered_json.specs.Shown.{json_of};
 ghost use Rattle.condition_match.specs.Choosing.{judged_by};
 ghost use Rattle.package_lookup.specs.Answered.{state, Answered};
 ghost use Rattle.package_lookup.specs.Responses.{itself};
-ghost use Rattle.node_resolve.specs.BareTexts.{chosen_shown, found_shown, split_shown, last_shown};
+ghost use Rattle.node_resolve.specs.BareTexts.{chosen_shown, failing_of, found_shown, last_shown, lost_by, split_shown};
 ghost use Rattle.node_resolve.specs.Responses.{responded, Gives};
 
 use crate::NodeFault;
@@ -124,8 +124,19 @@ pub fn import_target<F: Folder>(
         package_folder.now ImportNotDefined (json_of target.now))
         (responded itself result) (state (F.state folder.new) known.new trail.new) }
 {
-    let (outcome, last) = chosen(alloc, known, folder, trail, package_folder, target, star, conditions)?;
-    url_of(alloc, package_folder, outcome, last)
+    match chosen(
+        alloc,
+        known,
+        folder,
+        trail,
+        package_folder,
+        target,
+        star,
+        conditions,
+    ) {
+        Err(fault) => Err(fault),
+        Ok((outcome, last)) => url_of(alloc, package_folder, outcome, last),
+    }
 }
 
 /// What a target comes to, and the answer to the bare text that was asked for last.
@@ -154,13 +165,22 @@ fn chosen<F: Folder>(
         last: None,
         fault: None,
     };
-    let outcome = choose(alloc, target, conditions, star, true, &mut bares);
-    match bares.fault {
-        Some(fault) => Err(fault),
-        None => match outcome {
-            Err(_) => Err(NodeFault::Memory),
-            Ok(outcome) => Ok((outcome, bares.last)),
+    match choose(alloc, target, conditions, star, true, &mut bares) {
+        Err(_) => Err(lost(bares.fault)),
+        Ok(outcome) => match bares.fault {
+            Some(fault) => Err(fault),
+            None => Ok((outcome, bares.last)),
         },
+    }
+}
+
+/// Why a target comes to nothing where memory is wanting, unless a look had failed before.
+fn lost(fault: Option<NodeFault>) -> NodeFault
+    ensures { failing_of result ≡ lost_by (option_map failing_of fault) }
+{
+    match fault {
+        Some(NodeFault::ReadFault) => NodeFault::ReadFault,
+        _ => NodeFault::Memory,
     }
 }
 

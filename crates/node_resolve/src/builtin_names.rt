@@ -4,6 +4,8 @@ ghost use Rattle.std.specs.List.{list_any};
 ghost use Rattle.node_spec.specs.BuiltinNames.{is_builtin};
 ghost use Rattle.node_resolve.specs.MainFiles.{texts_of};
 
+use crate::texts::same;
+
 static NAMES: [&str; 54] = [
     "assert",
     "assert/strict",
@@ -72,5 +74,12 @@ pub fn is_builtin(text: &str) -> bool
 fn is_among(text: &str, names: &[&str]) -> bool
     ensures { result ≡ list_any (bytes_eq text.now) (texts_of names.now) }
 {
-    names.iter().any(|name| text == *name)
+    let mut rest = names;
+    while let Some((name, more)) = rest.split_first() {
+        if same(text, name) {
+            return true;
+        }
+        rest = more;
+    }
+    false
 }

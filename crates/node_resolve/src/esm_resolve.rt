@@ -47,14 +47,32 @@ pub fn resolve<F: Folder, L: Ledger>(
 {
     steps.tick();
     trail.begin();
-    let url = specifier_url(alloc, known, folder, trail, parent, specifier, conditions)?;
-    let (path, suffix) = judged(alloc, known, folder, trail, &url)?;
-    let footprint = copy_paths(alloc, trail.question())?;
-    Ok(Found {
-        path,
-        suffix,
-        footprint,
-    })
+    match specifier_url(alloc, known, folder, trail, parent, specifier, conditions) {
+        Err(fault) => Err(fault),
+        Ok(url) => found_at(alloc, known, folder, trail, &url),
+    }
+}
+
+/// The module at a URL, with the paths of the question.
+fn found_at<F: Folder>(
+    alloc: Global,
+    known: &mut Known,
+    folder: &mut F,
+    trail: &mut Trail,
+    url: &FileUrl,
+) -> Result<Found, NodeFault>
+    ensures answered { Answered (state (F.state folder.old) known.old trail.old) (spec.judged url.now)
+        (responded module_of result) (state (F.state folder.new) known.new trail.new) }
+    ensures footprint { IfOk result (λ found. found.footprint ≡ trail.new.question) }
+{
+    match judged(alloc, known, folder, trail, url) {
+        Err(fault) => Err(fault),
+        Ok((path, suffix)) => Ok(Found {
+            path,
+            suffix,
+            footprint: copy_paths(alloc, trail.question())?,
+        }),
+    }
 }
 
 /// The URL of a specifier.

@@ -18,6 +18,8 @@ mod package_resolve;
 mod package_self_resolve;
 mod package_target_resolve;
 mod places;
+#[cfg(test)]
+mod tests;
 mod texts;
 
 pub use esm_resolve::resolve;

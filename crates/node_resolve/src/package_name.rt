@@ -1,10 +1,10 @@
 //! The package name at the front of a bare specifier, and what stands behind it (Node.js, ECMAScript modules:
 //! PACKAGE_RESOLVE).
-ghost use Rattle.std.specs.Prelude.{◌≡◌, ◌+◌, ◌<◌, length, true, false, IfOk, MatchOption, IsCharBoundary, bytes_eq};
+ghost use Rattle.std.specs.Prelude.{◌≡◌, ◌+◌, ◌<◌, length, true, false, IfOk, IfSome, MatchOption, IsCharBoundary, bytes_eq};
 ghost use Rattle.std.specs.List.{list_any};
 ghost use Rattle.url_spec.specs.ServedPaths.{segments};
 ghost use Rattle.node_spec.specs.PackageResolve as spec;
-ghost use Rattle.node_resolve.specs.Asked.{IsSplit};
+ghost use Rattle.node_resolve.specs.Asked.{IsSplit, IsSubpath};
 
 use crate::texts::begins;
 use primitives::{Memory, Text};
@@ -20,7 +20,8 @@ pub struct Subpath<'a> {
 impl<'a> Subpath<'a> {
     /// The parts of a bare specifier; none where it lacks a name.
     pub fn of(alloc: Global, text: &'a str) -> Result<Option<Subpath<'a>>, Memory>
-        ensures { IfOk result (λ found. MatchOption found (spec.lacks_name text.now ≡ true) (IsSplit text.now)) }
+        ensures parts { IfOk result (λ found. MatchOption found (spec.lacks_name text.now ≡ true) (IsSplit text.now)) }
+        ensures relative { IfOk result (λ found. IfSome found (λ asked. IsSubpath asked.subpath)) }
     {
         let Some(length) = name_length(text) else {
             return Ok(None);

@@ -1,13 +1,12 @@
 //! A bare specifier from a folder (Node.js, ECMAScript modules: PACKAGE_RESOLVE).
-ghost use Rattle.std.specs.Prelude.{◌≡◌, ◌≢◌, Some, true, codes, option_map};
+ghost use Rattle.std.specs.Prelude.{◌≡◌, Some, option_map};
 ghost use Rattle.json_spec.specs.Value.{HasDistinctNames};
-ghost use Rattle.url_spec.specs.Specifiers.{is_relative};
 ghost use Rattle.node_spec.specs.PackageResolve as spec;
 ghost use Rattle.ordered_json.specs.Shown.{json_of};
 ghost use Rattle.package_lookup.specs.Answered.{state, Answered};
 ghost use Rattle.package_lookup.specs.Responses.{itself};
 ghost use Rattle.package_record.specs.Shown.{record_shown};
-ghost use Rattle.node_resolve.specs.Asked.{subpath_of};
+ghost use Rattle.node_resolve.specs.Asked.{subpath_of, IsSubpath};
 ghost use Rattle.node_resolve.specs.Responses.{responded, Gives};
 
 use crate::NodeFault;
@@ -18,7 +17,7 @@ use crate::legacy_main_resolve::main_file;
 use crate::package_exports_resolve::exported;
 use crate::package_name::{Subpath, is_package_name};
 use crate::package_self_resolve::{is_null, package_self_resolve};
-use crate::texts::ends_in_slash;
+use crate::texts::{ends_in_slash, same};
 use condition_match::Conditions;
 use node_spec::Cause;
 use package_lookup::{Known, Trail, find_package, record_of};
@@ -41,7 +40,7 @@ pub fn package_resolve<F: Folder>(
         (spec.package_resolve conditions.now from.now text.now)
         (responded itself result) (state (F.state folder.new) known.new trail.new) }
 {
-    if text.is_empty() {
+    if same(text, "") {
         return Err(NodeFault::Refused(Cause::InvalidSpecifier));
     }
     if is_builtin(text) {
@@ -50,10 +49,10 @@ pub fn package_resolve<F: Folder>(
     if ends_in_slash(text) {
         return Err(NodeFault::Refused(Cause::InvalidSpecifier));
     }
-    let Some(asked) = Subpath::of(alloc, text)? else {
-        return Err(NodeFault::Refused(Cause::InvalidSpecifier));
-    };
-    resolve_name(alloc, known, folder, trail, from, &asked, conditions)
+    match Subpath::of(alloc, text)? {
+        None => Err(NodeFault::Refused(Cause::InvalidSpecifier)),
+        Some(asked) => resolve_name(alloc, known, folder, trail, from, &asked, conditions),
+    }
 }
 
 /// The URL of a package's name with a subpath: the package itself goes before every `node_modules`.
@@ -66,6 +65,7 @@ fn resolve_name<F: Folder>(
     asked: &Subpath<'_>,
     conditions: &Conditions,
 ) -> Result<FileUrl, NodeFault>
+    requires { IsSubpath asked.now.subpath }
     ensures { Answered (state (F.state folder.old) known.old trail.old)
         (spec.by_name conditions.now from.now (subpath_of asked.now))
         (responded itself result) (state (F.state folder.new) known.new trail.new) }
@@ -90,6 +90,7 @@ fn resolve_in_modules<F: Folder>(
     asked: &Subpath<'_>,
     conditions: &Conditions,
 ) -> Result<FileUrl, NodeFault>
+    requires { IsSubpath asked.now.subpath }
     ensures { Answered (state (F.state folder.old) known.old trail.old)
         (spec.in_modules conditions.now from.now (subpath_of asked.now))
         (responded itself result) (state (F.state folder.new) known.new trail.new) }
@@ -119,6 +120,7 @@ fn resolve_in_folder<F: Folder>(
     subpath: &str,
     conditions: &Conditions,
 ) -> Result<FileUrl, NodeFault>
+    requires { IsSubpath subpath.now }
     ensures { Answered (state (F.state folder.old) known.old trail.old)
         (spec.in_folder conditions.now subpath.now (Some package_folder.now))
         (responded itself result) (state (F.state folder.new) known.new trail.new) }
@@ -142,7 +144,8 @@ fn resolve_by_record<F: Folder>(
     of_package: &Package,
     conditions: &Conditions,
 ) -> Result<FileUrl, NodeFault>
-    requires { HasDistinctNames (json_of of_package.now.exports) }
+    requires names { HasDistinctNames (json_of of_package.now.exports) }
+    requires subpath { IsSubpath subpath.now }
     ensures { Answered (state (F.state folder.old) known.old trail.old)
         (spec.by_record conditions.now package_folder.now subpath.now (Some (record_shown of_package.now)))
         (responded itself result) (state (F.state folder.new) known.new trail.new) }
@@ -174,12 +177,12 @@ fn resolve_file<F: Folder>(
     subpath: &str,
     main: Option<&str>,
 ) -> Result<FileUrl, NodeFault>
-    requires { subpath.now ≢ codes "." → is_relative subpath.now ≡ true }
+    requires { IsSubpath subpath.now }
     ensures { Answered (state (F.state folder.old) known.old trail.old)
         (spec.by_files package_folder.now subpath.now (option_map (λ text. text.now) main.entry))
         (responded itself result) (state (F.state folder.new) known.new trail.new) }
 {
-    if subpath == "." {
+    if same(subpath, ".") {
         return main_file(alloc, known, folder, trail, package_folder, main);
     }
     let base = folder_url(alloc, package_folder)?;

@@ -1,5 +1,5 @@
 //! A package that names itself (Node.js, ECMAScript modules: PACKAGE_SELF_RESOLVE).
-ghost use Rattle.std.specs.Prelude.{◌≡◌, Some};
+ghost use Rattle.std.specs.Prelude.{◌≡◌, ◌&&◌, not, Some};
 ghost use Rattle.json_spec.specs.Value.{HasDistinctNames};
 ghost use Rattle.package_record.specs.Shown.{record_shown};
 ghost use Rattle.node_spec.specs.PackageSelfResolve.{has_name, is_null};
@@ -74,17 +74,20 @@ fn self_in(
     ensures { Gives itself (named_itself_in conditions.now scope.now (subpath_of asked.now)
         (Some (record_shown of_scope.now))) result }
 {
-    if !has_name(of_scope, asked.name) || is_null(&of_scope.exports) {
+    if !names_itself(of_scope, asked.name) {
         return Ok(None);
     }
-    let url = exported(
-        alloc,
-        scope,
-        asked.subpath.as_str(),
-        &of_scope.exports,
-        conditions,
-    )?;
-    Ok(Some(url))
+    match exported(alloc, scope, asked.subpath.as_str(), &of_scope.exports, conditions) {
+        Err(fault) => Err(fault),
+        Ok(url) => Ok(Some(url)),
+    }
+}
+
+/// Whether a package has this name, and exports.
+fn names_itself(of_scope: &Package, name: &str) -> bool
+    ensures { result ≡ (has_name of_scope.now.name name.now && not (is_null (json_of of_scope.now.exports))) }
+{
+    has_name(of_scope, name) && !is_null(&of_scope.exports)
 }
 
 fn has_name(of_scope: &Package, name: &str) -> bool
