@@ -100,17 +100,19 @@ tag_is answers before (ask path next) =
 
 ends_there : {X : Type 0} (end : Ended X Trail LimitName) (value : X) (after : Trail) → tag end ≡ ends value after
     → end ≡ ends value after
-ends_there (ends other state) value after e =
+ends_there (ends other there) value after e =
     let v : other ≡ value = cc in
-    let s : state ≡ after = cc in
+    let s : there ≡ after = cc in
     λ i. ends (v i) (s i)
-ends_there (stopped name state) value after e = absurd (cc)
+ends_there (stopped name there) value after e = absurd (cc)
 
 stopped_there : {X : Type 0} (end : Ended X Trail LimitName) (name : LimitName) (after at : Trail)
     → tag end ≡ stopped (name, after) at → end ≡ stopped name after
-stopped_there (ends other state) name after at e = absurd (cc)
-stopped_there (stopped limit state) name after at e =
-    let p : (limit, state) ≡ (name, after) = cc in
+stopped_there (ends other there) name after at e = absurd (cc)
+stopped_there (stopped limit there) name after at e =
+    let one : Stop = (limit, there) in
+    let other : Stop = (name, after) in
+    let p : one ≡ other = cc in
     λ i. stopped ((p i).0) ((p i).1)
 
 -- ---- the object, by what it keeps
@@ -285,12 +287,15 @@ module _ (ask : List ℕ → Resolving Url) where
 
   -- ---- the whole target
 
-  there : (failing other : Failing) → fails {X = Unit {0}} failing ≡ fails other
-      → fails {X = Came Found} failing ≡ fails other
+  abbrev failed : (X : Type 0) → Failing → Response X
+  failed X failing = fails failing
+
+  there : (failing other : Failing) → failed (Unit {0}) failing ≡ failed (Unit {0}) other
+      → failed (Came Found) failing ≡ failed (Came Found) other
   there failing other e = (let same : failing ≡ other = cc in ap fails same)
 
-  back : (failing other : Failing) → fails {X = Came Found} failing ≡ fails other
-      → fails {X = Unit {0}} failing ≡ fails other
+  back : (failing other : Failing) → failed (Came Found) failing ≡ failed (Came Found) other
+      → failed (Unit {0}) failing ≡ failed (Unit {0}) other
   back failing other e = (let same : failing ≡ other = cc in ap fails same)
 
   abbrev pub response_of : Outcome → Option Found → Option Failing → Response (Came Found)
@@ -423,3 +428,7 @@ chosen_fails before after part next (Refused cause) a = absurd (a.possible refl)
 chosen_fails before after part next ReadFault a = then_fails before after part next not_read a
 chosen_fails before after part next (Limit which) a = limit_on before after part next which a
 chosen_fails before after part next Memory a = then_fails before after part next no_memory a
+
+pub answered_as : {X : Type 0} (before after : State) (asking : LookAsking X) (one other : Response X) → one ≡ other
+    → Answered before asking one after → Answered before asking other after
+answered_as before after asking one other e a = subst (λ r. Answered before asking r after) e a

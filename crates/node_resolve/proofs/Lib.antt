@@ -11,3 +11,4 @@ pub mod KeyLemmas
 pub mod RuleLemmas
 pub mod SelfLemmas
 pub mod ValueLemmas
+pub mod BuiltinLemmas

@@ -71,15 +71,12 @@ pub fn is_builtin(text: &str) -> bool
     is_among(text, &NAMES)
 }
 
+#[tactic(auto, using(crate::proofs::BuiltinLemmas::among))]
 fn is_among(text: &str, names: &[&str]) -> bool
     ensures { result ≡ list_any (bytes_eq text.now) (texts_of names.now) }
 {
-    let mut rest = names;
-    while let Some((name, more)) = rest.split_first() {
-        if same(text, name) {
-            return true;
-        }
-        rest = more;
+    match names.split_first() {
+        None => false,
+        Some((name, more)) => same(text, name) || is_among(text, more),
     }
-    false
 }

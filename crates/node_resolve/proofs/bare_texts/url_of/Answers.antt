@@ -1,7 +1,3 @@
-use Rattle.std.proofs.Common.{subst}
-use Rattle.package_lookup.specs.Responses.{itself}
-use Rattle.node_resolve.specs.Responses.{Gives}
-use Rattle.node_resolve.specs.Targets.{own_url}
 use Rattle.node_resolve.proofs.TargetLemmas.{own_url_is}
 use Rattle.node_spec.specs.declared.Cause.TheVariants.{ImportNotDefined}
 use Rattle.node_resolve.proofs.bare_texts.url_of.Goals as goal
@@ -10,4 +6,4 @@ pub returns-in_default : goal.returns-in_default
 returns-in_default c =
     own_url_is c.args.package_folder.now ImportNotDefined c.args.outcome _ c.own_url.result c.in_default.not-Bare
     c.in_default.not-Stopped
-    (subst (λ out. Gives itself (own_url c.args.package_folder.now ImportNotDefined out) c.own_url.result) c.in_default.own-is c.own_url.ensures)
+    c.own_url.ensures
