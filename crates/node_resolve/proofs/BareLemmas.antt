@@ -395,6 +395,9 @@ module _ (ask : List ℕ → Resolving Url) where
         (stops_front asked more (stops_last (asked ++ more) out (deciding_call_is_last rules goal (asked ++ more) out is)))
         calls)
 
+abbrev pub fails_of : (X : Type 0) → Failing → Response X
+fails_of X failing = fails failing
+
 -- ---- what is handed on
 
 pub moved : {X : Type 0} (before : State) (asking : LookAsking X) (response : Response X) (folder other_folder : FolderState)
@@ -432,3 +435,18 @@ chosen_fails before after part next Memory a = then_fails before after part next
 pub answered_as : {X : Type 0} (before after : State) (asking : LookAsking X) (one other : Response X) → one ≡ other
     → Answered before asking one after → Answered before asking other after
 answered_as before after asking one other e a = subst (λ r. Answered before asking r after) e a
+
+pub calls_end : {B : Type 0} (gives : B → List ℕ → BareAnswer → B → Type 0) (old middle new : B) (asked : List Call)
+    → new ≡ middle → choosing.Calls gives old asked middle → choosing.Calls gives old asked new
+calls_end gives old middle new asked same calls = subst (λ b. choosing.Calls gives old asked b) (sym same) calls
+
+pub lost_same : {X : Type 0} (one other : Failing) → other ≡ one → fails_of X one ≡ fails_of X other
+lost_same {X} one other e = ap (fails_of X) (sym e)
+
+pub chosen_same : (asks : List ℕ → Resolving Url) (out : Outcome) (last other : Option Found) (fault : Option Failing)
+    → fault ≡ None → other ≡ last → response_of asks out last fault ≡ given (came out other)
+chosen_same asks out last other fault e l = ap (response_of asks out last) e ∙ ap (λ o. given (came out o)) (sym l)
+
+pub fault_same : (asks : List ℕ → Resolving Url) (out : Outcome) (last : Option Found) (fault : Option Failing) (failing : Failing)
+    → fault ≡ Some failing → response_of asks out last fault ≡ fails_of (Came Found) failing
+fault_same asks out last fault failing e = ap (response_of asks out last) e

@@ -165,11 +165,35 @@ fn chosen<F: Folder>(
         last: None,
         fault: None,
     };
-    match choose(alloc, target, conditions, star, true, &mut bares) {
+    chosen_by(alloc, &mut bares, target, star, conditions)
+}
+
+/// The same by an object that was asked for nothing yet.
+fn chosen_by<F: Folder>(
+    alloc: Global,
+    bares: &mut BareTexts<'_, F>,
+    target: &Value,
+    star: Option<&str>,
+    conditions: &Conditions,
+) -> Result<(Outcome, Option<Result<FileUrl, Refusal>>), NodeFault>
+    requires last { bares.now.last ≡ None }
+    requires fault { bares.now.fault ≡ None }
+    ensures known { bares.new.known.ghost_name ≡ bares.old.known.ghost_name }
+    ensures folder { bares.new.folder.ghost_name ≡ bares.old.folder.ghost_name }
+    ensures trail { bares.new.trail.ghost_name ≡ bares.old.trail.ghost_name }
+    ensures answered { Answered
+        (state (F.state bares.old.folder.now) bares.old.known.now bares.old.trail.now)
+        (target_comes (bares_from bares.old.conditions.now bares.old.package_folder.now)
+        (judged_by conditions.now (option_map (λ part. part.now) star.entry) true) (json_of target.now) None)
+        (chosen_shown result)
+        (state (F.state bares.new.folder.now) bares.new.known.now bares.new.trail.now) }
+    ensures place { IfOk result (λ found. BeginsWithDotSlash found.0) }
+{
+    match choose(alloc, target, conditions, star, true, bares) {
         Err(_) => Err(lost(bares.fault)),
         Ok(outcome) => match bares.fault {
             Some(fault) => Err(fault),
-            None => Ok((outcome, bares.last)),
+            None => Ok((outcome, bares.last.take())),
         },
     }
 }
