@@ -3,7 +3,7 @@
 --     last_shown last              the same, where a text was answered
 --     lost_by fault                why nothing is told where memory is wanting
 --     split_shown result           of a call, an answer or what kept the text from being answered
---     chosen_shown result          what a target comes to, and the answer to the text that was asked for last
+--     chosen_shown result last     what a target comes to, and the answer to the text that was asked for last
 --     Kept, kept state last fault  what the object that answers keeps
 --     GivesBare ask before text answer after      one call of it
 use Rattle.std.specs.Prelude.{◌≡◌, ℕ, List, Option, Some, None, option_map, Result, Ok, Err}
@@ -49,9 +49,9 @@ abbrev pub split_shown : Result (Result (List ℕ) Refusal) NodeFault → Respon
 split_shown (Ok found) = given (found_shown found)
 split_shown (Err fault) = fails (failing_of fault)
 
-abbrev pub chosen_shown : Result (Outcome × Option (Result (List ℕ) Refusal)) NodeFault → Response (Came target.Found)
-chosen_shown (Ok chosen) = given (came chosen.0 (last_shown chosen.1))
-chosen_shown (Err fault) = fails (failing_of fault)
+abbrev pub chosen_shown : Result Outcome NodeFault → Option (Result (List ℕ) Refusal) → Response (Came target.Found)
+chosen_shown (Ok out) last = given (came out (last_shown last))
+chosen_shown (Err fault) last = fails (failing_of fault)
 
 pub record Kept : Type 0 where
   pub state : State

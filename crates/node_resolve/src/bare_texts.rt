@@ -40,7 +40,7 @@ struct BareTexts<'a, F: Folder> {
     trail: &'a mut Trail,
     package_folder: &'a Path,
     conditions: &'a Conditions,
-    last: Option<Result<FileUrl, Refusal>>,
+    last: &'a mut Option<Result<FileUrl, Refusal>>,
     fault: Option<NodeFault>,
 }
 
@@ -51,10 +51,10 @@ impl<'a, F: Folder> BareTarget for BareTexts<'a, F> {
 
     ghost gives = { λ old text answer new. (new.known.ghost_name ≡ old.known.ghost_name)
         × (new.folder.ghost_name ≡ old.folder.ghost_name) × (new.trail.ghost_name ≡ old.trail.ghost_name)
-        × (new.package_folder ≡ old.package_folder) × (new.conditions ≡ old.conditions)
+        × (new.last.ghost_name ≡ old.last.ghost_name) × (new.package_folder ≡ old.package_folder) × (new.conditions ≡ old.conditions)
         × GivesBare (package_resolve old.conditions.now old.package_folder.now)
-        (kept (state (F.state old.folder.now) old.known.now old.trail.now) old.last old.fault) text answer
-        (kept (state (F.state new.folder.now) new.known.now new.trail.now) new.last new.fault) };
+        (kept (state (F.state old.folder.now) old.known.now old.trail.now) old.last.now old.fault) text answer
+        (kept (state (F.state new.folder.now) new.known.now new.trail.now) new.last.now new.fault) };
 
     ghost fails = { λ old text new. ⊥ };
 
@@ -71,7 +71,7 @@ impl<'a, F: Folder> BareTarget for BareTexts<'a, F> {
         match found_of(resolved) {
             Ok(found) => {
                 let answer = judge_bare(&found);
-                self.last = Some(found);
+                *self.last = Some(found);
                 Ok(answer)
             }
             Err(fault) => {
@@ -124,6 +124,7 @@ pub fn import_target<F: Folder>(
         package_folder.now ImportNotDefined (json_of target.now))
         (responded itself result) (state (F.state folder.new) known.new trail.new) }
 {
+    let mut last = None;
     match chosen(
         alloc,
         known,
@@ -133,13 +134,14 @@ pub fn import_target<F: Folder>(
         target,
         star,
         conditions,
+        &mut last,
     ) {
         Err(fault) => Err(fault),
-        Ok((outcome, last)) => url_of(alloc, package_folder, outcome, last),
+        Ok(outcome) => url_of(alloc, package_folder, outcome, last),
     }
 }
 
-/// What a target comes to, and the answer to the bare text that was asked for last.
+/// What a target comes to. The answer to the bare text that was asked for last is put into `last`.
 fn chosen<F: Folder>(
     alloc: Global,
     known: &mut Known,
@@ -149,12 +151,14 @@ fn chosen<F: Folder>(
     target: &Value,
     star: Option<&str>,
     conditions: &Conditions,
-) -> Result<(Outcome, Option<Result<FileUrl, Refusal>>), NodeFault>
+    last: &mut Option<Result<FileUrl, Refusal>>,
+) -> Result<Outcome, NodeFault>
+    requires { last.now ≡ None }
     ensures answered { Answered (state (F.state folder.old) known.old trail.old)
         (target_comes (bares_from conditions.now package_folder.now)
         (judged_by conditions.now (option_map (λ part. part.now) star.entry) true) (json_of target.now) None)
-        (chosen_shown result) (state (F.state folder.new) known.new trail.new) }
-    ensures place { IfOk result (λ found. BeginsWithDotSlash found.0) }
+        (chosen_shown result last.new) (state (F.state folder.new) known.new trail.new) }
+    ensures place { IfOk result BeginsWithDotSlash }
 {
     let mut bares = BareTexts {
         known,
@@ -162,7 +166,7 @@ fn chosen<F: Folder>(
         trail,
         package_folder,
         conditions,
-        last: None,
+        last,
         fault: None,
     };
     chosen_by(alloc, &mut bares, target, star, conditions)
@@ -175,25 +179,26 @@ fn chosen_by<F: Folder>(
     target: &Value,
     star: Option<&str>,
     conditions: &Conditions,
-) -> Result<(Outcome, Option<Result<FileUrl, Refusal>>), NodeFault>
-    requires last { bares.now.last ≡ None }
+) -> Result<Outcome, NodeFault>
+    requires last { bares.now.last.now ≡ None }
     requires fault { bares.now.fault ≡ None }
     ensures known { bares.new.known.ghost_name ≡ bares.old.known.ghost_name }
     ensures folder { bares.new.folder.ghost_name ≡ bares.old.folder.ghost_name }
     ensures trail { bares.new.trail.ghost_name ≡ bares.old.trail.ghost_name }
+    ensures last { bares.new.last.ghost_name ≡ bares.old.last.ghost_name }
     ensures answered { Answered
         (state (F.state bares.old.folder.now) bares.old.known.now bares.old.trail.now)
         (target_comes (bares_from bares.old.conditions.now bares.old.package_folder.now)
         (judged_by conditions.now (option_map (λ part. part.now) star.entry) true) (json_of target.now) None)
-        (chosen_shown result)
+        (chosen_shown result bares.new.last.now)
         (state (F.state bares.new.folder.now) bares.new.known.now bares.new.trail.now) }
-    ensures place { IfOk result (λ found. BeginsWithDotSlash found.0) }
+    ensures place { IfOk result BeginsWithDotSlash }
 {
     match choose(alloc, target, conditions, star, true, bares) {
         Err(_) => Err(lost(bares.fault)),
         Ok(outcome) => match bares.fault {
             Some(fault) => Err(fault),
-            None => Ok((outcome, bares.last.take())),
+            None => Ok(outcome),
         },
     }
 }

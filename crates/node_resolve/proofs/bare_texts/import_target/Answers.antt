@@ -17,5 +17,5 @@ returns-in-Err g c =
 pub returns-in-Ok : goal.returns-in-Ok
 returns-in-Ok g c =
     then_given _ _ _ _ (target_url c.args.package_folder.now ImportNotDefined)
-    (came c.in-Ok.outcome (last_shown c.in-Ok.last)) _ (rw c.in-Ok.is at c.chosen.ensures.answered)
+    (came c.in-Ok.outcome (last_shown c.chosen.new.last)) _ (rw c.in-Ok.is at c.chosen.ensures.answered)
     (now_comes itself _ _ c.url_of.result c.url_of.ensures)
