@@ -347,9 +347,11 @@ module _ (ask : List ℕ → Resolving Url) where
         by_fault sights fault f
         (λ kept alone. subst (λ last. evaluated (tagged (limited look_limits sights)) before.state.trail
         (target_comes bares rules goal last) ≡ ends (came out after.last) after.state.trail) none (asks.value kept alone))
-        (λ stop kept some. (let found = asks.limit stop kept some in (found.0,
-        subst (λ last. evaluated (tagged (limited look_limits sights)) before.state.trail
-        (target_comes bares rules goal last) ≡ stopped stop found.0) none found.1)))
+        (λ stop kept some. (let found = asks.limit stop kept some in (
+          found.0,
+          subst (λ last. evaluated (tagged (limited look_limits sights)) before.state.trail
+              (target_comes bares rules goal last) ≡ stopped stop found.0) none found.1,
+        )))
 
     whole_by : (fault : Option Failing) → after.fault ≡ fault
         → Answered before.state (row asked) (row_response fault) after.state

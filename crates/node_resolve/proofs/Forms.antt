@@ -104,11 +104,11 @@ module _ (folder : List ℕ) (others : List (List ℕ)) where
       (λ found. and_then (and_then (shown_if url (serves url found)) (served_or rest)) behind)
       (λ found. by_served url rest all e (serves url found))
       ∙ sym (
-        ap (λ a. and_then (and_then a (served_or rest)) behind)
-        (twice (look_at_url url) (λ found. answered (serves url found)) (shown_if url))
-        ∙ (ap (λ a. and_then a behind)
-        (twice (look_at_url url) (λ found. shown_if url (serves url found)) (served_or rest))
-        ∙ twice (look_at_url url) (λ found. and_then (shown_if url (serves url found)) (served_or rest)) behind)
+      ap (λ a. and_then (and_then a (served_or rest)) behind)
+      (twice (look_at_url url) (λ found. answered (serves url found)) (shown_if url))
+      ∙ (ap (λ a. and_then a behind)
+      (twice (look_at_url url) (λ found. shown_if url (serves url found)) (served_or rest))
+      ∙ twice (look_at_url url) (λ found. and_then (shown_if url (serves url found)) (served_or rest)) behind)
       )
 
   text_is : (found : Option Url) (rest : LookAsking (Option Url)) (all : Resolving Url) → all ≡ and_then rest behind

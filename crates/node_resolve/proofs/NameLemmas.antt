@@ -54,7 +54,7 @@ behind_name : (text : List ℕ) → AtSlash (drop (name_length text) text)
 behind_name text =
     ⊎_elim
     (λ e. subst (λ n. AtSlash (drop n text)) (sym (cond-true _ _ _ e))
-      (subst AtSlash (join text) (behind_slash (drop (1 + until_slash text) text))))
+    (subst AtSlash (join text) (behind_slash (drop (1 + until_slash text) text))))
     (λ e. subst (λ n. AtSlash (drop n text)) (sym (cond-false _ _ _ e)) (behind_slash text))
     (cases_Bool (begins text (codes "@")))
   where

@@ -43,8 +43,8 @@ named_none url no_separator none =
     let path : List ℕ = spelled_path (url_path url) in
     ⊎_elim
     (λ both.
-      let parts = and_parts _ _ both in
-      absurd (none path (record { no_separator = no_separator; spelled = refl; utf8 = IsUtf8-from_is_utf8 path parts.0; is_path = path_by_test path parts.1 })))
+    let parts = and_parts _ _ both in
+    absurd (none path (record { no_separator = no_separator; spelled = refl; utf8 = IsUtf8-from_is_utf8 path parts.0; is_path = path_by_test path parts.1 })))
     (λ lost. cond-false _ (Some path) None lost)
     (cases_Bool (is_utf8 path && is_path path))
 
@@ -135,7 +135,7 @@ nothing_named : (url : List ℕ) → ((path : List ℕ) → NamesPath (url_path 
 nothing_named url none =
     ⊎_elim (λ e. cond-true _ (answered None) (look_at_named (named_path url)) e)
     (λ e. cond-false _ (answered None) (look_at_named (named_path url)) e
-      ∙ ap look_at_named (named_none url e none))
+    ∙ ap look_at_named (named_none url e none))
     (cases_Bool (escapes_separator (url_path url)))
 
 something_named : (url path : List ℕ) → NamesPath (url_path url) path → look_at_url url ≡ look_at path

@@ -27,4 +27,3 @@ abbrev pub first_served : List ℕ → List (List ℕ) → LookAsking (Option Ur
 first_served folder [] = answered None
 first_served folder (text ∷ more) =
     and_then (served_at (url_in folder (codes "./" ++ text))) (served_or (first_served folder more))
-

@@ -89,9 +89,11 @@ fn found_of(resolved: Result<FileUrl, NodeFault>) -> Result<Result<FileUrl, Refu
     match resolved {
         Ok(url) => Ok(Ok(url)),
         Err(NodeFault::Refused(cause)) => Ok(Err(Refusal::ByCause(cause))),
-        Err(NodeFault::Limit {
-            which: LimitName::Depth,
-        }) => Ok(Err(Refusal::TooDeep)),
+        Err(
+            NodeFault::Limit {
+                which: LimitName::Depth,
+            },
+        ) => Ok(Err(Refusal::TooDeep)),
         Err(fault) => Err(fault),
     }
 }

@@ -102,7 +102,9 @@ fn imported<F: Folder>(
 {
     match imports {
         Value::Object(members) => {
-            import_at(alloc, known, folder, trail, scope, text, members, conditions)
+            import_at(
+                alloc, known, folder, trail, scope, text, members, conditions,
+            )
         }
         Value::Null => Err(NodeFault::Refused(Cause::ImportNotDefined)),
         Value::Bool(_) => Err(NodeFault::Refused(Cause::ImportNotDefined)),

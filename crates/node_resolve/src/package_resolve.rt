@@ -129,7 +129,14 @@ fn resolve_in_folder<F: Folder>(
         Err(fault) => Err(behind(fault)),
         Ok(None) => resolve_file(alloc, known, folder, trail, package_folder, subpath, None),
         Ok(Some(of_package)) => resolve_by_record(
-            alloc, known, folder, trail, package_folder, subpath, &of_package, conditions,
+            alloc,
+            known,
+            folder,
+            trail,
+            package_folder,
+            subpath,
+            &of_package,
+            conditions,
         ),
     }
 }
@@ -151,7 +158,13 @@ fn resolve_by_record<F: Folder>(
         (responded itself result) (state (F.state folder.new) known.new trail.new) }
 {
     if !is_null(&of_package.exports) {
-        return exported(alloc, package_folder, subpath, &of_package.exports, conditions);
+        return exported(
+            alloc,
+            package_folder,
+            subpath,
+            &of_package.exports,
+            conditions,
+        );
     }
     match &of_package.main {
         None => resolve_file(alloc, known, folder, trail, package_folder, subpath, None),

@@ -77,7 +77,13 @@ fn self_in(
     if !names_itself(of_scope, asked.name) {
         return Ok(None);
     }
-    match exported(alloc, scope, asked.subpath.as_str(), &of_scope.exports, conditions) {
+    match exported(
+        alloc,
+        scope,
+        asked.subpath.as_str(),
+        &of_scope.exports,
+        conditions,
+    ) {
         Err(fault) => Err(fault),
         Ok(url) => Ok(Some(url)),
     }

@@ -115,7 +115,9 @@ fn serves_at<F: Folder>(
         (looked itself result) (state (F.state folder.new) known.new trail.new) }
 {
     let Place {
-        path, folder_only, ..
+        path,
+        folder_only,
+        ..
     } = place;
     match path {
         None => Ok(false),
