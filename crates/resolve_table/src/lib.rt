@@ -1,7 +1,10 @@
 //! A table of what specifiers give in small trees, each line typed by hand from the rules of Node's documentation and
-//! from those of this project's own, one case a rule and its neighbours. The conditions are `browser` and `import`.
+//! from those of this project's own, one case a rule and its neighbours. Where it says
+//! nothing else, the conditions are `browser` and `import`.
 #![tactic(auto)]
 
+#[cfg(test)]
+mod conditions;
 #[cfg(test)]
 mod exports;
 #[cfg(test)]

@@ -128,16 +128,27 @@ fn resolved<L: Ledger>(
     )
 }
 
-/// What the file at a path gets for a specifier.
+/// What the file at a path gets for a specifier under these conditions.
+pub fn found_under(
+    alloc: Global,
+    asked: &mut Asked,
+    conditions: &str,
+    from: &str,
+    specifier: &str,
+) -> Result<Result<Found, NodeFault>, Fail> {
+    let conditions = Conditions::parse(alloc, conditions)?;
+    let from = Path::parse(alloc, from)?;
+    Ok(resolved::<Brand>(alloc, asked, &from, specifier, &conditions, Blank::new(1)))
+}
+
+/// The same under the conditions of the table.
 pub fn found(
     alloc: Global,
     asked: &mut Asked,
     from: &str,
     specifier: &str,
 ) -> Result<Result<Found, NodeFault>, Fail> {
-    let conditions = Conditions::parse(alloc, "browser,import")?;
-    let from = Path::parse(alloc, from)?;
-    Ok(resolved::<Brand>(alloc, asked, &from, specifier, &conditions, Blank::new(1)))
+    found_under(alloc, asked, "browser,import", from, specifier)
 }
 
 fn cause_name(cause: Cause) -> &'static str {
