@@ -128,6 +128,16 @@ fn resolved<L: Ledger>(
     )
 }
 
+fn resolved_in(
+    alloc: Global,
+    asked: &mut Asked,
+    from: &Path,
+    specifier: &str,
+    conditions: &Conditions,
+) -> Result<Found, NodeFault> {
+    resolved::<Brand>(alloc, asked, from, specifier, conditions, Blank::new(1))
+}
+
 /// What the file at a path gets for a specifier under these conditions.
 pub fn found_under(
     alloc: Global,
@@ -138,7 +148,7 @@ pub fn found_under(
 ) -> Result<Result<Found, NodeFault>, Fail> {
     let conditions = Conditions::parse(alloc, conditions)?;
     let from = Path::parse(alloc, from)?;
-    Ok(resolved::<Brand>(alloc, asked, &from, specifier, &conditions, Blank::new(1)))
+    Ok(resolved_in(alloc, asked, &from, specifier, &conditions))
 }
 
 /// The same under the conditions of the table.
