@@ -107,7 +107,7 @@ fn resolved<L: Ledger>(
     alloc: Global,
     asked: &mut Asked,
     from: &Path,
-    specifier: &str,
+    specifier: &String,
     conditions: &Conditions,
     blank: Blank,
 ) -> Result<Found, NodeFault>
@@ -122,7 +122,7 @@ fn resolved<L: Ledger>(
         &mut asked.folder,
         &mut asked.trail,
         from,
-        specifier,
+        specifier.as_str(),
         conditions,
         &mut steps,
     )
@@ -132,7 +132,7 @@ fn resolved_in(
     alloc: Global,
     asked: &mut Asked,
     from: &Path,
-    specifier: &str,
+    specifier: &String,
     conditions: &Conditions,
 ) -> Result<Found, NodeFault> {
     resolved::<Brand>(alloc, asked, from, specifier, conditions, Blank::new(1))
@@ -148,7 +148,8 @@ pub fn found_under(
 ) -> Result<Result<Found, NodeFault>, Fail> {
     let conditions = Conditions::parse(alloc, conditions)?;
     let from = Path::parse(alloc, from)?;
-    Ok(resolved_in(alloc, asked, &from, specifier, &conditions))
+    let specifier = String::from_str(alloc, specifier)?;
+    Ok(resolved_in(alloc, asked, &from, &specifier, &conditions))
 }
 
 /// The same under the conditions of the table.
