@@ -7,15 +7,13 @@
 use Rattle.std.proofs.Common.{◌≡◌, Option, Some, None, IfSome, List, ℕ, Result, Ok, Err, refl, sym, ap, ◌∙◌, subst}
 use Rattle.asking_spec.specs.Evaluation.{evaluated}
 use Rattle.tree_spec.specs.LookLimits.{look_limits, limited}
-use Rattle.tree_spec.specs.States.{FolderState, OnlyLooks}
 use Rattle.tree_spec.specs.Trees.{Tree}
 use Rattle.package_lookup.specs.Looked.{Sees}
 use Rattle.asking_spec.specs.Askings.{answered, and_then, on_ok, and_ok}
 use Rattle.tree_spec.specs.LookAskings.{Sights, LookAsking}
 use Rattle.tree_spec.specs.declared.LimitName.{LimitName}
-use Rattle.node_spec.specs.NodeAnswers.{Refusal, by_cause, too_deep, Resolving}
+use Rattle.node_spec.specs.NodeAnswers.{Refusal, by_cause, Resolving}
 use Rattle.node_spec.specs.declared.Cause.{Cause}
-use Rattle.node_spec.specs.declared.Cause.TheVariants.{InvalidConfig}
 use Rattle.package_lookup.specs.Answered.{State, Comes, Tells, AsksOnce, Answered}
 use Rattle.package_lookup.specs.Responses.{Response, given, fails, passes, not_read, no_memory, never, by_fault, bad_config, deep_config}
 use Rattle.package_lookup.specs.declared.fault.LookupFault.{LookupFault}

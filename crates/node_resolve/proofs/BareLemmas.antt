@@ -2,16 +2,15 @@
 --     calls_seen, calls_keep       calls of the object, by what it keeps
 --     choice_answered, choice_lost      the whole target
 --     moved, chosen_fails          what is handed on
-use Rattle.std.proofs.Common.{◌≡◌, ℕ, List, [], ◌∷◌, ◌++◌, Bool, true, false, Option, Some, None, IfSome, Result, Ok, Err, refl, sym, ap, ◌∙◌, subst}
+use Rattle.std.proofs.Common.{◌≡◌, ℕ, List, [], ◌∷◌, ◌++◌, Bool, true, false, Option, Some, None, IfSome, refl, sym, ap, ◌∙◌, subst}
 use Rattle.std.specs.Prelude.{All, ⊤}
 use Rattle.std.proofs.lemmas.List.Elements.{All-head, All-tail}
-use Rattle.asking_spec.specs.Askings.{Asking, answered, ask, and_then}
-use Rattle.asking_spec.specs.Evaluation.{Ended, ends, stopped, then_ended, Answers, evaluated}
+use Rattle.asking_spec.specs.Askings.{answered, ask, and_then}
+use Rattle.asking_spec.specs.Evaluation.{Ended, ends, stopped, then_ended, evaluated}
 use Rattle.json_spec.specs.Value.{Json}
 use Rattle.tree_spec.specs.LookAskings.{Sights, LookAsking}
 use Rattle.tree_spec.specs.LookLimits.{Trail, look_limits, limited}
 use Rattle.tree_spec.specs.Trees.{Tree}
-use Rattle.tree_spec.specs.declared.Entry.{Entry}
 use Rattle.tree_spec.specs.States.{FolderState}
 use Rattle.tree_spec.specs.declared.LimitName.{LimitName}
 use Rattle.tree_spec.specs.declared.LimitName.TheVariants.{File, Bytes, Looks, Modules, ModuleRequests, Requests, Specifier, Entries, Brackets, Depth, Session, Map, Choices}

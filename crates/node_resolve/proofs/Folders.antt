@@ -1,5 +1,5 @@
 -- The folder of a file.
-use Rattle.std.proofs.Common.{◌≡◌, ℕ, List, refl, sym, ap, ◌∙◌}
+use Rattle.std.proofs.Common.{◌≡◌, ℕ, List, sym, ap}
 use Rattle.std.specs.Prelude.{codes}
 use Rattle.tree_spec.proofs.FolderLemmas.{folders_from_root, folder_is_parent}
 use Rattle.tree_spec.specs.FoldersAbove.{folder_of, second_or}

@@ -6,9 +6,8 @@ use Rattle.std.proofs.Common.{◌≡◌, ◌++◌, [], ◌∷◌, ℕ, List, Boo
 use Rattle.std.specs.Prelude.{◌&&◌, not, codes, map, if◌then◌else◌}
 use Rattle.asking_spec.specs.Askings.{Asking, answered, ask, and_then, on_ok, and_ok}
 use Rattle.tree_spec.specs.LookAskings.{LookAsking}
-use Rattle.tree_spec.specs.declared.Entry.{Entry}
 use Rattle.node_spec.specs.FileLooks.{look_at_url, url_in}
-use Rattle.node_spec.specs.LegacyMainResolve.{main_ends, index_files, main_files, serves, file_or, first_file, main_file}
+use Rattle.node_spec.specs.LegacyMainResolve.{main_ends, index_files, serves, file_or, first_file, main_file}
 use Rattle.node_spec.specs.LookupPackageScope.{package_scope}
 use Rattle.node_spec.specs.NodeAnswers.{Url, Refusal, Resolving, gives, refuses}
 use Rattle.node_spec.specs.PackageExportsResolve.{exported}

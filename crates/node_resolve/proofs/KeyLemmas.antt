@@ -1,6 +1,6 @@
 -- The target of the key that is taken.
 --     key_none, key_some           by what is found for a text
-use Rattle.std.proofs.Common.{◌≡◌, ℕ, List, Option, Some, None, ap, ◌∙◌}
+use Rattle.std.proofs.Common.{◌≡◌, ℕ, List, Option, None, ap, ◌∙◌}
 use Rattle.json_spec.specs.Value.{Json}
 use Rattle.node_spec.specs.NodeAnswers.{refuses}
 use Rattle.node_spec.specs.PackageImportsExportsResolve.{Subpaths, keys_of, at_key, by_key}

@@ -3,15 +3,14 @@
 --     served_lost, served_fails, served_there, served_absent      one text
 --     none_first, first_fails, first_here, first_later            one text after another
 --     file_fails, file_found, file_behind                         the main file, by the first file of some texts
-use Rattle.std.proofs.Common.{◌≡◌, ◌++◌, [], ◌∷◌, ℕ, List, Bool, true, false, Option, Some, None, Result, Ok, Err, refl, sym, ap, ◌∙◌, subst}
-use Rattle.std.specs.Prelude.{codes, map, if◌then◌else◌}
+use Rattle.std.proofs.Common.{◌≡◌, ◌++◌, [], ◌∷◌, ℕ, List, Bool, true, false, Option, Some, None, Result, Ok, sym, ◌∙◌, subst}
+use Rattle.std.specs.Prelude.{codes, if◌then◌else◌}
 use Rattle.asking_spec.specs.Askings.{answered, and_then}
 use Rattle.tree_spec.specs.LookAskings.{LookAsking}
 use Rattle.url_spec.specs.FileUrls.{file_text}
 use Rattle.url_spec.specs.Parsing.{parse_against}
-use Rattle.node_spec.specs.FileLooks.{without_host, url_in, look_at_url}
-use Rattle.node_spec.specs.LegacyMainResolve.{serves}
-use Rattle.node_spec.specs.NodeAnswers.{Url, Refusal, Resolving, gives}
+use Rattle.node_spec.specs.FileLooks.{without_host, url_in}
+use Rattle.node_spec.specs.NodeAnswers.{Url, Refusal, Resolving}
 use Rattle.package_lookup.specs.Answered.{State, Answered}
 use Rattle.package_lookup.specs.Responses.{Response, given, fails, never, by_fault}
 use Rattle.package_lookup.specs.declared.fault.LookupFault.{LookupFault}

@@ -4,7 +4,7 @@
 --     field_passed, field_here     the value with a name, member by member
 --     none_first, target_is        the key that is taken
 use Rattle.std.proofs.Common.{◌≡◌, ◌≢◌, ◌&&◌, ◌||◌, ℕ, zero, suc, Bool, true, false, not, List, [], ◌∷◌, Option, Some, None, refl, sym, ap, ◌∙◌, subst, ⊎_elim}
-use Rattle.std.specs.Prelude.{map, slice_get, bytes_eq, MatchOption, if◌then◌else◌}
+use Rattle.std.specs.Prelude.{map, slice_get, bytes_eq, MatchOption}
 use Rattle.std.specs.List.{list_any, list_all}
 use Rattle.std.proofs.lemmas.Bool.{cond-true, cond-false, cases_Bool}
 use Rattle.std.proofs.lemmas.Slice.Eq.{bytes_eq-Decides}

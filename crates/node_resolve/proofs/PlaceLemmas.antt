@@ -1,8 +1,8 @@
 -- What stands at the place of a URL.
 --     judged_escaped, judged_nameless, judged_seen, judged_unseen      the module at a URL, by its place
 --     serves_nameless, serves_seen, serves_unseen                      whether a file stands there
-use Rattle.std.proofs.Common.{◌≡◌, ℕ, Bool, true, false, List, Option, Some, None, Result, Ok, Err, refl, sym, ap, ◌∙◌, subst, ⊎_elim}
-use Rattle.std.specs.Prelude.{◌&&◌, not, if◌then◌else◌}
+use Rattle.std.proofs.Common.{◌≡◌, ℕ, Bool, true, false, List, Option, Some, None, Result, Err, refl, sym, ap, ◌∙◌, subst, ⊎_elim}
+use Rattle.std.specs.Prelude.{◌&&◌, not}
 use Rattle.std.specs.Str.{is_utf8}
 use Rattle.std.proofs.lemmas.Bool.{cond-true, cond-false, cases_Bool, and_parts}
 use Rattle.std.proofs.lemmas.Str.{IsUtf8-from_is_utf8}
@@ -17,10 +17,10 @@ use Rattle.url_spec.proofs.PathDecisions.{path_by_test}
 use Rattle.node_spec.specs.EsmResolve as esm
 use Rattle.node_spec.specs.FileLooks.{look_at_named, look_at_url, is_file}
 use Rattle.node_spec.specs.LegacyMainResolve.{serves}
-use Rattle.node_spec.specs.NodeAnswers.{Module, Refusal, by_cause, Resolving, refuses, as_node}
+use Rattle.node_spec.specs.NodeAnswers.{Module, Refusal, by_cause, refuses, as_node}
 use Rattle.node_spec.specs.Resolution as node
 use Rattle.node_spec.specs.Resolution.{is_folder_path}
-use Rattle.node_spec.specs.RelativeResolution.{named_path, judged, judged_at, url_judged}
+use Rattle.node_spec.specs.RelativeResolution.{named_path, judged, judged_at}
 use Rattle.node_spec.specs.declared.Cause.TheVariants.{InvalidSpecifier, NotFound}
 use Rattle.node_spec.proofs.RelativeLemmas.{names_pass}
 use Rattle.package_lookup.specs.Answered.{State, Answered}

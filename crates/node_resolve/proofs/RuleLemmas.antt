@@ -5,7 +5,7 @@
 --     main_of, inside_of           a subpath in a package without exports
 --     relative_is, import_is, bare_is      a specifier that is no URL
 --     node_scheme, other_scheme, no_scheme      a specifier by its scheme
-use Rattle.std.proofs.Common.{◌≡◌, ℕ, List, [], Bool, true, false, Option, Some, None, Result, Ok, Err, refl, sym, ap, ◌∙◌}
+use Rattle.std.proofs.Common.{◌≡◌, ℕ, List, [], Bool, true, false, Option, Some, None, refl, sym, ap, ◌∙◌}
 use Rattle.std.specs.Prelude.{bytes_eq, codes, if◌then◌else◌}
 use Rattle.std.proofs.lemmas.Bool.{cond-true, cond-false}
 use Rattle.asking_spec.specs.Askings.{and_ok}
@@ -15,7 +15,7 @@ use Rattle.node_spec.specs.BuiltinNames.{is_builtin}
 use Rattle.node_spec.specs.EsmResolve.{no_url, by_scheme}
 use Rattle.node_spec.specs.FileLooks.{url_in, check_url, without_host}
 use Rattle.node_spec.specs.LegacyMainResolve.{main_file}
-use Rattle.node_spec.specs.NodeAnswers.{Url, Resolving, refuses}
+use Rattle.node_spec.specs.NodeAnswers.{Url, refuses}
 use Rattle.node_spec.specs.PackageExportsResolve.{exported}
 use Rattle.node_spec.specs.PackageImportsResolve.{imports_resolve}
 use Rattle.node_spec.specs.PackageResolve.{lacks_name, name_length, is_package_name, split_at, inside, by_files, by_record, in_modules, by_name, package_resolve}

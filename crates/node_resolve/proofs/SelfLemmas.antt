@@ -5,7 +5,7 @@ use Rattle.std.specs.Prelude.{if◌then◌else◌}
 use Rattle.std.proofs.lemmas.Bool.{cond-true, cond-false}
 use Rattle.asking_spec.specs.Askings.{on_ok, and_ok}
 use Rattle.node_spec.specs.NodeAnswers.{Url, Refusal, by_cause, too_deep, Resolving, gives}
-use Rattle.package_lookup.specs.Responses.{deep_config, by_limit, given}
+use Rattle.package_lookup.specs.Responses.{deep_config, by_limit}
 use Rattle.tree_spec.specs.declared.LimitName.{LimitName}
 use Rattle.tree_spec.specs.declared.LimitName.TheVariants.{File, Bytes, Looks, Modules, ModuleRequests, Requests, Specifier, Entries, Brackets, Depth, Session, Map, Choices}
 use Rattle.node_resolve.specs.Responses.{by_node_fault, NeedsNoLook, ComesNow}

@@ -2,19 +2,19 @@
 --     given_now                    what is answered without a look
 --     comes_by                     what goes on behind what needs no look
 --     export_comes                 a target in `exports` needs no look
-use Rattle.std.proofs.Common.{◌≡◌, ◌≢◌, ℕ, List, [], Bool, false, Option, Some, None, Result, Ok, Err, refl, sym, ap, ◌∙◌, subst}
+use Rattle.std.proofs.Common.{◌≡◌, ◌≢◌, ℕ, List, [], false, Option, None, Result, refl, ap, ◌∙◌, subst}
 use Rattle.asking_spec.proofs.EvaluationLemmas.{evaluated_then}
 use Rattle.asking_spec.specs.Askings.{answered, and_then}
 use Rattle.asking_spec.specs.Evaluation.{ends, then_ended, evaluated}
 use Rattle.json_spec.specs.Value.{Json}
-use Rattle.tree_spec.specs.LookAskings.{Sights, LookAsking}
-use Rattle.tree_spec.specs.LookLimits.{Trail, look_limits, limited}
+use Rattle.tree_spec.specs.LookAskings.{LookAsking}
+use Rattle.tree_spec.specs.LookLimits.{look_limits, limited}
 use Rattle.node_spec.proofs.DecidingCall.{exports_ask_nothing}
 use Rattle.node_spec.proofs.TargetsFollowed.{follows_target}
 use Rattle.node_spec.specs.NodeAnswers.{Url}
 use Rattle.node_spec.specs.PackageTargetResolve.{Found, came, no_bares, target_comes, target_url, package_target}
 use Rattle.node_spec.specs.PackageTargets.{Rules, Call, ResolvesTarget}
-use Rattle.node_spec.specs.TargetCalls.{Followed, no_call}
+use Rattle.node_spec.specs.TargetCalls.{no_call}
 use Rattle.node_spec.specs.declared.Cause.{Cause}
 use Rattle.node_spec.specs.declared.Outcome.{Outcome}
 use Rattle.node_spec.specs.declared.Outcome.TheVariants.{Undefined, Null, Place, Bare, Stopped, InvalidTarget, InvalidSpecifier, InvalidConfig}

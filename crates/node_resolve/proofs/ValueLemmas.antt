@@ -2,15 +2,15 @@
 --     json_of_null .. json_of_object      by its kind
 --     main_text, main_list, main_dotted, main_plain      the subpath `.` by what is exported
 --     subpath_by_key, subpath_none        another subpath
-use Rattle.std.proofs.Common.{◌≡◌, rules, ℕ, List, Bool, true, false, Option, Some, None, sym, ap, ◌∙◌, subst}
-use Rattle.std.specs.Prelude.{codes, if◌then◌else◌}
+use Rattle.std.proofs.Common.{◌≡◌, rules, ℕ, List, Bool, true, false, sym, ap, ◌∙◌}
+use Rattle.std.specs.Prelude.{codes}
 use Rattle.std.proofs.lemmas.Bool.{cond-true, cond-false}
 use Rattle.std.specs.List.{list_all}
 use Rattle.json_spec.specs.Value.{Json, a_null, a_bool, a_number, a_text, a_list, an_object, Items, Members}
 use Rattle.ordered_json.specs.Shown.{json_of}
-use Rattle.ordered_json.specs.declared.value.Value.{Value, the_lemmas}
+use Rattle.ordered_json.specs.declared.value.Value.{the_lemmas}
 use Rattle.ordered_json.specs.declared.value.Value.TheVariants as value
-use Rattle.node_spec.specs.NodeAnswers.{Url, refuses}
+use Rattle.node_spec.specs.NodeAnswers.{refuses}
 use Rattle.node_spec.specs.PackageExportsResolve.{is_dotted, has_dotted, main_target, main_export, export_paths, subpath_export}
 use Rattle.node_spec.specs.PackageImportsExportsResolve.{keys_of, by_key}
 use Rattle.node_spec.specs.Records.{field}

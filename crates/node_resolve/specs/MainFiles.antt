@@ -7,7 +7,7 @@ use Rattle.asking_spec.specs.Askings.{answered, and_then}
 use Rattle.tree_spec.specs.LookAskings.{LookAsking}
 use Rattle.node_spec.specs.FileLooks.{look_at_url, url_in}
 use Rattle.node_spec.specs.LegacyMainResolve.{serves}
-use Rattle.node_spec.specs.NodeAnswers.{Url, Resolving, gives}
+use Rattle.node_spec.specs.NodeAnswers.{Url}
 use denote.Ref.{Bor}
 
 abbrev pub texts_of : List (Bor (List ℕ)) → List (List ℕ)

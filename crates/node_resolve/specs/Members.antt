@@ -2,7 +2,7 @@
 --     found_field found                    the value that is found; where there is none, null
 --     IsTarget members asked found         the target of the key that is taken, with what stands for `*`
 --     FindsTarget members asked result     the same, where a key is taken
-use Rattle.std.specs.Prelude.{◌≡◌, ℕ, List, Option, Some, None, option_map, MatchOption}
+use Rattle.std.specs.Prelude.{◌≡◌, ℕ, List, Option, Some, None}
 use Rattle.json_spec.specs.Value.{Json, a_null, Members}
 use Rattle.ordered_json.specs.Shown.{json_of}
 use Rattle.ordered_json.specs.declared.value.Value.{Value}

@@ -4,7 +4,7 @@
 --     NeedsNoLook asking value     the asking comes to this without a look
 --     ComesNow asking response     the same, unless memory is wanting
 --     Gives shown asking result    so does a call that looks at nothing
-use Rattle.std.specs.Prelude.{◌≡◌, ⊤, Option, Result, Ok, Err}
+use Rattle.std.specs.Prelude.{◌≡◌, ⊤, Result, Ok, Err}
 use Rattle.asking_spec.specs.Evaluation.{ends, evaluated}
 use Rattle.tree_spec.specs.LookAskings.{Sights, LookAsking}
 use Rattle.tree_spec.specs.LookLimits.{Trail, look_limits, limited}

@@ -1,5 +1,5 @@
-//! Node's resolution of a specifier in a file of a folder, with the looks that it takes: one file a rule, named as Node's
-//! documentation names it. `resolve` comes to what the asking `node` comes to.
+//! Node's resolution of a specifier in a file of a folder, with the looks that it takes: one file a rule, named as
+//! Node's documentation names it. `resolve` comes to what the asking `node` comes to.
 #![tactic(auto)]
 
 mod bare_texts;
@@ -18,8 +18,6 @@ mod package_resolve;
 mod package_self_resolve;
 mod package_target_resolve;
 mod places;
-#[cfg(test)]
-mod tests;
 mod texts;
 
 pub use esm_resolve::resolve;

@@ -1,16 +1,14 @@
 use mathlib.Core.Logic.{inl, inr}
-use Rattle.std.proofs.Common.{rules, ◌≡◌, List, [], ◌∷◌, ℕ, Some, None, refl, sym, ap, ◌∙◌, subst}
+use Rattle.std.proofs.Common.{◌≡◌, List, [], ◌∷◌, ℕ, refl, ap, ◌∙◌}
 use Rattle.node_spec.specs.PackageTargets.{Call}
 use Rattle.condition_match.specs.Choosing.{IsLeft}
 use Rattle.node_spec.specs.NodeAnswers.{Url, Resolving}
 use Rattle.node_spec.specs.PackageResolve.{package_resolve}
-use Rattle.node_spec.specs.PackageTargetResolve.{came}
-use Rattle.package_lookup.specs.Answered.{state, Answered}
-use Rattle.package_lookup.specs.Responses.{fails, given}
+use Rattle.package_lookup.specs.Answered.{state}
 use Rattle.node_resolve.specs.BareTexts.{Kept, kept, failing_of, last_shown, lost_by}
 use Rattle.node_resolve.specs.declared.bare_texts.BareTexts.{BareTexts}
 use Rattle.std.specs.Prelude.{option_map}
-use Rattle.node_resolve.proofs.BareLemmas.{response_of, calls_seen, calls_keep, choice_answered, choice_lost, answered_as, calls_end, chosen_same, fault_same, lost_same}
+use Rattle.node_resolve.proofs.BareLemmas.{calls_seen, calls_keep, choice_answered, choice_lost, answered_as, calls_end, chosen_same, fault_same, lost_same}
 use Rattle.node_resolve.proofs.bare_texts.chosen_by.Goals as goal
 
 pub returns-in-None-clause-answered : goal.returns-in-None-clause-answered

@@ -1,8 +1,6 @@
-use Rattle.std.proofs.Common.{None}
 use Rattle.package_lookup.proofs.Questions.{then_given}
 use Rattle.package_lookup.specs.Responses.{itself}
-use Rattle.node_spec.specs.PackageImportsResolve.{bares_from}
-use Rattle.node_spec.specs.PackageTargetResolve.{came, target_comes, target_url}
+use Rattle.node_spec.specs.PackageTargetResolve.{came, target_url}
 use Rattle.node_spec.specs.declared.Cause.TheVariants.{ImportNotDefined}
 use Rattle.node_resolve.specs.BareTexts.{last_shown}
 use Rattle.node_resolve.proofs.Answering.{now_comes}

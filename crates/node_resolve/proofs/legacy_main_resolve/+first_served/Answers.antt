@@ -1,4 +1,4 @@
-use Rattle.std.proofs.Common.{◌≡◌, ◌++◌, [], ◌∷◌, List, ℕ, length, ap, refl, arith}
+use Rattle.std.proofs.Common.{◌≡◌, ◌++◌, [], ◌∷◌, List, length, ap, refl, arith}
 use Rattle.std.specs.Prelude.{map}
 use Rattle.node_resolve.specs.MainFiles.{texts_of}
 use Rattle.node_resolve.proofs.MainLemmas.{none_first, first_fails, first_here, first_later}

@@ -1,9 +1,4 @@
-use Rattle.std.proofs.Common.{subst, sym}
-use Rattle.std.specs.Prelude.{option_map}
-use Rattle.node_spec.specs.LegacyMainResolve.{main_file}
-use Rattle.package_lookup.specs.Answered.{Answered}
 use Rattle.package_lookup.specs.Responses.{itself}
-use Rattle.node_resolve.specs.Responses.{responded}
 use Rattle.node_resolve.proofs.Answering.{memory_err}
 use Rattle.node_resolve.proofs.legacy_main_resolve.main_file.Goals as goal
 

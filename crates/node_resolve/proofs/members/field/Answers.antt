@@ -1,7 +1,6 @@
-use Rattle.std.proofs.Common.{◌≡◌, sym, ap, ◌∙◌, true, false}
+use Rattle.std.proofs.Common.{sym, ap, ◌∙◌}
 use Rattle.std.specs.Prelude.{bytes_eq}
 use Rattle.node_spec.specs.Records.{field}
-use Rattle.ordered_json.specs.Lists.{pairs_of}
 use Rattle.ordered_json.specs.Shown.{members_of}
 use Rattle.node_resolve.proofs.MemberLemmas.{field_here, field_passed}
 use Rattle.node_resolve.proofs.members.field.Goals as goal

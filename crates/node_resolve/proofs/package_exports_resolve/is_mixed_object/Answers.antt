@@ -1,4 +1,4 @@
-use Rattle.std.proofs.Common.{◌≡◌, ap, sym, ◌∙◌}
+use Rattle.std.proofs.Common.{ap, sym, ◌∙◌}
 use Rattle.ordered_json.specs.Shown.{json_of}
 use Rattle.ordered_json.proofs.ShownLemmas.{json_of_object}
 use Rattle.node_spec.specs.PackageExportsResolve.{is_mixed_object}

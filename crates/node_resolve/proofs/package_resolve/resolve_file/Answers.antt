@@ -1,5 +1,4 @@
 use Rattle.std.proofs.Common.{sym, ◌∙◌, refl}
-use Rattle.std.specs.Prelude.{option_map}
 use Rattle.package_lookup.specs.Responses.{itself}
 use Rattle.package_lookup.proofs.Questions.{asking_as}
 use Rattle.node_resolve.proofs.Answering.{memory_err, now_comes}

@@ -1,4 +1,4 @@
-use Rattle.std.proofs.Common.{None, Some, Ok, refl}
+use Rattle.std.proofs.Common.{None, Some, Ok}
 use Rattle.node_spec.specs.ReadPackageJson.{record_at}
 use Rattle.package_lookup.proofs.Questions.{now_given}
 use Rattle.package_lookup.specs.Responses.{itself}

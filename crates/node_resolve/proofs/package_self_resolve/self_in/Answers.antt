@@ -1,8 +1,4 @@
-use Rattle.std.proofs.Common.{sym, ◌∙◌, subst}
-use Rattle.node_spec.specs.PackageExportsResolve.{exported}
-use Rattle.ordered_json.specs.Shown.{json_of}
-use Rattle.package_lookup.specs.Responses.{itself}
-use Rattle.node_resolve.specs.Responses.{Gives}
+use Rattle.std.proofs.Common.{sym, ◌∙◌}
 use Rattle.node_resolve.proofs.SelfLemmas.{self_no, self_yes, self_fails}
 use Rattle.node_resolve.proofs.package_self_resolve.self_in.Goals as goal
 

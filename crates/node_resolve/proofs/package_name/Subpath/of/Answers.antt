@@ -1,4 +1,4 @@
-use Rattle.std.proofs.Common.{◌≡◌, ap, sym, ◌∙◌, ◌++◌, drop, codes}
+use Rattle.std.proofs.Common.{ap, ◌∙◌, ◌++◌, drop, codes}
 use Rattle.node_resolve.proofs.NameLemmas.{is_subpath}
 use Rattle.node_resolve.proofs.package_name.Subpath.of.Goals as goal
 
