@@ -2,13 +2,15 @@
 ghost use Rattle.std.specs.Prelude.{◌≡◌, true, None, IfOk, option_map};
 ghost use Rattle.node_spec.specs.Laws.{BeginsWithDotSlash};
 ghost use Rattle.node_spec.specs.PackageImportsResolve.{bares_from};
-ghost use Rattle.node_spec.specs.PackageTargetResolve.{judge_bare, package_target, came, last_found, target_comes, target_url};
+ghost use Rattle.node_spec.specs.PackageTargetResolve.{judge_bare, package_target, came};
+ghost use Rattle.node_spec.specs.PackageTargetResolve.{last_found, target_comes, target_url};
 ghost use Rattle.node_spec.specs.declared.Cause.TheVariants.{ImportNotDefined};
 ghost use Rattle.ordered_json.specs.Shown.{json_of};
 ghost use Rattle.condition_match.specs.Choosing.{judged_by};
 ghost use Rattle.package_lookup.specs.Answered.{state, Answered};
 ghost use Rattle.package_lookup.specs.Responses.{itself};
-ghost use Rattle.node_resolve.specs.BareTexts.{chosen_shown, failing_of, found_shown, last_shown, lost_by, split_shown};
+ghost use Rattle.node_resolve.specs.BareTexts.{chosen_shown, failing_of, found_shown};
+ghost use Rattle.node_resolve.specs.BareTexts.{last_shown, lost_by, split_shown};
 ghost use Rattle.node_resolve.specs.Responses.{responded, Gives};
 
 use crate::NodeFault;
@@ -51,7 +53,8 @@ impl<'a, F: Folder> BareTarget for BareTexts<'a, F> {
 
     ghost gives = { λ old text answer new. (new.known.ghost_name ≡ old.known.ghost_name)
         × (new.folder.ghost_name ≡ old.folder.ghost_name) × (new.trail.ghost_name ≡ old.trail.ghost_name)
-        × (new.last.ghost_name ≡ old.last.ghost_name) × (new.package_folder ≡ old.package_folder) × (new.conditions ≡ old.conditions)
+        × (new.last.ghost_name ≡ old.last.ghost_name)
+        × (new.package_folder ≡ old.package_folder) × (new.conditions ≡ old.conditions)
         × GivesBare (package_resolve old.conditions.now old.package_folder.now)
         (kept (state (F.state old.folder.now) old.known.now old.trail.now) old.last.now old.fault) text answer
         (kept (state (F.state new.folder.now) new.known.now new.trail.now) new.last.now new.fault) };

@@ -27,8 +27,8 @@ use std::sync::ledger::Ledger;
 use tree_model::{Folder, Path};
 use web_url::{FileUrl, Scheme, file_url, is_relative, scheme_of};
 
-/// The module that a specifier gives in the file at the path `parent`, by Node's resolution. It begins a question, whose
-/// paths are the footprint, and takes one step.
+/// The module that a specifier gives in the file at the path `parent`, by Node's resolution. It begins a question,
+/// whose paths are the footprint, and takes one step.
 pub fn resolve<F: Folder, L: Ledger>(
     alloc: Global,
     known: &mut Known,

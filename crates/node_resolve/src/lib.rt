@@ -1,5 +1,5 @@
-//! Node's resolution of a specifier in a file of a folder, with the looks that it takes: one file a rule, named as Node's
-//! documentation names it. `resolve` comes to what the asking `node` comes to.
+//! Node's resolution of a specifier in a file of a folder, with the looks that it takes: one file a rule, named as
+//! Node's documentation names it. `resolve` comes to what the asking `node` comes to.
 #![tactic(auto)]
 
 mod bare_texts;

@@ -2,7 +2,8 @@
 ghost use Rattle.std.specs.Prelude.{◌≡◌, codes};
 ghost use Rattle.node_spec.specs.Records.{field};
 ghost use Rattle.json_spec.specs.Value.{HasDistinctNames, AreDistinct};
-ghost use Rattle.node_spec.specs.PackageExportsResolve.{exported, export_paths, main_export, main_target, is_mixed_object, subpath_export};
+ghost use Rattle.node_spec.specs.PackageExportsResolve.{exported, export_paths, main_export};
+ghost use Rattle.node_spec.specs.PackageExportsResolve.{main_target, is_mixed_object, subpath_export};
 ghost use Rattle.node_spec.specs.PackageImportsExportsResolve.{by_key};
 ghost use Rattle.ordered_json.specs.Lists.{pairs_of};
 ghost use Rattle.ordered_json.specs.Shown.{json_of, members_of};

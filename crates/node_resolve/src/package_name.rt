@@ -1,6 +1,7 @@
 //! The package name at the front of a bare specifier, and what stands behind it (Node.js, ECMAScript modules:
 //! PACKAGE_RESOLVE).
-ghost use Rattle.std.specs.Prelude.{◌≡◌, ◌+◌, ◌<◌, length, true, false, IfOk, IfSome, MatchOption, IsCharBoundary, bytes_eq};
+ghost use Rattle.std.specs.Prelude.{◌≡◌, ◌+◌, ◌<◌, length, true};
+ghost use Rattle.std.specs.Prelude.{false, IfOk, IfSome, MatchOption, IsCharBoundary, bytes_eq};
 ghost use Rattle.std.specs.List.{list_any};
 ghost use Rattle.url_spec.specs.ServedPaths.{segments};
 ghost use Rattle.node_spec.specs.PackageResolve as spec;

@@ -3,7 +3,7 @@ ghost use Rattle.std.specs.Prelude.{◌≡◌, ◌<◌};
 use super::*;
 use condition_match::Conditions;
 use package_lookup::{Known, Trail};
-use primitives::{Memory, Steps};
+use primitives::Steps;
 use std::alloc::Global;
 use std::marker::Brand;
 use std::sync::ledger::{Blank, Ledger};
@@ -183,17 +183,19 @@ fn shown(alloc: Global, answer: Result<Found, NodeFault>) -> Result<String, Fail
     }
 }
 
+// Behind a `&str` no ghost members could be picked at the call.
 fn answer<L: Ledger>(
     alloc: Global,
     folder: &mut MemFolder,
-    parent: &Path,
-    specifier: &str,
+    parent: &String,
+    specifier: &String,
     blank: Blank,
 ) -> Result<String, Fail>
     requires name { blank.name ≡ L.name }
     requires parts { blank.parts ≡ L.parts }
     requires some { 0 < blank.parts }
 {
+    let parent = path_of(alloc, parent.as_str())?;
     let mut known = Known::new(alloc);
     let mut trail = Trail::new(alloc);
     let mut steps = Steps::<L>::start(blank);
@@ -205,8 +207,8 @@ fn answer<L: Ledger>(
         &mut known,
         folder,
         &mut trail,
-        parent,
-        specifier,
+        &parent,
+        specifier.as_str(),
         &conditions,
         &mut steps,
     );
@@ -218,8 +220,9 @@ fn specifiers(rt: HostRuntime) -> Result<(), Fail> {
     let alloc = rt.alloc();
     for (files, parent, specifier, expected) in &CASES {
         let mut folder = folder_of(alloc, files)?;
-        let parent = path_of(alloc, parent)?;
-        let given = answer::<Brand>(alloc, &mut folder, &parent, specifier, Blank::new(1))?;
+        let parent = String::from_str(alloc, parent)?;
+        let specifier = String::from_str(alloc, specifier)?;
+        let given = answer::<Brand>(alloc, &mut folder, &parent, &specifier, Blank::new(1))?;
         assert_eq!(rt; given.as_str(), *expected);
     }
     Ok(())
