@@ -4,7 +4,7 @@
 #![tactic(auto)]
 
 ghost use Rattle.module_spec.specs.Examples.{ManyExamples, OutlineExamples, TokenExamples, ValueExamples, WorkedExamples};
-ghost use Rattle.module_spec.specs.Laws.{CurlyPartners, DepthCounts, FormsAreProductions, OneOutline, OnePartner, OneReach, OneReading, OneTokens, TokensStand};
+ghost use Rattle.module_spec.specs.Laws.{CurlyPartners, DepthCounts, FormsAreProductions, OneOutline, OnePartner, OneReach, OneReading, OneTokens, OutlineIsRead, TokensStand};
 
 mod request;
 mod token;
@@ -68,6 +68,12 @@ pub fn forms_are_productions()
 #[tactic(auto, using(crate::proofs::OutlineLaws::one_outline))]
 pub fn one_outline()
     ensures { OneOutline }
+{}
+
+/// The outline of a text, or its first fault, is what the function reads.
+#[tactic(auto, using(crate::proofs::OutlineReadings::outline_is_read))]
+pub fn outline_is_read()
+    ensures { OutlineIsRead }
 {}
 
 /// Worked examples of tokens.
