@@ -12,3 +12,4 @@ pub mod RefusalOrder
 pub mod RefusalKinds
 pub mod NeedLemmas
 pub mod TextLimits
+pub mod Generations
