@@ -1,29 +1,40 @@
--- Words give one config or are refused in one way.
+-- Words give one command with one config or are refused in one way.
 use Rattle.std.proofs.Common.{◌≡◌, ◌≢◌, ◌⊎◌, ℕ, List, [], ◌∷◌, Option, Some, None, refl, sym, ap, ◌∙◌, subst, inl, inr}
 use Rattle.std.specs.Prelude.{codes, All}
 use Rattle.std.proofs.lemmas.List.Elements.{All-nil, All-cons, All-head, All-tail}
 use Rattle.tree_spec.proofs.ByteLists.{number_same_or_not, text_same_or_not}
 use Rattle.url_spec.specs.Bases.{base_of}
 use Rattle.trace_spec.specs.Modules.{Config}
+use Rattle.generator_spec.specs.declared.Command.{Command}
+use Rattle.generator_spec.specs.declared.Command.TheVariants.{Link, Inject}
 use Rattle.generator_spec.specs.declared.Refusal.TheVariants.{Words, BadBase}
-use Rattle.generator_spec.specs.Words.{IsEntry, IsLink, once_onto}
-use Rattle.generator_spec.specs.Words.RefusesWords.{no_link, bad_base}
-use Rattle.generator_spec.specs.Laws.{OneConfig, OneWordsRefusal, RefusedOrConfig, HasConfig, AreRefused, SomeConfig}
+use Rattle.generator_spec.specs.Words.{word_of, IsEntry, IsCall, once_onto, page_path}
+use Rattle.generator_spec.specs.Words.RefusesWords.{no_call, bad_base}
+use Rattle.generator_spec.specs.Laws.{SameConfig, OneConfig, OneWordsRefusal, RefusedOrConfig}
+use Rattle.generator_spec.specs.Laws.{HasConfig, AreRefused, SomeConfig}
 
 -- ---- one at most
 
-record SameLink (base other : List ℕ) (entries others : List (List ℕ)) : Type 0 where
-  bases : base ≡ other
+one_word : (some other : Command) → word_of some ≡ word_of other → some ≡ other
+one_word Link Link e = refl
+one_word Link Inject e = absurd (cc)
+one_word Inject Link e = absurd (cc)
+one_word Inject Inject e = refl
+
+record SameCall (some other : Command) (base second : List ℕ) (entries others : List (List ℕ)) : Type 0 where
+  commands : some ≡ other
+  bases : base ≡ second
   all_entries : entries ≡ others
 
-one_link :
-    (words : List (List ℕ)) (base other : List ℕ) (entries others : List (List ℕ)) → IsLink words base entries
-    → IsLink words other others → SameLink base other entries others
-one_link words base other entries others a b =
+one_call :
+    (words : List (List ℕ)) (some other : Command) (base second : List ℕ) (entries others : List (List ℕ))
+    → IsCall words some base entries → IsCall words other second others
+    → SameCall some other base second entries others
+one_call words some other base second entries others a b =
     let e = a.split in
     let f = b.split in
-    let tails : base ∷ entries ≡ other ∷ others = cc in
-    record { bases = cc; all_entries = cc }
+    let first : word_of some ≡ word_of other = cc in
+    record { commands = one_word some other first; bases = cc; all_entries = cc }
 
 same_config :
     (some other : Config) → some.base ≡ other.base → some.page ≡ other.page → some.entries ≡ other.entries
@@ -31,27 +42,33 @@ same_config :
 same_config some other b p e = λ i. record { base = b i; page = p i; entries = e i }
 
 pub one_config : OneConfig
-one_config words some other a b =
-    let same = one_link words a.base b.base a.entries b.entries a.link b.link in
-    let bases : Some some.base ≡ Some other.base = sym a.is_base ∙ (ap base_of same.bases ∙ b.is_base) in
-    let entries : some.entries ≡ other.entries = a.distinct ∙ (ap (once_onto []) same.all_entries ∙ sym b.distinct) in
-    same_config some other (cc) (a.page ∙ sym b.page) entries
+one_config words some other config second a b =
+    let same = one_call words some other a.base b.base a.entries b.entries a.call b.call in
+    let bases : Some config.base ≡ Some second.base = sym a.is_base ∙ (ap base_of same.bases ∙ b.is_base) in
+    let entries : config.entries ≡ second.entries =
+    a.distinct ∙ (ap (once_onto []) same.all_entries ∙ sym b.distinct) in
+    record {
+      one_command = same.commands;
+      one_config = same_config config second (cc) (a.page ∙ sym b.page) entries;
+    }
 
 pub one_words_refusal : OneWordsRefusal
-one_words_refusal words some other (no_link none) (no_link none_too) = refl
-one_words_refusal words some other (no_link none) (bad_base base entries is no_base) = absurd (none base entries is)
-one_words_refusal words some other (bad_base base entries is no_base) (no_link none) = absurd (none base entries is)
-one_words_refusal words some other (bad_base base entries is no_base)
-    (bad_base base_too entries_too is_too no_base_too) =
-    let same = (one_link words base base_too entries entries_too is is_too).bases in cc
+one_words_refusal words some other (no_call none) (no_call none_too) = refl
+one_words_refusal words some other (no_call none) (bad_base command base entries is no_base) =
+    absurd (none command base entries is)
+one_words_refusal words some other (bad_base command base entries is no_base) (no_call none) =
+    absurd (none command base entries is)
+one_words_refusal words some other (bad_base command base entries is no_base)
+    (bad_base command_too base_too entries_too is_too no_base_too) =
+    let same = (one_call words command command_too base base_too entries entries_too is is_too).bases in cc
 
 pub refused_or_config : RefusedOrConfig
-refused_or_config words why config (no_link none) is = none is.base is.entries is.link
-refused_or_config words why config (bad_base base entries is_link no_base) is =
-    let same = (one_link words base is.base entries is.entries is_link is.link).bases in
+refused_or_config words why command config (no_call none) is = none command is.base is.entries is.call
+refused_or_config words why command config (bad_base other base entries is_call no_base) is =
+    let same = (one_call words other command base is.base entries is.entries is_call is.call).bases in
     absurd (let e : base_of base ≡ base_of is.base = ap base_of same in let f = is.is_base in cc)
 
--- ---- whether words are `link`, a base and entries
+-- ---- whether words are a command, a base and entries
 
 option_or_not : (b : ℕ) (text : List ℕ) → (b ≡ 45) ⊎ (b ≢ 45) → IsEntry (b ∷ text) ⊎ (IsEntry (b ∷ text) → ⊥)
 option_or_not b text (inl dash) = inr (λ is. is.no_option text (ap (λ c. c ∷ text) dash))
@@ -72,51 +89,81 @@ entries_or_not : (texts : List (List ℕ)) → All IsEntry texts ⊎ (All IsEntr
 entries_or_not [] = inl (All-nil IsEntry)
 entries_or_not (text ∷ texts) = first_or_not text texts (entry_or_not text) (entries_or_not texts)
 
-record HasLink (words : List (List ℕ)) : Type 0 where
+record HasCall (words : List (List ℕ)) : Type 0 where
+  command : Command
   base : List ℕ
   entries : List (List ℕ)
-  link : IsLink words base entries
+  call : IsCall words command base entries
 
-abbrev NoLink : List (List ℕ) → Type 0
-NoLink words = (base : List ℕ) (entries : List (List ℕ)) → IsLink words base entries → ⊥
+abbrev NoCall : List (List ℕ) → Type 0
+NoCall words = (command : Command) (base : List ℕ) (entries : List (List ℕ)) → IsCall words command base entries → ⊥
 
-link_by :
-    (command option base : List ℕ) (entries : List (List ℕ)) → (command ≡ codes "link") ⊎ (command ≢ codes "link")
+record HasCommand (word : List ℕ) : Type 0 where
+  command : Command
+  is : word ≡ word_of command
+
+abbrev NoCommand : List ℕ → Type 0
+NoCommand word = (command : Command) → word ≢ word_of command
+
+neither : (word : List ℕ) → word ≢ codes "link" → word ≢ codes "inject" → NoCommand word
+neither word no_link no_inject Link = no_link
+neither word no_link no_inject Inject = no_inject
+
+command_or_not : (word : List ℕ) → HasCommand word ⊎ NoCommand word
+command_or_not word =
+    elim (text_same_or_not word (codes "link")) [
+      | inl is ↦ inl (record { command = Link; is = is })
+      | inr no_link ↦ elim (text_same_or_not word (codes "inject")) [
+        | inl is ↦ inl (record { command = Inject; is = is })
+        | inr no_inject ↦ inr (neither word no_link no_inject)
+      ]
+    ]
+
+call_by :
+    (word option base : List ℕ) (entries : List (List ℕ)) → HasCommand word ⊎ NoCommand word
     → (option ≡ codes "--base") ⊎ (option ≢ codes "--base") → All IsEntry entries ⊎ (All IsEntry entries → ⊥)
-    → HasLink (command ∷ option ∷ base ∷ entries) ⊎ NoLink (command ∷ option ∷ base ∷ entries)
-link_by command option base entries (inr other) o all = inr (λ b es is. let e = is.split in other (cc))
-link_by command option base entries (inl c) (inr other) all = inr (λ b es is. let e = is.split in other (cc))
-link_by command option base entries (inl c) (inl o) (inr some) =
-    inr (λ b es is. let e = is.split in let same : es ≡ entries = cc in some (subst (All IsEntry) same is.are_entries))
-link_by command option base entries (inl c) (inl o) (inl all) =
-    let link : IsLink (command ∷ option ∷ base ∷ entries) base entries =
-    record { split = λ i. c i ∷ o i ∷ base ∷ entries; are_entries = all } in
-    inl (record { base = base; entries = entries; link = link })
+    → HasCall (word ∷ option ∷ base ∷ entries) ⊎ NoCall (word ∷ option ∷ base ∷ entries)
+call_by word option base entries (inr none) o all =
+    inr (λ command b es is. let e = is.split in none command (cc))
+call_by word option base entries (inl has) (inr other) all =
+    inr (λ command b es is. let e = is.split in other (cc))
+call_by word option base entries (inl has) (inl o) (inr some) =
+    inr (λ command b es is.
+    let e = is.split in
+    let same : es ≡ entries = cc in
+    some (subst (All IsEntry) same is.are_entries))
+call_by word option base entries (inl has) (inl o) (inl all) =
+    let first = has.is in
+    let call : IsCall (word ∷ option ∷ base ∷ entries) has.command base entries =
+    record { split = λ i. first i ∷ o i ∷ base ∷ entries; are_entries = all } in
+    inl (record { command = has.command; base = base; entries = entries; call = call })
 
-link_or_not : (words : List (List ℕ)) → HasLink words ⊎ NoLink words
-link_or_not [] = inr (λ b es is. let e = is.split in absurd (cc))
-link_or_not (command ∷ []) = inr (λ b es is. let e = is.split in absurd (cc))
-link_or_not (command ∷ option ∷ []) = inr (λ b es is. let e = is.split in absurd (cc))
-link_or_not (command ∷ option ∷ base ∷ entries) =
-    link_by command option base entries (text_same_or_not command (codes "link"))
-    (text_same_or_not option (codes "--base")) (entries_or_not entries)
+call_or_not : (words : List (List ℕ)) → HasCall words ⊎ NoCall words
+call_or_not [] = inr (λ c b es is. let e = is.split in absurd (cc))
+call_or_not (word ∷ []) = inr (λ c b es is. let e = is.split in absurd (cc))
+call_or_not (word ∷ option ∷ []) = inr (λ c b es is. let e = is.split in absurd (cc))
+call_or_not (word ∷ option ∷ base ∷ entries) =
+    call_by word option base entries (command_or_not word) (text_same_or_not option (codes "--base"))
+    (entries_or_not entries)
 
 -- ---- some config, or a refusal
 
 config_by :
-    (words : List (List ℕ)) (has : HasLink words) (found : Option (List ℕ)) → base_of has.base ≡ found
+    (words : List (List ℕ)) (has : HasCall words) (found : Option (List ℕ)) → base_of has.base ≡ found
     → HasConfig words ⊎ AreRefused words
-config_by words has None e = inr (record { why = BadBase has.base; refuses = bad_base has.base has.entries has.link e })
+config_by words has None e =
+    inr (record { why = BadBase has.base; refuses = bad_base has.command has.base has.entries has.call e })
 config_by words has (Some base) e =
     inl (record {
-      config = record { base = base; page = codes "/index.html"; entries = once_onto [] has.entries };
+      command = has.command;
+      config = record { base = base; page = page_path; entries = once_onto [] has.entries };
       is =
-          record { base = has.base; entries = has.entries; link = has.link; is_base = e; page = refl; distinct = refl };
+          record { base = has.base; entries = has.entries; call = has.call; is_base = e; page = refl; distinct = refl };
     })
 
 pub some_config : SomeConfig
-some_config words = by (link_or_not words)
+some_config words = by (call_or_not words)
   where
-    by : HasLink words ⊎ NoLink words → HasConfig words ⊎ AreRefused words
+    by : HasCall words ⊎ NoCall words → HasConfig words ⊎ AreRefused words
     by (inl has) = config_by words has (base_of has.base) refl
-    by (inr none) = inr (record { why = Words; refuses = no_link none })
+    by (inr none) = inr (record { why = Words; refuses = no_call none })

@@ -3,6 +3,8 @@ use Rattle.std.proofs.Common.{◌≡◌, ◌≢◌, ◌⊎◌, ℕ, List, Option
 use Rattle.tree_spec.specs.Counts.{Rose}
 use Rattle.tree_spec.specs.States.{FolderState, SinkState}
 use Rattle.tree_spec.specs.Trees.{Tree}
+use Rattle.page_spec.specs.declared.kinds.InjectFault.TheVariants.{PageUnclear, TwoMaps, NoPlace}
+use Rattle.page_spec.specs.declared.kinds.InjectFault.TheVariants as page
 use Rattle.trace_spec.specs.declared.TraceFault.{TraceFault}
 use Rattle.trace_spec.specs.declared.TraceFault.TheVariants as fault
 use Rattle.trace_spec.specs.Kinds.{IsOfTrace}
@@ -10,11 +12,16 @@ use Rattle.trace_spec.specs.Modules.{Config}
 use Rattle.generator_spec.specs.declared.Refusal.{Refusal}
 use Rattle.generator_spec.specs.declared.Refusal.TheVariants as refusal
 use Rattle.generator_spec.specs.Words.{RefusesWords}
-use Rattle.generator_spec.specs.Words.RefusesWords.{no_link, bad_base}
-use Rattle.generator_spec.specs.Lines.{trace_status, status_of, line_of, memory_line}
+use Rattle.generator_spec.specs.declared.Command.{Command}
+use Rattle.generator_spec.specs.declared.PageFault.{PageFault}
+use Rattle.generator_spec.specs.declared.PageFault.TheVariants.{Absent, TooLarge, KeepsMapsOut}
+use Rattle.generator_spec.specs.Commands.{IsOfPage, IsRefusalOf, IsRefusalOf as kind}
+use Rattle.generator_spec.specs.Words.RefusesWords.{no_call, bad_base}
+use Rattle.generator_spec.specs.Lines.{page_status, trace_status, status_of, line_of, memory_line}
+use Rattle.generator_spec.specs.Statuses.{IsRefusalStatus}
 use Rattle.generator_spec.specs.Outcome.{Outcome, Outcome as outcome}
 use Rattle.generator_spec.specs.Ending.{Linked, Shaped, Says, Ends, Shaped as shaped, Says as says, Ends as ends}
-use Rattle.generator_spec.specs.Promises.{IsRefusalStatus, Untouched, Shows}
+use Rattle.generator_spec.specs.Promises.{Untouched, Shows}
 use Rattle.generator_spec.proofs.Configs.{one_words_refusal, refused_or_config}
 
 -- ---- statuses
@@ -24,11 +31,12 @@ data IsRefusing (status : ℕ) : Type 0 where
   one : status ≡ 1 → IsRefusing status
   two : status ≡ 2 → IsRefusing status
   three : status ≡ 3 → IsRefusing status
+  seven : status ≡ 7 → IsRefusing status
   nine : status ≡ 9 → IsRefusing status
 
 words_refusing : (words : List (List ℕ)) (why : Refusal) → RefusesWords words why → IsRefusing (status_of why)
-words_refusing words why (no_link none) = nine refl
-words_refusing words why (bad_base base entries link none) = two refl
+words_refusing words why (no_call none) = nine refl
+words_refusing words why (bad_base command base entries call none) = two refl
 
 trace_refusing : (config : Config) (why : TraceFault) → IsOfTrace config why → IsRefusing (trace_status why)
 trace_refusing config (fault.Unservable path url) kind = one refl
@@ -39,25 +47,47 @@ trace_refusing config (fault.Limit which) kind = three refl
 trace_refusing config fault.ReadFault kind = absurd kind
 trace_refusing config fault.Memory kind = absurd kind
 
+page_refusing : (why : PageFault) → IsOfPage why → IsRefusing (page_status why)
+page_refusing Absent is = seven refl
+page_refusing TooLarge is = three refl
+page_refusing (KeepsMapsOut (PageUnclear at)) is = one refl
+page_refusing (KeepsMapsOut (TwoMaps at)) is = one refl
+page_refusing (KeepsMapsOut NoPlace) is = one refl
+page_refusing (KeepsMapsOut page.Memory) is = absurd is
+
+refusing : (config : Config) (command : Command) (why : Refusal) → IsRefusalOf config command why → IsRefusing (status_of why)
+refusing config command why (kind.page fault is) = page_refusing fault is
+refusing config command why (kind.trace same fault is) = trace_refusing config fault is
+
 shaped_status :
     (words : List (List ℕ)) (status : ℕ) (line : List ℕ) → Shaped words status line → (status ≡ 0) ⊎ IsRefusing status
 shaped_status words status line (shaped.words_refused why refuses s l) =
     inr (subst IsRefusing (sym s) (words_refusing words why refuses))
-shaped_status words status line (shaped.trace_refused config why is kind s l) =
-    inr (subst IsRefusing (sym s) (trace_refusing config why kind))
+shaped_status words status line (shaped.refused command config why is of s l) =
+    inr (subst IsRefusing (sym s) (refusing config command why of))
 shaped_status words status line (shaped.done s counted) = inl s
 
 refusal_status : (status : ℕ) → IsRefusing status → IsRefusalStatus status
 refusal_status status (one e) = inl e
 refusal_status status (two e) = inr (inl e)
 refusal_status status (three e) = inr (inr (inl e))
-refusal_status status (nine e) = inr (inr (inr (inr (inr e))))
+refusal_status status (seven e) = inr (inr (inr (inr (inl e))))
+refusal_status status (nine e) = inr (inr (inr (inr (inr (inr e)))))
 
 no_refusing : (status : ℕ) → IsRefusing status → (status ≢ 0) × (status ≢ 4) × (status ≢ 5)
 no_refusing status (one e) = (λ f. omega arith, λ f. omega arith, λ f. omega arith)
 no_refusing status (two e) = (λ f. omega arith, λ f. omega arith, λ f. omega arith)
 no_refusing status (three e) = (λ f. omega arith, λ f. omega arith, λ f. omega arith)
+no_refusing status (seven e) = (λ f. omega arith, λ f. omega arith, λ f. omega arith)
 no_refusing status (nine e) = (λ f. omega arith, λ f. omega arith, λ f. omega arith)
+
+page_not_two : (why : PageFault) → page_status why ≢ 2
+page_not_two Absent e = omega (arith, e)
+page_not_two TooLarge e = omega (arith, e)
+page_not_two (KeepsMapsOut (PageUnclear at)) e = omega (arith, e)
+page_not_two (KeepsMapsOut (TwoMaps at)) e = omega (arith, e)
+page_not_two (KeepsMapsOut NoPlace) e = omega (arith, e)
+page_not_two (KeepsMapsOut page.Memory) e = omega (arith, e)
 
 trace_not_two : (why : TraceFault) → trace_status why ≢ 2
 trace_not_two (fault.Unservable path url) e = omega (arith, e)
@@ -68,12 +98,16 @@ trace_not_two (fault.Limit which) e = omega (arith, e)
 trace_not_two fault.ReadFault e = omega (arith, e)
 trace_not_two fault.Memory e = omega (arith, e)
 
+refusal_not_two : (config : Config) (command : Command) (why : Refusal) → IsRefusalOf config command why → status_of why ≢ 2
+refusal_not_two config command why (kind.page fault is) = page_not_two fault
+refusal_not_two config command why (kind.trace same fault is) = trace_not_two fault
+
 -- status 2 is that of a bad base
 bad_base_of :
     (words : List (List ℕ)) (why : Refusal) → RefusesWords words why → status_of why ≡ 2
     → (base : List ℕ) × RefusesWords words (refusal.BadBase base)
-bad_base_of words why (no_link none) is_two = absurd (omega arith)
-bad_base_of words why (bad_base base entries link none) is_two = (base, bad_base base entries link none)
+bad_base_of words why (no_call none) is_two = absurd (omega arith)
+bad_base_of words why (bad_base command base entries call none) is_two = (base, bad_base command base entries call none)
 
 abbrev IsStatus : ℕ → Type 0
 IsStatus status = (status ≡ 0) ⊎ (status ≡ 5) ⊎ IsRefusalStatus status
@@ -95,8 +129,9 @@ unmoved :
     (words : List (List ℕ)) (tree : Tree) (status : ℕ) (line : List ℕ) (later : Tree)
     → Outcome words tree status line later → status ≢ 0 → later ≡ tree
 unmoved words tree status line later (outcome.words_refused why refuses s l same) other = same
-unmoved words tree status line later (outcome.trace_refused config why is refused s l same) other = same
-unmoved words tree status line later (outcome.done config bytes is generates s l placed) other = absurd (other s)
+unmoved words tree status line later (outcome.refused command config why is refused s l same) other = same
+unmoved words tree status line later (outcome.done command config map path file is generates wrote s l placed) other =
+    absurd (other s)
 
 kept_where_refused :
     (words : List (List ℕ)) (status : ℕ) (line : List ℕ) (held told : Option Tree) → (held ≡ None → told ≡ None)
@@ -111,9 +146,9 @@ kept_where_refused words status line (Some tree) told untold other here =
 module _ (words : List (List ℕ)) (before after : FolderState) (status : ℕ) (line : List ℕ) where
   said_status : Says words before after status line → IsStatus status
   said_status (says.outcome shape o l w) = shaped_is_status status (shaped_status words status line shape)
-  said_status (says.memory s t k l w) = inr (inr (inr (inr (inr (inr (inl s))))))
-  said_status (says.read_fault config is_config s t k rose w) = inr (inr (inr (inr (inr (inl s)))))
-  said_status (says.write_fault bytes done counted generated s t k l rose) = inr (inl s)
+  said_status (says.memory s t k l w) = inr (inr (inr (inr (inr (inr (inr (inl s)))))))
+  said_status (says.read_fault command config is_config s t k rose w) = inr (inr (inr (inr (inr (inl s)))))
+  said_status (says.write_fault map done counted generated s t k l rose) = inr (inl s)
 
   said_kept :
       (before.holds ≡ None → after.holds ≡ None) → Says words before after status line → IsRefusalStatus status
@@ -122,8 +157,8 @@ module _ (words : List (List ℕ)) (before after : FolderState) (status : ℕ) (
       kept_where_refused words status line before.holds after.holds untold
       (λ zero. no_refusal_status status (inl zero) refused) o
   said_kept untold (says.memory s t k l w) refused = k
-  said_kept untold (says.read_fault config is_config s t k rose w) refused = k
-  said_kept untold (says.write_fault bytes done counted generated s t k l rose) refused = k
+  said_kept untold (says.read_fault command config is_config s t k rose w) refused = k
+  said_kept untold (says.write_fault map done counted generated s t k l rose) refused = k
 
   outcome_not : (n : ℕ) → (n ≡ 4) ⊎ (n ≡ 5) → (status ≡ 0) ⊎ IsRefusing status → status ≢ n
   outcome_not n fault (inl zero) e = grind (arith, fault, zero, e)
@@ -134,29 +169,30 @@ module _ (words : List (List ℕ)) (before after : FolderState) (status : ℕ) (
   said_read (says.outcome shape o l w) four =
       absurd (outcome_not 4 (inl refl) (shaped_status words status line shape) four)
   said_read (says.memory s t k l w) four = absurd (omega arith)
-  said_read (says.read_fault config is_config s t k rose w) four = rose
-  said_read (says.write_fault bytes done counted generated s t k l rose) four = absurd (omega arith)
+  said_read (says.read_fault command config is_config s t k rose w) four = rose
+  said_read (says.write_fault map done counted generated s t k l rose) four = absurd (omega arith)
 
   said_write : Says words before after status line → status ≡ 5 → Rose before.write_faults after.write_faults
   said_write (says.outcome shape o l w) five =
       absurd (outcome_not 5 (inr refl) (shaped_status words status line shape) five)
   said_write (says.memory s t k l w) five = absurd (omega arith)
-  said_write (says.read_fault config is_config s t k rose w) five = absurd (omega arith)
-  said_write (says.write_fault bytes done counted generated s t k l rose) five = rose
+  said_write (says.read_fault command config is_config s t k rose w) five = absurd (omega arith)
+  said_write (says.write_fault map done counted generated s t k l rose) five = rose
 
   -- ---- the base
 
   shaped_two : Shaped words status line → status ≡ 2 → (base : List ℕ) × RefusesWords words (refusal.BadBase base)
   shaped_two (shaped.words_refused why refuses s l) is_two = bad_base_of words why refuses (sym s ∙ is_two)
-  shaped_two (shaped.trace_refused config why is kind s l) is_two = absurd (trace_not_two why (sym s ∙ is_two))
+  shaped_two (shaped.refused command config why is of s l) is_two =
+      absurd (refusal_not_two config command why of (sym s ∙ is_two))
   shaped_two (shaped.done s counted) is_two = absurd (omega arith)
 
   said_two :
       Says words before after status line → status ≡ 2 → (base : List ℕ) × RefusesWords words (refusal.BadBase base)
   said_two (says.outcome shape o l w) is_two = shaped_two shape is_two
   said_two (says.memory s t k l w) is_two = absurd (omega arith)
-  said_two (says.read_fault config is_config s t k rose w) is_two = absurd (omega arith)
-  said_two (says.write_fault bytes done counted generated s t k l rose) is_two = absurd (omega arith)
+  said_two (says.read_fault command config is_config s t k rose w) is_two = absurd (omega arith)
+  said_two (says.write_fault map done counted generated s t k l rose) is_two = absurd (omega arith)
 
   -- the tree is as it was, or the map was written
   kept_or_written :
@@ -166,8 +202,8 @@ module _ (words : List (List ℕ)) (before after : FolderState) (status : ℕ) (
       let kept = λ (other : status ≢ 0). kept_where_refused words status line before.holds after.holds untold other o in
       ⊎_elim inr (λ refusing. inl (kept (no_refusing status refusing).0)) (shaped_status words status line shape)
   kept_or_written untold (says.memory s t k l w) = inl k
-  kept_or_written untold (says.read_fault config is_config s t k rose w) = inl k
-  kept_or_written untold (says.write_fault bytes done counted generated s t k l rose) = inl k
+  kept_or_written untold (says.read_fault command config is_config s t k rose w) = inl k
+  kept_or_written untold (says.write_fault map done counted generated s t k l rose) = inl k
 
   -- ---- words that are refused
 
@@ -177,10 +213,10 @@ module _ (words : List (List ℕ)) (before after : FolderState) (status : ℕ) (
   refused_shape why refuses (shaped.words_refused because too s l) =
       let same = one_words_refusal words because why too refuses in
       (s ∙ ap status_of same, l ∙ ap line_of same)
-  refused_shape why refuses (shaped.trace_refused config fault is kind s l) =
-      absurd (refused_or_config words why config refuses is)
+  refused_shape why refuses (shaped.refused command config fault is of s l) =
+      absurd (refused_or_config words why command config refuses is)
   refused_shape why refuses (shaped.done s counted) =
-      absurd (refused_or_config words why counted.config refuses counted.is_config)
+      absurd (refused_or_config words why counted.command counted.config refuses counted.is_config)
 
   refused_says :
       (untold : before.holds ≡ None → after.holds ≡ None) (why : Refusal) → RefusesWords words why
@@ -194,30 +230,30 @@ module _ (words : List (List ℕ)) (before after : FolderState) (status : ℕ) (
       let kept = kept_where_refused words status line before.holds after.holds untold not_zero o in
       (record { told = kept; looks = l; writes = w }, inl same)
   refused_says untold why refuses (says.memory s t k l w) = (record { told = k; looks = l; writes = w }, inr (s, t))
-  refused_says untold why refuses (says.read_fault config is_config s t k rose w) =
-      absurd (refused_or_config words why config refuses is_config)
-  refused_says untold why refuses (says.write_fault bytes done counted generated s t k l rose) =
-      absurd (refused_or_config words why counted.config refuses counted.is_config)
+  refused_says untold why refuses (says.read_fault command config is_config s t k rose w) =
+      absurd (refused_or_config words why command config refuses is_config)
+  refused_says untold why refuses (says.write_fault map done counted generated s t k l rose) =
+      absurd (refused_or_config words why counted.command counted.config refuses counted.is_config)
 
   -- ---- counts
 
   said_looks : Says words before after status line → after.look_faults ≢ before.look_faults → status ≡ 4
   said_looks (says.outcome shape o l w) changed = absurd (changed l)
   said_looks (says.memory s t k l w) changed = absurd (changed l)
-  said_looks (says.read_fault config is_config s t k rose w) changed = s
-  said_looks (says.write_fault bytes done counted generated s t k l rose) changed = absurd (changed l)
+  said_looks (says.read_fault command config is_config s t k rose w) changed = s
+  said_looks (says.write_fault map done counted generated s t k l rose) changed = absurd (changed l)
 
   said_writes : Says words before after status line → after.write_faults ≢ before.write_faults → status ≡ 5
   said_writes (says.outcome shape o l w) changed = absurd (changed w)
   said_writes (says.memory s t k l w) changed = absurd (changed w)
-  said_writes (says.read_fault config is_config s t k rose w) changed = absurd (changed w)
-  said_writes (says.write_fault bytes done counted generated s t k l rose) changed = s
+  said_writes (says.read_fault command config is_config s t k rose w) changed = absurd (changed w)
+  said_writes (says.write_fault map done counted generated s t k l rose) changed = s
 
   writes_unless : Says words before after status line → status ≢ 5 → after.write_faults ≡ before.write_faults
   writes_unless (says.outcome shape o l w) other = w
   writes_unless (says.memory s t k l w) other = w
-  writes_unless (says.read_fault config is_config s t k rose w) other = w
-  writes_unless (says.write_fault bytes done counted generated s t k l rose) other = absurd (other s)
+  writes_unless (says.read_fault command config is_config s t k rose w) other = w
+  writes_unless (says.write_fault map done counted generated s t k l rose) other = absurd (other s)
 
 -- ---- what the answer says
 

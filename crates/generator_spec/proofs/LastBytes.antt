@@ -15,6 +15,7 @@ use Rattle.url.specs.Input.{is_empty}
 use Rattle.url.specs.Scheme.{is_slash}
 use Rattle.url.specs.Path.{dot_len, dot_count, push_segment, parse_segments, parse_path, parse_path_start}
 use Rattle.url.specs.Parts.{Parts, pieces}
+use Rattle.url_spec.proofs.FileNames.{ends_in, same_last}
 use Rattle.url_spec.specs.Parsing.{text_of}
 use Rattle.url_spec.specs.Specifiers.{ends_in_slash}
 
@@ -31,17 +32,10 @@ ends_behind byte front text ends =
     }
 
 one_last : (byte other : ℕ) (text : List ℕ) → EndsIn byte text → EndsIn other text → byte ≡ other
-one_last byte other text a b =
-    let turned : byte ∷ reverse a.front ≡ other ∷ reverse b.front =
-    sym (reverse-append a.front (byte ∷ []))
-    ∙ (ap reverse (sym a.split ∙ b.split) ∙ reverse-append b.front (other ∷ [])) in
-    cc
+one_last byte other text a b = same_last a.front b.front byte other (sym a.split ∙ b.split)
 
 pub ends_from_test : (text : List ℕ) → ends_with nat_eq text (codes "/") ≡ true → EndsIn 47 text
-ends_from_test text e =
-    let cut = length text - 1 in
-    let last : drop cut text ≡ codes "/" = sym (same_text (codes "/") (drop cut text) (sym e)) in
-    record { front = take cut text; split = sym (take-append-drop cut text) ∙ ap (λ last. take cut text ++ last) last }
+ends_from_test text e = let end = ends_in text e in record { front = end.0; split = end.1 }
 
 -- a text with another last byte doesn't end in `/`
 pub another_last : (byte : ℕ) (text : List ℕ) → byte ≢ 47 → EndsIn byte text → ends_in_slash text ≡ false

@@ -3,6 +3,7 @@ pub mod Generations
 pub mod LastBytes
 pub mod PageNames
 pub mod MapPaths
+pub mod Refusals
 pub mod Outcomes
 pub mod Endings
 pub mod ToldLines

@@ -4,6 +4,8 @@ use Rattle.std.specs.List.{list_any}
 use Rattle.std.proofs.lemmas.Bool.{or_parts, eqb-false}
 use Rattle.std.proofs.lemmas.List.Elements.{All-nil, All-cons}
 use Rattle.tree_spec.specs.Paths.{IsSegment, IsPath, IsParent, root, child}
+use Rattle.generator_spec.specs.Commands.{map_path}
+use Rattle.generator_spec.specs.Words.{page_path}
 
 lacks : (byte : ℕ) (bytes : List ℕ) → list_any (λ b. b == byte) bytes ≡ false → All (λ b. b ≢ byte) bytes
 lacks byte [] e = All-nil (λ b. b ≢ byte)
@@ -34,16 +36,22 @@ root_file name text no_slash no_nul long short is = record {
   short = short;
 }
 
-pub page_path : IsPath (codes "/index.html")
-page_path = root_file (codes "index.html") (codes "/index.html") refl refl (lit≤ tt) (lit≤ tt) refl
+pub page_is_path : IsPath page_path
+page_is_path = root_file (codes "index.html") page_path refl refl (lit≤ tt) (lit≤ tt) refl
 
-pub map_path : IsPath (codes "/importmap.json")
-map_path = root_file (codes "importmap.json") (codes "/importmap.json") refl refl (lit≤ tt) (lit≤ tt) refl
+pub map_is_path : IsPath map_path
+map_is_path = root_file (codes "importmap.json") map_path refl refl (lit≤ tt) (lit≤ tt) refl
 
-pub map_in_root : IsParent (codes "/") (codes "/importmap.json")
-map_in_root = record {
-  name = codes "importmap.json";
-  segment = long_segment (codes "importmap.json") refl refl (lit≤ tt);
+in_root : (name : List ℕ) → IsSegment name → IsParent (codes "/") (47 ∷ name)
+in_root name is = record {
+  name = name;
+  segment = is;
   is_path = record { depth = 0; segments = root (codes "/") refl; few = lit≤ tt; short = lit≤ tt };
   text = refl;
 }
+
+pub map_in_root : IsParent (codes "/") map_path
+map_in_root = in_root (codes "importmap.json") (long_segment (codes "importmap.json") refl refl (lit≤ tt))
+
+pub page_in_root : IsParent (codes "/") page_path
+page_in_root = in_root (codes "index.html") (long_segment (codes "index.html") refl refl (lit≤ tt))

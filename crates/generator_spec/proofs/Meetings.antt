@@ -22,15 +22,17 @@ if_told (Some tree) f = f tree refl
 
 -- an outcome without a map leaves nothing to write
 no_map :
-    (words : List (List ℕ)) (tree : Tree) (bytes done : List ℕ) (expected : ℕ) (text : List ℕ) (later : Tree)
-    → IsGenerated words tree bytes done → Outcome words tree expected text later → expected ≢ 0 → ⊥
-no_map words tree bytes done expected text later generated (outcome.words_refused why refused s l same) other =
-    refused_or_config words why generated.config refused generated.is_config
-no_map words tree bytes done expected text later generated
-    (outcome.trace_refused config why is refused s l same) other =
-    refused_or_generated tree generated.config config bytes why
-    (one_config words generated.config config generated.is_config is) generated.generates refused
-no_map words tree bytes done expected text later generated (outcome.done config some is generates s l placed) other =
+    (words : List (List ℕ)) (tree : Tree) (map done : List ℕ) (expected : ℕ) (text : List ℕ) (later : Tree)
+    → IsGenerated words tree map done → Outcome words tree expected text later → expected ≢ 0 → ⊥
+no_map words tree map done expected text later generated (outcome.words_refused why refused s l same) other =
+    refused_or_config words why generated.command generated.config refused generated.is_config
+no_map words tree map done expected text later generated
+    (outcome.refused command config why is refused s l same) other =
+    refused_or_generated tree map why
+    (one_config words command generated.command config generated.config is generated.is_config) refused
+    generated.opens generated.generates
+no_map words tree map done expected text later generated
+    (outcome.done command config some path file is generates wrote s l placed) other =
     other s
 
 module _ (words : List (List ℕ)) (tree : Tree) (before after : FolderState) (out out_after : SinkState)
@@ -53,8 +55,8 @@ module _ (words : List (List ℕ)) (tree : Tree) (before after : FolderState) (o
       let here = told_outcome o in
       finish.finished status line here.0 here.1 (record { answered = is; given = given; told = here.2 })
   finishes none (says.memory s t k l w) (ends.said is given quiet) = finish.memory (with_memory is given s t k)
-  finishes none (says.read_fault config is_config s t k rose w) ended = absurd (none.looks rose)
-  finishes none (says.write_fault bytes done counted generated s t k l rose) ended = absurd (none.writes rose)
+  finishes none (says.read_fault command config is_config s t k rose w) ended = absurd (none.looks rose)
+  finishes none (says.write_fault map done counted generated s t k l rose) ended = absurd (none.writes rose)
   finishes none (says.outcome shape o l w) (ends.output_fault is gives rose) = absurd (none.output rose)
   finishes none (says.memory s t k l w) (ends.output_fault is gives rose) = absurd (none.output rose)
 
@@ -66,8 +68,8 @@ module _ (words : List (List ℕ)) (tree : Tree) (before after : FolderState) (o
     status_is : Says words before after status line → (status ≡ expected) ⊎ (status ≡ 8) ⊎ (status ≡ 4) ⊎ (status ≡ 5)
     status_is (says.outcome shape o l w) = inl (same_outcome (told_outcome o)).one_status
     status_is (says.memory s t k l w) = inr (inl s)
-    status_is (says.read_fault config is_config s t k rose w) = inr (inr (inl s))
-    status_is (says.write_fault bytes done counted generated s t k l rose) = inr (inr (inr s))
+    status_is (says.read_fault command config is_config s t k rose w) = inr (inr (inl s))
+    status_is (says.write_fault map done counted generated s t k l rose) = inr (inr (inr s))
 
     exactly :
         Says words before after status line → Ends status line out out_after result
@@ -88,18 +90,18 @@ module _ (words : List (List ℕ)) (tree : Tree) (before after : FolderState) (o
           told = here.2 ∙ ap Some same.one_tree;
         })
     completes none (says.memory s t k l w) (ends.said is given quiet) = complete.memory (with_memory is given s t k)
-    completes none (says.read_fault config is_config s t k rose w) ended = absurd (none.looks rose)
-    completes none (says.write_fault bytes done counted generated s t k l rose) ended = absurd (none.writes rose)
+    completes none (says.read_fault command config is_config s t k rose w) ended = absurd (none.looks rose)
+    completes none (says.write_fault map done counted generated s t k l rose) ended = absurd (none.writes rose)
     completes none (says.outcome shape o l w) (ends.output_fault is gives rose) = absurd (none.output rose)
     completes none (says.memory s t k l w) (ends.output_fault is gives rose) = absurd (none.output rose)
 
     unwritten : expected ≢ 0 → Says words before after status line → after.write_faults ≡ before.write_faults
     unwritten other (says.outcome shape o l w) = w
     unwritten other (says.memory s t k l w) = w
-    unwritten other (says.read_fault config is_config s t k rose w) = w
-    unwritten other (says.write_fault bytes done counted generated s t k l rose) =
-        let here = told_there (λ t. IsGenerated words t bytes done) before.holds tree told generated in
-        absurd (no_map words tree bytes done expected text later here result_is other)
+    unwritten other (says.read_fault command config is_config s t k rose w) = w
+    unwritten other (says.write_fault map done counted generated s t k l rose) =
+        let here = told_there (λ t. IsGenerated words t map done) before.holds tree told generated in
+        absurd (no_map words tree map done expected text later here result_is other)
 
   meets :
       Says words before after status line → Ends status line out out_after result

@@ -27,7 +27,7 @@ use Rattle.url_spec.specs.Bases.{names_web_folder, is_web_folder, base_of}
 use Rattle.url_spec.specs.Specifiers.{ends_in_slash}
 use Rattle.url_spec.specs.WebNames.{web, escaped}
 use Rattle.url_spec.proofs.Bases.{bases_stay, folder_kept}
-use Rattle.url_spec.proofs.FileNames.{HasNoTail}
+use Rattle.url_spec.proofs.FileNames.{HasNoTail, without_mark}
 use Rattle.url_spec.proofs.ParserParts.{Gives, either, and_gives, any_gives, gives_at, prefix_stops, IsParsed, kept_parsed}
 use Rattle.generator_spec.specs.Laws.{PageOfWordsIsFile}
 use Rattle.generator_spec.proofs.LastBytes.{EndsIn, ends_from_test, another_last, text_ends, start_ends}
@@ -199,21 +199,6 @@ cut_by_scheme (Some split) body query fragment url e none =
       none_mapped _ fragment (ap (λ (u : Parts). u.fragment) same ∙ none.fragment),
     )
 
-abbrev split_by_test : ℕ → List ℕ → List ℕ × Option (List ℕ) → Bool → List ℕ × Option (List ℕ)
-split_by_test b text later test = cond test ([], Some text) (b ∷ later.0, later.1)
-
-marked_by :
-    (mark b : ℕ) (text : List ℕ) (test : Bool) → (b == mark) ≡ test
-    → (split_by_test b text (split_once mark text) test).1 ≡ None
-    → ((split_once mark text).1 ≡ None → All (IsNot mark) text) → All (IsNot mark) (b ∷ text)
-marked_by mark b text true same e behind = absurd (cc)
-marked_by mark b text false other e behind = All-cons (IsNot mark) b text (eqb-false b mark other) (behind e)
-
-without_mark : (mark : ℕ) (text : List ℕ) → (split_once mark text).1 ≡ None → All (IsNot mark) text
-unfolding split_once
-without_mark mark [] e = All-nil (IsNot mark)
-without_mark mark (b ∷ text) e = marked_by mark b text (b == mark) refl e (without_mark mark text)
-
 no_marks :
     (input : List ℕ) (url : Parts) → parse_url None input ≡ Ok url → HasNoTail url
     → NoMarks (strip_tabs_and_new_lines (trim_c0_control_and_space input))
@@ -223,9 +208,9 @@ no_marks input url e none =
     let hash = split_once 35 text in
     let question = split_once 63 hash.0 in
     let cut = cut_by_scheme (split_scheme question.0) question.0 question.1 hash.1 url e none in
-    let no_hash = without_mark 35 text cut.1 in
+    let no_hash = (without_mark 35 text cut.1).all in
     let whole : hash.0 ≡ text = ap (λ (r : List ℕ × Option (List ℕ)). r.0) (split_once_none 35 text no_hash) in
-    record { no_hash = no_hash; no_question = subst (All (IsNot 63)) whole (without_mark 63 hash.0 cut.0) }
+    record { no_hash = no_hash; no_question = subst (All (IsNot 63)) whole (without_mark 63 hash.0 cut.0).all }
 
 all_of_front : (P : ℕ → Type 0) (front rest : List ℕ) → All P (front ++ rest) → All P front
 all_of_front P front rest all =
@@ -543,6 +528,6 @@ page_name_ends base name is_base e =
     another_last 108 name (λ s. omega (arith, s)) (subst (EndsIn 108) page.own last)
 
 pub page_of_words_is_file : PageOfWordsIsFile
-page_of_words_is_file words config is name named =
+page_of_words_is_file words command config is name named =
     page_name_ends config.base name (bases_stay is.base config.base is.is_base)
     (named_page config.base name (subst (λ p. web config.base p [] ≡ Some name) is.page named))

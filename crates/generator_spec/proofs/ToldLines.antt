@@ -4,11 +4,15 @@ use Rattle.std.specs.Prelude.{option_map}
 use Rattle.std.proofs.Math.Seq.{take-length}
 use Rattle.std.proofs.lemmas.List.{append_cancel_left}
 use Rattle.tree_spec.specs.States.{FolderState, SinkState}
+use Rattle.page_spec.specs.declared.kinds.InjectFault.TheVariants.{PageUnclear, TwoMaps, NoPlace}
+use Rattle.page_spec.specs.declared.kinds.InjectFault.TheVariants as page
 use Rattle.trace_spec.specs.declared.TraceFault.{TraceFault}
 use Rattle.trace_spec.specs.declared.TraceFault.TheVariants as fault
+use Rattle.generator_spec.specs.declared.PageFault.{PageFault}
+use Rattle.generator_spec.specs.declared.PageFault.TheVariants.{Absent, TooLarge, KeepsMapsOut}
 use Rattle.generator_spec.specs.declared.Refusal.{Refusal}
 use Rattle.generator_spec.specs.declared.Refusal.TheVariants as refusal
-use Rattle.generator_spec.specs.Lines.{trace_line, line_of, counts_line, memory_line, read_fault_line, write_fault_line}
+use Rattle.generator_spec.specs.Lines.{page_line, trace_line, line_of, counts_line, memory_line, read_fault_line, write_fault_line}
 use Rattle.generator_spec.specs.Ending.{Linked, Gives, Shaped, Says, Ends, Shaped as shaped, Says as says, Ends as ends}
 use Rattle.generator_spec.specs.Promises.{Tells}
 
@@ -37,9 +41,20 @@ trace_is_another (fault.Limit which) = other_line 108 (trace_line (fault.Limit w
 trace_is_another fault.ReadFault = other_line 102 read_fault_line refl (λ e. omega arith)
 trace_is_another fault.Memory = other_line 109 memory_line refl (λ e. omega arith)
 
+page_is_another : (why : PageFault) → IsAnother (page_line why)
+page_is_another Absent = other_line 98 (page_line Absent) refl (λ e. omega arith)
+page_is_another TooLarge = other_line 108 (page_line TooLarge) refl (λ e. omega arith)
+page_is_another (KeepsMapsOut (PageUnclear at)) =
+    other_line 114 (page_line (KeepsMapsOut (PageUnclear at))) refl (λ e. omega arith)
+page_is_another (KeepsMapsOut (TwoMaps at)) =
+    other_line 114 (page_line (KeepsMapsOut (TwoMaps at))) refl (λ e. omega arith)
+page_is_another (KeepsMapsOut NoPlace) = other_line 114 (page_line (KeepsMapsOut NoPlace)) refl (λ e. omega arith)
+page_is_another (KeepsMapsOut page.Memory) = other_line 109 memory_line refl (λ e. omega arith)
+
 refusal_is_another : (why : Refusal) → IsAnother (line_of why)
 refusal_is_another refusal.Words = other_line 110 (line_of refusal.Words) refl (λ e. omega arith)
 refusal_is_another (refusal.BadBase text) = other_line 119 (line_of (refusal.BadBase text)) refl (λ e. omega arith)
+refusal_is_another (refusal.Page why) = page_is_another why
 refusal_is_another (refusal.Trace why) = trace_is_another why
 
 -- a front that begins so is of a line that does
@@ -90,15 +105,15 @@ module _ (words : List (List ℕ)) (before after : FolderState) (status : ℕ) (
 
   shaped_line : Shaped words status line → IsAnother line ⊎ IsLinked
   shaped_line (shaped.words_refused why refuses s l) = inl (subst IsAnother (sym l) (refusal_is_another why))
-  shaped_line (shaped.trace_refused config why is kind s l) = inl (subst IsAnother (sym l) (trace_is_another why))
+  shaped_line (shaped.refused command config why is of s l) = inl (subst IsAnother (sym l) (refusal_is_another why))
   shaped_line (shaped.done s counted) = inr (linked s)
 
   said_line : Says words before after status line → IsAnother line ⊎ IsLinked
   said_line (says.outcome shape o l w) = shaped_line shape
   said_line (says.memory s t k l w) = inl (subst IsAnother (sym t) (other_line 109 memory_line refl (λ e. omega arith)))
-  said_line (says.read_fault config is_config s t k rose w) =
+  said_line (says.read_fault command config is_config s t k rose w) =
       inl (subst IsAnother (sym t) (other_line 102 read_fault_line refl (λ e. omega arith)))
-  said_line (says.write_fault bytes done counted generated s t k l rose) =
+  said_line (says.write_fault map done counted generated s t k l rose) =
       inl (subst IsAnother (sym t) (other_line 102 write_fault_line refl (λ e. omega arith)))
 
   pub end_tells :

@@ -9,6 +9,7 @@ use Rattle.trace_spec.specs.declared.TraceFault.{TraceFault}
 use Rattle.trace_spec.specs.Modules.{Config}
 use Rattle.trace_spec.specs.Checks.{Gathered}
 use Rattle.trace_spec.specs.Traces.{traced}
+use Rattle.generator_spec.specs.declared.Command.{Command}
 use Rattle.generator_spec.specs.declared.Refusal.{Refusal}
 use Rattle.generator_spec.specs.Words.{IsConfigOf, RefusesWords}
 use Rattle.generator_spec.specs.Generation.{PageIsFile, Generates}
@@ -18,10 +19,15 @@ use Rattle.generator_spec.specs.Promises.{Promises}
 
 -- ---- words
 
--- words give one config at most
+pub record SameConfig (some other : Command) (config second : Config) : Type 0 where
+  pub one_command : some ≡ other
+  pub one_config : config ≡ second
+
+-- words give one command and one config at most
 abbrev pub OneConfig : Type 0
 OneConfig =
-    (words : List (List ℕ)) (some other : Config) → IsConfigOf words some → IsConfigOf words other → some ≡ other
+    (words : List (List ℕ)) (some other : Command) (config second : Config) → IsConfigOf words some config
+    → IsConfigOf words other second → SameConfig some other config second
 
 -- words are refused in one way at most
 abbrev pub OneWordsRefusal : Type 0
@@ -31,11 +37,13 @@ OneWordsRefusal =
 -- refused words give no config
 abbrev pub RefusedOrConfig : Type 0
 RefusedOrConfig =
-    (words : List (List ℕ)) (why : Refusal) (config : Config) → RefusesWords words why → IsConfigOf words config → ⊥
+    (words : List (List ℕ)) (why : Refusal) (command : Command) (config : Config) → RefusesWords words why
+    → IsConfigOf words command config → ⊥
 
 pub record HasConfig (words : List (List ℕ)) : Type 0 where
+  pub command : Command
   pub config : Config
-  pub is : IsConfigOf words config
+  pub is : IsConfigOf words command config
 
 pub record AreRefused (words : List (List ℕ)) : Type 0 where
   pub why : Refusal
@@ -47,7 +55,8 @@ SomeConfig = (words : List (List ℕ)) → HasConfig words ⊎ AreRefused words
 
 -- the page that words give has no folder's web name
 abbrev pub PageOfWordsIsFile : Type 0
-PageOfWordsIsFile = (words : List (List ℕ)) (config : Config) → IsConfigOf words config → PageIsFile config
+PageOfWordsIsFile =
+    (words : List (List ℕ)) (command : Command) (config : Config) → IsConfigOf words command config → PageIsFile config
 
 -- ---- generation
 

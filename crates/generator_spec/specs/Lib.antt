@@ -1,4 +1,6 @@
+pub mod Statuses
 pub mod Words
+pub mod Commands
 pub mod Generation
 pub mod Serves
 pub mod Lines

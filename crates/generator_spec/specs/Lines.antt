@@ -4,31 +4,52 @@
 --     done_line all                   the same for the trace whose map it is
 use Rattle.std.specs.Prelude.{ℕ, List, [], ◌∷◌, ◌++◌, length, codes, unwrap_or}
 use Rattle.std.specs.Fmt.{decimal}
+use Rattle.tree_spec.specs.declared.LimitName.{LimitName}
+use Rattle.tree_spec.specs.declared.LimitName.TheVariants.{File}
 use Rattle.tree_spec.specs.Limits.{limit_number, limit_name}
 use Rattle.json_spec.specs.PrintedString.{quoted}
 use Rattle.node_spec.specs.declared.Cause.{Cause}
 use Rattle.node_spec.specs.declared.Cause.TheVariants as cause
+use Rattle.page_spec.specs.declared.kinds.InjectFault.{InjectFault}
+use Rattle.page_spec.specs.declared.kinds.InjectFault.TheVariants.{PageUnclear, TwoMaps, NoPlace}
+use Rattle.page_spec.specs.declared.kinds.InjectFault.TheVariants as page
 use Rattle.layout_spec.specs.Layout.{layout}
 use Rattle.layout_spec.specs.Counting.{mapping_count}
 use Rattle.trace_spec.specs.declared.TraceFault.{TraceFault}
 use Rattle.trace_spec.specs.declared.TraceFault.TheVariants.{Unservable, Refused, RequestNotBuilt, ModuleNotBuilt, Limit, ReadFault, Memory}
 use Rattle.trace_spec.specs.Checks.{Gathered}
+use Rattle.generator_spec.specs.declared.PageFault.{PageFault}
+use Rattle.generator_spec.specs.declared.PageFault.TheVariants.{Absent, TooLarge, KeepsMapsOut}
 use Rattle.generator_spec.specs.declared.Refusal.{Refusal}
-use Rattle.generator_spec.specs.declared.Refusal.TheVariants.{Words, BadBase, Trace}
+use Rattle.generator_spec.specs.declared.Refusal.TheVariants.{Words, BadBase, Page, Trace}
+use Rattle.generator_spec.specs.Statuses.{refused_status, words_status, limit_status, read_fault_status, file_status}
+use Rattle.generator_spec.specs.Statuses.{memory_status, not_built_status}
 
 -- own: the exit statuses
 abbrev pub trace_status : TraceFault → ℕ
-trace_status (Unservable path url) = 1
-trace_status (Refused referrer specifier why) = 1
-trace_status (RequestNotBuilt referrer specifier) = 9
-trace_status (ModuleNotBuilt m) = 9
-trace_status (Limit which) = 3
-trace_status ReadFault = 4
-trace_status Memory = 8
+trace_status (Unservable path url) = refused_status
+trace_status (Refused referrer specifier why) = refused_status
+trace_status (RequestNotBuilt referrer specifier) = not_built_status
+trace_status (ModuleNotBuilt m) = not_built_status
+trace_status (Limit which) = limit_status
+trace_status ReadFault = read_fault_status
+trace_status Memory = memory_status
+
+abbrev pub inject_status : InjectFault → ℕ
+inject_status (PageUnclear at) = refused_status
+inject_status (TwoMaps at) = refused_status
+inject_status NoPlace = refused_status
+inject_status page.Memory = memory_status
+
+abbrev pub page_status : PageFault → ℕ
+page_status Absent = file_status
+page_status TooLarge = limit_status
+page_status (KeepsMapsOut fault) = inject_status fault
 
 abbrev pub status_of : Refusal → ℕ
-status_of Words = 9
-status_of (BadBase text) = 2
+status_of Words = not_built_status
+status_of (BadBase text) = words_status
+status_of (Page fault) = page_status fault
 status_of (Trace fault) = trace_status fault
 
 abbrev pub end_of_line : List ℕ
@@ -59,6 +80,10 @@ read_fault_line = codes "fault: read" ++ end_of_line
 abbrev pub write_fault_line : List ℕ
 write_fault_line = codes "fault: write" ++ end_of_line
 
+abbrev pub limit_line : LimitName → List ℕ
+limit_line which =
+    codes "limit: " ++ (limit_name which ++ (codes " above " ++ (decimal (limit_number which) ++ end_of_line)))
+
 abbrev pub trace_line : TraceFault → List ℕ
 trace_line (Unservable path url) = pair_line (codes "refused: Unservable ") path (codes " as ") (unwrap_or url [])
 trace_line (Refused referrer specifier why) =
@@ -66,14 +91,29 @@ trace_line (Refused referrer specifier why) =
 trace_line (RequestNotBuilt referrer specifier) =
     pair_line (codes "not built: from ") referrer (codes " for ") specifier
 trace_line (ModuleNotBuilt m) = codes "not built: " ++ (quoted m ++ end_of_line)
-trace_line (Limit which) =
-    codes "limit: " ++ (limit_name which ++ (codes " above " ++ (decimal (limit_number which) ++ end_of_line)))
+trace_line (Limit which) = limit_line which
 trace_line ReadFault = read_fault_line
 trace_line Memory = memory_line
+
+-- own: the name of a fault and its place in the page
+abbrev pub place_line : List ℕ → ℕ → List ℕ
+place_line name at = codes "refused: " ++ (name ++ (codes " at " ++ (decimal at ++ end_of_line)))
+
+abbrev pub inject_line : InjectFault → List ℕ
+inject_line (PageUnclear at) = place_line (codes "PageUnclear") at
+inject_line (TwoMaps at) = place_line (codes "TwoMaps") at
+inject_line NoPlace = codes "refused: NoPlace" ++ end_of_line
+inject_line page.Memory = memory_line
+
+abbrev pub page_line : PageFault → List ℕ
+page_line Absent = codes "bad file: page absent" ++ end_of_line
+page_line TooLarge = limit_line File
+page_line (KeepsMapsOut fault) = inject_line fault
 
 abbrev pub line_of : Refusal → List ℕ
 line_of Words = codes "not built: words" ++ end_of_line
 line_of (BadBase text) = codes "words: BadBase " ++ (quoted text ++ end_of_line)
+line_of (Page fault) = page_line fault
 line_of (Trace fault) = trace_line fault
 
 -- own: so many modules, requests and mappings

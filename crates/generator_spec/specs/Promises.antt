@@ -1,5 +1,4 @@
 -- What follows from how a run ends, as its caller asks for it.
---     IsRefusalStatus status         an end before the first write has this status
 --     Tells out out_after written    a line went out, that of a command that was done only where this holds
 --     Quiet before after out out_after             no count of faults rose
 --     Stands status line held after out out_after result          this was answered, said and left
@@ -15,14 +14,12 @@ use Rattle.tree_spec.specs.States.{FolderState, SinkState}
 use Rattle.tree_spec.specs.Trees.{Tree}
 use Rattle.generator_spec.specs.declared.Refusal.{Refusal}
 use Rattle.generator_spec.specs.declared.Refusal.TheVariants.{BadBase}
+use Rattle.generator_spec.specs.Statuses.{IsRefusalStatus, done_status, words_status, read_fault_status}
+use Rattle.generator_spec.specs.Statuses.{write_fault_status, memory_status}
 use Rattle.generator_spec.specs.Words.{RefusesWords}
 use Rattle.generator_spec.specs.Lines.{status_of, line_of, counts_line, memory_line}
 use Rattle.generator_spec.specs.Outcome.{Outcome}
 use Rattle.generator_spec.specs.Ending.{Linked, Gives, TellsRefusal}
-
--- own: the statuses of an end before the first write
-abbrev pub IsRefusalStatus : ℕ → Type 0
-IsRefusalStatus status = (status ≡ 1) ⊎ (status ≡ 2) ⊎ (status ≡ 3) ⊎ (status ≡ 4) ⊎ (status ≡ 8) ⊎ (status ≡ 9)
 
 -- own: a front of one line went out; and a byte of the line of a command that was done only where its map was written
 pub record Tells (out out_after : Option (List ℕ)) (written : Type 0) : Type 0 where
@@ -52,7 +49,7 @@ pub data Completes (status : ℕ) (line : List ℕ) (later : Tree) (before after
       Stands status line (Some later) after out out_after result
       → Completes status line later before after out out_after result
   memory :
-      Stands 8 memory_line before.holds after out out_after result
+      Stands memory_status memory_line before.holds after out out_after result
       → Completes status line later before after out out_after result
 
 -- own: the command ended as an outcome says that is defined; or with `memory`, and the tree is as it was
@@ -63,7 +60,7 @@ pub data Finishes (words : List (List ℕ)) (tree : Tree) (before after : Folder
       → Stands status line (Some later) after out out_after result
       → Finishes words tree before after out out_after result
   memory :
-      Stands 8 memory_line before.holds after out out_after result
+      Stands memory_status memory_line before.holds after out out_after result
       → Finishes words tree before after out out_after result
 
 -- own: where no fault was counted, the command ended as an outcome says that is defined, or with `memory`. Where the
@@ -74,23 +71,25 @@ pub record Meets (words : List (List ℕ)) (tree : Tree) (before after : FolderS
   pub ended : Quiet before after out out_after → Finishes words tree before after out out_after result
   pub exactly :
       (status : ℕ) (line : List ℕ) (later : Tree) → Outcome words tree status line later
-      → (result ≡ status) ⊎ (result ≡ 8) ⊎ (result ≡ 4) ⊎ (result ≡ 5)
+      → (result ≡ status) ⊎ (result ≡ memory_status) ⊎ (result ≡ read_fault_status) ⊎ (result ≡ write_fault_status)
   pub complete :
       (status : ℕ) (line : List ℕ) (later : Tree) → Outcome words tree status line later
       → Quiet before after out out_after
       → Completes status line later before after out out_after result
   pub unwritten :
-      (status : ℕ) (line : List ℕ) (later : Tree) → Outcome words tree status line later → status ≢ 0
+      (status : ℕ) (line : List ℕ) (later : Tree) → Outcome words tree status line later → status ≢ done_status
       → after.write_faults ≡ before.write_faults
 
 -- own: a count that changed shows in the status: that of looks in 4, or in 5 where the output failed too; 4 comes
 -- only where the looks alone failed
 pub record Shows (before after : FolderState) (out out_after : SinkState) (result : ℕ) : Type 0 where
-  pub looks : after.look_faults ≢ before.look_faults → (result ≡ 4) ⊎ (result ≡ 5)
-  pub writes : after.write_faults ≢ before.write_faults → result ≡ 5
-  pub output : out_after.faults ≢ out.faults → result ≡ 5
-  pub looks_alone : after.look_faults ≢ before.look_faults → (Rose out.faults out_after.faults → ⊥) → result ≡ 4
-  pub read_alone : result ≡ 4 → (after.write_faults ≡ before.write_faults) × (out_after.faults ≡ out.faults)
+  pub looks : after.look_faults ≢ before.look_faults → (result ≡ read_fault_status) ⊎ (result ≡ write_fault_status)
+  pub writes : after.write_faults ≢ before.write_faults → result ≡ write_fault_status
+  pub output : out_after.faults ≢ out.faults → result ≡ write_fault_status
+  pub looks_alone :
+      after.look_faults ≢ before.look_faults → (Rose out.faults out_after.faults → ⊥) → result ≡ read_fault_status
+  pub read_alone :
+      result ≡ read_fault_status → (after.write_faults ≡ before.write_faults) × (out_after.faults ≡ out.faults)
 
 -- own: the tree is as it was, and no fault was counted
 pub record Untouched (before after : FolderState) : Type 0 where
@@ -101,13 +100,15 @@ pub record Untouched (before after : FolderState) : Type 0 where
 -- own: what each status says of the folder, of the output and of the faults
 pub record Promises (words : List (List ℕ)) (before after : FolderState) (out out_after : SinkState)
     (result : ℕ) : Type 0 where
-  pub statuses : (result ≡ 0) ⊎ (result ≡ 5) ⊎ IsRefusalStatus result
+  pub statuses : (result ≡ done_status) ⊎ (result ≡ write_fault_status) ⊎ IsRefusalStatus result
   pub kept : IsRefusalStatus result → after.holds ≡ before.holds
-  pub done : result ≡ 0 → IfSome before.holds (λ tree. Linked words tree after.holds)
+  pub done : result ≡ done_status → IfSome before.holds (λ tree. Linked words tree after.holds)
   pub write_fault :
-      result ≡ 5 → (after.holds ≡ before.holds) ⊎ IfSome before.holds (λ tree. Linked words tree after.holds)
-  pub read : result ≡ 4 → Rose before.look_faults after.look_faults
-  pub write : result ≡ 5 → Rose before.write_faults after.write_faults ⊎ Rose out.faults out_after.faults
+      result ≡ write_fault_status
+      → (after.holds ≡ before.holds) ⊎ IfSome before.holds (λ tree. Linked words tree after.holds)
+  pub read : result ≡ read_fault_status → Rose before.look_faults after.look_faults
+  pub write :
+      result ≡ write_fault_status → Rose before.write_faults after.write_faults ⊎ Rose out.faults out_after.faults
   pub told : Tells out.got out_after.got (IfSome before.holds (λ tree. Linked words tree after.holds))
   pub meets : IfSome before.holds (λ tree. Meets words tree before after out out_after result)
   pub shows : Shows before after out out_after result
@@ -119,4 +120,4 @@ pub record Promises (words : List (List ℕ)) (before after : FolderState) (out 
       (why : Refusal) → RefusesWords words why
       → Untouched before after
       × TellsRefusal why out out_after result
-  pub bad_base : result ≡ 2 → (base : List ℕ) × RefusesWords words (BadBase base)
+  pub bad_base : result ≡ words_status → (base : List ℕ) × RefusesWords words (BadBase base)

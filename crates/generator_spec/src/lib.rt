@@ -6,8 +6,29 @@ ghost use Rattle.generator_spec.specs.Laws.{OneConfig, OneWordsRefusal, RefusedO
 ghost use Rattle.generator_spec.specs.Laws.{PageOfWordsIsFile, OneGeneration, SomeGeneration, NothingRefused};
 ghost use Rattle.generator_spec.specs.Laws.{OneOutcome, SomeOutcome, EndsKeepPromises};
 
+use page_spec::InjectFault;
 use primitives::Text;
 use trace_spec::TraceFault;
+
+/// What is asked for.
+#[derive(Clone, Copy, Debug, PartialEq, Eq)]
+pub enum Command {
+    /// The map, in a file of its own.
+    Link,
+    /// The page, with the map in it.
+    Inject,
+}
+
+/// Why there is no page to put a map into.
+#[derive(Clone, Copy, Debug, PartialEq, Eq)]
+pub enum PageFault {
+    /// No file stands there.
+    Absent,
+    /// The file has more bytes than a file may.
+    TooLarge,
+    /// No map can be put into it.
+    KeepsMapsOut { fault: InjectFault },
+}
 
 /// Why a command ends before its first write, with what is shown of it.
 #[derive(Debug, Drop)]
@@ -16,11 +37,13 @@ pub enum Refusal {
     Words,
     /// A text that gives no base.
     BadBase { text: Text },
+    /// There is no page to put the map into.
+    Page { fault: PageFault },
     /// There is no trace.
     Trace { fault: TraceFault },
 }
 
-/// Words give one config at most.
+/// Words give one command and one config at most.
 pub fn one_config()
     ensures { OneConfig }
 {}

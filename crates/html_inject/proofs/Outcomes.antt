@@ -1,5 +1,5 @@
 -- What comes of a map and a page, by the place that was found for the map.
-use Rattle.std.specs.Prelude.{IsUtf8}
+use Rattle.std.specs.Prelude.{IfOk, IfErr, IsUtf8}
 use Rattle.std.specs.Str.{is_utf8}
 use Rattle.std.specs.Str.Lossy.{utf8_valid_len}
 use Rattle.std.proofs.Common.{◌≡◌, ℕ, ◌+◌, ◌≤◌, List, [], ◌++◌, length, true, false, Bool, Option, Some, None, Result, Ok, Err, refl, sym, ◌∙◌, ap, subst, arith}
@@ -10,13 +10,13 @@ use Rattle.page_spec.specs.declared.kinds.InjectFault.{InjectFault}
 use Rattle.page_spec.specs.declared.kinds.InjectFault.TheVariants.{PageUnclear}
 use Rattle.page_spec.specs.Pieces.{Part, Pieces, page_of}
 use Rattle.page_spec.specs.Faults.{first_fault}
-use Rattle.page_spec.specs.Injection.{map_span, place, element, replaced, put_into, unless_faulted, injected, Injection}
+use Rattle.page_spec.specs.Injection.{map_span, place, element, replaced, put_into, unless_faulted, injected, Injection, TakesMaps, KeepsMapsOut}
 use Rattle.page_spec.specs.Injection.Injection.{not_utf8, utf8}
 use Rattle.page_spec.proofs.Cover.{pieces_cover}
 use Rattle.page_spec.proofs.Putting.{some_replaced, some_inserted, replaced_site, inserted_place}
 use Rattle.html_inject.specs.declared.search.Site.{Site}
 use Rattle.html_inject.specs.declared.search.Site.TheVariants.{Map, Place}
-use Rattle.html_inject.specs.Search.{chosen, site, IsSite}
+use Rattle.html_inject.specs.Search.{chosen, site, IsSite, IsSiteOf}
 
 -- what comes of a map that goes there
 abbrev pub finished : List ℕ → List ℕ → Result Site InjectFault → Result (List ℕ) InjectFault
@@ -95,8 +95,38 @@ chosen_fits parts None None None s m p e = absurd (cc)
 pub site_fits : (page body : List ℕ) (s : Site) → body ≡ page → IsSite body (here s) → Fits page s
 site_fits page body s e i = subst (λ b. Fits b s) (sym (pieces_cover body i.parts i.pieces) ∙ e) (chosen_fits i.parts (first_fault 0 false i.parts) (map_span 0 i.parts) (place 0 i.parts) s refl refl i.is)
 
-pub map_fits : (page body : List ℕ) (from to : ℕ) → body ≡ page → IsSite body (here (Map from to)) → (from ≤ length page) × (to ≤ length page)
-map_fits page body from to e i = let f = site_fits page body (Map from to) e i in (f.from, f.to)
+-- ---- what a search says of the page
 
-pub new_fits : (page body : List ℕ) (n : ℕ) → body ≡ page → IsSite body (here (Place n)) → n ≤ length page
-new_fits page body n e i = (site_fits page body (Place n) e i).from
+pub site_is : (page body : List ℕ) (s : Site) → body ≡ page → IsUtf8 page → IsSite body (here s) → IsSiteOf page s
+site_is page body s e u i = record { utf8 = u; is = subst (λ b. IsSite b (here s)) e i }
+
+pub site_takes : (page body : List ℕ) (s : Site) → body ≡ page → IsUtf8 page → IsSite body (here s) → TakesMaps page
+site_takes page body (Map from to) e u i = λ text. record { new = _; injection = comes_of text page body (here (Map from to)) e u i }
+site_takes page body (Place n) e u i = λ text. record { new = _; injection = comes_of text page body (here (Place n)) e u i }
+
+pub takes_of : (page body : List ℕ) (out : Result Site InjectFault) → body ≡ page → IsUtf8 page → IsSite body out → IfOk out (λ _. TakesMaps page)
+takes_of page body (Ok s) e u i = site_takes page body s e u i
+takes_of page body (Err fault) e u i = tt
+
+pub keeps_of : (page body : List ℕ) (out : Result Site InjectFault) → body ≡ page → IsUtf8 page → IsSite body out → IfErr out (λ fault. KeepsMapsOut page fault)
+keeps_of page body (Ok s) e u i = tt
+keeps_of page body (Err fault) e u i = λ text. comes_of text page body (Err fault) e u i
+
+-- ---- a map at its site
+
+pub if_ok : {A E : Type 0} {P Q : A → Type 0} (out : Result A E) → ((x : A) → P x → Q x) → IfOk out P → IfOk out Q
+if_ok (Ok x) f h = f x h
+if_ok (Err e) f h = tt
+
+pub fits : (page : List ℕ) (s : Site) → IsSiteOf page s → Fits page s
+fits page s i = site_fits page page s refl i.is
+
+pub map_comes : (text page new : List ℕ) (s : Site) (from to : ℕ) → IsSiteOf page s → s ≡ Map from to → new ≡ replaced from to text page → Injection text page (Ok new)
+map_comes text page new s from to i e n =
+    let site = subst (λ s. IsSite page (here s)) e i.is in
+    subst (λ new. Injection text page (Ok new)) (sym n) (comes_of text page page (here (Map from to)) refl i.utf8 site)
+
+pub element_comes : (text page new : List ℕ) (s : Site) (n : ℕ) → IsSiteOf page s → s ≡ Place n → new ≡ replaced n n (element text) page → Injection text page (Ok new)
+element_comes text page new s n i e m =
+    let site = subst (λ s. IsSite page (here s)) e i.is in
+    subst (λ new. Injection text page (Ok new)) (sym m) (comes_of text page page (here (Place n)) refl i.utf8 site)

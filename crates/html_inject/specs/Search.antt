@@ -7,7 +7,8 @@
 --     found_more page found piece next     what is found with the piece, behind what was found before it
 --     site parts                      where a map goes among the pieces, or the fault that decides
 --     IsSite page out                 the same of a page
-use Rattle.std.specs.Prelude.{◌≡◌, ◌||◌, codes, ℕ, ⊤, false, List, [], ◌∷◌, if◌then◌else◌, Option, Some, None, Result, Ok, Err}
+--     IsSiteOf page site              a map goes there in the page
+use Rattle.std.specs.Prelude.{◌≡◌, ◌||◌, codes, ℕ, ⊤, false, List, [], ◌∷◌, if◌then◌else◌, Option, Some, None, Result, Ok, Err, IsUtf8}
 use Rattle.page_spec.specs.declared.kinds.InjectFault.{InjectFault}
 use Rattle.page_spec.specs.declared.kinds.InjectFault.TheVariants.{PageUnclear, NoPlace}
 use Rattle.page_spec.specs.declared.kinds.Piece.{Piece}
@@ -64,3 +65,7 @@ pub record IsSite (page : List ℕ) (out : Result Site InjectFault) : Type 0 whe
   pub parts : List Part
   pub pieces : Pieces None page parts
   pub is : out ≡ site parts
+
+pub record IsSiteOf (page : List ℕ) (place : Site) : Type 0 where
+  pub utf8 : IsUtf8 page
+  pub is : IsSite page (Ok place)

@@ -12,5 +12,6 @@ mod search;
 mod tests;
 mod written;
 
-pub use injection::inject;
+pub use injection::{inject, inject_at, site_of};
 pub use page_spec::InjectFault;
+pub use search::Site;

@@ -55,7 +55,6 @@ fn plain_fault(text: &str, piece: Piece) -> Option<InjectFault>
 }
 
 // The fault of a piece; `seen`: an import map element came before.
-
 fn fault_at(text: &str, piece: Piece, next: Option<Piece>, seen: bool) -> Option<InjectFault>
     requires { AreNext text.now piece next }
     ensures { result ≡ fault_at piece.from seen (part_at text.now piece) (parts_behind text.now next) }
@@ -103,7 +102,7 @@ impl Found {
 }
 
 /// Where a map goes in the page, or the fault that decides.
-pub fn site_of(text: &str) -> Result<Site, InjectFault>
+pub(crate) fn site_in(text: &str) -> Result<Site, InjectFault>
     ensures { IsSite text.now result }
 {
     let mut scanner = Scanner::new(text);

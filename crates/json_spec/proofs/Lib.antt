@@ -11,5 +11,6 @@ pub mod SomeJson
 pub mod TextBack
 pub mod ValueBack
 pub mod PrintedUtf8
+pub mod NoMarkup
 pub mod ReadBack
 pub mod examples

@@ -1,5 +1,5 @@
 -- The laws of JSON texts and of their printed form. Each is the contract of a function of this crate.
-use Rattle.std.specs.Prelude.{◌≡◌, ◌≤◌, ℕ, true, not, List, ◌∷◌, ◌++◌, length, filter, Result, IfOk, Ok, IsUtf8, All}
+use Rattle.std.specs.Prelude.{◌≡◌, ◌≤◌, ◌==◌, ℕ, true, false, not, List, ◌∷◌, ◌++◌, length, filter, Result, IfOk, Ok, IsUtf8, All}
 use Rattle.std.specs.List.Sorted.{IsPermutation, IsNonDecreasingBy}
 use Rattle.json_spec.specs.Grammar.{Fault, ReadsJson, most_brackets}
 use Rattle.json_spec.specs.Numbers.{IsNumber, number_at}
@@ -59,3 +59,7 @@ ValuesReadBack = (v : Json) → IsPrintable most_brackets v → ReadsJson (print
 -- own law: the printed text of a printable value is UTF-8
 abbrev pub PrintsUtf8 : Type 0
 PrintsUtf8 = (depth : ℕ) (v : Json) → IsPrintable depth v → IsUtf8 (printed_text v)
+
+-- own law: the printed text of such a value holds no `<`, so no tag of a page is read in it
+abbrev pub PrintsNoMarkup : Type 0
+PrintsNoMarkup = (depth : ℕ) (v : Json) → IsPrintable depth v → All (λ b. (b == 60) ≡ false) (printed_text v)

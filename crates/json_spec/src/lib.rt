@@ -3,7 +3,7 @@
 //! Definitions and laws alone: each function here is empty, and its contract is a law.
 #![tactic(auto)]
 
-ghost use Rattle.json_spec.specs.Laws.{LongestNumber, MembersInOrder, NamesAreDistinct, OneJson, PrintsUtf8, SomeJson, StringsReadBack, TextsReadBack, ValuesReadBack};
+ghost use Rattle.json_spec.specs.Laws.{LongestNumber, MembersInOrder, NamesAreDistinct, OneJson, PrintsNoMarkup, PrintsUtf8, SomeJson, StringsReadBack, TextsReadBack, ValuesReadBack};
 ghost use Rattle.json_spec.specs.WorkedExamples.{WorkedExamples};
 
 /// A text has at most one outcome, a value or a first fault.
@@ -60,6 +60,12 @@ pub fn values_read_back()
 #[tactic(auto, using(crate::proofs::ReadBack::prints_utf8))]
 pub fn prints_utf8()
     ensures { PrintsUtf8 }
+{}
+
+/// The printed text of such a value holds no `<`.
+#[tactic(auto, using(crate::proofs::NoMarkup::prints_no_markup))]
+pub fn prints_no_markup()
+    ensures { PrintsNoMarkup }
 {}
 
 /// Worked examples.

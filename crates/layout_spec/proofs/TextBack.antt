@@ -4,6 +4,8 @@ use Rattle.std.proofs.Common.{refl, ap, sym}
 use Rattle.std.specs.Char.{encode_utf8}
 use Rattle.std.specs.FinMap.{entries}
 use Rattle.std.specs.Prelude.{ℕ, List, Option, Some, None, [], ◌∷◌, suc, ◌≡◌, false, bytes_eq, IsUtf8, codes, Ok}
+use Rattle.json_spec.proofs.NoMarkup.{prints_no_markup}
+use Rattle.json_spec.proofs.PrintedUtf8.{text_utf8}
 use Rattle.json_spec.proofs.ReadBack.{values_read_back}
 use Rattle.json_spec.specs.Grammar.{most_brackets}
 use Rattle.json_spec.specs.PrintedValue.{IsPrintable, MembersArePrintable}
@@ -13,7 +15,7 @@ use Rattle.import_map_spec.specs.ParsedMap.{Addresses, ParsedMap}
 use Rattle.import_map_spec.specs.Parsing.{as_map}
 use Rattle.layout_spec.proofs.MapBack.{map_back}
 use Rattle.layout_spec.proofs.MapMembers.{distinct_members}
-use Rattle.layout_spec.specs.Laws.{TextsReadBack}
+use Rattle.layout_spec.specs.Laws.{TextsReadBack, TextsArePlain}
 use Rattle.layout_spec.specs.PrintedMap.{address_value, IsKeptAddress, members_of, IsKeptKey, addresses_value, AreKept, IsKeptScope, IsKeptIntegrity, with_part, map_value, IsKept, map_text}
 
 address_printable : (depth : ℕ) (base key : List ℕ) (address : Option (List ℕ)) → IsKeptAddress base key address → IsPrintable depth (address_value address)
@@ -73,3 +75,9 @@ within_limit base m k = map_printable 125 base m k
 pub texts_read_back : TextsReadBack
 unfolding map_text
 texts_read_back base m k = record { json = Ok (map_value m); reads = values_read_back (map_value m) (within_limit base m k); is = sym (ap as_map (map_back base m k)) }
+
+pub texts_are_plain : TextsArePlain
+unfolding map_text
+texts_are_plain base m k =
+    let printable = within_limit base m k in
+    (text_utf8 most_brackets (map_value m) printable, prints_no_markup most_brackets (map_value m) printable)

@@ -1,5 +1,5 @@
 -- The laws of needs, layouts and printed maps. Each is the contract of a function of this crate.
-use Rattle.std.specs.Prelude.{◌↔◌, List, Contains, ◌≡◌, ℕ, Ok}
+use Rattle.std.specs.Prelude.{◌↔◌, List, Contains, ◌≡◌, ◌==◌, ℕ, false, Ok, All, IsUtf8}
 use Rattle.import_map_spec.specs.ParsedMap.{ParsedMap}
 use Rattle.import_map_spec.specs.Parsing.{ParsesMap}
 use Rattle.layout_spec.specs.Layout.{layout, Lays}
@@ -42,3 +42,9 @@ OneLayout = (needs : List Need) (m n : ParsedMap) → Lays needs m → Lays need
 -- own law: the text of a map is read as that map
 abbrev pub TextsReadBack : Type 0
 TextsReadBack = (base : List ℕ) (m : ParsedMap) → IsKept base m → ParsesMap base (map_text m) (Ok m)
+
+-- own law: the text of a map is UTF-8 and holds no `<`
+abbrev pub TextsArePlain : Type 0
+TextsArePlain =
+    (base : List ℕ) (m : ParsedMap) → IsKept base m
+    → IsUtf8 (map_text m) × All (λ b. (b == 60) ≡ false) (map_text m)

@@ -2,7 +2,7 @@
 //! their laws.
 #![tactic(auto)]
 
-ghost use Rattle.layout_spec.specs.Laws.{CountedKeeps, CountedOnce, LayoutLays, LayoutServes, OneLayout, PlacesByCases, PlacesShrink, TextsReadBack};
+ghost use Rattle.layout_spec.specs.Laws.{CountedKeeps, CountedOnce, LayoutLays, LayoutServes, OneLayout, PlacesByCases, PlacesShrink, TextsArePlain, TextsReadBack};
 ghost use Rattle.layout_spec.specs.WorkedExamples.{WorkedExamples};
 
 use primitives::Text;
@@ -61,6 +61,11 @@ pub fn one_layout()
 #[tactic(auto, using(crate::proofs::TextBack::texts_read_back))]
 pub fn texts_read_back()
     ensures { TextsReadBack }
+{}
+
+/// The text of such a map is UTF-8 and holds no `<`.
+pub fn texts_are_plain()
+    ensures { TextsArePlain }
 {}
 
 /// Worked examples.

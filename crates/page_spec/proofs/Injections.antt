@@ -130,9 +130,9 @@ injected_pieces text page new parts others m i x y =
     subst (λ ps. PutBetween text ps others) first (subst (λ qs. PutBetween text p.parts qs) second (put_between text p.parts p.others p.put))
 
 pub one_map_after : OneMapAfter
-one_map_after text page new parts m i x =
+one_map_after text page new m i =
     let p = putting text page new i in
-    ap import_maps (one_pieces new parts p.others x (pieces_now text page new m p)) ∙ maps_put text p.parts p.others p.clean p.put
+    record { parts = p.others; pieces = pieces_now text page new m p; only = maps_put text p.parts p.others p.clean p.put }
 
 -- ---- characters
 

@@ -15,4 +15,5 @@ pub mod Putting
 pub mod PiecesAfter
 pub mod CleanAfter
 pub mod Injections
+pub mod KeptOut
 pub mod Examples

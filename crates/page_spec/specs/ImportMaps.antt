@@ -7,12 +7,13 @@
 --     map_of p parts           the raw text of the import map element that begins with p, where one does; the parts
 --                              are behind p
 --     import_maps parts        the raw texts of all import map elements
+--     IsOneMap text page       the page has one import map element, and this is its raw text
 -- own: which element stands in which isn't known, so a script in a template or in a foreign element counts as well.
-use Rattle.std.specs.Prelude.{ℕ, Bool, true, false, ◌&&◌, List, [], ◌∷◌, if◌then◌else◌, Option, Some, None, is_some, drop, reverse, codes, bytes_eq}
+use Rattle.std.specs.Prelude.{◌≡◌, ℕ, Bool, true, false, ◌&&◌, List, [], ◌∷◌, if◌then◌else◌, Option, Some, None, is_some, drop, reverse, codes, bytes_eq}
 use Rattle.page_spec.specs.declared.kinds.PieceKind.{PieceKind}
 use Rattle.page_spec.specs.declared.kinds.PieceKind.TheVariants.{Start, End, Raw, Broken}
 use Rattle.page_spec.specs.Tokenizer.{lowered}
-use Rattle.page_spec.specs.Pieces.{tag_name, is_name, Part}
+use Rattle.page_spec.specs.Pieces.{tag_name, is_name, Part, Pieces}
 use Rattle.page_spec.specs.Attributes.{skip_whitespace, attribute_text}
 
 abbrev pub is_start : PieceKind → Bool
@@ -71,3 +72,8 @@ with_map (Some text) maps = text ∷ maps
 abbrev pub import_maps : List Part → List (List ℕ)
 import_maps [] = []
 import_maps (p ∷ parts) = with_map (map_of p parts) (import_maps parts)
+
+pub record IsOneMap (text page : List ℕ) : Type 0 where
+  pub parts : List Part
+  pub pieces : Pieces None page parts
+  pub only : import_maps parts ≡ text ∷ []

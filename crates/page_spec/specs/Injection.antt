@@ -8,6 +8,9 @@
 --     replaced from to text page   the page with the text in place of what stands from one offset to the other
 --     injected map page parts      what comes of the map and the page of these pieces
 --     Injection map page out       what comes of the map and the page: a page, or the fault that decides
+--     HasPage map page             the map can be put into the page
+--     TakesMaps page               each map can
+--     KeepsMapsOut page fault      no map can, and this is the fault
 use Rattle.std.specs.Prelude.{◌≡◌, ℕ, ◌+◌, Bool, true, false, ◌||◌, List, [], ◌∷◌, ◌++◌, length, take, drop, if◌then◌else◌, Option, Some, None, Result, Ok, Err, codes}
 use Rattle.std.specs.Str.{is_utf8}
 use Rattle.std.specs.Str.Lossy.{utf8_valid_len}
@@ -61,3 +64,13 @@ pub data Injection (text page : List ℕ) : Result (List ℕ) InjectFault → Ty
   not_utf8 : is_utf8 page ≡ false → Injection text page (Err (PageUnclear (utf8_valid_len page)))
   utf8 : {parts : List Part} → is_utf8 page ≡ true → Pieces None page parts
       → Injection text page (injected text page parts)
+
+pub record HasPage (text page : List ℕ) : Type 0 where
+  pub new : List ℕ
+  pub injection : Injection text page (Ok new)
+
+abbrev pub TakesMaps : List ℕ → Type 0
+TakesMaps page = (text : List ℕ) → HasPage text page
+
+abbrev pub KeepsMapsOut : List ℕ → InjectFault → Type 0
+KeepsMapsOut page fault = (text : List ℕ) → Injection text page (Err fault)

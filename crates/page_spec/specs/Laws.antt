@@ -1,13 +1,14 @@
 -- The laws of this crate.
-use Rattle.std.specs.Prelude.{◌≡◌, ℕ, false, ◌==◌, List, [], ◌∷◌, ◌++◌, All, Some, None, Result, Ok, IsUtf8}
+use Rattle.std.specs.Prelude.{◌≡◌, ◌⊎◌, ℕ, false, ◌==◌, List, [], ◌∷◌, ◌++◌, All, Some, None, Result, Ok, Err, IsUtf8}
 use Rattle.page_spec.specs.declared.kinds.Piece.{Piece}
 use Rattle.page_spec.specs.declared.kinds.PieceKind.TheVariants.{Text, Start, End, Raw}
 use Rattle.page_spec.specs.declared.kinds.InjectFault.{InjectFault}
+use Rattle.page_spec.specs.declared.kinds.InjectFault.TheVariants.{Memory}
 use Rattle.page_spec.specs.Pieces.{Part, part, Pieces, page_of}
 use Rattle.page_spec.specs.Attributes.{Value, attribute}
-use Rattle.page_spec.specs.ImportMaps.{import_maps}
+use Rattle.page_spec.specs.ImportMaps.{IsOneMap}
 use Rattle.page_spec.specs.Places.{IsPieceOf, value_span, AtBoundaries}
-use Rattle.page_spec.specs.Injection.{start_tag, end_tag, Injection}
+use Rattle.page_spec.specs.Injection.{start_tag, end_tag, Injection, TakesMaps, KeepsMapsOut}
 
 -- a page has one list of pieces
 abbrev pub OnePieces : Type 0
@@ -66,6 +67,15 @@ pub record HasInjection (text page : List ℕ) : Type 0 where
 abbrev pub SomeInjection : Type 0
 SomeInjection = (text page : List ℕ) → HasInjection text page
 
+pub record AreKeptOut (page : List ℕ) : Type 0 where
+  pub fault : InjectFault
+  pub keeps : KeepsMapsOut page fault
+
+-- a page takes each map, or keeps each out, whatever the map, and never for want of memory
+pub record TakesOrKeepsOut : Type 0 where
+  pub either : (page : List ℕ) → TakesMaps page ⊎ AreKeptOut page
+  pub no_memory : (text page : List ℕ) → Injection text page (Err Memory) → ⊥
+
 -- a map that no tag of the page can be read into
 pub record IsPlainMap (text : List ℕ) : Type 0 where
   pub utf8 : IsUtf8 text
@@ -90,8 +100,7 @@ InjectedPieces =
 -- a page into which a map was put has one import map element, and the map is its raw text
 abbrev pub OneMapAfter : Type 0
 OneMapAfter =
-    (text page new : List ℕ) (parts : List Part) → IsPlainMap text → Injection text page (Ok new)
-    → Pieces None new parts → import_maps parts ≡ text ∷ []
+    (text page new : List ℕ) → IsPlainMap text → Injection text page (Ok new) → IsOneMap text new
 
 -- a map that is put into a page again changes nothing
 abbrev pub SamePageAgain : Type 0

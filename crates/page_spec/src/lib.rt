@@ -5,7 +5,9 @@
 #![tactic(auto)]
 
 ghost use Rattle.page_spec.specs.Examples.{WorkedExamples};
-ghost use Rattle.page_spec.specs.Laws.{OnePieces, SomePieces, PiecesCover, PiecesAreUtf8, PiecesEndAtBoundaries, ValuesStandInTags, ValuesEndAtBoundaries, OneInjection, SomeInjection, InjectedPieces, OneMapAfter, SamePageAgain, InjectedIsUtf8};
+ghost use Rattle.page_spec.specs.Laws.{OnePieces, SomePieces, PiecesCover, PiecesAreUtf8, PiecesEndAtBoundaries};
+ghost use Rattle.page_spec.specs.Laws.{ValuesStandInTags, ValuesEndAtBoundaries, OneInjection, SomeInjection};
+ghost use Rattle.page_spec.specs.Laws.{TakesOrKeepsOut, InjectedPieces, OneMapAfter, SamePageAgain, InjectedIsUtf8};
 
 mod kinds;
 
@@ -54,6 +56,11 @@ pub fn one_injection()
 /// Something comes of each map and page.
 pub fn some_injection()
     ensures { SomeInjection }
+{}
+
+/// A page takes each map, or keeps each out for one fault, which is no want of memory.
+pub fn takes_or_keeps_out()
+    ensures { TakesOrKeepsOut }
 {}
 
 /// The pieces of a page are as before when a map is put into it, but for the map.

@@ -88,7 +88,7 @@ pub record WithoutMark (mark : ℕ) (text : List ℕ) : Type 0 where
   pub all : All (IsNot mark) text
   pub whole : (split_once mark text).0 ≡ text
 
-without_mark : (mark : ℕ) (text : List ℕ) → (split_once mark text).1 ≡ None → WithoutMark mark text
+pub without_mark : (mark : ℕ) (text : List ℕ) → (split_once mark text).1 ≡ None → WithoutMark mark text
 unfolding split_once
 without_mark mark [] e = record { all = All-nil (IsNot mark); whole = refl }
 without_mark mark (b ∷ text) e =
@@ -124,7 +124,7 @@ all_before text no_hash no_question =
 
 -- ---- a text that ends in `/` spells a path that does
 
-ends_in : (text : List ℕ) → ends_with nat_eq text (codes "/") ≡ true → (front : List ℕ) × (text ≡ front ++ 47 ∷ [])
+pub ends_in : (text : List ℕ) → ends_with nat_eq text (codes "/") ≡ true → (front : List ℕ) × (text ≡ front ++ 47 ∷ [])
 ends_in text e =
     let cut = length text - 1 in
     (take cut text, sym (take-append-drop cut text) ∙ ap (λ last. take cut text ++ last) (sym (same_text (codes "/") (drop cut text) (sym e))))
@@ -163,7 +163,7 @@ last_byte (b ∷ text) =
       | inr some ↦ inr (b ∷ some.0, some.1, ap (λ xs. b ∷ xs) some.2)
     ]
 
-same_last : (one other : List ℕ) (a b : ℕ) → one ++ a ∷ [] ≡ other ++ b ∷ [] → a ≡ b
+pub same_last : (one other : List ℕ) (a b : ℕ) → one ++ a ∷ [] ≡ other ++ b ∷ [] → a ≡ b
 same_last one other a b e = let p : a ∷ reverse one ≡ b ∷ reverse other = sym (reverse-append one (a ∷ [])) ∙ (ap reverse e ∙ reverse-append other (b ∷ [])) in cc
 
 nothing_spelled : flat_map read_segment (segments []) ≡ codes "/"

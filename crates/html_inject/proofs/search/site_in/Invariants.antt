@@ -1,5 +1,5 @@
 use Rattle.html_inject.proofs.Searching.{Searching, left_to_search}
-use Rattle.html_inject.proofs.search.site_of.Given as goal
+use Rattle.html_inject.proofs.search.site_in.Given as goal
 
 abbrev pub invariant-loop-next : goal.invariant-loop-next
 invariant-loop-next l = Searching l.text l.scanner l.next l.found

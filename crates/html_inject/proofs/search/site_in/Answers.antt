@@ -3,7 +3,7 @@ use Rattle.std.proofs.Common.{◌<◌, None, Some, sym, subst}
 use Rattle.page_spec.specs.Places.{part_at}
 use Rattle.html_inject.specs.Search.{parts_behind}
 use Rattle.html_inject.proofs.Searching.{Searching, left_to_search, paired, at_piece, begins_with, searched_further, search_faults, less_to_search, unfaulted}
-use Rattle.html_inject.proofs.search.site_of.Goals as goal
+use Rattle.html_inject.proofs.search.site_in.Goals as goal
 
 pub loop-next-init : goal.loop-next-init
 loop-next-init c = begins_with c.args.text.now c.new-scanner.result c.next-next.new.self c.next-next.result c.new-scanner.ensures c.next-next.ensures.page c.next-next.ensures.next c.next-next.ensures.piece

@@ -1,0 +1,44 @@
+-- The exit statuses.
+--     done_status               the map is written
+--     refused_status            a request or the page is refused
+--     words_status              the words are wrong
+--     limit_status              a limit is passed
+--     read_fault_status         a look failed
+--     write_fault_status        the write failed, or the output did
+--     file_status               a file that the command needs isn't there
+--     memory_status             want of memory
+--     not_built_status          what is asked for isn't built
+--     IsRefusalStatus status    an end before the first write has this status
+use Rattle.std.specs.Prelude.{◌≡◌, ◌⊎◌, ℕ}
+
+abbrev pub done_status : ℕ
+done_status = 0
+
+abbrev pub refused_status : ℕ
+refused_status = 1
+
+abbrev pub words_status : ℕ
+words_status = 2
+
+abbrev pub limit_status : ℕ
+limit_status = 3
+
+abbrev pub read_fault_status : ℕ
+read_fault_status = 4
+
+abbrev pub write_fault_status : ℕ
+write_fault_status = 5
+
+abbrev pub file_status : ℕ
+file_status = 7
+
+abbrev pub memory_status : ℕ
+memory_status = 8
+
+abbrev pub not_built_status : ℕ
+not_built_status = 9
+
+abbrev pub IsRefusalStatus : ℕ → Type 0
+IsRefusalStatus status =
+    (status ≡ refused_status) ⊎ (status ≡ words_status) ⊎ (status ≡ limit_status) ⊎ (status ≡ read_fault_status)
+    ⊎ (status ≡ file_status) ⊎ (status ≡ memory_status) ⊎ (status ≡ not_built_status)
