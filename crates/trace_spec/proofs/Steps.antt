@@ -17,9 +17,9 @@ use Rattle.tree_spec.specs.LookAskings.{Sights}
 use Rattle.tree_spec.specs.LookLimits.{Trail, no_trail, begun, look_limits}
 use Rattle.tree_spec.proofs.LimitedLooks.{ends_counted}
 use Rattle.url_spec.specs.Specifiers.{is_relative, ends_in_slash, as_url, normalized}
-use Rattle.url_spec.specs.Parsing.{parse_alone, parse_against}
 use Rattle.url_spec.specs.ServedPaths.{IsServed}
 use Rattle.url_spec.specs.PathTests.{is_served}
+use Rattle.url_spec.proofs.NormalTexts.{normal_by, normal_bare}
 use Rattle.url_spec.proofs.PathTestLemmas.{served_by_test}
 use Rattle.node_spec.specs.NodeAnswers.{Refusal, by_cause, too_deep}
 use Rattle.node_spec.proofs.BareSpecifiers.{answered_is_bare}
@@ -192,10 +192,6 @@ record WantsFrom (name specifier : List ℕ) (want : Wanted) : Type 0 where
   by_url : is_relative specifier ≡ true → as_url name specifier ≡ Some want.asked
   by_file : is_relative specifier ≡ true → ends_in_slash want.asked ≡ false
 
-by_normal_url : (name specifier url : List ℕ) → as_url name specifier ≡ Some url → normalized name specifier ≡ url
-unfolding normalized
-by_normal_url name specifier url e = ap (λ found. unwrap_or found specifier) e
-
 url_parts : (name specifier : List ℕ) (url : Option (List ℕ)) (want : Wanted) → as_url name specifier ≡ url
     → url_wanted name url ≡ Ok want → WantsFrom name specifier want
 url_parts name specifier None want is e = absurd (cc)
@@ -210,7 +206,7 @@ url_parts name specifier (Some url) want is e = by (ends_in_slash url) refl e
         subst (WantsFrom name specifier) same
         (record {
           from = refl;
-          asks = by_normal_url name specifier url is;
+          asks = normal_by name specifier url is;
           by_url = λ relative. is;
           by_file = λ relative. file;
         })
@@ -389,14 +385,6 @@ module _ (sights : Sights) (config : Config) (before : Gathered) (referrer : Ref
       → Follows sights config before referrer specifier after
   follows_is e = follows_by (checked config before referrer specifier) refl e
 
--- a bare specifier is normalized to itself
-pub bare_normal : (name specifier : List ℕ) → is_relative specifier ≡ false → parse_alone specifier ≡ None
-    → normalized name specifier ≡ specifier
-unfolding normalized as_url
-bare_normal name specifier other no_url =
-    ap (λ found. unwrap_or found specifier)
-    (cond-false _ (parse_against name specifier) (parse_alone specifier) other ∙ no_url)
-
 -- what a request asks for that went through its checks
 pub follows_asks : (sights : Sights) (config : Config) (before : Gathered) (referrer : Referrer Module)
     (specifier : List ℕ) (after : Gathered) (is : Follows sights config before referrer specifier after)
@@ -408,4 +396,4 @@ follows_asks sights config before referrer specifier after is = by (is_relative 
     by false other =
         let bare =
         answered_is_bare sights config.conditions (path_of config referrer) specifier is.target other is.answers in
-        for_itself other bare (sym is.checked.wants.asks ∙ bare_normal is.want.referrer specifier other bare.no_url)
+        for_itself other bare (sym is.checked.wants.asks ∙ normal_bare is.want.referrer specifier other bare.no_url)
