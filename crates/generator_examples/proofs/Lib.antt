@@ -1,5 +1,3 @@
-pub mod Known
-pub mod Reading
 pub mod Growing
 pub mod Words
 pub mod Counting

@@ -1,13 +1,16 @@
 -- The config that words give, where they are written out.
-use Rattle.std.proofs.Common.{◌≡◌, refl}
-use Rattle.std.specs.Prelude.{◌==◌, not, ℕ, Bool, true, false, List, [], ◌∷◌, All, codes, Some}
+use Rattle.std.proofs.Common.{◌≡◌, ◌≤◌, refl}
+use Rattle.tree_spec.specs.declared.LimitName.TheVariants.{Entries}
+use Rattle.tree_spec.specs.Limits.{limit_number}
+use Rattle.std.specs.Prelude.{◌==◌, not, ℕ, Bool, true, false, List, [], ◌∷◌, All, codes, length, Some}
 use Prim.Native.String.{String}
 use Rattle.std.specs.List.{list_all}
 use Rattle.std.proofs.lemmas.Bool.{and_parts, eqb-false, not-true}
 use Rattle.std.proofs.lemmas.List.Elements.{All-nil, All-cons}
 use Rattle.url_spec.specs.Bases.{base_of}
-use Rattle.generator_spec.specs.Words.{IsEntry, IsLink, once_onto, IsConfigOf}
-use Rattle.generator_examples.specs.Sites.{texts, links, based}
+use Rattle.generator_spec.specs.declared.Command.{Command}
+use Rattle.generator_spec.specs.Words.{word_of, IsEntry, IsCall, once_onto, IsConfigOf}
+use Rattle.generator_examples.specs.Sites.{texts, based}
 
 abbrev is_entry : List ℕ → Bool
 is_entry [] = false
@@ -26,8 +29,8 @@ entries_by_test (text ∷ entries) e =
     let parts = and_parts (is_entry text) (list_all is_entry entries) e in
     All-cons IsEntry text entries (entry_by_test text parts.0) (entries_by_test entries parts.1)
 
-pub is_link : (base : String) (asked : List String) → are_entries (texts asked) ≡ true → IsLink (links base asked) (codes base) (texts asked)
-is_link base asked e = record { split = refl; are_entries = entries_by_test (texts asked) e }
+pub is_call : (command : Command) (words : List (List ℕ)) (base : String) (asked : List String) → words ≡ word_of command ∷ codes "--base" ∷ codes base ∷ texts asked → are_entries (texts asked) ≡ true → IsCall words command (codes base) (texts asked)
+is_call command words base asked split e = record { split = split; are_entries = entries_by_test (texts asked) e }
 
-pub gives : (base : String) (asked : List String) → are_entries (texts asked) ≡ true → base_of (codes base) ≡ Some (codes base) → texts asked ≡ once_onto [] (texts asked) → IsConfigOf (links base asked) (based base asked)
-gives base asked e is_base distinct = record { base = codes base; entries = texts asked; link = is_link base asked e; is_base = is_base; page = refl; distinct = distinct }
+pub gives : (command : Command) (words : List (List ℕ)) (base : String) (asked : List String) → words ≡ word_of command ∷ codes "--base" ∷ codes base ∷ texts asked → are_entries (texts asked) ≡ true → base_of (codes base) ≡ Some (codes base) → texts asked ≡ once_onto [] (texts asked) → length (texts asked) ≤ limit_number Entries → IsConfigOf words command (based base asked)
+gives command words base asked split e is_base distinct few = record { base = codes base; entries = texts asked; call = is_call command words base asked split e; is_base = is_base; page = refl; conditions = refl; distinct = distinct; few = few }

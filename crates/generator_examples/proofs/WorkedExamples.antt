@@ -1,5 +1,5 @@
 -- The worked examples.
-use Rattle.std.proofs.Common.{◌≡◌, refl, sym, ap, ◌∙◌}
+use Rattle.std.proofs.Common.{◌≡◌, refl, sym, ap, ◌∙◌, lit≤}
 use Rattle.std.specs.Prelude.{◌+◌, ℕ, List, [], ◌∷◌, drop, codes, Some, None}
 use Prim.Native.String.{String}
 use Rattle.std.specs.Fmt.{digits}
@@ -17,47 +17,55 @@ use Rattle.layout_spec.specs.Layout.{layout}
 use Rattle.layout_spec.specs.PrintedMap.{map_text}
 use Rattle.trace_spec.specs.Modules.{Config}
 use Rattle.trace_spec.specs.Checks.{Gathered}
-use Rattle.generator_spec.specs.declared.Refusal.TheVariants.{BadBase}
+use Rattle.generator_spec.specs.declared.Command.{Command}
+use Rattle.generator_spec.specs.declared.Command.TheVariants.{Link}
+use Rattle.generator_spec.specs.declared.Refusal.TheVariants.{BadBase, Trace}
 use Rattle.generator_spec.proofs.MapPaths.{map_in_root}
 use Rattle.generator_spec.proofs.PageNames.{page_of_words_is_file}
 use Rattle.generator_spec.specs.Generation.{Generates}
 use Rattle.generator_spec.specs.Lines.{counts_line}
-use Rattle.generator_spec.specs.Outcome.Outcome.{words_refused, trace_refused, done}
+use Rattle.generator_spec.specs.Commands.{map_path}
+use Rattle.generator_spec.specs.Commands.Opens.{nothing}
+use Rattle.generator_spec.specs.Commands.Refuses.{trace}
+use Rattle.generator_spec.specs.Commands.Writes.{map_alone}
+use Rattle.generator_spec.specs.Outcome.Outcome.{words_refused, refused, done}
 use Rattle.generator_spec.specs.Words.{IsConfigOf}
 use Rattle.generator_spec.specs.Words.RefusesWords.{bad_base}
 use Rattle.soundness.proofs.Sound.{sound}
 use Rattle.generator_examples.specs.Sites.{Files, tree_of, based, links, levels, spelling, spelling_all, spelling_map, site, site_all, site_map, missing, clashing}
+use Rattle.generator_examples.specs.Packages.{packages, packages_all, packages_map}
 use Rattle.generator_examples.specs.Examples.{IsTraced, IsMapped, with_map, Trees, TraceExamples, MapExamples, EndExamples, WorkedExamples}
 use Rattle.generator_examples.proofs.Growing.{grown}
-use Rattle.generator_examples.proofs.Words.{is_link, gives}
+use Rattle.generator_examples.proofs.Words.{is_call, gives}
 use Rattle.generator_examples.proofs.Counting.{Mappings, counted, counts}
-use Rattle.generator_examples.proofs.Evaluated.{levels_traced, spelling_traced, site_traced, missing_traced, clashing_traced}
+use Rattle.generator_examples.proofs.Evaluated.{levels_traced, spelling_traced, site_traced, packages_traced, missing_traced, clashing_traced}
 
 trees : Trees
 trees = record {
   of_levels = grown (drop 1 levels) refl;
   of_spelling = grown (drop 1 spelling) refl;
   of_site = grown (drop 1 site) refl;
+  of_packages = grown (drop 1 packages) refl;
   of_missing = grown (drop 1 missing) refl;
   of_clashing = grown (drop 1 clashing) refl;
 }
 
 trace_examples : TraceExamples
-trace_examples = record { by_levels = levels_traced; two_spellings = spelling_traced; of_site = site_traced }
+trace_examples = record { by_levels = levels_traced; two_spellings = spelling_traced; of_site = site_traced; of_packages = packages_traced }
 
 -- ---- configs
 
-app_gives : IsConfigOf (links "https://app.test/" ("./app.mjs" ∷ [])) (based "https://app.test/" ("./app.mjs" ∷ []))
+app_gives : IsConfigOf (links "https://app.test/" ("./app.mjs" ∷ [])) Link (based "https://app.test/" ("./app.mjs" ∷ []))
 unfolding base_of parse_alone text_of url_on_literals
-app_gives = gives "https://app.test/" ("./app.mjs" ∷ []) refl refl refl
+app_gives = gives Link _ "https://app.test/" ("./app.mjs" ∷ []) refl refl refl refl (lit≤ tt)
 
-missing_gives : IsConfigOf (links "https://app.test/" ("./a.mjs" ∷ "./b.mjs" ∷ [])) (based "https://app.test/" ("./a.mjs" ∷ "./b.mjs" ∷ []))
+missing_gives : IsConfigOf (links "https://app.test/" ("./a.mjs" ∷ "./b.mjs" ∷ [])) Link (based "https://app.test/" ("./a.mjs" ∷ "./b.mjs" ∷ []))
 unfolding base_of parse_alone text_of url_on_literals
-missing_gives = gives "https://app.test/" ("./a.mjs" ∷ "./b.mjs" ∷ []) refl refl refl
+missing_gives = gives Link _ "https://app.test/" ("./a.mjs" ∷ "./b.mjs" ∷ []) refl refl refl refl (lit≤ tt)
 
-clashing_gives : IsConfigOf (links "https://app.test/app/" ("./m.mjs" ∷ [])) (based "https://app.test/app/" ("./m.mjs" ∷ []))
+clashing_gives : IsConfigOf (links "https://app.test/app/" ("./m.mjs" ∷ [])) Link (based "https://app.test/app/" ("./m.mjs" ∷ []))
 unfolding base_of parse_alone text_of url_on_literals
-clashing_gives = gives "https://app.test/app/" ("./m.mjs" ∷ []) refl refl refl
+clashing_gives = gives Link _ "https://app.test/app/" ("./m.mjs" ∷ []) refl refl refl refl (lit≤ tt)
 
 ftp_is_none : base_of (codes "ftp://h/") ≡ None
 unfolding base_of parse_alone text_of url_on_literals
@@ -65,9 +73,9 @@ ftp_is_none = refl
 
 -- ---- maps
 
-abbrev generated : (words : List (List ℕ)) (files : Files) (config : Config) (all : Gathered) (text : List ℕ) → IsConfigOf words config → IsTraced files config all → listed_text (listed_layout all.needs) ≡ text → Generates (tree_of files) config text
-generated words files config all text is is_traced e = record {
-  page_is_file = page_of_words_is_file words config is;
+abbrev generated : (words : List (List ℕ)) (command : Command) (files : Files) (config : Config) (all : Gathered) (text : List ℕ) → IsConfigOf words command config → IsTraced files config all → listed_text (listed_layout all.needs) ≡ text → Generates (tree_of files) config text
+generated words command files config all text is is_traced e = record {
+  page_is_file = page_of_words_is_file words command config is;
   all = all;
   is_traced = is_traced;
   text = sym (ap map_text (layout_listed all.needs) ∙ (lists_text (listed_layout all.needs) ∙ e));
@@ -77,13 +85,20 @@ mapped : (files : Files) (config : Config) (text : List ℕ) → Generates (tree
 mapped files config text is = record { generates = is; serves = sound (tree_of files) config text is }
 
 abbrev spelling_generates : Generates (tree_of spelling) (based "https://app.test/" ("./app.mjs" ∷ [])) spelling_map
-spelling_generates = generated _ spelling _ spelling_all spelling_map app_gives spelling_traced refl
+spelling_generates = generated _ Link spelling _ spelling_all spelling_map app_gives spelling_traced refl
 
 abbrev site_generates : Generates (tree_of site) (based "https://app.test/" ("./app.mjs" ∷ [])) site_map
-site_generates = generated _ site _ site_all site_map app_gives site_traced refl
+site_generates = generated _ Link site _ site_all site_map app_gives site_traced refl
+
+packages_give : IsConfigOf (links "https://app.test/" ("./app.js" ∷ [])) Link (based "https://app.test/" ("./app.js" ∷ []))
+unfolding base_of parse_alone text_of url_on_literals
+packages_give = gives Link _ "https://app.test/" ("./app.js" ∷ []) refl refl refl refl (lit≤ tt)
+
+abbrev packages_generate : Generates (tree_of packages) (based "https://app.test/" ("./app.js" ∷ [])) packages_map
+packages_generate = generated _ Link packages _ packages_all packages_map packages_give packages_traced refl
 
 map_examples : MapExamples
-map_examples = record { two_spellings = mapped spelling _ spelling_map spelling_generates; of_site = mapped site _ site_map site_generates }
+map_examples = record { two_spellings = mapped spelling _ spelling_map spelling_generates; of_site = mapped site _ site_map site_generates; of_packages = mapped packages _ packages_map packages_generate }
 
 -- ---- ends
 
@@ -108,11 +123,11 @@ placed files text is same = (in_root (tree_of files) (codes "/importmap.json") (
 end_examples : EndExamples
 unfolding digits
 end_examples = record {
-  two_spellings = done _ spelling_map app_gives spelling_generates refl (sym (ap (counts_line 2 2) spelling_mappings)) (placed spelling spelling_map trees.of_spelling refl);
-  of_site = done _ site_map app_gives site_generates refl (sym (ap (counts_line 5 8) site_mappings)) (placed site site_map trees.of_site refl);
-  second_entry = trace_refused _ _ missing_gives missing_traced refl refl refl;
-  two_targets = trace_refused _ _ clashing_gives clashing_traced refl refl refl;
-  no_base = λ tree. words_refused (BadBase (codes "ftp://h/")) (bad_base (codes "ftp://h/") _ (is_link "ftp://h/" ("./app.mjs" ∷ []) refl) ftp_is_none) refl refl refl;
+  two_spellings = done Link _ spelling_map map_path spelling_map app_gives spelling_generates map_alone refl (sym (ap (counts_line 2 2) spelling_mappings)) (placed spelling spelling_map trees.of_spelling refl);
+  of_site = done Link _ site_map map_path site_map app_gives site_generates map_alone refl (sym (ap (counts_line 5 8) site_mappings)) (placed site site_map trees.of_site refl);
+  second_entry = refused Link _ (Trace _) missing_gives (trace Link _ nothing missing_traced) refl refl refl;
+  two_targets = refused Link _ (Trace _) clashing_gives (trace Link _ nothing clashing_traced) refl refl refl;
+  no_base = λ tree. words_refused (BadBase (codes "ftp://h/")) (bad_base Link (codes "ftp://h/") _ (is_call Link _ "ftp://h/" ("./app.mjs" ∷ []) refl refl) ftp_is_none) refl refl refl;
 }
 
 pub worked_examples : WorkedExamples

@@ -1,7 +1,7 @@
 -- Worked examples of generation.
 --     IsTraced files config all       the tables of the trace of these files
 --     IsMapped files config text      the files have a map with this text, which serves
---     Ends files base asked status line after      how a command ends: its status, its line, the files that it leaves
+--     Ends files words status line after      how a command ends: its status, its line, the files that it leaves
 --     with_map files text             the files, with the map beside them
 --     Trees, TraceExamples, MapExamples      that the sites are trees; their traces; their maps
 --     EndExamples                     how commands end
@@ -15,7 +15,9 @@ use Rattle.trace_spec.specs.Traces.{traced}
 use Rattle.generator_spec.specs.Generation.{Generates}
 use Rattle.generator_spec.specs.Serves.{Serves}
 use Rattle.generator_spec.specs.Outcome.{Outcome}
-use Rattle.generator_examples.specs.Sites.{Files, tree_of, file, based, links, levels, levels_all, spelling, spelling_all, spelling_map, site, site_all, site_map, missing, clashing}
+use Rattle.generator_examples.specs.Sites.{Files, tree_of, file, based, links, levels, levels_all, spelling, spelling_all, spelling_map, site, site_all, site_map}
+use Rattle.generator_examples.specs.Sites.{missing, clashing}
+use Rattle.generator_examples.specs.Packages.{packages, packages_all, packages_map}
 
 -- own: nothing is refused, and these are the tables of the trace
 abbrev pub IsTraced : Files → Config → Gathered → Type 0
@@ -26,16 +28,16 @@ pub record IsMapped (files : Files) (config : Config) (text : List ℕ) : Type 0
   pub generates : Generates (tree_of files) config text
   pub serves : Serves (tree_of files) config text
 
--- own: the command with this base and these entries ends so, and leaves these files
-abbrev pub Ends : Files → String → List String → ℕ → String → Files → Type 0
-Ends files base asked status line after =
-    Outcome (links base asked) (tree_of files) status (codes line) (tree_of after)
+-- own: the command of these words ends so, and leaves these files
+abbrev pub Ends : Files → List (List ℕ) → ℕ → String → Files → Type 0
+Ends files words status line after = Outcome words (tree_of files) status (codes line) (tree_of after)
 
 -- the files make trees: their paths are paths, and their parents are folders
 pub record Trees : Type 0 where
   pub of_levels : IsTree (tree_of levels)
   pub of_spelling : IsTree (tree_of spelling)
   pub of_site : IsTree (tree_of site)
+  pub of_packages : IsTree (tree_of packages)
   pub of_missing : IsTree (tree_of missing)
   pub of_clashing : IsTree (tree_of clashing)
 
@@ -43,10 +45,12 @@ pub record TraceExamples : Type 0 where
   pub by_levels : IsTraced levels (based "https://app.test/" ("./app.mjs" ∷ [])) levels_all
   pub two_spellings : IsTraced spelling (based "https://app.test/" ("./app.mjs" ∷ [])) spelling_all
   pub of_site : IsTraced site (based "https://app.test/" ("./app.mjs" ∷ [])) site_all
+  pub of_packages : IsTraced packages (based "https://app.test/" ("./app.js" ∷ [])) packages_all
 
 pub record MapExamples : Type 0 where
   pub two_spellings : IsMapped spelling (based "https://app.test/" ("./app.mjs" ∷ [])) spelling_map
   pub of_site : IsMapped site (based "https://app.test/" ("./app.mjs" ∷ [])) site_map
+  pub of_packages : IsMapped packages (based "https://app.test/" ("./app.js" ∷ [])) packages_map
 
 -- the files, with the map beside them
 abbrev pub with_map : Files → List ℕ → Files
@@ -54,16 +58,17 @@ with_map files text = files ++ file "/importmap.json" text ∷ []
 
 pub record EndExamples : Type 0 where
   pub two_spellings :
-      Ends spelling "https://app.test/" ("./app.mjs" ∷ []) 0 "ok: 2 modules, 2 requests, 1 mappings\n"
+      Ends spelling (links "https://app.test/" ("./app.mjs" ∷ [])) 0 "ok: 2 modules, 2 requests, 1 mappings\n"
       (with_map spelling spelling_map)
   pub of_site :
-      Ends site "https://app.test/" ("./app.mjs" ∷ []) 0 "ok: 5 modules, 8 requests, 2 mappings\n"
+      Ends site (links "https://app.test/" ("./app.mjs" ∷ [])) 0 "ok: 5 modules, 8 requests, 2 mappings\n"
       (with_map site site_map)
   pub second_entry :
-      Ends missing "https://app.test/" ("./a.mjs" ∷ "./b.mjs" ∷ []) 1
+      Ends missing (links "https://app.test/" ("./a.mjs" ∷ "./b.mjs" ∷ [])) 1
       "refused: NotFound from \"/b.mjs\" for \"./q.mjs\"\n" missing
   pub two_targets :
-      Ends clashing "https://app.test/app/" ("./m.mjs" ∷ []) 9 "not built: from \"/m.mjs\" for \"./x.mjs\"\n" clashing
+      Ends clashing (links "https://app.test/app/" ("./m.mjs" ∷ [])) 1
+      "refused: Clash from \"/m.mjs\" for \"../app/x.mjs\" to \"/app/x.mjs\" and \"./x.mjs\" to \"/x.mjs\"\n" clashing
   -- whatever the tree
   pub no_base :
       (tree : Tree)
