@@ -35,6 +35,7 @@ use Rattle.soundness.proofs.Sound.{sound}
 use Rattle.generator_examples.specs.Sites.{Files, tree_of, based, links, levels, spelling, spelling_all, spelling_map, site, site_all, site_map, missing, clashing}
 use Rattle.generator_examples.specs.Packages.{packages, packages_all, packages_map}
 use Rattle.generator_examples.specs.Examples.{IsTraced, IsMapped, with_map, Trees, TraceExamples, MapExamples, EndExamples, WorkedExamples}
+use Rattle.generator_examples.proofs.TracedExamples.{traced_examples}
 use Rattle.generator_examples.proofs.Growing.{grown}
 use Rattle.generator_examples.proofs.Words.{is_call, gives}
 use Rattle.generator_examples.proofs.Counting.{Mappings, counted, counts}
@@ -131,4 +132,10 @@ end_examples = record {
 }
 
 pub worked_examples : WorkedExamples
-worked_examples = (trees, trace_examples, map_examples, end_examples)
+worked_examples = (
+  trees,
+  trace_examples,
+  map_examples,
+  end_examples,
+  traced_examples,
+)

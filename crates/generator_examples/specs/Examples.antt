@@ -17,6 +17,7 @@ use Rattle.generator_spec.specs.Serves.{Serves}
 use Rattle.generator_spec.specs.Outcome.{Outcome}
 use Rattle.generator_examples.specs.Sites.{Files, tree_of, file, based, links, levels, levels_all, spelling, spelling_all, spelling_map, site, site_all, site_map}
 use Rattle.generator_examples.specs.Sites.{missing, clashing}
+use Rattle.generator_examples.specs.Traced.{TracedExamples}
 use Rattle.generator_examples.specs.Packages.{packages, packages_all, packages_map}
 
 -- own: nothing is refused, and these are the tables of the trace
@@ -75,4 +76,4 @@ pub record EndExamples : Type 0 where
       → Outcome (links "ftp://h/" ("./app.mjs" ∷ [])) tree 2 (codes "words: BadBase \"ftp://h/\"\n") tree
 
 abbrev pub WorkedExamples : Type 0
-WorkedExamples = Trees × TraceExamples × MapExamples × EndExamples
+WorkedExamples = Trees × TraceExamples × MapExamples × EndExamples × TracedExamples
