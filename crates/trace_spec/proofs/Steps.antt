@@ -162,11 +162,12 @@ opens_is sights config before (a_module m) opened e =
 pub record Leaves (before after : Gathered) : Type 0 where
   pub modules : after.modules ≡ before.modules
   pub needs : after.needs ≡ before.needs
+  pub spellings : after.spellings ≡ before.spellings
 
 leaves_by : (sights : Sights) (before : Gathered) (referrer : Referrer Module)
     → Leaves before (opening_put sights before referrer)
-leaves_by sights before the_page = record { modules = refl; needs = refl }
-leaves_by sights before (a_module m) = record { modules = refl; needs = refl }
+leaves_by sights before the_page = record { modules = refl; needs = refl; spellings = refl }
+leaves_by sights before (a_module m) = record { modules = refl; needs = refl; spellings = refl }
 
 pub opens_leaves : (sights : Sights) (config : Config) (before : Gathered) (referrer : Referrer Module)
     (opened : Opened Gathered) → outcome (always sights) (opens config before referrer) ≡ Ok opened
@@ -385,15 +386,21 @@ module _ (sights : Sights) (config : Config) (before : Gathered) (referrer : Ref
       → Follows sights config before referrer specifier after
   follows_is e = follows_by (checked config before referrer specifier) refl e
 
+-- what a request asks for that Node answers
+pub asks_for : (sights : Sights) (config : Config) (referrer : Referrer Module) (specifier : List ℕ) (want : Wanted)
+    (target : Module) → Wants config referrer specifier want → resolution sights config referrer specifier ≡ Ok target
+    → AsksFor want.referrer specifier want.asked
+asks_for sights config referrer specifier want target wants answers = by (is_relative specifier) refl
+  where
+    by : (relative : Bool) → is_relative specifier ≡ relative → AsksFor want.referrer specifier want.asked
+    by true relative = for_url relative (wants.by_url relative) (wants.by_file relative)
+    by false other =
+        let bare = answered_is_bare sights config.conditions (path_of config referrer) specifier target other answers in
+        for_itself other bare (sym wants.asks ∙ normal_bare want.referrer specifier other bare.no_url)
+
 -- what a request asks for that went through its checks
 pub follows_asks : (sights : Sights) (config : Config) (before : Gathered) (referrer : Referrer Module)
     (specifier : List ℕ) (after : Gathered) (is : Follows sights config before referrer specifier after)
     → AsksFor is.want.referrer specifier is.want.asked
-follows_asks sights config before referrer specifier after is = by (is_relative specifier) refl
-  where
-    by : (relative : Bool) → is_relative specifier ≡ relative → AsksFor is.want.referrer specifier is.want.asked
-    by true relative = for_url relative (is.checked.wants.by_url relative) (is.checked.wants.by_file relative)
-    by false other =
-        let bare =
-        answered_is_bare sights config.conditions (path_of config referrer) specifier is.target other is.answers in
-        for_itself other bare (sym is.checked.wants.asks ∙ normal_bare is.want.referrer specifier other bare.no_url)
+follows_asks sights config before referrer specifier after is =
+    asks_for sights config referrer specifier is.want is.target is.checked.wants is.answers

@@ -33,8 +33,9 @@ use Rattle.trace_spec.specs.Traces.{ReachedByPage}
 use Rattle.trace_spec.specs.Laws.{HasLevels, IsWhatIsReached, ModulesOnce, FewModules, refusal_by, IsFirst, Decides}
 use Rattle.trace_spec.specs.Laws.{FirstRefusalDecides, NeverOutOfRoom, no_module, no_source, target_of, need_of}
 use Rattle.trace_spec.specs.Laws.{spelling_of, request_put, requests_put, opening_put, visits_put, opening, visits_of}
-use Rattle.trace_spec.specs.Laws.{InOrder, GoesInOrder, AsksFor, Passes, AllPass, RequestsPass, NeedsAre}
+use Rattle.trace_spec.specs.Laws.{InOrder, GoesInOrder, AsksFor, AreSpelled, Passes, AllPass, RequestsPass, NeedsAre}
 use Rattle.trace_spec.specs.Laws.{NeedsAreRequests}
+use Rattle.trace_spec.proofs.SpellingLemmas.{spelled_more}
 use Rattle.trace_spec.proofs.Lists.{same_module, AreOnce, new_module, once_more}
 use Rattle.trace_spec.proofs.NeedLemmas.{with_need_old, with_need_new, with_need_cases, no_clash_more}
 use Rattle.trace_spec.proofs.Steps.{answers_always, traced_outcome, file_name_parts, opens_is, Leaves, opens_leaves}
@@ -220,22 +221,23 @@ module _ (sights : Sights) (config : Config) where
   -- ---- what holds of the tables
 
   -- a need of a request of the page, or of a module that stands in the table
-  record IsOf (before : Gathered) (need : Need) : Type 0 where
-    referrer : Referrer Module
-    visited : IsVisited before.modules referrer
-    named : web_name config referrer ≡ Some need.referrer
-    specifier : List ℕ
-    is_request : Contains (specifiers sights config referrer) specifier
-    utf8 : IsUtf8 specifier
-    asks : AsksFor need.referrer specifier need.asked
-    target : Module
-    leads_to : leads sights config referrer specifier ≡ Some target
-    is_name : file_name config target ≡ Some need.target
+  pub record IsOf (before : Gathered) (need : Need) : Type 0 where
+    pub referrer : Referrer Module
+    pub visited : IsVisited before.modules referrer
+    pub named : web_name config referrer ≡ Some need.referrer
+    pub specifier : List ℕ
+    pub is_request : Contains (specifiers sights config referrer) specifier
+    pub utf8 : IsUtf8 specifier
+    pub asks : AsksFor need.referrer specifier need.asked
+    pub target : Module
+    pub leads_to : leads sights config referrer specifier ≡ Some target
+    pub is_name : file_name config target ≡ Some need.target
 
-  record Stands (before : Gathered) : Type 0 where
-    each : (need : Need) → Contains before.needs need → IsOf before need
-    no_clash : NoClash before.needs
-    once : AreOnce before.modules
+  pub record Stands (before : Gathered) : Type 0 where
+    pub each : (need : Need) → Contains before.needs need → IsOf before need
+    pub spelled : AreSpelled sights config before.needs before.spellings
+    pub no_clash : NoClash before.needs
+    pub once : AreOnce before.modules
 
   visited_more : (referrer : Referrer Module) (modules more : List Module) → IsVisited modules referrer
       → IsVisited (modules ++ more) referrer
@@ -280,6 +282,16 @@ module _ (sights : Sights) (config : Config) where
           | inl old ↦ stands.each other old
           | inr new ↦ subst (IsOf before) new own
         ]);
+        spelled = spelled_more sights config before.needs need before.spellings _ stands.spelled (record {
+          referrer = referrer;
+          leads_for = record {
+            named = own.named;
+            is_request = asked_for;
+            asks = own.asks;
+            leads_there = own.leads_to;
+            is_name = is.is_name;
+          };
+        });
         no_clash = no_clash_more before.needs need stands.no_clash is.fits.clear;
         once = once_more before.modules is.target stands.once;
       })
@@ -331,9 +343,17 @@ module _ (sights : Sights) (config : Config) where
     is_name = is.is_name;
   }
 
+  spelled_on : (before after : Gathered) → Leaves before after
+      → AreSpelled sights config before.needs before.spellings
+      → AreSpelled sights config after.needs after.spellings
+  spelled_on before after leaves spelled =
+      subst (λ ns. AreSpelled sights config ns after.spellings) (sym leaves.needs)
+      (subst (λ ss. AreSpelled sights config before.needs ss) (sym leaves.spellings) spelled)
+
   stand_on : (before after : Gathered) → Leaves before after → Stands before → Stands after
   stand_on before after leaves stands = record {
     each = λ need c. of_on before after need leaves (stands.each need (subst (λ ns. Contains ns need) leaves.needs c));
+    spelled = spelled_on before after leaves stands.spelled;
     no_clash = subst NoClash (sym leaves.needs) stands.no_clash;
     once = subst AreOnce (sym leaves.modules) stands.once;
   }
@@ -352,12 +372,13 @@ module _ (sights : Sights) (config : Config) where
     is_need = subst (λ ns. Contains ns passes.need) (sym leaves.needs) passes.is_need;
   }
 
-  keep : Keeps (always sights) (rules config) (specifiers sights config) (leads sights config) lead Stands
+  pub keep : Keeps (always sights) (rules config) (specifiers sights config) (leads sights config) lead Stands
       (λ referrer specifier before. Passes sights config before referrer specifier)
   keep = record {
     starts =
         record {
           each = λ need c. absurd (contains_none need c);
+          spelled = tt;
           no_clash = λ one other c d. absurd (contains_none one c);
           once = λ i j m e f. absurd (cc);
         };
@@ -429,6 +450,7 @@ module _ (sights : Sights) (config : Config) where
             leads_there = of.leads_to;
             is_name = of.is_name;
           };
+      spelled = end.holds.spelled;
       no_clash = end.holds.no_clash;
     }
 

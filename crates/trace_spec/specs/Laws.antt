@@ -1,5 +1,5 @@
 -- The laws of traces. Each is the contract of a function of this crate.
-use Rattle.std.specs.Prelude.{◌≡◌, ◌≤◌, ◌↔◌, ◌++◌, ℕ, true, false, List, [], ◌∷◌, length, map, flat_map}
+use Rattle.std.specs.Prelude.{◌≡◌, ◌≢◌, ⊤, ◌≤◌, ◌↔◌, ◌++◌, ℕ, true, false, List, [], ◌∷◌, length, map, flat_map}
 use Rattle.std.specs.Prelude.{slice_get, Option, Some, Result, Ok, Err, Contains, unwrap_or}
 use Rattle.std.specs.Str.{IsUtf8}
 use Rattle.asking_spec.specs.Askings.{Asking, outcome, questions}
@@ -20,11 +20,11 @@ use Rattle.node_spec.specs.NodeLaws.{IsBare}
 use Rattle.layout_spec.specs.declared.Need.{Need}
 use Rattle.layout_spec.specs.Needs.{NoClash}
 use Rattle.trace_spec.specs.declared.TraceFault.{TraceFault}
-use Rattle.trace_spec.specs.declared.TraceFault.TheVariants.{Limit}
+use Rattle.trace_spec.specs.declared.TraceFault.TheVariants.{Clash, Limit}
 use Rattle.trace_spec.specs.Walking.{Referrer, the_page, a_module, Opened, Rules, followed, walk}
 use Rattle.trace_spec.specs.Levels.{Levels}
 use Rattle.trace_spec.specs.FirstRefusals.{Failure, refused, halted, Comes, AllPassed, FirstFailure}
-use Rattle.trace_spec.specs.Modules.{Config, Module, is_module, web_name, IsServable, file_name}
+use Rattle.trace_spec.specs.Modules.{Config, Module, is_module, web_name, shown, IsServable, file_name}
 use Rattle.trace_spec.specs.Questions.{Source, Question, of_module, Answer, put, answers, always}
 use Rattle.trace_spec.specs.Kinds.{IsOfTrace}
 use Rattle.trace_spec.specs.Checks.{Gathered, Spelling, with_source, nothing_gathered, rules}
@@ -332,14 +332,66 @@ pub record IsNeed (sights : Sights) (config : Config) (need : Need) : Type 0 whe
   pub leads_there : leads sights config referrer specifier ≡ Some target
   pub is_name : file_name config target ≡ Some need.target
 
--- the needs are those of requests of what is reached, and no two clash
+-- by this specifier a referrer with this web name asks for this, and it leads to this module, which has this web name
+pub record LeadsFor (sights : Sights) (config : Config) (referrer : Referrer Module) (need : Need)
+    (spelling : Spelling) : Type 0 where
+  pub named : web_name config referrer ≡ Some need.referrer
+  pub is_request : Contains (specifiers sights config referrer) spelling.specifier
+  pub asks : AsksFor need.referrer spelling.specifier need.asked
+  pub leads_there : leads sights config referrer spelling.specifier ≡ Some spelling.target
+  pub is_name : file_name config spelling.target ≡ Some need.target
+
+-- a need is spelled so
+pub record IsSpelled (sights : Sights) (config : Config) (need : Need) (spelling : Spelling) : Type 0 where
+  pub referrer : Referrer Module
+  pub leads_for : LeadsFor sights config referrer need spelling
+
+-- each need stands beside its spelling
+abbrev pub AreSpelled : Sights → Config → List Need → List Spelling → Type 0
+AreSpelled sights config [] [] = ⊤
+AreSpelled sights config [] (spelling ∷ spellings) = ⊥
+AreSpelled sights config (need ∷ needs) [] = ⊥
+AreSpelled sights config (need ∷ needs) (spelling ∷ spellings) =
+    IsSpelled sights config need spelling × AreSpelled sights config needs spellings
+
+-- the needs are those of requests of what is reached, each beside its spelling, and no two clash
 pub record NeedsAre (sights : Sights) (config : Config) (all : Gathered) : Type 0 where
   pub each : (need : Need) → Contains all.needs need → IsNeed sights config need
+  pub spelled : AreSpelled sights config all.needs all.spellings
   pub no_clash : NoClash all.needs
 
 abbrev pub NeedsAreRequests : Type 0
 NeedsAreRequests =
     (sights : Sights) (config : Config) (all : Gathered) → traced sights config ≡ Ok all → NeedsAre sights config all
+
+-- ---- clashes
+
+-- two requests of referrers with one web name ask for the same, and lead to modules with two web names. The later one
+-- is that of the referrer that is shown, and both are shown with what they lead to
+pub record IsClash (sights : Sights) (config : Config) (referrer first first_to second second_to : List ℕ)
+    : Type 0 where
+  pub earlier : Referrer Module
+  pub later : Referrer Module
+  pub need : Need
+  pub other : Need
+  pub spelling : Spelling
+  pub target : Module
+  pub one : LeadsFor sights config earlier need spelling
+  pub two : LeadsFor sights config later other (record { specifier = second; target = target })
+  pub same_referrer : need.referrer ≡ other.referrer
+  pub same_asked : need.asked ≡ other.asked
+  pub apart : need.target ≢ other.target
+  pub shown_referrer : referrer ≡ shown config later
+  pub shown_first : first ≡ spelling.specifier
+  pub shown_first_to : first_to ≡ shown config (a_module spelling.target)
+  pub shown_second_to : second_to ≡ shown config (a_module target)
+
+-- a clash is one of two requests
+abbrev pub ClashesAreOfRequests : Type 0
+ClashesAreOfRequests =
+    (sights : Sights) (config : Config) (referrer first first_to second second_to : List ℕ)
+    → traced sights config ≡ Err (Clash referrer first first_to second second_to)
+    → IsClash sights config referrer first first_to second second_to
 
 -- ---- limits
 

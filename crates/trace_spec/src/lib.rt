@@ -6,6 +6,7 @@ ghost use Rattle.trace_spec.specs.Laws.{HasLevels, IsWhatIsReached, ModulesOnce,
 ghost use Rattle.trace_spec.specs.Laws.{FirstRefusalDecides, RefusesByKind, NeverOutOfRoom, GoesInOrder};
 ghost use Rattle.trace_spec.specs.Laws.{RefusesInOrder, SourcesAreRead, RequestsPass};
 ghost use Rattle.trace_spec.specs.Laws.{NeedsAreRequests, LimitsOfTexts, LooksAreOfQuestions};
+ghost use Rattle.trace_spec.specs.Laws.{ClashesAreOfRequests};
 
 use node_spec::{Cause, Reason};
 use primitives::Text;
@@ -158,6 +159,11 @@ pub fn requests_pass()
 /// The needs of a trace are those of requests of whatever the page reaches, and no two clash.
 pub fn needs_are_requests()
     ensures { NeedsAreRequests }
+{}
+
+/// A clash is one of two requests, which ask for the same and lead to two modules.
+pub fn clashes_are_of_requests()
+    ensures { ClashesAreOfRequests }
 {}
 
 /// The numbers of a module's text are those of the limits.
