@@ -5,12 +5,7 @@ use Rattle.std.specs.FinMap.{get}
 use Rattle.tree_spec.specs.LookAskings.{Sights}
 use Rattle.url_spec.specs.Specifiers.{as_url, normalized}
 use Rattle.url_spec.specs.WebNames.{web}
-use Rattle.module_spec.specs.Characters.{name_size}
-use Rattle.module_spec.specs.Spellings.{blank_rest}
-use Rattle.module_spec.specs.Sorts.{word}
-use Rattle.module_spec.specs.Tokens.{piece, next_at}
-use Rattle.module_spec.specs.StringValues.{string_value}
-use Rattle.module_spec.specs.OutlineReading.{read_outline}
+use Rattle.module_spec.proofs.examples.ReadingExamples.{outline_on_literals}
 use Rattle.node_spec.proofs.examples.NodeExamples.{node_on_literals}
 use Rattle.import_map_spec.proofs.examples.WrittenMaps.{looked, get_map_of}
 use Rattle.trace_spec.specs.declared.AskCause.TheVariants.{NotFound}
@@ -25,7 +20,7 @@ use Rattle.generator_examples.specs.Examples.{IsTraced}
 
 -- what a trace unfolds to compute on literals
 unfoldable pub trace_on_literals : Unit {0}
-unfolding node_on_literals as_url normalized web name_size blank_rest word piece next_at string_value read_outline
+unfolding node_on_literals outline_on_literals as_url normalized web
 trace_on_literals = tt
 
 abbrev pub IsStopped : Files → Config → TraceFault → Type 0
