@@ -29,8 +29,22 @@ example() {
         diff examples/expected-importmap.json "$kept/site/importmap.json"
 }
 
+# The page of the examples gets the map that was typed by hand, once and again, in a copy, and nothing else is written.
+injected() {
+    program=$PWD/build/salimgub
+    cp -R examples/page "$kept/page" || return 1
+    before=$(cd "$kept/page" && find . | sort)
+    for _ in 1 2; do
+        (cd "$kept/page" && "$program" inject --base http://localhost:8000/page/ ./app.mjs >"$kept/out") &&
+            echo 'ok: 3 modules, 3 requests, 1 mappings' | diff - "$kept/out" &&
+            diff examples/expected-index.html "$kept/page/index.html" || return 1
+    done
+    [ "$before" = "$(cd "$kept/page" && find . | sort)" ]
+}
+
 check "build.sh" ./build.sh
 check "the example" example
+check "the page of the examples" injected
 check "rows on disk" .ci/rows.sh
 check "a program that must not compile" .ci/must_not_compile.sh
 check "values that are dropped once" .ci/drops.sh

@@ -58,4 +58,36 @@ row bare ui 9 'not built: from "/index.html" for "ui"' </dev/null
 mkdir "$kept/missing" && echo 'import "./q.mjs";' >"$kept/missing/app.mjs"
 row missing ./app.mjs 1 'refused: NotFound from "/app.mjs" for "./q.mjs"' </dev/null
 
+# Injects into the folder $kept/NAME: page NAME STATUS LINE, and the page as it is afterwards on the standard input.
+page() {
+    cat >"$kept/wanted"
+    (cd "$kept/$1" && "$program" inject --base https://app.test/ ./app.mjs >"$kept/out")
+    status=$?
+    left=/dev/null
+    [ ! -f "$kept/$1/index.html" ] || left=$kept/$1/index.html
+    if [ "$status" = "$2" ] && echo "$3" | diff - "$kept/out" && diff "$kept/wanted" "$left" && [ ! -e "$kept/$1/importmap.json" ]; then
+        return
+    fi
+    echo "$1: status $status"
+    failed=1
+}
+
+mkdir "$kept/paged" && echo '<head></head>' >"$kept/paged/index.html" && : >"$kept/paged/app.mjs"
+page paged 0 'ok: 1 modules, 1 requests, 0 mappings' <<'PAGE'
+<head><script type="importmap">{
+  "imports": {}
+}
+</script>
+</head>
+PAGE
+
+mkdir "$kept/pageless" && : >"$kept/pageless/app.mjs"
+page pageless 7 'bad file: page absent' </dev/null
+
+mkdir -p "$kept/folder/index.html" && : >"$kept/folder/app.mjs"
+page folder 7 'bad file: page absent' </dev/null
+
+mkdir "$kept/cut" && printf '<head' >"$kept/cut/index.html" && : >"$kept/cut/app.mjs"
+page cut 1 'refused: PageUnclear at 0' <"$kept/cut/index.html"
+
 exit "$failed"

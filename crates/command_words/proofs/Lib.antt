@@ -1,3 +1,2 @@
 mod LinkWords
-pub mod PagePath
 mod Refusing

@@ -5,7 +5,8 @@ use Rattle.std.specs.List.{list_any}
 use Rattle.std.proofs.lemmas.List.{take_more}
 use Rattle.std.proofs.lemmas.List.Elements.{All-head, All-tail, All-cons, All-nil, All-same}
 use Rattle.indexmap.specs.IndexSet.{insert_key}
-use Rattle.generator_spec.specs.Words.{IsEntry, IsLink, once_onto}
+use Rattle.generator_spec.specs.Words.{IsEntry, once_onto}
+use Rattle.command_words.specs.Splitting.{NoCall}
 
 once_onto-append : (seen xs ys : List (List ℕ)) → once_onto seen (xs ++ ys) ≡ once_onto (once_onto seen xs) ys
 once_onto-append seen [] ys = refl
@@ -28,7 +29,7 @@ pub all_of_map : {A : Type 0} (P : List ℕ → Type 0) (f : A → List ℕ) (xs
 all_of_map P f [] all = All-nil (λ x. P (f x))
 all_of_map P f (x ∷ xs) all = All-cons (λ x. P (f x)) x xs (All-head P (f x) (map f xs) all) (all_of_map P f xs (All-tail P (f x) (map f xs) all))
 
--- the entries of the words are no entries
-pub no_link : {A : Type 0} (f : A → List ℕ) (words : List (List ℕ)) (entries : List A) (link option base other : List ℕ) (others : List (List ℕ)) → words ≡ link ∷ option ∷ base ∷ map f entries → (All (λ word. IsEntry (f word)) entries → ⊥) → IsLink words other others → ⊥
-no_link f words entries link option base other others split none is =
+-- words whose entries are no entries are no call
+pub no_call : {A : Type 0} (f : A → List ℕ) (words : List (List ℕ)) (entries : List A) (word option base : List ℕ) → words ≡ word ∷ option ∷ base ∷ map f entries → (All (λ word. IsEntry (f word)) entries → ⊥) → NoCall words
+no_call f words entries word option base split none command other others is =
     none (all_of_map IsEntry f entries (let e = is.split in let same : map f entries ≡ others = cc in All-same IsEntry (map f entries) others same is.are_entries))

@@ -4,8 +4,8 @@ ghost use Rattle.generator_spec.specs.declared.Refusal.TheVariants as refusal;
 ghost use Rattle.generator_spec.specs.Words.{IsConfigOf, RefusesWords};
 ghost use Rattle.command_words.specs.Splitting.{texts};
 
-use crate::words::{distinct, link_words};
-use generator_spec::Refusal;
+use crate::words::{call_words, distinct};
+use generator_spec::{Command, Refusal};
 use primitives::{Memory, Text};
 use request_trace::Config;
 use std::alloc::{AllocError, Global};
@@ -35,12 +35,12 @@ impl From<AllocError> for WordsFault {
     }
 }
 
-/// The config that the words give.
-pub fn config_of(alloc: Global, words: &[String]) -> Result<Config, WordsFault>
-    ensures config { IfOk result (IsConfigOf (texts words.now)) }
+/// The command that the words ask for, and the config that they give.
+pub fn config_of(alloc: Global, words: &[String]) -> Result<(Command, Config), WordsFault>
+    ensures config { IfOk result (λ found. IsConfigOf (texts words.now) found.0 found.1) }
     ensures refused { (why : Refusal) → result ≡ Err (WordsFault.Refused why) → RefusesWords (texts words.now) why }
 {
-    let Some((base, entries)) = link_words(words) else {
+    let Some((command, base, entries)) = call_words(words) else {
         return Err(WordsFault::Refused {
             why: Refusal::Words,
         });
@@ -52,7 +52,7 @@ pub fn config_of(alloc: Global, words: &[String]) -> Result<Config, WordsFault>
     };
     let entries = distinct(alloc, entries)?;
     match Path::parse(alloc, PAGE_PATH) {
-        Ok(page) => Ok(Config::new(base, page, entries)),
+        Ok(page) => Ok((command, Config::new(base, page, entries))),
         Err(PathFault::Memory) => Err(WordsFault::Memory),
         Err(PathFault::BadPath) => unreachable!(),
     }

@@ -1,4 +1,5 @@
 use crate::config_of;
+use generator_spec::Command;
 use std::test::Fail;
 
 #[test]
@@ -6,7 +7,7 @@ fn words_of_a_config(rt: HostRuntime) -> Result<(), Fail> {
     let alloc = rt.alloc();
     let mut words = Vec::new(alloc);
     for word in [
-        "link",
+        "inject",
         "--base",
         "HTTPS://app.test/site/..",
         "./b.mjs",
@@ -15,7 +16,8 @@ fn words_of_a_config(rt: HostRuntime) -> Result<(), Fail> {
     ] {
         words.push(String::from_str(alloc, word)?)?;
     }
-    let config = config_of(alloc, words.as_slice())?;
+    let (command, config) = config_of(alloc, words.as_slice())?;
+    assert!(rt; command == Command::Inject);
     assert_eq!(rt; config.base().as_str(), "https://app.test/");
     assert_eq!(rt; config.page().as_str(), "/index.html");
     assert!(rt; config.entries().len() == 2);

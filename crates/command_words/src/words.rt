@@ -1,17 +1,18 @@
 ghost use Rattle.std.specs.Prelude.{◌≡◌, ◌↔◌, ◌∷◌, [], All, IsTrue, IfOk, MatchOption, string_bytes};
-ghost use Rattle.generator_spec.specs.Words.{IsEntry, IsLink, once_onto};
-ghost use Rattle.command_words.specs.Splitting.{texts, NoWord, NoWordAfter, NoLink};
+ghost use Rattle.generator_spec.specs.Words.{word_of, IsEntry, IsCall, once_onto};
+ghost use Rattle.command_words.specs.Splitting.{texts, NoWord, NoWordAfter, NoCommand, NoCommandWord, NoCall};
 
+use generator_spec::Command;
 use indexmap::IndexSet;
 use primitives::{Listed, Memory, Text};
 use std::alloc::Global;
 
-/// The base and the entries of words that are `link --base BASE` and entries; None where they aren't.
-pub fn link_words(words: &[String]) -> Option<(&str, &[String])>
-    ensures { MatchOption result (NoLink (texts words.now))
-        (λ found. IsLink (texts words.now) found.0.now (texts found.1.now)) }
+/// The command, the base and the entries of words that are a command, `--base BASE` and entries; None where they aren't.
+pub(crate) fn call_words(words: &[String]) -> Option<(Command, &str, &[String])>
+    ensures { MatchOption result (NoCall (texts words.now))
+        (λ found. IsCall (texts words.now) found.0 found.1.now (texts found.2.now)) }
 {
-    let Some(after_command) = after_word(words, "link") else {
+    let Some((command, after_command)) = command_word(words) else {
         return None;
     };
     let Some(after_option) = after_word(after_command, "--base") else {
@@ -23,7 +24,34 @@ pub fn link_words(words: &[String]) -> Option<(&str, &[String])>
     if !are_entries(entries) {
         return None;
     }
-    Some((base, entries))
+    Some((command, base, entries))
+}
+
+// The command that the first word names, and the words behind it.
+fn command_word(words: &[String]) -> Option<(Command, &[String])>
+    ensures { MatchOption result (NoCommandWord (texts words.now))
+        (λ found. texts words.now ≡ word_of found.0 ∷ texts found.1.now) }
+{
+    let Some((first, rest)) = first_word(words) else {
+        return None;
+    };
+    let Some(command) = command_of(first) else {
+        return None;
+    };
+    Some((command, rest))
+}
+
+// The command that a word names.
+fn command_of(word: &str) -> Option<Command>
+    ensures { MatchOption result (NoCommand word.now) (λ command. word.now ≡ word_of command) }
+{
+    if word == "link" {
+        return Some(Command::Link);
+    }
+    if word == "inject" {
+        return Some(Command::Inject);
+    }
+    None
 }
 
 fn first_word(words: &[String]) -> Option<(&str, &[String])>
@@ -61,7 +89,7 @@ fn is_entry(word: &str) -> bool
 }
 
 /// The entries, equal ones once.
-pub fn distinct(alloc: Global, entries: &[String]) -> Result<Listed<Text>, Memory>
+pub(crate) fn distinct(alloc: Global, entries: &[String]) -> Result<Listed<Text>, Memory>
     ensures { IfOk result (λ found. found ≡ once_onto [] (texts entries.now)) }
 {
     let mut seen = IndexSet::new(alloc);

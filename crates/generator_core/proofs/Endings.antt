@@ -1,44 +1,45 @@
 -- How a run ends.
 use Rattle.std.proofs.Common.{◌≡◌, ◌≢◌, ◌≤◌, ◌⊎◌, ⊎_elim, ℕ, List, [], ◌++◌, length, take, Option, Some, None, Ok, Err, IfSome, Result, inl, inr, refl, sym, ap, ◌∙◌, subst, arith}
-use Rattle.std.specs.Prelude.{codes}
 use Rattle.std.specs.FinMap.{get}
 use Rattle.tree_spec.specs.declared.Entry.TheVariants.{Stored}
 use Rattle.tree_spec.specs.Counts.{Rose}
-use Rattle.tree_spec.specs.States.{FolderState, SinkState, OnlyLooks}
+use Rattle.tree_spec.specs.States.{FolderState, SinkState}
 use Rattle.tree_spec.specs.Trees.{Tree, Places}
+use Rattle.page_spec.specs.declared.kinds.InjectFault.TheVariants as inject
+use Rattle.layout_spec.specs.Layout.{layout}
+use Rattle.layout_spec.specs.PrintedMap.{map_text}
 use Rattle.trace_spec.specs.declared.TraceFault.{TraceFault}
 use Rattle.trace_spec.specs.declared.TraceFault.TheVariants as fault
 use Rattle.trace_spec.specs.Modules.{Config}
-use Rattle.trace_spec.specs.Traces.{traced}
+use Rattle.generator_spec.specs.declared.Command.{Command}
+use Rattle.generator_spec.specs.declared.PageFault.{PageFault}
+use Rattle.generator_spec.specs.declared.PageFault.TheVariants.{Absent, TooLarge, KeepsMapsOut}
 use Rattle.generator_spec.specs.declared.Refusal.{Refusal}
 use Rattle.generator_spec.specs.declared.Refusal.TheVariants as refusal
 use Rattle.generator_spec.proofs.PageNames.{page_of_words_is_file}
+use Rattle.generator_spec.proofs.Refusals.{written_is_opened}
+use Rattle.generator_spec.specs.Commands.{Refuses, Writes, Writes as writes_file}
+use Rattle.generator_spec.specs.Generation.{Generates}
 use Rattle.generator_spec.specs.Words.{IsConfigOf, RefusesWords}
-use Rattle.generator_spec.specs.Lines.{status_of, line_of, counts_line, memory_line, read_fault_line}
+use Rattle.generator_spec.specs.Lines.{page_status, status_of, line_of, counts_line, memory_line, read_fault_line}
 use Rattle.generator_spec.specs.Outcome.{Outcome}
-use Rattle.generator_spec.specs.Outcome.Outcome.{words_refused, trace_refused, done}
-use Rattle.generator_spec.specs.Ending.{IsMapWritten, IsGenerated, Linked, IsCounted, Shaped, Says, Ends, EndsAs, TellsRefusal}
+use Rattle.generator_spec.specs.Outcome.Outcome.{words_refused, refused, done}
+use Rattle.generator_spec.specs.Ending.{IsFileWritten, IsGenerated, IsCarried, Linked, IsCounted, Shaped, Says, Ends, EndsAs, TellsRefusal}
 use Rattle.generator_spec.specs.Ending.{Shaped as shaped, Says as says, Ends as ends}
-use Rattle.soundness.proofs.Sound.{sound}
-use Rattle.generation.specs.declared.generated.Generated.{Generated}
-use Rattle.generation.specs.Generating as generation
-use Rattle.generation.specs.Generating.{Generating}
-use Rattle.generator_core.specs.Writing.{SaysWrite, TellsFault, Writes, TellsFault as tells}
+use Rattle.soundness.proofs.Sound.{sound, one_map_in_page}
+use Rattle.generator_core.specs.declared.prepared.Prepared.{Prepared}
+use Rattle.generator_core.specs.declared.prepared.Stop.{Stop}
+use Rattle.generator_core.specs.declared.prepared.Stop.TheVariants as stops
+use Rattle.generator_core.specs.Preparing.{EndsBefore, IsPrepared, IsReady}
+use Rattle.generator_core.specs.Writing.{SaysWrite, TellsStop, Finishes}
 use Rattle.generator_core.specs.Writing.{SaysWrite as writes}
+use Rattle.generator_core.proofs.Preparings.{if_some, if_two}
 
-pub if_some : {A : Type 0} {P Q : A → Type 0} (told : Option A) → ((x : A) → P x → Q x) → IfSome told P → IfSome told Q
-if_some None f h = h
-if_some (Some x) f h = f x h
-
-if_two : {A : Type 0} {P Q R : A → Type 0} (told : Option A) → ((x : A) → P x → Q x → R x) → IfSome told P → IfSome told Q → IfSome told R
-if_two None f h k = h
-if_two (Some x) f h k = f x h k
-
-pub written_is : (tree : Tree) (bytes slice path : List ℕ) (told : Option Tree) → ((after : Tree) × (told ≡ Some after) × Places tree path (Stored slice) after) → path ≡ codes "/importmap.json" → slice ≡ bytes → IsMapWritten tree bytes told
-written_is tree bytes slice path told written p s = record {
+pub written_is : (tree : Tree) (path bytes slice : List ℕ) (told : Option Tree) → ((after : Tree) × (told ≡ Some after) × Places tree path (Stored slice) after) → slice ≡ bytes → IsFileWritten tree path bytes told
+written_is tree path bytes slice told written s = record {
   after = written.0;
   is_told = written.1;
-  placed = subst (λ b. Places tree (codes "/importmap.json") (Stored b) written.0) s (subst (λ q. Places tree q (Stored slice) written.0) p written.2);
+  placed = subst (λ b. Places tree path (Stored b) written.0) s written.2;
 }
 
 -- ---- statuses
@@ -52,28 +53,55 @@ trace_is_not_zero (fault.Limit which) = λ e. omega arith
 trace_is_not_zero fault.ReadFault = λ e. omega arith
 trace_is_not_zero fault.Memory = λ e. omega arith
 
+page_is_not_zero : (why : PageFault) → page_status why ≢ 0
+page_is_not_zero Absent = λ e. omega arith
+page_is_not_zero TooLarge = λ e. omega arith
+page_is_not_zero (KeepsMapsOut (inject.PageUnclear at)) = λ e. omega arith
+page_is_not_zero (KeepsMapsOut (inject.TwoMaps at)) = λ e. omega arith
+page_is_not_zero (KeepsMapsOut inject.NoPlace) = λ e. omega arith
+page_is_not_zero (KeepsMapsOut inject.Memory) = λ e. omega arith
+
 refusal_is_not_zero : (why : Refusal) → status_of why ≢ 0
 refusal_is_not_zero refusal.Words = λ e. omega arith
 refusal_is_not_zero (refusal.BadBase text) = λ e. omega arith
+refusal_is_not_zero (refusal.Page why) = page_is_not_zero why
 refusal_is_not_zero (refusal.Trace why) = trace_is_not_zero why
 
 -- ---- what was generated and written serves
 
-linked : (words : List (List ℕ)) (tree : Tree) (bytes line : List ℕ) (told : Option Tree) → IsGenerated words tree bytes line → IsMapWritten tree bytes told → Linked words tree told
-linked words tree bytes line told generated written = record { bytes = bytes; line = line; generated = generated; serves = sound tree generated.config bytes generated.generates; written = written }
+-- ---- what was generated and written serves
+
+carried : (tree : Tree) (config : Config) (map : List ℕ) (command : Command) (path file : List ℕ) → Generates tree config map → Writes tree config map command path file → IsCarried command map file
+carried tree config map command path file generates writes_file.map_alone = refl
+carried tree config map command path file generates (writes_file.in_page page new is i) = one_map_in_page tree config map page new generates i
+
+linked : (words : List (List ℕ)) (tree : Tree) (map line path file : List ℕ) (told : Option Tree) → (is : IsGenerated words tree map line) → Writes tree is.config map is.command path file → IsFileWritten tree path file told → Linked words tree told
+linked words tree map line path file told is wrote written = record {
+  map = map;
+  line = line;
+  generated = is;
+  serves = sound tree is.config map is.generates;
+  path = path;
+  file = file;
+  writes = wrote;
+  carried = carried tree is.config map is.command path file is.generates wrote;
+  written = written;
+}
 
 outcome_links : (words : List (List ℕ)) (tree : Tree) (status : ℕ) (line : List ℕ) (later : Tree) (told : Option Tree) → Outcome words tree status line later → told ≡ Some later → status ≡ 0 → Linked words tree told
 outcome_links words tree status line later told (words_refused why refuses s l a) is zero = absurd (refusal_is_not_zero why (sym s ∙ zero))
-outcome_links words tree status line later told (trace_refused config why is_config is_traced s l a) is zero = absurd (refusal_is_not_zero (refusal.Trace why) (sym s ∙ zero))
-outcome_links words tree status line later told (done config bytes is_config generates s l placed) is zero =
-    linked words tree bytes line told (record { config = config; is_config = is_config; generates = generates; says = l }) (record { after = later; is_told = is; placed = placed })
+outcome_links words tree status line later told (refused command config why is_config is_refused s l a) is zero = absurd (refusal_is_not_zero why (sym s ∙ zero))
+outcome_links words tree status line later told (done command config map path file is_config generates wrote s l placed) is zero =
+    linked words tree map line path file told
+    (record { command = command; config = config; is_config = is_config; opens = written_is_opened tree config map path file command wrote; generates = generates; says = l }) wrote
+    (record { after = later; is_told = is; placed = placed })
 
 -- ---- an end that is said is the end of a run
 
 written_of : (words : List (List ℕ)) (before after : FolderState) (status : ℕ) (line : List ℕ) → Says words before after status line → status ≡ 0 → IfSome before.holds (λ tree. Linked words tree after.holds)
 written_of words before after status line (says.outcome shape told l w) zero = if_some before.holds (λ tree o. outcome_links words tree status line o.0 after.holds o.1 o.2 zero) told
 written_of words before after status line (says.memory s l h lk wr) zero = absurd (omega arith)
-written_of words before after status line (says.read_fault config gives s l h rose wr) zero = absurd (omega arith)
+written_of words before after status line (says.read_fault command config gives s l h rose wr) zero = absurd (omega arith)
 written_of words before after status line (says.write_fault bytes done_line counted generated s l h lk rose) zero = absurd (omega arith)
 
 status_done : (status : ℕ) (line : List ℕ) (out out_after : SinkState) (result : ℕ) → Ends status line out out_after result → result ≡ 0 → status ≡ 0
@@ -114,83 +142,86 @@ pub memory_ends : (words : List (List ℕ)) (before after : FolderState) (out ou
 memory_ends words before after out out_after result h l w memory later =
     ends_as words before after out out_after result 8 memory_line (λ e. h ∙ e) (says.memory refl refl h l w) memory (omega (arith, l)) (omega (arith, w)) later
 
--- ---- a trace that is refused
+-- ---- a command that is stopped before its write
 
-refused_told : (words : List (List ℕ)) (config : Config) (why : TraceFault) (told after : Option Tree) → IsConfigOf words config → after ≡ told → IfSome told (λ tree. traced (get tree) config ≡ Err why)
-    → IfSome told (λ tree. (later : Tree) × Outcome words tree (status_of (refusal.Trace why)) (line_of (refusal.Trace why)) later × (after ≡ Some later))
-refused_told words config why None after is_config same is_traced = tt
-refused_told words config why (Some tree) after is_config same is_traced = (tree, trace_refused config why is_config is_traced refl refl refl, same)
+refused_told : (words : List (List ℕ)) (command : Command) (config : Config) (why : Refusal) (told after : Option Tree) → IsConfigOf words command config → after ≡ told → IfSome told (λ tree. Refuses tree config command why)
+    → IfSome told (λ tree. (later : Tree) × Outcome words tree (status_of why) (line_of why) later × (after ≡ Some later))
+refused_told words command config why None after is_config same is = tt
+refused_told words command config why (Some tree) after is_config same is = (tree, refused command config why is_config is refl refl refl, same)
 
-module _ (words : List (List ℕ)) (config : Config) (is_config : IsConfigOf words config) (before after : FolderState) (out out_after : SinkState) (result : ℕ) (found : Result Generated TraceFault) (is : Generating config before found after) where
-  apart : (why : TraceFault) → found ≡ Err why → why ≢ fault.ReadFault → after.look_faults ≡ before.look_faults
-  apart why e read = is.looks.quiet (λ same. read (let f : Err why ≡ Err fault.ReadFault = sym e ∙ same in cc))
+module _ (words : List (List ℕ)) (command : Command) (config : Config) (is_config : IsConfigOf words command config) (before after : FolderState) (out out_after : SinkState) (result : ℕ) where
+  untold : (stop : Stop) → EndsBefore command config before after stop → before.holds ≡ None → after.holds ≡ None
+  untold stop is none = is.looks.tree ∙ none
 
-  writes_later : before.write_faults ≤ after.write_faults
-  writes_later = let w = is.looks.writes in omega arith
+  writes_later : (stop : Stop) → EndsBefore command config before after stop → before.write_faults ≤ after.write_faults
+  writes_later stop is = let w = is.looks.writes in omega (arith, w)
 
-  untold : before.holds ≡ None → after.holds ≡ None
-  untold none = is.looks.tree ∙ none
+  -- a stop that is no failed look
+  apart : (stop : Stop) → EndsBefore command config before after stop → stop ≢ stops.ReadFault → after.look_faults ≡ before.look_faults
+  apart stop is other = is.looks.quiet other
 
-  trace_end : (why : TraceFault) → found ≡ Err why → why ≢ fault.ReadFault → why ≢ fault.Memory → TellsRefusal (refusal.Trace why) out out_after result → out.faults ≤ out_after.faults → EndsAs words before after out out_after result
-  trace_end why e read memory (inl told) more =
-      let here : Generating config before (Err why) after = subst (λ r. Generating config before r after) e is in
-      ends_as words before after out out_after result (status_of (refusal.Trace why)) (line_of (refusal.Trace why)) untold
-      (says.outcome (shaped.trace_refused config why is_config (here.kind read memory) refl refl) (refused_told words config why before.holds after.holds is_config is.looks.tree (here.refused read memory)) (apart why e read) is.looks.writes)
-      told is.looks.later writes_later more
-  trace_end why e read memory (inr lacks) more = memory_ends words before after out out_after result is.looks.tree (apart why e read) is.looks.writes lacks more
+  refused_end : (why : Refusal) → EndsBefore command config before after (stops.Refused why) → TellsRefusal why out out_after result → out.faults ≤ out_after.faults → EndsAs words before after out out_after result
+  refused_end why is (inl told) more =
+      ends_as words before after out out_after result (status_of why) (line_of why) (untold (stops.Refused why) is)
+      (says.outcome (shaped.refused command config why is_config is.kind refl refl) (refused_told words command config why before.holds after.holds is_config is.looks.tree is.refused) (apart (stops.Refused why) is (λ e. cc)) is.looks.writes)
+      told is.looks.later (writes_later (stops.Refused why) is) more
+  refused_end why is (inr lacks) more = memory_ends words before after out out_after result is.looks.tree (apart (stops.Refused why) is (λ e. cc)) is.looks.writes lacks more
 
-  read_end : found ≡ Err fault.ReadFault → Ends 4 read_fault_line out out_after result → out.faults ≤ out_after.faults → EndsAs words before after out out_after result
-  read_end e told more = ends_as words before after out out_after result 4 read_fault_line untold (says.read_fault config is_config refl refl is.looks.tree (is.looks.cause e) is.looks.writes) told is.looks.later writes_later more
+  pub stop_end : (stop : Stop) → EndsBefore command config before after stop → TellsStop stop out out_after result → out.faults ≤ out_after.faults → EndsAs words before after out out_after result
+  stop_end (stops.Refused why) is told more = refused_end why is told more
+  stop_end stops.ReadFault is told more =
+      ends_as words before after out out_after result 4 read_fault_line (untold stops.ReadFault is) (says.read_fault command config is_config refl refl is.looks.tree (is.looks.cause refl) is.looks.writes) told is.looks.later (writes_later stops.ReadFault is) more
+  stop_end stops.Memory is told more = memory_ends words before after out out_after result is.looks.tree (apart stops.Memory is (λ e. cc)) is.looks.writes told more
 
-  memory_end : found ≡ Err fault.Memory → Ends 8 memory_line out out_after result → out.faults ≤ out_after.faults → EndsAs words before after out out_after result
-  memory_end e told more = memory_ends words before after out out_after result is.looks.tree (apart fault.Memory e (λ same. cc)) is.looks.writes told more
+-- ---- a file that is written
 
-  pub fault_end : (why : TraceFault) → found ≡ Err why → TellsFault why out out_after result → out.faults ≤ out_after.faults → EndsAs words before after out out_after result
-  fault_end why e (tells.failed_look read told) more = read_end (e ∙ ap Err read) told more
-  fault_end why e (tells.memory lack told) more = memory_end (e ∙ ap Err lack) told more
-  fault_end why e (tells.refused read memory told) more = trace_end why e read memory told more
-
--- ---- a map that is written
-
-generated_told : (words : List (List ℕ)) (config : Config) (generated : Generated) (told : Option Tree) → IsConfigOf words config → IfSome told (λ tree. generation.IsGenerated tree config generated)
-    → IfSome told (λ tree. IsGenerated words tree generated.map.items (counts_line generated.modules generated.requests generated.mappings))
-generated_told words config generated told is_config found = if_some told (λ tree is. record {
-  config = config;
-  is_config = is_config;
-  generates = record { page_is_file = page_of_words_is_file words config is_config; all = is.all; is_traced = is.is_traced; text = is.is_map.map };
-  says = λ i. counts_line (is.is_map.modules i) (is.is_map.requests i) (is.is_map.mappings i);
-}) found
-
-counted : (words : List (List ℕ)) (config : Config) (generated : Generated) → IsConfigOf words config → IsCounted words (counts_line generated.modules generated.requests generated.mappings)
-counted words config generated is_config = record { config = config; is_config = is_config; modules = generated.modules; requests = generated.requests; mappings = generated.mappings; says = refl }
-
-written_told : (words : List (List ℕ)) (bytes line : List ℕ) (told after : Option Tree) → IfSome told (λ tree. IsGenerated words tree bytes line) → IfSome told (λ tree. IsMapWritten tree bytes after)
-    → IfSome told (λ tree. (later : Tree) × Outcome words tree 0 line later × (after ≡ Some later))
-written_told words bytes line told after generated written = if_two told (λ tree is wrote. (wrote.after, done is.config bytes is.is_config is.generates refl is.says wrote.placed, wrote.is_told)) generated written
-
-module _ (words : List (List ℕ)) (config : Config) (is_config : IsConfigOf words config) (before middle after : FolderState) (out out_after : SinkState) (result : ℕ) (generated : Generated) (is : Generating config before (Ok generated) middle) (wrote : Writes generated middle after out out_after result) where
-  abbrev bytes : List ℕ
-  bytes = generated.map.items
-
+module _ (words : List (List ℕ)) (command : Command) (config : Config) (is_config : IsConfigOf words command config) (before middle after : FolderState) (out out_after : SinkState) (result : ℕ) (prepared : Prepared) (is : IsReady command config before middle prepared) (wrote : Finishes prepared middle after out out_after result) where
   abbrev done_here : List ℕ
-  done_here = counts_line generated.modules generated.requests generated.mappings
+  done_here = counts_line prepared.modules prepared.requests prepared.mappings
 
   quiet : middle.look_faults ≡ before.look_faults
-  quiet = is.looks.quiet (λ same. cc)
+  quiet = is.looks.quiet (λ e. e)
 
   looks : after.look_faults ≡ before.look_faults
   looks = wrote.looks ∙ quiet
 
-  told : IfSome before.holds (λ tree. IsGenerated words tree bytes done_here)
-  told = generated_told words config generated before.holds is_config is.generated
+  counted : IsCounted words done_here
+  counted = record { command = command; config = config; is_config = is_config; modules = prepared.modules; requests = prepared.requests; mappings = prepared.mappings; says = refl }
 
-  write_says : (status : ℕ) (line : List ℕ) → SaysWrite middle after bytes done_here status line → Says words before after status line
+  generated_of : (tree : Tree) → (ready : IsPrepared command config tree prepared) → IsGenerated words tree (map_text (layout ready.all.needs)) done_here
+  generated_of tree ready = record {
+    command = command;
+    config = config;
+    is_config = is_config;
+    opens = written_is_opened tree config (map_text (layout ready.all.needs)) prepared.path prepared.file.items command ready.writes;
+    generates = record { page_is_file = page_of_words_is_file words command config is_config; all = ready.all; is_traced = ready.is_traced; text = refl };
+    says = λ i. counts_line (ready.modules i) (ready.requests i) (ready.mappings i);
+  }
+
+  -- the map of a told tree
+  abbrev map_of : (held : Option Tree) → IfSome held (λ tree. IsPrepared command config tree prepared) → List ℕ
+  map_of None ready = []
+  map_of (Some tree) ready = map_text (layout ready.all.needs)
+
+  generated_told : (held : Option Tree) (ready : IfSome held (λ tree. IsPrepared command config tree prepared)) → IfSome held (λ tree. IsGenerated words tree (map_of held ready) done_here)
+  generated_told None ready = tt
+  generated_told (Some tree) ready = generated_of tree ready
+
+  written_told : (held told : Option Tree) → IfSome held (λ tree. IsPrepared command config tree prepared) → IfSome held (λ tree. IsFileWritten tree prepared.path prepared.file.items told)
+      → IfSome held (λ tree. (later : Tree) × Outcome words tree 0 done_here later × (told ≡ Some later))
+  unfolding generated_of
+  written_told held told ready written =
+      if_two held (λ tree is_ready wrote_so.
+      let so = generated_of tree is_ready in
+      (wrote_so.after, done command config (map_text (layout is_ready.all.needs)) prepared.path prepared.file.items is_config so.generates is_ready.writes refl so.says wrote_so.placed, wrote_so.is_told)) ready written
+
+  write_says : (status : ℕ) (line : List ℕ) → SaysWrite middle after prepared.path prepared.file.items done_here status line → Says words before after status line
   write_says status line (writes.written s l placed w) =
       subst (λ n. Says words before after n line) (sym s) (subst (λ t. Says words before after 0 t) (sym l)
-      (says.outcome (shaped.done refl (counted words config generated is_config))
-      (written_told words bytes done_here before.holds after.holds told (subst (λ holds. IfSome holds (λ tree. IsMapWritten tree bytes after.holds)) is.looks.tree placed)) looks (w ∙ is.looks.writes)))
+      (says.outcome (shaped.done refl counted)
+      (written_told before.holds after.holds is.is_prepared (subst (λ holds. IfSome holds (λ tree. IsFileWritten tree prepared.path prepared.file.items after.holds)) is.looks.tree placed)) looks (w ∙ is.looks.writes)))
   write_says status line (writes.write_fault s l h rose) =
-      says.write_fault bytes done_here (counted words config generated is_config) told s l (h ∙ is.looks.tree) looks (subst (λ n. Rose n after.write_faults) is.looks.writes rose)
+      says.write_fault (map_of before.holds is.is_prepared) done_here counted (generated_told before.holds is.is_prepared) s l (h ∙ is.looks.tree) looks (subst (λ n. Rose n after.write_faults) is.looks.writes rose)
   write_says status line (writes.memory s l h w) = says.memory s l (h ∙ is.looks.tree) looks (w ∙ is.looks.writes)
 
   pub write_end : EndsAs words before after out out_after result

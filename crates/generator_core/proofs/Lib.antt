@@ -1,1 +1,2 @@
+pub mod Preparings
 pub mod Endings

@@ -1,43 +1,42 @@
 -- What the end of a command does.
---     SaysWrite before after bytes done status line      what is said of the write of the map
---     TellsFault fault out out_after result      it is told why there is no trace
---     Writes generated before after out out_after result      the map is written or not, and what is said went out
-use Rattle.std.specs.Prelude.{◌≡◌, ◌≢◌, ◌≤◌, ℕ, List, None, IfSome}
+--     SaysWrite before after path file done status line      what is said of the write of the file
+--     TellsStop stop out out_after result      it is told why nothing is written
+--     Finishes prepared before after out out_after result      the file is written or not, and what is said went out
+use Rattle.std.specs.Prelude.{◌≡◌, ◌≤◌, ℕ, List, None, IfSome}
 use Rattle.tree_spec.specs.Counts.{Rose}
 use Rattle.tree_spec.specs.States.{FolderState, SinkState}
-use Rattle.trace_spec.specs.declared.TraceFault.{TraceFault}
-use Rattle.trace_spec.specs.declared.TraceFault.TheVariants.{ReadFault, Memory}
-use Rattle.generator_spec.specs.declared.Refusal.TheVariants.{Trace}
+use Rattle.generator_spec.specs.Statuses.{done_status, read_fault_status, write_fault_status, memory_status}
 use Rattle.generator_spec.specs.Lines.{counts_line, memory_line, read_fault_line, write_fault_line}
-use Rattle.generator_spec.specs.Ending.{IsMapWritten, Ends, TellsRefusal}
-use Rattle.generation.specs.declared.generated.Generated.{Generated}
+use Rattle.generator_spec.specs.Ending.{IsFileWritten, Ends, TellsRefusal}
+use Rattle.generator_core.specs.declared.prepared.Prepared.{Prepared}
+use Rattle.generator_core.specs.declared.prepared.Stop.{Stop}
+use Rattle.generator_core.specs.declared.prepared.Stop.TheVariants.{Refused, ReadFault, Memory}
 
-pub data SaysWrite (before after : FolderState) (bytes done : List ℕ) (status : ℕ) (line : List ℕ) : Type 0 where
+pub data SaysWrite (before after : FolderState) (path file done : List ℕ) (status : ℕ)
+    (line : List ℕ) : Type 0 where
   written :
-      status ≡ 0 → line ≡ done → IfSome before.holds (λ tree. IsMapWritten tree bytes after.holds)
-      → after.write_faults ≡ before.write_faults → SaysWrite before after bytes done status line
+      status ≡ done_status → line ≡ done → IfSome before.holds (λ tree. IsFileWritten tree path file after.holds)
+      → after.write_faults ≡ before.write_faults → SaysWrite before after path file done status line
   write_fault :
-      status ≡ 5 → line ≡ write_fault_line → after.holds ≡ before.holds → Rose before.write_faults after.write_faults
-      → SaysWrite before after bytes done status line
+      status ≡ write_fault_status → line ≡ write_fault_line → after.holds ≡ before.holds
+      → Rose before.write_faults after.write_faults → SaysWrite before after path file done status line
   memory :
-      status ≡ 8 → line ≡ memory_line → after.holds ≡ before.holds → after.write_faults ≡ before.write_faults
-      → SaysWrite before after bytes done status line
+      status ≡ memory_status → line ≡ memory_line → after.holds ≡ before.holds
+      → after.write_faults ≡ before.write_faults → SaysWrite before after path file done status line
 
 -- want of memory may take the place of a refusal, but not of a look that failed
-pub data TellsFault (fault : TraceFault) (out out_after : SinkState) (result : ℕ) : Type 0 where
-  failed_look : fault ≡ ReadFault → Ends 4 read_fault_line out out_after result → TellsFault fault out out_after result
-  memory : fault ≡ Memory → Ends 8 memory_line out out_after result → TellsFault fault out out_after result
-  refused :
-      fault ≢ ReadFault → fault ≢ Memory → TellsRefusal (Trace fault) out out_after result
-      → TellsFault fault out out_after result
+abbrev pub TellsStop : Stop → SinkState → SinkState → ℕ → Type 0
+TellsStop (Refused why) out out_after result = TellsRefusal why out out_after result
+TellsStop ReadFault out out_after result = Ends read_fault_status read_fault_line out out_after result
+TellsStop Memory out out_after result = Ends memory_status memory_line out out_after result
 
-pub record Writes (generated : Generated) (before after : FolderState) (out out_after : SinkState)
+pub record Finishes (prepared : Prepared) (before after : FolderState) (out out_after : SinkState)
     (result : ℕ) : Type 0 where
   pub status : ℕ
   pub line : List ℕ
   pub says :
-      SaysWrite before after generated.map.items
-      (counts_line generated.modules generated.requests generated.mappings) status line
+      SaysWrite before after prepared.path prepared.file.items
+      (counts_line prepared.modules prepared.requests prepared.mappings) status line
   pub ends : Ends status line out out_after result
   pub untold : before.holds ≡ None → after.holds ≡ None
   pub looks : after.look_faults ≡ before.look_faults

@@ -2,6 +2,7 @@
 //! does what the words say, tells of it, and answers the exit status.
 #![tactic(auto)]
 
+mod prepared;
 mod running;
 
 pub use running::run;

@@ -1,13 +1,14 @@
 ghost use Rattle.std.specs.Prelude.{◌≡◌, ◌≤◌, List, ℕ};
+ghost use Rattle.generator_spec.specs.declared.Command.TheVariants.{Link, Inject};
 ghost use Rattle.generator_spec.specs.declared.Refusal.{Refusal};
 ghost use Rattle.generator_spec.specs.Words.{IsConfigOf, RefusesWords};
 ghost use Rattle.generator_spec.specs.Ending.{Ends, EndsAs, TellsRefusal};
 ghost use Rattle.command_words.specs.Splitting.{texts};
-ghost use Rattle.generator_core.specs.Writing.{TellsFault, Writes};
+ghost use Rattle.generator_core.specs.Writing.{TellsStop, Finishes};
 
+use crate::prepared::{Prepared, Stop, prepare_map, prepare_page};
 use command_words::{WordsFault, config_of};
-use generation::{Generated, generate};
-use generator_spec::Refusal;
+use generator_spec::{Command, Refusal};
 use primitives::Steps;
 use request_trace::Config;
 use run_texts::{
@@ -16,14 +17,10 @@ use run_texts::{
 };
 use std::alloc::Global;
 use std::sync::ledger::Ledger;
-use trace_spec::TraceFault;
-use tree_model::{Folder, Path, PathFault, Sink, Source};
+use tree_model::{Folder, Sink, Source};
 
-/// Where the map is written.
-const MAP_PATH: &str = "/importmap.json";
-
-/// Does all that the program does: reads the words, generates from the folder, writes the map and says how it ended.
-/// Answers the exit status.
+/// Does all that the program does: reads the words, generates from the folder, writes the map or the page with it, and
+/// says how it ended. Answers the exit status.
 pub fn run<F: Folder, I: Source, O: Sink, L: Ledger>(
     alloc: Global,
     words: &[String],
@@ -39,7 +36,8 @@ pub fn run<F: Folder, I: Source, O: Sink, L: Ledger>(
     ensures steps { _steps.new ≡ _steps.old }
 {
     match config_of(alloc, words) {
-        Ok(config) => link(alloc, folder, &config, out),
+        Ok((Command::Link, config)) => link(alloc, folder, &config, out),
+        Ok((Command::Inject, config)) => inject(alloc, folder, &config, out),
         Err(WordsFault::Refused { why }) => refuse(alloc, &why, out),
         Err(WordsFault::Memory) => tell(out, memory_line(), MEMORY),
     }
@@ -47,57 +45,62 @@ pub fn run<F: Folder, I: Source, O: Sink, L: Ledger>(
 
 // `link`: generates, writes the map and says so.
 fn link<F: Folder, O: Sink>(alloc: Global, folder: &mut F, config: &Config, out: &mut O) -> u8
-    ensures { (words : List (List ℕ)) → IsConfigOf words config.now
+    ensures { (words : List (List ℕ)) → IsConfigOf words Link config.now
         → EndsAs words (F.state folder.old) (F.state folder.new) (O.state out.old) (O.state out.new) result }
 {
-    match generate(alloc, folder, config) {
-        Ok(generated) => finish(alloc, folder, &generated, out),
-        Err(fault) => stop(alloc, fault, out),
+    match prepare_map(alloc, folder, config) {
+        Ok(prepared) => finish(alloc, folder, &prepared, out),
+        Err(stop) => close(alloc, stop, out),
     }
 }
 
-// Writes the map, and says so.
+// `inject`: reads the page, generates, writes the page with the map and says so.
+fn inject<F: Folder, O: Sink>(alloc: Global, folder: &mut F, config: &Config, out: &mut O) -> u8
+    ensures { (words : List (List ℕ)) → IsConfigOf words Inject config.now
+        → EndsAs words (F.state folder.old) (F.state folder.new) (O.state out.old) (O.state out.new) result }
+{
+    match prepare_page(alloc, folder, config) {
+        Ok(prepared) => finish(alloc, folder, &prepared, out),
+        Err(stop) => close(alloc, stop, out),
+    }
+}
+
+// Writes the file, and says so.
 fn finish<F: Folder, O: Sink>(
     alloc: Global,
     folder: &mut F,
-    generated: &Generated,
+    prepared: &Prepared,
     out: &mut O,
 ) -> u8
-    ensures { Writes generated.now (F.state folder.old) (F.state folder.new) (O.state out.old)
+    ensures { Finishes prepared.now (F.state folder.old) (F.state folder.new) (O.state out.old)
         (O.state out.new) result }
 {
     let Ok(line) = done_line(
         alloc,
-        generated.modules,
-        generated.requests,
-        generated.mappings,
+        prepared.modules,
+        prepared.requests,
+        prepared.mappings,
     ) else {
         return tell(out, memory_line(), MEMORY);
     };
-    let path = match Path::parse(alloc, MAP_PATH) {
-        Ok(path) => path,
-        Err(PathFault::Memory) => return tell(out, memory_line(), MEMORY),
-        Err(PathFault::BadPath) => unreachable!(),
-    };
-    match folder.write(&path, generated.map.as_slice()) {
+    match folder.write(&prepared.path, prepared.file.as_slice()) {
         Ok(()) => tell(out, line.as_slice(), DONE),
         Err(_) => tell(out, write_fault_line(), WRITE_FAULT),
     }
 }
 
-// Says why there is no trace.
-fn stop<O: Sink>(alloc: Global, fault: TraceFault, out: &mut O) -> u8
-    ensures tells { TellsFault fault (O.state out.old) (O.state out.new) result }
+// Says why nothing is written.
+fn close<O: Sink>(alloc: Global, stop: Stop, out: &mut O) -> u8
+    ensures tells { TellsStop stop (O.state out.old) (O.state out.new) result }
     ensures later { (O.state out.old).faults ≤ (O.state out.new).faults }
 {
-    match fault {
-        TraceFault::ReadFault => tell(out, read_fault_line(), READ_FAULT),
-        TraceFault::Memory => tell(out, memory_line(), MEMORY),
-        refused => refuse(alloc, &Refusal::Trace { fault: refused }, out),
+    match stop {
+        Stop::Refused { why } => refuse(alloc, &why, out),
+        Stop::ReadFault => tell(out, read_fault_line(), READ_FAULT),
+        Stop::Memory => tell(out, memory_line(), MEMORY),
     }
 }
 
-// Says why nothing is written.
 fn refuse<O: Sink>(alloc: Global, refusal: &Refusal, out: &mut O) -> u8
     ensures tells { TellsRefusal refusal.now (O.state out.old) (O.state out.new) result }
     ensures later { (O.state out.old).faults ≤ (O.state out.new).faults }

@@ -23,7 +23,7 @@ fn begins_with(front: &[u8], bytes: &[u8]) -> bool
 }
 
 /// The place of the first `<!--` in bytes that stand between two offsets.
-pub fn comment_at(from: usize, to: usize, bytes: &[u8]) -> Option<usize>
+pub(crate) fn comment_at(from: usize, to: usize, bytes: &[u8]) -> Option<usize>
     requires { from + length bytes.now ≡ to }
     ensures { result ≡ comment_at from bytes.now }
 {

@@ -45,7 +45,7 @@ fn holds_ampersand(text: &[u8]) -> bool
 }
 
 /// Whether the piece is the start tag of a script.
-pub fn is_script(text: &str, piece: Piece) -> bool
+pub(crate) fn is_script(text: &str, piece: Piece) -> bool
     requires { IsPieceOf text.now piece }
     ensures { result ≡ is_script (part_at text.now piece) }
 {
@@ -91,7 +91,7 @@ fn is_map_start(text: &str, piece: Piece) -> bool
 }
 
 /// Where the raw text of the import map element stands that begins with the piece; None where none does.
-pub fn map_at(text: &str, piece: Piece, next: Option<Piece>) -> Option<(usize, usize)>
+pub(crate) fn map_at(text: &str, piece: Piece, next: Option<Piece>) -> Option<(usize, usize)>
     requires { AreNext text.now piece next }
     ensures { result ≡ map_at text.now piece next }
 {
@@ -111,7 +111,7 @@ pub fn map_at(text: &str, piece: Piece, next: Option<Piece>) -> Option<(usize, u
 }
 
 /// Whether an import map element begins with the piece.
-pub fn begins_map(text: &str, piece: Piece, next: Option<Piece>) -> bool
+pub(crate) fn begins_map(text: &str, piece: Piece, next: Option<Piece>) -> bool
     requires { AreNext text.now piece next }
     ensures { result ≡ begins_map (part_at text.now piece) (parts_behind text.now next) }
 {
@@ -119,7 +119,7 @@ pub fn begins_map(text: &str, piece: Piece, next: Option<Piece>) -> bool
 }
 
 /// Whether the piece is the start tag of a `base`.
-pub fn is_base(text: &str, piece: Piece) -> bool
+pub(crate) fn is_base(text: &str, piece: Piece) -> bool
     requires { IsPieceOf text.now piece }
     ensures { result ≡ is_start_of (codes "base") (part_at text.now piece) }
 {
@@ -136,7 +136,7 @@ pub fn is_broken(piece: Piece) -> bool
 }
 
 /// Whether the piece makes the page unclear.
-pub fn is_unclear(text: &str, piece: Piece, next: Option<Piece>) -> bool
+pub(crate) fn is_unclear(text: &str, piece: Piece, next: Option<Piece>) -> bool
     requires { AreNext text.now piece next }
     ensures { result ≡ is_unclear (part_at text.now piece) (parts_behind text.now next) }
 {
@@ -156,7 +156,7 @@ fn is_place(text: &str, piece: Piece) -> bool
 }
 
 /// Where the piece begins, where a map may be put before it.
-pub fn place_at(text: &str, piece: Piece) -> Option<usize>
+pub(crate) fn place_at(text: &str, piece: Piece) -> Option<usize>
     requires { IsPieceOf text.now piece }
     ensures { result ≡ place_at text.now piece }
 {

@@ -27,12 +27,7 @@ pub fn site_of(page: &[u8]) -> Result<Site, InjectFault>
 }
 
 /// The page with the map at its site. No tag of the page is read in a map that is UTF-8 and holds no `<`.
-pub fn inject_at(
-    alloc: Global,
-    page: &[u8],
-    site: Site,
-    map: &[u8],
-) -> Result<Vec<u8>, AllocError>
+pub fn inject_at(alloc: Global, page: &[u8], site: Site, map: &[u8]) -> Result<Vec<u8>, AllocError>
     requires { IsSiteOf page.now site }
     ensures { IfOk result (λ new. Injection map.now page.now (Ok new.items)) }
 {

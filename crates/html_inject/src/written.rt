@@ -4,7 +4,7 @@ ghost use Rattle.page_spec.specs.Injection.{replaced, element};
 use std::alloc::{AllocError, Global};
 
 /// The page with the map in place of what stands from one offset to the other.
-pub fn replaced(
+pub(crate) fn replaced(
     alloc: Global,
     page: &[u8],
     from: usize,
@@ -46,7 +46,12 @@ fn element(alloc: Global, map: &[u8]) -> Result<Vec<u8>, AllocError>
 }
 
 /// The page with an import map element of the map before the offset.
-pub fn inserted(alloc: Global, page: &[u8], at: usize, map: &[u8]) -> Result<Vec<u8>, AllocError>
+pub(crate) fn inserted(
+    alloc: Global,
+    page: &[u8],
+    at: usize,
+    map: &[u8],
+) -> Result<Vec<u8>, AllocError>
     requires { at ≤ length page.now }
     ensures { IfOk result (λ new. new.items ≡ replaced at at (element map.now) page.now) }
 {

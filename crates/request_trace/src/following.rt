@@ -20,7 +20,7 @@ use trace_spec::TraceFault;
 use web_url::{AskFault, Asked, WebUrl, ask, is_relative};
 
 /// Follows one request of a referrer: what it asks for, where Node leads it, and its place in the tables.
-pub fn follow<A: Answerer>(
+pub(crate) fn follow<A: Answerer>(
     alloc: Global,
     answerer: &mut A,
     config: &Config,

@@ -28,7 +28,7 @@ pub enum Lead {
 
 /// Where a relative specifier leads in the file with this URL.
 #[tactic(auto, using(crate::proofs::LeadLemmas::leads))]
-pub fn lead_of(alloc: Global, parent: &FileUrl, specifier: &str) -> Result<Lead, Memory>
+pub(crate) fn lead_of(alloc: Global, parent: &FileUrl, specifier: &str) -> Result<Lead, Memory>
     requires { is_relative specifier.now ≡ true }
     ensures { IfOk result (λ lead. joined_judged (parse_against parent.now specifier.now) ≡ asking_of lead) }
 {

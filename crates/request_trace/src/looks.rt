@@ -51,7 +51,7 @@ impl Looks {
     }
 
     /// What stands at a path of the folder.
-    pub fn look<F: Folder>(
+    pub(crate) fn look<F: Folder>(
         &mut self,
         alloc: Global,
         folder: &mut F,

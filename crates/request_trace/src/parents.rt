@@ -31,7 +31,12 @@ impl Parents {
     }
 
     /// Where a relative specifier leads in the file at a path.
-    pub fn lead(&mut self, alloc: Global, parent: &Path, specifier: &str) -> Result<Lead, Memory>
+    pub(crate) fn lead(
+        &mut self,
+        alloc: Global,
+        parent: &Path,
+        specifier: &str,
+    ) -> Result<Lead, Memory>
         requires { is_relative specifier.now ≡ true }
         ensures { IfOk result (λ lead. relative_resolution parent.now specifier.now ≡ asking_of lead) }
     {

@@ -4,9 +4,10 @@ ghost use Rattle.trace_spec.specs.declared.TraceFault.TheVariants as fault;
 ghost use Rattle.generator_spec.specs.Lines as spec;
 ghost use Rattle.generator_spec.specs.Lines.{end_of_line};
 
-use generator_spec::Refusal;
+use generator_spec::{PageFault, Refusal};
 use node_spec::Cause;
 use ordered_json::print_text;
+use page_spec::InjectFault;
 use primitives::{Memory, Text};
 use std::alloc::Global;
 use trace_spec::TraceFault;
@@ -55,8 +56,38 @@ pub fn line_of(alloc: Global, refusal: &Refusal) -> Result<Vec<u8>, Memory>
     match refusal {
         Refusal::Words => Vec::from_slice(alloc, b"not built: words\n".as_slice()),
         Refusal::BadBase { text } => named_line(alloc, "words: BadBase ", text.as_str()),
+        Refusal::Page { fault } => page_line(alloc, *fault),
         Refusal::Trace { fault } => trace_line(alloc, fault),
     }
+}
+
+fn page_line(alloc: Global, fault: PageFault) -> Result<Vec<u8>, Memory>
+    ensures { IfOk result (λ line. line.items ≡ spec.page_line fault) }
+{
+    match fault {
+        PageFault::Absent => Vec::from_slice(alloc, b"bad file: page absent\n".as_slice()),
+        PageFault::TooLarge => limit_line(alloc, LimitName::File),
+        PageFault::KeepsMapsOut { fault } => inject_line(alloc, fault),
+    }
+}
+
+fn inject_line(alloc: Global, fault: InjectFault) -> Result<Vec<u8>, Memory>
+    ensures { IfOk result (λ line. line.items ≡ spec.inject_line fault) }
+{
+    match fault {
+        InjectFault::PageUnclear { at } => place_line(alloc, "PageUnclear", at),
+        InjectFault::TwoMaps { at } => place_line(alloc, "TwoMaps", at),
+        InjectFault::NoPlace => Vec::from_slice(alloc, b"refused: NoPlace\n".as_slice()),
+        InjectFault::Memory => Vec::from_slice(alloc, memory_line()),
+    }
+}
+
+// The name of a fault, and its place in the page.
+fn place_line(alloc: Global, name: &str, at: usize) -> Result<Vec<u8>, Memory>
+    ensures { IfOk result (λ line. line.items ≡ spec.place_line name.now at) }
+{
+    let line = format!(in alloc; "refused: {name} at {at}\n")?;
+    Ok(line.into_bytes())
 }
 
 fn trace_line(alloc: Global, fault: &TraceFault) -> Result<Vec<u8>, Memory>
@@ -116,7 +147,7 @@ fn request_line(alloc: Global, referrer: &Text, specifier: &Text) -> Result<Vec<
 }
 
 fn limit_line(alloc: Global, which: LimitName) -> Result<Vec<u8>, Memory>
-    ensures { IfOk result (λ line. line.items ≡ spec.trace_line (fault.Limit which)) }
+    ensures { IfOk result (λ line. line.items ≡ spec.limit_line which) }
 {
     let name = which.name();
     let number = which.number();

@@ -1,7 +1,8 @@
 ghost use Rattle.std.specs.Prelude.{◌≡◌};
 ghost use Rattle.generator_spec.specs.Lines as spec;
 
-use generator_spec::Refusal;
+use generator_spec::{PageFault, Refusal};
+use page_spec::InjectFault;
 use trace_spec::TraceFault;
 
 /// The map is written.
@@ -19,6 +20,8 @@ const REFUSED: u8 = 1;
 const BAD_WORDS: u8 = 2;
 /// A limit is passed.
 const LIMIT: u8 = 3;
+/// A file that the command needs isn't there.
+const BAD_FILE: u8 = 7;
 /// What is asked for isn't built.
 const NOT_BUILT: u8 = 9;
 
@@ -29,7 +32,29 @@ pub fn status_of(refusal: &Refusal) -> u8
     match refusal {
         Refusal::Words => NOT_BUILT,
         Refusal::BadBase { text: _ } => BAD_WORDS,
+        Refusal::Page { fault } => page_status(*fault),
         Refusal::Trace { fault } => trace_status(fault),
+    }
+}
+
+fn page_status(fault: PageFault) -> u8
+    ensures { result ≡ spec.page_status fault }
+{
+    match fault {
+        PageFault::Absent => BAD_FILE,
+        PageFault::TooLarge => LIMIT,
+        PageFault::KeepsMapsOut { fault } => inject_status(fault),
+    }
+}
+
+fn inject_status(fault: InjectFault) -> u8
+    ensures { result ≡ spec.inject_status fault }
+{
+    match fault {
+        InjectFault::PageUnclear { at: _ } => REFUSED,
+        InjectFault::TwoMaps { at: _ } => REFUSED,
+        InjectFault::NoPlace => REFUSED,
+        InjectFault::Memory => MEMORY,
     }
 }
 

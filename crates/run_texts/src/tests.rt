@@ -1,6 +1,7 @@
 use crate::{done_line, line_of};
-use generator_spec::Refusal;
+use generator_spec::{PageFault, Refusal};
 use node_spec::Cause;
+use page_spec::InjectFault;
 use primitives::Text;
 use std::test::Fail;
 use trace_spec::TraceFault;
@@ -28,6 +29,13 @@ fn lines(rt: HostRuntime) -> Result<(), Fail> {
     );
     let line = line_of(alloc, &passed)?;
     assert_eq!(rt; line.as_slice(), b"limit: file above 16777216\n".as_slice());
+    let unclear = Refusal::Page {
+        fault: PageFault::KeepsMapsOut {
+            fault: InjectFault::PageUnclear { at: 0 },
+        },
+    };
+    let line = line_of(alloc, &unclear)?;
+    assert_eq!(rt; line.as_slice(), b"refused: PageUnclear at 0\n".as_slice());
     let line = done_line(alloc, 50, 200_000, 0)?;
     assert_eq!(rt;
         line.as_slice(),

@@ -10,12 +10,14 @@ use Rattle.import_map_spec.specs.ParsedMap.{ParsedMap}
 use Rattle.import_map_spec.specs.Parsing.{ParsesMap}
 use Rattle.import_map_spec.specs.Resolving as html
 use Rattle.layout_spec.proofs.LayoutServes.{layout_serves}
-use Rattle.layout_spec.proofs.TextBack.{texts_read_back}
+use Rattle.layout_spec.proofs.TextBack.{texts_read_back, texts_are_plain}
 use Rattle.layout_spec.specs.Layout.{layout}
 use Rattle.layout_spec.specs.Needs.{NamesFiles}
 use Rattle.layout_spec.specs.PrintedMap.{map_text}
 use Rattle.layout_spec.specs.Serving.{NoCapture, OfNeeds}
 use Rattle.layout_spec.specs.declared.Need.{Need}
+use Rattle.page_spec.proofs.Injections.{one_map_after}
+use Rattle.page_spec.specs.Laws.{IsPlainMap}
 use Rattle.trace_spec.proofs.Traces.{requests_pass, needs_are_requests}
 use Rattle.trace_spec.specs.Checks.{Gathered}
 use Rattle.trace_spec.specs.Laws.{Passes}
@@ -29,7 +31,7 @@ use Rattle.soundness.proofs.Asking.{asks_normal}
 use Rattle.soundness.proofs.Kept.{map_kept}
 use Rattle.soundness.proofs.Leading.{need_leads}
 use Rattle.soundness.proofs.Reaching.{reached, is_named, needs_name}
-use Rattle.soundness.specs.Soundness.{Soundness}
+use Rattle.soundness.specs.Soundness.{Soundness, MapsArePlain, OneMapInPage}
 
 module _ (tree : Tree) (config : Config) (all : Gathered) (is_traced : traced (get tree) config ≡ Ok all) (page_is_file : PageIsFile config) (m : ParsedMap) (no_capture : NoCapture all.needs m) (of_needs : OfNeeds all.needs m) where
   files : (need : Need) → Contains all.needs need → NamesFiles need
@@ -75,7 +77,22 @@ module _ (tree : Tree) (config : Config) (all : Gathered) (is_traced : traced (g
         all_lead = all_lead;
       }
 
+  text_is_plain : m.integrity ≡ empty → (bytes : List ℕ) → bytes ≡ map_text m → IsPlainMap bytes
+  text_is_plain no_digests bytes text =
+      let page = is_named tree config all is_traced page_is_file the_page page_is_reached in
+      let kept = map_kept page.name (kept_urls.2 _ _ _ _ page.named) all.needs m of_needs files no_digests in
+      let plain = texts_are_plain page.name m kept in
+      subst IsPlainMap (sym text) (record { utf8 = plain.0; no_markup = plain.1 })
+
 pub sound : Soundness
 sound tree config bytes is =
     let laid = layout_serves is.all.needs (needs_are_requests (get tree) config is.all is.is_traced).no_clash (needs_name tree config is.all is.is_traced is.page_is_file) in
     text_serves tree config is.all is.is_traced is.page_is_file (layout is.all.needs) laid.0 laid.1 refl bytes is.text
+
+pub maps_are_plain : MapsArePlain
+maps_are_plain tree config map is =
+    let laid = layout_serves is.all.needs (needs_are_requests (get tree) config is.all is.is_traced).no_clash (needs_name tree config is.all is.is_traced is.page_is_file) in
+    text_is_plain tree config is.all is.is_traced is.page_is_file (layout is.all.needs) laid.0 laid.1 refl map is.text
+
+pub one_map_in_page : OneMapInPage
+one_map_in_page tree config map page new is i = one_map_after map page new (maps_are_plain tree config map is) i

@@ -3,10 +3,20 @@
 //! It rests on what any map owes to needs, and not on where this layout puts its mappings.
 #![tactic(auto)]
 
-ghost use Rattle.soundness.specs.Soundness.{Soundness};
+ghost use Rattle.soundness.specs.Soundness.{Soundness, MapsArePlain, OneMapInPage};
 
 /// Wherever generation gives a map's text, this text serves: through it every request of the page
 /// and of each module that the page reaches leads to exactly the file that Node's resolver gives.
 pub fn map_is_sound()
     ensures { Soundness }
+{}
+
+/// A map's text that generation gives is UTF-8 and holds no `<`, so no tag of a page is read in it.
+pub fn maps_are_plain()
+    ensures { MapsArePlain }
+{}
+
+/// A page into which such a text is put has one import map element, and the text is its raw text.
+pub fn one_map_in_page()
+    ensures { OneMapInPage }
 {}

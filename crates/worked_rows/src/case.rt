@@ -42,7 +42,9 @@ pub const NO_MAPPINGS: &str = "{
 }
 ";
 
-const MAP_PATH: &str = "/importmap.json";
+pub const MAP_PATH: &str = "/importmap.json";
+
+pub const PAGE_PATH: &str = "/index.html";
 
 /// How a run ended, with what it left.
 #[derive(Drop)]
@@ -70,9 +72,13 @@ pub fn put(
     Ok(folder.put(&path, Some(bytes))?)
 }
 
-fn folder_of(alloc: Global, case: &Case, fails: &Fails) -> Result<MemFolder, PathFault> {
+pub fn folder_of(
+    alloc: Global,
+    files: &[(&str, &str)],
+    fails: &Fails,
+) -> Result<MemFolder, PathFault> {
     let mut folder = MemFolder::new(alloc, fails.looks, fails.writes)?;
-    for (path, text) in case.files {
+    for (path, text) in files {
         put(alloc, &mut folder, path, text.as_bytes())?;
     }
     Ok(folder)
@@ -121,7 +127,7 @@ pub fn ends(outcome: &Outcome, status: u8, line: &str) -> bool {
     outcome.status == status && outcome.out.got() == line.as_bytes()
 }
 
-fn stands(
+pub fn stands(
     alloc: Global,
     folder: &MemFolder,
     path: &str,
@@ -135,10 +141,15 @@ fn stands(
     }
 }
 
-// The files are as the case put them, but for the map.
-fn are_kept(alloc: Global, folder: &MemFolder, case: &Case) -> Result<bool, PathFault> {
-    for (path, text) in case.files {
-        if *path != MAP_PATH && !stands(alloc, folder, path, Some(text))? {
+/// Whether the files are as they were put, but for the one that is written.
+pub fn are_kept(
+    alloc: Global,
+    folder: &MemFolder,
+    files: &[(&str, &str)],
+    written: &str,
+) -> Result<bool, PathFault> {
+    for (path, text) in files {
+        if *path != written && !stands(alloc, folder, path, Some(text))? {
             return Ok(false);
         }
     }
@@ -147,7 +158,7 @@ fn are_kept(alloc: Global, folder: &MemFolder, case: &Case) -> Result<bool, Path
 
 /// How the case ends where these calls fail.
 pub fn outcome_of(alloc: Global, case: &Case, fails: &Fails) -> Result<Outcome, PathFault> {
-    let folder = folder_of(alloc, case, fails)?;
+    let folder = folder_of(alloc, case.files, fails)?;
     Ok(ended(alloc, case.words, folder, fails.gives)?)
 }
 
@@ -156,6 +167,6 @@ pub fn fits(alloc: Global, outcome: &Outcome, case: &Case) -> Result<bool, PathF
     Ok(
         ends(outcome, case.status, case.line)
             && stands(alloc, &outcome.folder, MAP_PATH, case.map)?
-            && are_kept(alloc, &outcome.folder, case)?,
+            && are_kept(alloc, &outcome.folder, case.files, MAP_PATH)?,
     )
 }

@@ -13,6 +13,10 @@ mod endings;
 #[cfg(test)]
 mod faults;
 #[cfg(test)]
+mod page_cases;
+#[cfg(test)]
+mod pages;
+#[cfg(test)]
 mod rows;
 
 use crate::endings::ending;

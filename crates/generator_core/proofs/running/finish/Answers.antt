@@ -1,11 +1,8 @@
-use Rattle.std.proofs.Common.{Err, ap, refl, ◌∙◌}
-use Rattle.generator_spec.proofs.MapPaths.{map_path}
+use Rattle.std.proofs.Common.{refl, ◌∙◌}
 use Rattle.generator_core.specs.Writing.SaysWrite.{written}
-use Rattle.generator_core.proofs.Endings.{if_some, written_is}
+use Rattle.generator_core.proofs.Preparings.{if_some}
+use Rattle.generator_core.proofs.Endings.{written_is}
 use Rattle.generator_core.proofs.running.finish.Goals as goal
-
-pub unreachable-requires : goal.unreachable-requires
-unreachable-requires g c = c.in-Err-BadPath.ensures.bad.0 (ap Err c.in-Err-BadPath.field-0-is) map_path
 
 pub returns-in-Ok-write : goal.returns-in-Ok-write
 returns-in-Ok-write g c =
@@ -13,7 +10,7 @@ returns-in-Ok-write g c =
     record {
       status = _;
       line = _;
-      says = written refl (c.as_slice-in-Ok-write.ensures.value ∙ c.in-Ok.ensures) (if_some (g.F.Folder.state c.args.folder.now).holds (λ tree placed. written_is tree _ _ _ _ placed c.in-Ok-parse.ensures.path.0 c.as_slice.ensures.value) is.written) is.quiet;
+      says = written refl (c.as_slice-in-Ok-write.ensures.value ∙ c.in-Ok.ensures) (if_some (g.F.Folder.state c.args.folder.now).holds (λ tree placed. written_is tree c.args.prepared.now.path c.args.prepared.now.file.items c.as_slice.result.now _ placed c.as_slice.ensures.value) is.written) is.quiet;
       ends = c.tell-in-Ok-write.ensures.ends;
       untold = is.untold;
       looks = is.looks;

@@ -1,11 +1,16 @@
-use Rattle.std.proofs.Common.{rules, Ok, Err, ap, ◌∙◌}
+use Rattle.std.proofs.Common.{Err, ap, ◌∙◌}
 use Rattle.generator_spec.proofs.Configs.{refused_or_config}
 use Rattle.command_words.specs.Splitting.{texts}
 use Rattle.generator_core.proofs.Endings.{words_end}
 use Rattle.generator_core.proofs.running.run.Goals as goal
 
-pub returns-in-Ok-clause-words : goal.returns-in-Ok-clause-words
-returns-in-Ok-clause-words g c = λ why refuses. absurd (refused_or_config (texts c.args.words.now) why c.in-Ok.config refuses c.in-Ok.ensures.config)
+pub returns-in-Ok-Link-default-clause-words : goal.returns-in-Ok-Link-default-clause-words
+returns-in-Ok-Link-default-clause-words g c =
+    λ why refuses. absurd (refused_or_config (texts c.args.words.now) why c.in-Ok-Link-default.field-0-0 c.in-Ok-Link-default.config refuses c.in-Ok-Link-default.ensures.config)
+
+pub returns-in-Ok-Inject-default-clause-words : goal.returns-in-Ok-Inject-default-clause-words
+returns-in-Ok-Inject-default-clause-words g c =
+    λ why refuses. absurd (refused_or_config (texts c.args.words.now) why c.in-Ok-Inject-default.field-0-0 c.in-Ok-Inject-default.config refuses c.in-Ok-Inject-default.ensures.config)
 
 pub returns-in-Err-Refused-clause-end : goal.returns-in-Err-Refused-clause-end
 returns-in-Err-Refused-clause-end g c =

@@ -1,0 +1,11 @@
+use Rattle.generator_core.specs.Preparing.StopsAs.{failed_look, memory, refused}
+use Rattle.generator_core.proofs.prepared.stop_of.Goals as goal
+
+pub returns-in-ReadFault : goal.returns-in-ReadFault
+returns-in-ReadFault c = failed_look c.in-ReadFault.is
+
+pub returns-in-Memory : goal.returns-in-Memory
+returns-in-Memory c = memory c.in-Memory.is
+
+pub returns-in_default : goal.returns-in_default
+returns-in_default c = refused c.in_default.not-ReadFault c.in_default.not-Memory

@@ -1,0 +1,274 @@
+//! Runs of `inject`.
+
+use crate::case::{Fails, NONE};
+
+/// One run: what it is given, and what must come of it. No map's file is there afterwards.
+pub struct PageCase {
+    /// The words, a space between each two.
+    pub words: &'static str,
+    /// Paths of files, with their texts.
+    pub files: &'static [(&'static str, &'static str)],
+    pub fails: Fails,
+    pub status: u8,
+    pub line: &'static str,
+    /// The text of the page afterwards; every other file is as it was.
+    pub page: Option<&'static str>,
+}
+
+pub const INJECT: &str = "inject --base https://app.test/ ./app.mjs";
+
+const DONE: &str = "ok: 2 modules, 2 requests, 0 mappings\n";
+
+const HEAD: &str = "<head></head>\n";
+
+/// `HEAD` with the map of no mappings.
+pub const WITH_MAP: &str = "<head><script type=\"importmap\">{
+  \"imports\": {}
+}
+</script>
+</head>
+";
+
+const TWO_MAPS: &str = "<script type=importmap></script><script type=importmap></script>";
+
+const PAGED: &[(&str, &str)] = &[
+    ("/index.html", HEAD),
+    ("/app.mjs", "import \"./b.mjs\";"),
+    ("/b.mjs", ""),
+];
+
+const INJECTED: &[(&str, &str)] = &[
+    ("/index.html", WITH_MAP),
+    ("/app.mjs", "import \"./b.mjs\";"),
+    ("/b.mjs", ""),
+];
+
+const WITHOUT_PAGE: &[(&str, &str)] = &[("/app.mjs", "import \"./q.mjs\";")];
+
+const MISSING: &[(&str, &str)] = &[("/index.html", HEAD), ("/app.mjs", "import \"./q.mjs\";")];
+
+const LOOKS: Fails = Fails {
+    looks: &[1],
+    writes: &[],
+    gives: &[],
+};
+
+/// Pages with their maps, what keeps a map out, and in which order that is seen: the base, the page, the trace. The
+/// page is looked at once, before the modules; each look, the write and the give fail in turn.
+pub static PAGE_CASES: [PageCase; 19] = [
+    PageCase {
+        words: INJECT,
+        files: PAGED,
+        fails: NONE,
+        status: 0,
+        line: DONE,
+        page: Some(WITH_MAP),
+    },
+    PageCase {
+        words: INJECT,
+        files: INJECTED,
+        fails: NONE,
+        status: 0,
+        line: DONE,
+        page: Some(WITH_MAP),
+    },
+    PageCase {
+        words: "inject --base https://app.test/site/ ./app.mjs",
+        files: &[
+            (
+                "/index.html",
+                "<script type='ImportMap'>{\"imports\":{\"a\":\"/a.mjs\"}}</script><p>",
+            ),
+            ("/app.mjs", "import \"/b.mjs\";"),
+            ("/b.mjs", ""),
+        ],
+        fails: NONE,
+        status: 0,
+        line: "ok: 2 modules, 2 requests, 1 mappings\n",
+        page: Some(
+            "<script type='ImportMap'>{
+  \"imports\": {},
+  \"scopes\": {
+    \"https://app.test/site/app.mjs\": {
+      \"https://app.test/b.mjs\": \"https://app.test/site/b.mjs\"
+    }
+  }
+}
+</script><p>",
+        ),
+    },
+    PageCase {
+        words: "inject --base https://app.test/",
+        files: &[("/index.html", "<link>")],
+        fails: NONE,
+        status: 0,
+        line: "ok: 0 modules, 0 requests, 0 mappings\n",
+        page: Some(
+            "<script type=\"importmap\">{
+  \"imports\": {}
+}
+</script>
+<link>",
+        ),
+    },
+    PageCase {
+        words: INJECT,
+        files: WITHOUT_PAGE,
+        fails: NONE,
+        status: 7,
+        line: "bad file: page absent\n",
+        page: None,
+    },
+    PageCase {
+        words: INJECT,
+        files: &[("/index.html/x", ""), ("/app.mjs", "")],
+        fails: NONE,
+        status: 7,
+        line: "bad file: page absent\n",
+        page: None,
+    },
+    PageCase {
+        words: INJECT,
+        files: &[("/index.html", TWO_MAPS), ("/app.mjs", "")],
+        fails: NONE,
+        status: 1,
+        line: "refused: TwoMaps at 32\n",
+        page: Some(TWO_MAPS),
+    },
+    PageCase {
+        words: INJECT,
+        files: &[("/index.html", "<p>"), ("/app.mjs", "import \"./q.mjs\";")],
+        fails: NONE,
+        status: 1,
+        line: "refused: NoPlace\n",
+        page: Some("<p>"),
+    },
+    PageCase {
+        words: INJECT,
+        files: &[("/index.html", "<head"), ("/app.mjs", "")],
+        fails: NONE,
+        status: 1,
+        line: "refused: PageUnclear at 0\n",
+        page: Some("<head"),
+    },
+    PageCase {
+        words: INJECT,
+        files: &[("/index.html", "<p><base>"), ("/app.mjs", "")],
+        fails: NONE,
+        status: 1,
+        line: "refused: PageUnclear at 3\n",
+        page: Some("<p><base>"),
+    },
+    PageCase {
+        words: INJECT,
+        files: MISSING,
+        fails: NONE,
+        status: 1,
+        line: "refused: NotFound from \"/app.mjs\" for \"./q.mjs\"\n",
+        page: Some(HEAD),
+    },
+    PageCase {
+        words: INJECT,
+        files: &[
+            ("/index.html", HEAD),
+            (
+                "/package.json",
+                "{\"imports\":{\"#</script>\":\"./x.mjs\"}}",
+            ),
+            ("/app.mjs", "import \"#</script>\";"),
+            ("/x.mjs", ""),
+        ],
+        fails: NONE,
+        status: 9,
+        line: "not built: from \"/app.mjs\" for \"#\\u003c/script>\"\n",
+        page: Some(HEAD),
+    },
+    PageCase {
+        words: "inject --base ftp://h/ x",
+        files: &[],
+        fails: LOOKS,
+        status: 2,
+        line: "words: BadBase \"ftp://h/\"\n",
+        page: None,
+    },
+    PageCase {
+        words: "inject ./app.mjs",
+        files: PAGED,
+        fails: LOOKS,
+        status: 9,
+        line: "not built: words\n",
+        page: Some(HEAD),
+    },
+    PageCase {
+        words: INJECT,
+        files: WITHOUT_PAGE,
+        fails: LOOKS,
+        status: 4,
+        line: "fault: read\n",
+        page: None,
+    },
+    PageCase {
+        words: INJECT,
+        files: PAGED,
+        fails: Fails {
+            looks: &[2],
+            writes: &[],
+            gives: &[],
+        },
+        status: 4,
+        line: "fault: read\n",
+        page: Some(HEAD),
+    },
+    PageCase {
+        words: INJECT,
+        files: PAGED,
+        fails: Fails {
+            looks: &[4],
+            writes: &[1],
+            gives: &[],
+        },
+        status: 5,
+        line: "fault: write\n",
+        page: Some(HEAD),
+    },
+    PageCase {
+        words: INJECT,
+        files: PAGED,
+        fails: Fails {
+            looks: &[],
+            writes: &[2],
+            gives: &[1],
+        },
+        status: 5,
+        line: "",
+        page: Some(WITH_MAP),
+    },
+    PageCase {
+        words: INJECT,
+        files: MISSING,
+        fails: Fails {
+            looks: &[],
+            writes: &[1],
+            gives: &[],
+        },
+        status: 1,
+        line: "refused: NotFound from \"/app.mjs\" for \"./q.mjs\"\n",
+        page: Some(HEAD),
+    },
+];
+
+/// The first bytes of `HEAD`, by their number, up to which a run ends so; what comes behind them begins the next row.
+pub static CUTS: [(usize, u8, &str); 5] = [
+    (1, 1, "refused: NoPlace\n"),
+    (5, 1, "refused: PageUnclear at 0\n"),
+    (8, 1, "refused: NoPlace\n"),
+    (12, 1, "refused: PageUnclear at 6\n"),
+    (13, 0, DONE),
+];
+
+/// The byte of which a page is full, how often it stands there, and how the run ends.
+pub static FULL_PAGES: [(u8, usize, u8, &str); 3] = [
+    (b' ', 16_777_216, 1, "refused: NoPlace\n"),
+    (b' ', 16_777_217, 3, "limit: file above 16777216\n"),
+    (255, 1, 1, "refused: PageUnclear at 0\n"),
+];
