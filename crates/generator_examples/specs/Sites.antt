@@ -234,8 +234,8 @@ site_map =
 
 -- ---- what is refused
 
--- the second entry asks for a file that isn't there. The first asks for a text that can't be read, but the visit of that
--- one would come behind the second entry's
+-- the second entry asks for a file that isn't there. The first asks for a text that can't be read, but the visit of
+-- that one would come behind the second entry's
 abbrev pub missing : Files
 missing =
     folder "/"

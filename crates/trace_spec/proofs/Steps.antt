@@ -163,11 +163,12 @@ pub record Leaves (before after : Gathered) : Type 0 where
   pub modules : after.modules ≡ before.modules
   pub needs : after.needs ≡ before.needs
   pub spellings : after.spellings ≡ before.spellings
+  pub requests : after.requests ≡ before.requests
 
 leaves_by : (sights : Sights) (before : Gathered) (referrer : Referrer Module)
     → Leaves before (opening_put sights before referrer)
-leaves_by sights before the_page = record { modules = refl; needs = refl; spellings = refl }
-leaves_by sights before (a_module m) = record { modules = refl; needs = refl; spellings = refl }
+leaves_by sights before the_page = record { modules = refl; needs = refl; spellings = refl; requests = refl }
+leaves_by sights before (a_module m) = record { modules = refl; needs = refl; spellings = refl; requests = refl }
 
 pub opens_leaves : (sights : Sights) (config : Config) (before : Gathered) (referrer : Referrer Module)
     (opened : Opened Gathered) → outcome (always sights) (opens config before referrer) ≡ Ok opened

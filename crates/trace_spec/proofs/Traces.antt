@@ -2,7 +2,7 @@
 use Rattle.std.specs.Prelude.{◌≡◌, ◌≤◌, ◌↔◌, ◌||◌, ℕ, true, List, [], ◌∷◌, ◌++◌, length, map}
 use Rattle.std.specs.Prelude.{Option, Some, None, option_map, Result, Ok, Err, unwrap_or, nat_lt, Contains}
 use Rattle.std.specs.Str.{IsUtf8}
-use Rattle.std.proofs.Common.{refl, sym, ap, ◌∙◌, subst, arith, length-append, append_assoc, append-nil}
+use Rattle.std.proofs.Common.{refl, sym, ap, ◌∙◌, subst, arith, lit≤, length-append, append_assoc, append-nil}
 use mathlib.Core.Logic.{inl, inr}
 use Rattle.std.proofs.lemmas.Bool.{ltb-true}
 use Rattle.std.proofs.lemmas.List.Elements.{Contains-append_left}
@@ -10,7 +10,7 @@ use Rattle.asking_spec.specs.Askings.{outcome}
 use Rattle.asking_spec.specs.Evaluation.{Ended, ends, stopped, evaluated}
 use Rattle.asking_spec.proofs.EvaluationLemmas.{ends_outcome}
 use Rattle.tree_spec.specs.declared.LimitName.{LimitName}
-use Rattle.tree_spec.specs.declared.LimitName.TheVariants.{Modules}
+use Rattle.tree_spec.specs.declared.LimitName.TheVariants.{Modules, Requests}
 use Rattle.tree_spec.specs.Limits.{limit_number}
 use Rattle.tree_spec.specs.LookAskings.{Sights}
 use Rattle.tree_spec.specs.LookLimits.{Trail, no_trail}
@@ -30,7 +30,7 @@ use Rattle.trace_spec.specs.Checks.{Gathered, Spelling, opens, asking_at, follow
 use Rattle.trace_spec.specs.Checks.{nothing_gathered, rules}
 use Rattle.trace_spec.specs.Traces.{trace, result_of, traced, if_ok, source, specifiers, resolution, leads}
 use Rattle.trace_spec.specs.Traces.{ReachedByPage}
-use Rattle.trace_spec.specs.Laws.{HasLevels, IsWhatIsReached, ModulesOnce, FewModules, refusal_by, IsFirst, Decides}
+use Rattle.trace_spec.specs.Laws.{HasLevels, IsWhatIsReached, ModulesOnce, FewRequests, FewModules, refusal_by, IsFirst, Decides}
 use Rattle.trace_spec.specs.Laws.{FirstRefusalDecides, NeverOutOfRoom, no_module, no_source, target_of, need_of}
 use Rattle.trace_spec.specs.Laws.{spelling_of, request_put, requests_put, opening_put, visits_put, opening, visits_of}
 use Rattle.trace_spec.specs.Laws.{InOrder, GoesInOrder, AsksFor, AreSpelled, Passes, AllPass, RequestsPass, NeedsAre}
@@ -238,6 +238,7 @@ module _ (sights : Sights) (config : Config) where
     pub spelled : AreSpelled sights config before.needs before.spellings
     pub no_clash : NoClash before.needs
     pub once : AreOnce before.modules
+    pub few_requests : before.requests ≤ limit_number Requests
 
   visited_more : (referrer : Referrer Module) (modules more : List Module) → IsVisited modules referrer
       → IsVisited (modules ++ more) referrer
@@ -294,6 +295,8 @@ module _ (sights : Sights) (config : Config) where
         });
         no_clash = no_clash_more before.needs need stands.no_clash is.fits.clear;
         once = once_more before.modules is.target stands.once;
+        few_requests =
+            let room = ltb-true before.requests (limit_number Requests) is.checked.few in omega (arith, room);
       })
 
   passes_now : (before : Gathered) (referrer : Referrer Module) (specifier : List ℕ) (after : Gathered)
@@ -356,6 +359,7 @@ module _ (sights : Sights) (config : Config) where
     spelled = spelled_on before after leaves stands.spelled;
     no_clash = subst NoClash (sym leaves.needs) stands.no_clash;
     once = subst AreOnce (sym leaves.modules) stands.once;
+    few_requests = subst (λ n. n ≤ limit_number Requests) (sym leaves.requests) stands.few_requests;
   }
 
   pass_on : (before after : Gathered) (referrer : Referrer Module) (specifier : List ℕ) → Leaves before after
@@ -381,6 +385,7 @@ module _ (sights : Sights) (config : Config) where
           spelled = tt;
           no_clash = λ one other c d. absurd (contains_none one c);
           once = λ i j m e f. absurd (cc);
+          few_requests = lit≤ tt;
         };
     opens = λ before referrer opened e stands.
         stand_on before opened.after (opens_leaves sights config before referrer opened e) stands;
@@ -549,6 +554,9 @@ pub few_modules : FewModules
 few_modules sights config all is =
     let end = ok_ended sights config all (evaluated (answers sights) no_trail (trace config)) is in
     walk_few (answers sights) (rules config) no_trail (keep_few sights config) all end.trail end.is
+
+pub few_requests : FewRequests
+few_requests sights config all is = (end sights config all is).holds.few_requests
 
 pub first_refusal_decides : FirstRefusalDecides
 first_refusal_decides sights config = decides sights config

@@ -7,7 +7,7 @@ use Rattle.asking_spec.specs.Evaluation.{Ended, ends, stopped, evaluated, Asked,
 use Rattle.asking_spec.specs.Laws.{AgreesOn}
 use Rattle.tree_spec.specs.declared.Entry.TheVariants.{Stored}
 use Rattle.tree_spec.specs.declared.LimitName.{LimitName}
-use Rattle.tree_spec.specs.declared.LimitName.TheVariants.{Modules, Brackets, ModuleRequests}
+use Rattle.tree_spec.specs.declared.LimitName.TheVariants.{Modules, Requests, Brackets, ModuleRequests}
 use Rattle.tree_spec.specs.Limits.{limit_number}
 use Rattle.tree_spec.specs.LookAskings.{Sights, looks, footprint}
 use Rattle.tree_spec.specs.LookLimits.{Trail, no_trail, begun, look_limits, limited, IsFirstLimit, new_size}
@@ -55,6 +55,12 @@ abbrev pub FewModules : Type 0
 FewModules =
     (sights : Sights) (config : Config) (all : Gathered) → traced sights config ≡ Ok all
     → length all.modules ≤ limit_number Modules
+
+-- its requests are at most 200,000, those of the page with them
+abbrev pub FewRequests : Type 0
+FewRequests =
+    (sights : Sights) (config : Config) (all : Gathered) → traced sights config ≡ Ok all
+    → all.requests ≤ limit_number Requests
 
 -- ---- the first refusal
 

@@ -6,7 +6,7 @@ ghost use Rattle.trace_spec.specs.Laws.{HasLevels, IsWhatIsReached, ModulesOnce,
 ghost use Rattle.trace_spec.specs.Laws.{FirstRefusalDecides, RefusesByKind, NeverOutOfRoom, GoesInOrder};
 ghost use Rattle.trace_spec.specs.Laws.{RefusesInOrder, SourcesAreRead, RequestsPass};
 ghost use Rattle.trace_spec.specs.Laws.{NeedsAreRequests, LimitsOfTexts, LooksAreOfQuestions};
-ghost use Rattle.trace_spec.specs.Laws.{ClashesAreOfRequests};
+ghost use Rattle.trace_spec.specs.Laws.{FewRequests, ClashesAreOfRequests};
 
 use node_spec::{Cause, Reason};
 use primitives::Text;
@@ -119,6 +119,11 @@ pub fn modules_once()
 /// A trace has at most 20,000 modules.
 pub fn few_modules()
     ensures { FewModules }
+{}
+
+/// A trace has at most 200,000 requests.
+pub fn few_requests()
+    ensures { FewRequests }
 {}
 
 /// There is a trace exactly where all visits pass; else the refusal is that of the first check that isn't passed.
