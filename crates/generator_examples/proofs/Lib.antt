@@ -1,7 +1,6 @@
-pub mod Known
-pub mod Reading
 pub mod Growing
 pub mod Words
 pub mod Counting
 pub mod Evaluated
+pub mod TracedExamples
 pub mod WorkedExamples

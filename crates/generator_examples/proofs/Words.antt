@@ -1,6 +1,8 @@
 -- The config that words give, where they are written out.
-use Rattle.std.proofs.Common.{◌≡◌, refl}
-use Rattle.std.specs.Prelude.{◌==◌, not, ℕ, Bool, true, false, List, [], ◌∷◌, All, codes, Some}
+use Rattle.std.proofs.Common.{◌≡◌, ◌≤◌, refl}
+use Rattle.tree_spec.specs.declared.LimitName.TheVariants.{Entries}
+use Rattle.tree_spec.specs.Limits.{limit_number}
+use Rattle.std.specs.Prelude.{◌==◌, not, ℕ, Bool, true, false, List, [], ◌∷◌, All, codes, length, Some}
 use Prim.Native.String.{String}
 use Rattle.std.specs.List.{list_all}
 use Rattle.std.proofs.lemmas.Bool.{and_parts, eqb-false, not-true}
@@ -30,5 +32,5 @@ entries_by_test (text ∷ entries) e =
 pub is_call : (command : Command) (words : List (List ℕ)) (base : String) (asked : List String) → words ≡ word_of command ∷ codes "--base" ∷ codes base ∷ texts asked → are_entries (texts asked) ≡ true → IsCall words command (codes base) (texts asked)
 is_call command words base asked split e = record { split = split; are_entries = entries_by_test (texts asked) e }
 
-pub gives : (command : Command) (words : List (List ℕ)) (base : String) (asked : List String) → words ≡ word_of command ∷ codes "--base" ∷ codes base ∷ texts asked → are_entries (texts asked) ≡ true → base_of (codes base) ≡ Some (codes base) → texts asked ≡ once_onto [] (texts asked) → IsConfigOf words command (based base asked)
-gives command words base asked split e is_base distinct = record { base = codes base; entries = texts asked; call = is_call command words base asked split e; is_base = is_base; page = refl; distinct = distinct }
+pub gives : (command : Command) (words : List (List ℕ)) (base : String) (asked : List String) → words ≡ word_of command ∷ codes "--base" ∷ codes base ∷ texts asked → are_entries (texts asked) ≡ true → base_of (codes base) ≡ Some (codes base) → texts asked ≡ once_onto [] (texts asked) → length (texts asked) ≤ limit_number Entries → IsConfigOf words command (based base asked)
+gives command words base asked split e is_base distinct few = record { base = codes base; entries = texts asked; call = is_call command words base asked split e; is_base = is_base; page = refl; conditions = refl; distinct = distinct; few = few }

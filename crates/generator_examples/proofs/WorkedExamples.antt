@@ -23,10 +23,9 @@ use Rattle.layout_spec.specs.PrintedMap.{map_text}
 use Rattle.trace_spec.specs.Modules.{Config}
 use Rattle.trace_spec.specs.Checks.{Gathered}
 use Rattle.generator_spec.specs.declared.Command.{Command}
-use Rattle.generator_spec.specs.declared.Command.TheVariants.{Link, Inject}
-use Rattle.generator_spec.specs.declared.PageFault.TheVariants.{Absent}
-use Rattle.generator_spec.specs.declared.Refusal.TheVariants.{BadBase, Page, Trace}
-use Rattle.generator_spec.proofs.MapPaths.{map_in_root, page_in_root}
+use Rattle.generator_spec.specs.declared.Command.TheVariants.{Link}
+use Rattle.generator_spec.specs.declared.Refusal.TheVariants.{BadBase, Trace}
+use Rattle.generator_spec.proofs.MapPaths.{map_in_root}
 use Rattle.generator_spec.proofs.PageNames.{page_of_words_is_file}
 use Rattle.generator_spec.specs.Generation.{Generates}
 use Rattle.generator_spec.specs.Lines.{counts_line}
@@ -48,46 +47,40 @@ use Rattle.std.specs.Str.{is_utf8, chars}
 use Rattle.generator_spec.specs.Words.RefusesWords.{bad_base}
 use Rattle.soundness.proofs.Sound.{sound}
 use Rattle.generator_examples.specs.Sites.{Files, tree_of, based, links, injects, levels, spelling, spelling_all, spelling_map, site, site_all, site_map, paged, paged_after, missing, clashing}
+use Rattle.generator_examples.specs.Packages.{packages, packages_all, packages_map}
 use Rattle.generator_examples.specs.Examples.{IsTraced, IsMapped, with_map, Trees, TraceExamples, MapExamples, EndExamples, WorkedExamples}
+use Rattle.generator_examples.proofs.TracedExamples.{traced_examples}
 use Rattle.generator_examples.proofs.Growing.{grown}
 use Rattle.generator_examples.proofs.Words.{is_call, gives}
 use Rattle.generator_examples.proofs.Counting.{Mappings, counted, counts}
-use Rattle.generator_examples.proofs.Evaluated.{levels_traced, spelling_traced, site_traced, paged_traced, missing_traced, clashing_traced}
+use Rattle.generator_examples.proofs.Evaluated.{levels_traced, spelling_traced, site_traced, packages_traced, missing_traced, clashing_traced}
 
 trees : Trees
 trees = record {
   of_levels = grown (drop 1 levels) refl;
   of_spelling = grown (drop 1 spelling) refl;
   of_site = grown (drop 1 site) refl;
-  of_paged = grown (drop 1 paged) refl;
+  of_packages = grown (drop 1 packages) refl;
   of_missing = grown (drop 1 missing) refl;
   of_clashing = grown (drop 1 clashing) refl;
 }
 
 trace_examples : TraceExamples
-trace_examples = record { by_levels = levels_traced; two_spellings = spelling_traced; of_site = site_traced }
+trace_examples = record { by_levels = levels_traced; two_spellings = spelling_traced; of_site = site_traced; of_packages = packages_traced }
 
 -- ---- configs
 
 app_gives : IsConfigOf (links "https://app.test/" ("./app.mjs" ∷ [])) Link (based "https://app.test/" ("./app.mjs" ∷ []))
 unfolding base_of parse_alone text_of url_on_literals
-app_gives = gives Link _ "https://app.test/" ("./app.mjs" ∷ []) refl refl refl refl
-
-paged_gives : IsConfigOf (injects "https://app.test/" ("./app.mjs" ∷ [])) Inject (based "https://app.test/" ("./app.mjs" ∷ []))
-unfolding base_of parse_alone text_of url_on_literals
-paged_gives = gives Inject _ "https://app.test/" ("./app.mjs" ∷ []) refl refl refl refl
-
-no_page_gives : IsConfigOf (injects "https://app.test/" ("./a.mjs" ∷ "./b.mjs" ∷ [])) Inject (based "https://app.test/" ("./a.mjs" ∷ "./b.mjs" ∷ []))
-unfolding base_of parse_alone text_of url_on_literals
-no_page_gives = gives Inject _ "https://app.test/" ("./a.mjs" ∷ "./b.mjs" ∷ []) refl refl refl refl
+app_gives = gives Link _ "https://app.test/" ("./app.mjs" ∷ []) refl refl refl refl (lit≤ tt)
 
 missing_gives : IsConfigOf (links "https://app.test/" ("./a.mjs" ∷ "./b.mjs" ∷ [])) Link (based "https://app.test/" ("./a.mjs" ∷ "./b.mjs" ∷ []))
 unfolding base_of parse_alone text_of url_on_literals
-missing_gives = gives Link _ "https://app.test/" ("./a.mjs" ∷ "./b.mjs" ∷ []) refl refl refl refl
+missing_gives = gives Link _ "https://app.test/" ("./a.mjs" ∷ "./b.mjs" ∷ []) refl refl refl refl (lit≤ tt)
 
 clashing_gives : IsConfigOf (links "https://app.test/app/" ("./m.mjs" ∷ [])) Link (based "https://app.test/app/" ("./m.mjs" ∷ []))
 unfolding base_of parse_alone text_of url_on_literals
-clashing_gives = gives Link _ "https://app.test/app/" ("./m.mjs" ∷ []) refl refl refl refl
+clashing_gives = gives Link _ "https://app.test/app/" ("./m.mjs" ∷ []) refl refl refl refl (lit≤ tt)
 
 ftp_is_none : base_of (codes "ftp://h/") ≡ None
 unfolding base_of parse_alone text_of url_on_literals
@@ -112,11 +105,15 @@ spelling_generates = generated _ Link spelling _ spelling_all spelling_map app_g
 abbrev site_generates : Generates (tree_of site) (based "https://app.test/" ("./app.mjs" ∷ [])) site_map
 site_generates = generated _ Link site _ site_all site_map app_gives site_traced refl
 
-abbrev paged_generates : Generates (tree_of paged) (based "https://app.test/" ("./app.mjs" ∷ [])) spelling_map
-paged_generates = generated _ Inject paged _ spelling_all spelling_map paged_gives paged_traced refl
+packages_give : IsConfigOf (links "https://app.test/" ("./app.js" ∷ [])) Link (based "https://app.test/" ("./app.js" ∷ []))
+unfolding base_of parse_alone text_of url_on_literals
+packages_give = gives Link _ "https://app.test/" ("./app.js" ∷ []) refl refl refl refl (lit≤ tt)
+
+abbrev packages_generate : Generates (tree_of packages) (based "https://app.test/" ("./app.js" ∷ [])) packages_map
+packages_generate = generated _ Link packages _ packages_all packages_map packages_give packages_traced refl
 
 map_examples : MapExamples
-map_examples = record { two_spellings = mapped spelling _ spelling_map spelling_generates; of_site = mapped site _ site_map site_generates }
+map_examples = record { two_spellings = mapped spelling _ spelling_map spelling_generates; of_site = mapped site _ site_map site_generates; of_packages = mapped packages _ packages_map packages_generate }
 
 -- ---- ends
 
@@ -186,4 +183,10 @@ end_examples = record {
 }
 
 pub worked_examples : WorkedExamples
-worked_examples = (trees, trace_examples, map_examples, end_examples)
+worked_examples = (
+  trees,
+  trace_examples,
+  map_examples,
+  end_examples,
+  traced_examples,
+)

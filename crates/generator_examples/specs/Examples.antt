@@ -15,8 +15,10 @@ use Rattle.trace_spec.specs.Traces.{traced}
 use Rattle.generator_spec.specs.Generation.{Generates}
 use Rattle.generator_spec.specs.Serves.{Serves}
 use Rattle.generator_spec.specs.Outcome.{Outcome}
-use Rattle.generator_examples.specs.Sites.{Files, tree_of, file, based, links, injects, levels, levels_all, spelling, spelling_all, spelling_map, site, site_all, site_map}
-use Rattle.generator_examples.specs.Sites.{paged, paged_after, missing, clashing}
+use Rattle.generator_examples.specs.Sites.{Files, tree_of, file, based, links, levels, levels_all, spelling, spelling_all, spelling_map, site, site_all, site_map}
+use Rattle.generator_examples.specs.Sites.{missing, clashing}
+use Rattle.generator_examples.specs.Traced.{TracedExamples}
+use Rattle.generator_examples.specs.Packages.{packages, packages_all, packages_map}
 
 -- own: nothing is refused, and these are the tables of the trace
 abbrev pub IsTraced : Files → Config → Gathered → Type 0
@@ -36,7 +38,7 @@ pub record Trees : Type 0 where
   pub of_levels : IsTree (tree_of levels)
   pub of_spelling : IsTree (tree_of spelling)
   pub of_site : IsTree (tree_of site)
-  pub of_paged : IsTree (tree_of paged)
+  pub of_packages : IsTree (tree_of packages)
   pub of_missing : IsTree (tree_of missing)
   pub of_clashing : IsTree (tree_of clashing)
 
@@ -44,10 +46,12 @@ pub record TraceExamples : Type 0 where
   pub by_levels : IsTraced levels (based "https://app.test/" ("./app.mjs" ∷ [])) levels_all
   pub two_spellings : IsTraced spelling (based "https://app.test/" ("./app.mjs" ∷ [])) spelling_all
   pub of_site : IsTraced site (based "https://app.test/" ("./app.mjs" ∷ [])) site_all
+  pub of_packages : IsTraced packages (based "https://app.test/" ("./app.js" ∷ [])) packages_all
 
 pub record MapExamples : Type 0 where
   pub two_spellings : IsMapped spelling (based "https://app.test/" ("./app.mjs" ∷ [])) spelling_map
   pub of_site : IsMapped site (based "https://app.test/" ("./app.mjs" ∷ [])) site_map
+  pub of_packages : IsMapped packages (based "https://app.test/" ("./app.js" ∷ [])) packages_map
 
 -- the files, with the map beside them
 abbrev pub with_map : Files → List ℕ → Files
@@ -60,21 +64,16 @@ pub record EndExamples : Type 0 where
   pub of_site :
       Ends site (links "https://app.test/" ("./app.mjs" ∷ [])) 0 "ok: 5 modules, 8 requests, 2 mappings\n"
       (with_map site site_map)
-  pub in_page :
-      Ends paged (injects "https://app.test/" ("./app.mjs" ∷ [])) 0 "ok: 2 modules, 2 requests, 1 mappings\n"
-      paged_after
-  pub no_page :
-      Ends missing (injects "https://app.test/" ("./a.mjs" ∷ "./b.mjs" ∷ [])) 7 "bad file: page absent\n" missing
   pub second_entry :
       Ends missing (links "https://app.test/" ("./a.mjs" ∷ "./b.mjs" ∷ [])) 1
       "refused: NotFound from \"/b.mjs\" for \"./q.mjs\"\n" missing
   pub two_targets :
-      Ends clashing (links "https://app.test/app/" ("./m.mjs" ∷ [])) 9
-      "not built: from \"/m.mjs\" for \"./x.mjs\"\n" clashing
+      Ends clashing (links "https://app.test/app/" ("./m.mjs" ∷ [])) 1
+      "refused: Clash from \"/m.mjs\" for \"../app/x.mjs\" to \"/app/x.mjs\" and \"./x.mjs\" to \"/x.mjs\"\n" clashing
   -- whatever the tree
   pub no_base :
       (tree : Tree)
       → Outcome (links "ftp://h/" ("./app.mjs" ∷ [])) tree 2 (codes "words: BadBase \"ftp://h/\"\n") tree
 
 abbrev pub WorkedExamples : Type 0
-WorkedExamples = Trees × TraceExamples × MapExamples × EndExamples
+WorkedExamples = Trees × TraceExamples × MapExamples × EndExamples × TracedExamples

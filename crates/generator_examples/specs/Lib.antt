@@ -1,2 +1,4 @@
 pub mod Sites
+pub mod Packages
+pub mod Traced
 pub mod Examples

@@ -3,13 +3,13 @@
 --     folder path, file path bytes      one of them
 --     lines written, texts written      a text of these lines; these texts
 --     based base asked          the config with this base and these entries, and the page `/index.html`
---     links base asked, injects base asked      the words of a command with this base and these entries
+--     links base asked          the words of the command `link` with this base and these entries
 --     module_at path            the module of a file
+--     spelled specifier path    a need's spelling, which leads to the module of a file
 --     source bytes asked        the source with these bytes, which asks for these specifiers
---     levels, spelling, site, paged, missing, clashing      the sites
+--     levels, spelling, site, missing, clashing      the sites
 --     levels_all, spelling_all, site_all      the tables of their traces
 --     spelling_map, site_map    the texts of their maps
---     paged_after               the files of a site whose page has its map
 use Rattle.std.specs.Prelude.{ℕ, List, [], ◌∷◌, ◌++◌, map, codes}
 use Prim.Native.String.{String}
 use Rattle.tree_spec.specs.declared.Entry.{Entry}
@@ -19,7 +19,8 @@ use Rattle.import_map_spec.specs.WrittenMaps.{map_of}
 use Rattle.layout_spec.specs.WorkedExamples.{need}
 use Rattle.trace_spec.specs.Modules.{Config, Module}
 use Rattle.trace_spec.specs.Questions.{Source}
-use Rattle.trace_spec.specs.Checks.{Gathered}
+use Rattle.trace_spec.specs.Checks.{Gathered, Spelling}
+use Rattle.generator_spec.specs.Words.{link_conditions}
 
 -- own: the list of a tree's entries
 abbrev pub Files : Type 0
@@ -42,16 +43,21 @@ abbrev pub texts : List String → List (List ℕ)
 texts written = map (λ (text : String). codes text) written
 
 abbrev pub based : String → List String → Config
-based base asked = record { base = codes base; page = codes "/index.html"; entries = texts asked }
+based base asked = record {
+  base = codes base;
+  page = codes "/index.html";
+  conditions = link_conditions;
+  entries = texts asked;
+}
 
 abbrev pub links : String → List String → List (List ℕ)
 links base asked = texts ("link" ∷ "--base" ∷ base ∷ asked)
 
-abbrev pub injects : String → List String → List (List ℕ)
-injects base asked = texts ("inject" ∷ "--base" ∷ base ∷ asked)
-
 abbrev pub module_at : String → Module
 module_at path = record { path = codes path; suffix = [] }
+
+abbrev pub spelled : String → String → Spelling
+spelled specifier path = record { specifier = codes specifier; target = module_at path }
 
 abbrev pub source : List ℕ → List String → Source
 source bytes asked = record { bytes = bytes; specifiers = texts asked }
@@ -83,6 +89,13 @@ levels_all = record {
       ∷ need "https://app.test/a.mjs" "https://app.test/c.mjs" "https://app.test/c.mjs"
       ∷ need "https://app.test/a.mjs" "https://app.test/b.mjs" "https://app.test/b.mjs"
       ∷ [];
+  spellings =
+      spelled "./app.mjs" "/app.mjs"
+      ∷ spelled "./a.mjs" "/a.mjs"
+      ∷ spelled "./b.mjs" "/b.mjs"
+      ∷ spelled "./c.mjs" "/c.mjs"
+      ∷ spelled "./b.mjs" "/b.mjs"
+      ∷ [];
   requests = 5;
 }
 
@@ -102,6 +115,7 @@ spelling_all = record {
       need "https://app.test/index.html" "https://app.test/app.mjs" "https://app.test/app.mjs"
       ∷ need "https://app.test/app.mjs" "https://app.test/a%62.mjs" "https://app.test/ab.mjs"
       ∷ [];
+  spellings = spelled "./app.mjs" "/app.mjs" ∷ spelled "./a%62.mjs" "/ab.mjs" ∷ [];
   requests = 2;
 }
 
@@ -213,6 +227,16 @@ site_all = record {
       ∷ need "https://app.test/pages/home.mjs" "https://app.test/pages/[id].mjs" "https://app.test/pages/%5Bid%5D.mjs"
       ∷ need "https://app.test/pages/%5Bid%5D.mjs" "https://app.test/lib/greet.mjs" "https://app.test/lib/greet.mjs"
       ∷ [];
+  spellings =
+      spelled "./app.mjs" "/app.mjs"
+      ∷ spelled "./lib/greet.mjs" "/lib/greet.mjs"
+      ∷ spelled "./pages/home.mjs" "/pages/home.mjs"
+      ∷ spelled "./pages/[id].mjs" "/pages/[id].mjs"
+      ∷ spelled "./words.mjs" "/lib/words.mjs"
+      ∷ spelled "../lib/greet.mjs" "/lib/greet.mjs"
+      ∷ spelled "./[id].mjs" "/pages/[id].mjs"
+      ∷ spelled "../lib/greet.mjs" "/lib/greet.mjs"
+      ∷ [];
   requests = 8;
 }
 
@@ -234,14 +258,14 @@ site_map =
 
 -- ---- what is refused
 
--- the second entry asks for a file that isn't there. The first asks for a text that isn't a module's, but the visit of
+-- the second entry asks for a file that isn't there. The first asks for a text that can't be read, but the visit of
 -- that one would come behind the second entry's
 abbrev pub missing : Files
 missing =
     folder "/"
     ∷ file "/a.mjs" (codes "import \"./c.mjs\";")
     ∷ file "/b.mjs" (codes "import \"./q.mjs\";")
-    ∷ file "/c.mjs" (codes "x")
+    ∷ file "/c.mjs" (codes "import x")
     ∷ []
 
 -- under the base `https://app.test/app/` both specifiers have the URL `https://app.test/app/x.mjs`, and Node leads them

@@ -1,16 +1,20 @@
 -- Words give one command with one config or are refused in one way.
 use Rattle.std.proofs.Common.{◌≡◌, ◌≢◌, ◌⊎◌, ℕ, List, [], ◌∷◌, Option, Some, None, refl, sym, ap, ◌∙◌, subst, inl, inr}
-use Rattle.std.specs.Prelude.{codes, All}
+use Rattle.std.specs.Prelude.{◌≤◌, ◌<◌, codes, length, All}
+use Rattle.std.proofs.Common.{arith}
+use Rattle.std.proofs.lemmas.Bool.{cases_lt}
+use Rattle.tree_spec.specs.declared.LimitName.TheVariants.{Entries}
+use Rattle.tree_spec.specs.Limits.{limit_number}
 use Rattle.std.proofs.lemmas.List.Elements.{All-nil, All-cons, All-head, All-tail}
 use Rattle.tree_spec.proofs.ByteLists.{number_same_or_not, text_same_or_not}
 use Rattle.url_spec.specs.Bases.{base_of}
 use Rattle.trace_spec.specs.Modules.{Config}
 use Rattle.generator_spec.specs.declared.Command.{Command}
 use Rattle.generator_spec.specs.declared.Command.TheVariants.{Link, Inject}
-use Rattle.generator_spec.specs.declared.Refusal.TheVariants.{Words, BadBase}
-use Rattle.generator_spec.specs.Words.{word_of, IsEntry, IsCall, once_onto, page_path}
-use Rattle.generator_spec.specs.Words.RefusesWords.{no_call, bad_base}
-use Rattle.generator_spec.specs.Laws.{SameConfig, OneConfig, OneWordsRefusal, RefusedOrConfig}
+use Rattle.generator_spec.specs.declared.Refusal.TheVariants.{Words, BadBase, Limit}
+use Rattle.generator_spec.specs.Words.{word_of, IsEntry, IsCall, once_onto, page_path, link_conditions}
+use Rattle.generator_spec.specs.Words.RefusesWords.{no_call, bad_base, too_many_entries}
+use Rattle.generator_spec.specs.Laws.{OneConfig, OneWordsRefusal, RefusedOrConfig}
 use Rattle.generator_spec.specs.Laws.{HasConfig, AreRefused, SomeConfig}
 
 -- ---- one at most
@@ -37,9 +41,9 @@ one_call words some other base second entries others a b =
     record { commands = one_word some other first; bases = cc; all_entries = cc }
 
 same_config :
-    (some other : Config) → some.base ≡ other.base → some.page ≡ other.page → some.entries ≡ other.entries
-    → some ≡ other
-same_config some other b p e = λ i. record { base = b i; page = p i; entries = e i }
+    (some other : Config) → some.base ≡ other.base → some.page ≡ other.page → some.conditions ≡ other.conditions
+    → some.entries ≡ other.entries → some ≡ other
+same_config some other b p c e = λ i. record { base = b i; page = p i; conditions = c i; entries = e i }
 
 pub one_config : OneConfig
 one_config words some other config second a b =
@@ -49,8 +53,19 @@ one_config words some other config second a b =
     a.distinct ∙ (ap (once_onto []) same.all_entries ∙ sym b.distinct) in
     record {
       one_command = same.commands;
-      one_config = same_config config second (cc) (a.page ∙ sym b.page) entries;
+      one_config =
+          same_config config second (cc) (a.page ∙ sym b.page) (a.conditions ∙ sym b.conditions) entries;
     }
+
+-- the text of the base gives one or none
+base_or_none :
+    (words : List (List ℕ)) (some other : Command) (base second : List ℕ) (entries others : List (List ℕ))
+    (url : List ℕ) → IsCall words some base entries → IsCall words other second others → base_of base ≡ None
+    → base_of second ≡ Some url → ⊥
+base_or_none words some other base second entries others url a b no_base is_base =
+    let same = (one_call words some other base second entries others a b).bases in
+    let e : None ≡ Some url = sym no_base ∙ (ap base_of same ∙ is_base) in
+    absurd (cc)
 
 pub one_words_refusal : OneWordsRefusal
 one_words_refusal words some other (no_call none) (no_call none_too) = refl
@@ -61,12 +76,30 @@ one_words_refusal words some other (bad_base command base entries is no_base) (n
 one_words_refusal words some other (bad_base command base entries is no_base)
     (bad_base command_too base_too entries_too is_too no_base_too) =
     let same = (one_call words command command_too base base_too entries entries_too is is_too).bases in cc
+one_words_refusal words some other (no_call none) (too_many_entries command base url entries is is_base many) =
+    absurd (none command base entries is)
+one_words_refusal words some other (too_many_entries command base url entries is is_base many) (no_call none) =
+    absurd (none command base entries is)
+one_words_refusal words some other (bad_base command base entries is no_base)
+    (too_many_entries command_too base_too url entries_too is_too is_base many) =
+    absurd (base_or_none words command command_too base base_too entries entries_too url is is_too no_base is_base)
+one_words_refusal words some other (too_many_entries command_too base_too url entries_too is_too is_base many)
+    (bad_base command base entries is no_base) =
+    absurd (base_or_none words command command_too base base_too entries entries_too url is is_too no_base is_base)
+one_words_refusal words some other (too_many_entries command base url entries is is_base many)
+    (too_many_entries command_too base_too url_too entries_too is_too is_base_too many_too) = refl
 
 pub refused_or_config : RefusedOrConfig
 refused_or_config words why command config (no_call none) is = none command is.base is.entries is.call
 refused_or_config words why command config (bad_base other base entries is_call no_base) is =
     let same = (one_call words other command base is.base entries is.entries is_call is.call).bases in
     absurd (let e : base_of base ≡ base_of is.base = ap base_of same in let f = is.is_base in cc)
+refused_or_config words why command config (too_many_entries other base url entries is_call is_base many) is =
+    let same = (one_call words other command base is.base entries is.entries is_call is.call).all_entries in
+    let counted : length config.entries ≡ length (once_onto [] entries) =
+    ap length (is.distinct ∙ ap (once_onto []) (sym same)) in
+    let few = is.few in
+    absurd (omega (arith, counted, few, many))
 
 -- ---- whether words are a command, a base and entries
 
@@ -153,12 +186,32 @@ config_by :
     → HasConfig words ⊎ AreRefused words
 config_by words has None e =
     inr (record { why = BadBase has.base; refuses = bad_base has.command has.base has.entries has.call e })
-config_by words has (Some base) e =
-    inl (record {
+config_by words has (Some base) e = by (cases_lt (limit_number Entries) (length (once_onto [] has.entries)))
+  where
+    by : (limit_number Entries < length (once_onto [] has.entries)) ⊎ (length (once_onto [] has.entries) ≤ limit_number Entries)
+        → HasConfig words ⊎ AreRefused words
+    by (inl many) = inr (record {
+      why = Limit Entries;
+      refuses = too_many_entries has.command has.base base has.entries has.call e many;
+    })
+    by (inr few) = inl (record {
       command = has.command;
-      config = record { base = base; page = page_path; entries = once_onto [] has.entries };
-      is =
-          record { base = has.base; entries = has.entries; call = has.call; is_base = e; page = refl; distinct = refl };
+      config = record {
+        base = base;
+        page = page_path;
+        conditions = link_conditions;
+        entries = once_onto [] has.entries;
+      };
+      is = record {
+        base = has.base;
+        entries = has.entries;
+        call = has.call;
+        is_base = e;
+        page = refl;
+        conditions = refl;
+        distinct = refl;
+        few = few;
+      };
     })
 
 pub some_config : SomeConfig

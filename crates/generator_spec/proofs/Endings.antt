@@ -16,7 +16,7 @@ use Rattle.generator_spec.specs.declared.Command.{Command}
 use Rattle.generator_spec.specs.declared.PageFault.{PageFault}
 use Rattle.generator_spec.specs.declared.PageFault.TheVariants.{Absent, TooLarge, KeepsMapsOut}
 use Rattle.generator_spec.specs.Commands.{IsOfPage, IsRefusalOf, IsRefusalOf as kind}
-use Rattle.generator_spec.specs.Words.RefusesWords.{no_call, bad_base}
+use Rattle.generator_spec.specs.Words.RefusesWords.{no_call, bad_base, too_many_entries}
 use Rattle.generator_spec.specs.Lines.{page_status, trace_status, status_of, line_of, memory_line}
 use Rattle.generator_spec.specs.Statuses.{IsRefusalStatus}
 use Rattle.generator_spec.specs.Outcome.{Outcome, Outcome as outcome}
@@ -37,12 +37,13 @@ data IsRefusing (status : ℕ) : Type 0 where
 words_refusing : (words : List (List ℕ)) (why : Refusal) → RefusesWords words why → IsRefusing (status_of why)
 words_refusing words why (no_call none) = nine refl
 words_refusing words why (bad_base command base entries call none) = two refl
+words_refusing words why (too_many_entries command base url entries call is many) = three refl
 
 trace_refusing : (config : Config) (why : TraceFault) → IsOfTrace config why → IsRefusing (trace_status why)
 trace_refusing config (fault.Unservable path url) kind = one refl
 trace_refusing config (fault.Refused referrer specifier cause) kind = one refl
-trace_refusing config (fault.RequestNotBuilt referrer specifier) kind = nine refl
-trace_refusing config (fault.ModuleNotBuilt m) kind = nine refl
+trace_refusing config (fault.Clash referrer first first_to second second_to) kind = one refl
+trace_refusing config (fault.NotModule path reason) kind = one refl
 trace_refusing config (fault.Limit which) kind = three refl
 trace_refusing config fault.ReadFault kind = absurd kind
 trace_refusing config fault.Memory kind = absurd kind
@@ -92,8 +93,8 @@ page_not_two (KeepsMapsOut page.Memory) e = omega (arith, e)
 trace_not_two : (why : TraceFault) → trace_status why ≢ 2
 trace_not_two (fault.Unservable path url) e = omega (arith, e)
 trace_not_two (fault.Refused referrer specifier cause) e = omega (arith, e)
-trace_not_two (fault.RequestNotBuilt referrer specifier) e = omega (arith, e)
-trace_not_two (fault.ModuleNotBuilt m) e = omega (arith, e)
+trace_not_two (fault.Clash referrer first first_to second second_to) e = omega (arith, e)
+trace_not_two (fault.NotModule path reason) e = omega (arith, e)
 trace_not_two (fault.Limit which) e = omega (arith, e)
 trace_not_two fault.ReadFault e = omega (arith, e)
 trace_not_two fault.Memory e = omega (arith, e)
@@ -108,6 +109,7 @@ bad_base_of :
     → (base : List ℕ) × RefusesWords words (refusal.BadBase base)
 bad_base_of words why (no_call none) is_two = absurd (omega arith)
 bad_base_of words why (bad_base command base entries call none) is_two = (base, bad_base command base entries call none)
+bad_base_of words why (too_many_entries command base url entries call is many) is_two = absurd (omega (arith, is_two))
 
 abbrev IsStatus : ℕ → Type 0
 IsStatus status = (status ≡ 0) ⊎ (status ≡ 5) ⊎ IsRefusalStatus status

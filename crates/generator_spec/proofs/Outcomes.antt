@@ -12,12 +12,11 @@ use Rattle.trace_spec.specs.Modules.{Config}
 use Rattle.trace_spec.specs.Checks.{Gathered}
 use Rattle.trace_spec.specs.Traces.{traced}
 use Rattle.generator_spec.specs.declared.Command.{Command}
-use Rattle.generator_spec.specs.declared.Command.TheVariants.{Link, Inject}
 use Rattle.generator_spec.specs.declared.Refusal.{Refusal}
 use Rattle.generator_spec.specs.declared.Refusal.TheVariants.{Page, Trace}
 use Rattle.generator_spec.specs.Commands.{Opens, Opens as opens, Refuses, Refuses as refuses, Writes, Writes as writes}
 use Rattle.generator_spec.specs.Generation.{Generates}
-use Rattle.generator_spec.specs.Words.{IsConfigOf, page_path}
+use Rattle.generator_spec.specs.Words.{IsConfigOf}
 use Rattle.generator_spec.specs.Lines.{status_of, line_of, done_line}
 use Rattle.generator_spec.specs.Outcome.{Outcome}
 use Rattle.generator_spec.specs.Outcome.Outcome.{words_refused, refused, done}

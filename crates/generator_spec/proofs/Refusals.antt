@@ -1,5 +1,5 @@
 -- A command over a tree is refused in one way, or can be done.
-use Rattle.std.proofs.Common.{◌≡◌, ◌≤◌, ◌<◌, ◌⊎◌, ℕ, List, [], length, Option, Some, None, Result, Ok, Err, refl, sym, ap, ◌∙◌, subst, inl, inr, arith}
+use Rattle.std.proofs.Common.{◌≡◌, ◌<◌, ◌⊎◌, ℕ, List, [], length, Option, Some, None, Result, Ok, Err, refl, sym, ap, ◌∙◌, subst, inl, inr, arith}
 use Rattle.std.specs.FinMap.{get}
 use Rattle.std.proofs.lemmas.Bool.{cases_lt}
 use Rattle.tree_spec.specs.declared.Entry.{Entry}
@@ -8,7 +8,6 @@ use Rattle.tree_spec.specs.declared.LimitName.TheVariants.{File}
 use Rattle.tree_spec.specs.Limits.{limit_number}
 use Rattle.tree_spec.specs.Trees.{Tree}
 use Rattle.page_spec.specs.declared.kinds.InjectFault.{InjectFault}
-use Rattle.page_spec.specs.declared.kinds.InjectFault.TheVariants.{PageUnclear, TwoMaps, NoPlace, Memory}
 use Rattle.page_spec.specs.Injection as injection
 use Rattle.page_spec.specs.Injection.{Injection, TakesMaps}
 use Rattle.page_spec.specs.Laws.{AreKeptOut}
@@ -17,14 +16,13 @@ use Rattle.page_spec.proofs.KeptOut.{takes_or_keeps_out}
 use Rattle.trace_spec.specs.declared.TraceFault.{TraceFault}
 use Rattle.trace_spec.specs.Modules.{Config}
 use Rattle.trace_spec.specs.Checks.{Gathered}
-use Rattle.trace_spec.specs.Traces.{traced}
 use Rattle.generator_spec.specs.declared.Command.{Command}
 use Rattle.generator_spec.specs.declared.Command.TheVariants.{Link, Inject}
 use Rattle.generator_spec.specs.declared.PageFault.{PageFault}
 use Rattle.generator_spec.specs.declared.PageFault.TheVariants.{Absent, TooLarge, KeepsMapsOut}
 use Rattle.generator_spec.specs.declared.Refusal.{Refusal}
-use Rattle.generator_spec.specs.declared.Refusal.TheVariants.{Page, Trace}
-use Rattle.generator_spec.specs.Commands.{IsPage, RefusesPage, Opens, Refuses, IsOfPage, Writes}
+use Rattle.generator_spec.specs.declared.Refusal.TheVariants.{Page}
+use Rattle.generator_spec.specs.Commands.{IsPage, RefusesPage, Opens, Refuses, Writes}
 use Rattle.generator_spec.specs.Commands.{RefusesPage as refuses_page, Opens as opens, Refuses as refuses, Writes as writes}
 use Rattle.generator_spec.specs.Generation.{Generates}
 use Rattle.generator_spec.proofs.Generations.{nothing_refused}

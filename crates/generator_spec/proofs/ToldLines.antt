@@ -34,9 +34,10 @@ trace_is_another (fault.Unservable path url) =
     other_line 114 (trace_line (fault.Unservable path url)) refl (λ e. omega arith)
 trace_is_another (fault.Refused referrer specifier cause) =
     other_line 114 (trace_line (fault.Refused referrer specifier cause)) refl (λ e. omega arith)
-trace_is_another (fault.RequestNotBuilt referrer specifier) =
-    other_line 110 (trace_line (fault.RequestNotBuilt referrer specifier)) refl (λ e. omega arith)
-trace_is_another (fault.ModuleNotBuilt m) = other_line 110 (trace_line (fault.ModuleNotBuilt m)) refl (λ e. omega arith)
+trace_is_another (fault.Clash referrer first first_to second second_to) =
+    other_line 114 (trace_line (fault.Clash referrer first first_to second second_to)) refl (λ e. omega arith)
+trace_is_another (fault.NotModule path reason) =
+    other_line 114 (trace_line (fault.NotModule path reason)) refl (λ e. omega arith)
 trace_is_another (fault.Limit which) = other_line 108 (trace_line (fault.Limit which)) refl (λ e. omega arith)
 trace_is_another fault.ReadFault = other_line 102 read_fault_line refl (λ e. omega arith)
 trace_is_another fault.Memory = other_line 109 memory_line refl (λ e. omega arith)
@@ -54,6 +55,8 @@ page_is_another (KeepsMapsOut page.Memory) = other_line 109 memory_line refl (λ
 refusal_is_another : (why : Refusal) → IsAnother (line_of why)
 refusal_is_another refusal.Words = other_line 110 (line_of refusal.Words) refl (λ e. omega arith)
 refusal_is_another (refusal.BadBase text) = other_line 119 (line_of (refusal.BadBase text)) refl (λ e. omega arith)
+refusal_is_another (refusal.Limit which) =
+    other_line 108 (line_of (refusal.Limit which)) refl (λ e. omega arith)
 refusal_is_another (refusal.Page why) = page_is_another why
 refusal_is_another (refusal.Trace why) = trace_is_another why
 

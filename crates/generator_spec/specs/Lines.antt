@@ -8,20 +8,24 @@ use Rattle.tree_spec.specs.declared.LimitName.{LimitName}
 use Rattle.tree_spec.specs.declared.LimitName.TheVariants.{File}
 use Rattle.tree_spec.specs.Limits.{limit_number, limit_name}
 use Rattle.json_spec.specs.PrintedString.{quoted}
-use Rattle.node_spec.specs.declared.Cause.{Cause}
-use Rattle.node_spec.specs.declared.Cause.TheVariants as cause
+use Rattle.node_spec.specs.declared.Reason.{Reason}
+use Rattle.node_spec.specs.declared.Reason.TheVariants as reason
 use Rattle.page_spec.specs.declared.kinds.InjectFault.{InjectFault}
 use Rattle.page_spec.specs.declared.kinds.InjectFault.TheVariants.{PageUnclear, TwoMaps, NoPlace}
 use Rattle.page_spec.specs.declared.kinds.InjectFault.TheVariants as page
 use Rattle.layout_spec.specs.Layout.{layout}
 use Rattle.layout_spec.specs.Counting.{mapping_count}
+use Rattle.trace_spec.specs.declared.AskCause.{AskCause}
+use Rattle.trace_spec.specs.declared.AskCause.TheVariants as cause
 use Rattle.trace_spec.specs.declared.TraceFault.{TraceFault}
-use Rattle.trace_spec.specs.declared.TraceFault.TheVariants.{Unservable, Refused, RequestNotBuilt, ModuleNotBuilt, Limit, ReadFault, Memory}
+use Rattle.trace_spec.specs.declared.TraceFault.TheVariants.{Unservable, Refused, Clash, NotModule, Limit, ReadFault}
+use Rattle.trace_spec.specs.declared.TraceFault.TheVariants.{Memory}
 use Rattle.trace_spec.specs.Checks.{Gathered}
 use Rattle.generator_spec.specs.declared.PageFault.{PageFault}
 use Rattle.generator_spec.specs.declared.PageFault.TheVariants.{Absent, TooLarge, KeepsMapsOut}
 use Rattle.generator_spec.specs.declared.Refusal.{Refusal}
 use Rattle.generator_spec.specs.declared.Refusal.TheVariants.{Words, BadBase, Page, Trace}
+use Rattle.generator_spec.specs.declared.Refusal.TheVariants as refusal
 use Rattle.generator_spec.specs.Statuses.{refused_status, words_status, limit_status, read_fault_status, file_status}
 use Rattle.generator_spec.specs.Statuses.{memory_status, not_built_status}
 
@@ -29,8 +33,8 @@ use Rattle.generator_spec.specs.Statuses.{memory_status, not_built_status}
 abbrev pub trace_status : TraceFault → ℕ
 trace_status (Unservable path url) = refused_status
 trace_status (Refused referrer specifier why) = refused_status
-trace_status (RequestNotBuilt referrer specifier) = not_built_status
-trace_status (ModuleNotBuilt m) = not_built_status
+trace_status (Clash referrer first first_to second second_to) = refused_status
+trace_status (NotModule path why) = refused_status
 trace_status (Limit which) = limit_status
 trace_status ReadFault = read_fault_status
 trace_status Memory = memory_status
@@ -49,6 +53,7 @@ page_status (KeepsMapsOut fault) = inject_status fault
 abbrev pub status_of : Refusal → ℕ
 status_of Words = not_built_status
 status_of (BadBase text) = words_status
+status_of (refusal.Limit which) = limit_status
 status_of (Page fault) = page_status fault
 status_of (Trace fault) = trace_status fault
 
@@ -56,7 +61,7 @@ abbrev pub end_of_line : List ℕ
 end_of_line = 10 ∷ []
 
 -- own: the name of a cause
-abbrev pub cause_name : Cause → List ℕ
+abbrev pub cause_name : AskCause → List ℕ
 cause_name cause.Builtin = codes "Builtin"
 cause_name cause.ExternalUrl = codes "ExternalUrl"
 cause_name cause.InvalidSpecifier = codes "InvalidSpecifier"
@@ -66,6 +71,17 @@ cause_name cause.NotExported = codes "NotExported"
 cause_name cause.ImportNotDefined = codes "ImportNotDefined"
 cause_name cause.NotFound = codes "NotFound"
 cause_name cause.DirectoryImport = codes "DirectoryImport"
+cause_name cause.Unaskable = codes "Unaskable"
+cause_name cause.TrailingSlash = codes "TrailingSlash"
+
+-- own: why a file is no module, with a place in its text where it can't be read
+abbrev pub reason_text : Reason → List ℕ
+reason_text reason.CommonJs = codes "CommonJs"
+reason_text reason.Json = codes "Json"
+reason_text reason.Addon = codes "Addon"
+reason_text reason.Other = codes "Other"
+reason_text reason.Config = codes "Config"
+reason_text (reason.Unreadable at) = codes "Unreadable at " ++ decimal at
 
 -- own: two texts, each as a JSON string, behind and between these words
 abbrev pub pair_line : List ℕ → List ℕ → List ℕ → List ℕ → List ℕ
@@ -84,13 +100,19 @@ abbrev pub limit_line : LimitName → List ℕ
 limit_line which =
     codes "limit: " ++ (limit_name which ++ (codes " above " ++ (decimal (limit_number which) ++ end_of_line)))
 
+-- own: two requests of one referrer, with what each leads to
+abbrev pub clash_line : List ℕ → List ℕ → List ℕ → List ℕ → List ℕ → List ℕ
+clash_line referrer first first_to second second_to =
+    codes "refused: Clash from " ++ (quoted referrer ++ (codes " for " ++ (quoted first ++ (codes " to "
+    ++ (quoted first_to ++ pair_line (codes " and ") second (codes " to ") second_to)))))
+
 abbrev pub trace_line : TraceFault → List ℕ
 trace_line (Unservable path url) = pair_line (codes "refused: Unservable ") path (codes " as ") (unwrap_or url [])
 trace_line (Refused referrer specifier why) =
     codes "refused: " ++ (cause_name why ++ pair_line (codes " from ") referrer (codes " for ") specifier)
-trace_line (RequestNotBuilt referrer specifier) =
-    pair_line (codes "not built: from ") referrer (codes " for ") specifier
-trace_line (ModuleNotBuilt m) = codes "not built: " ++ (quoted m ++ end_of_line)
+trace_line (Clash referrer first first_to second second_to) = clash_line referrer first first_to second second_to
+trace_line (NotModule path why) =
+    codes "refused: NotModule " ++ (quoted path ++ (codes " " ++ (reason_text why ++ end_of_line)))
 trace_line (Limit which) = limit_line which
 trace_line ReadFault = read_fault_line
 trace_line Memory = memory_line
@@ -113,6 +135,7 @@ page_line (KeepsMapsOut fault) = inject_line fault
 abbrev pub line_of : Refusal → List ℕ
 line_of Words = codes "not built: words" ++ end_of_line
 line_of (BadBase text) = codes "words: BadBase " ++ (quoted text ++ end_of_line)
+line_of (refusal.Limit which) = limit_line which
 line_of (Page fault) = page_line fault
 line_of (Trace fault) = trace_line fault
 

@@ -17,7 +17,7 @@ use Rattle.generator_spec.specs.declared.Refusal.TheVariants.{BadBase}
 use Rattle.generator_spec.specs.Statuses.{IsRefusalStatus, done_status, words_status, read_fault_status}
 use Rattle.generator_spec.specs.Statuses.{write_fault_status, memory_status}
 use Rattle.generator_spec.specs.Words.{RefusesWords}
-use Rattle.generator_spec.specs.Lines.{status_of, line_of, counts_line, memory_line}
+use Rattle.generator_spec.specs.Lines.{counts_line, memory_line}
 use Rattle.generator_spec.specs.Outcome.{Outcome}
 use Rattle.generator_spec.specs.Ending.{Linked, Gives, TellsRefusal}
 

@@ -7,8 +7,7 @@ use Rattle.std.specs.FinMap.{get}
 use Rattle.tree_spec.specs.Trees.{Tree}
 use Rattle.url_spec.specs.WebNames.{web}
 use Rattle.url_spec.specs.ServedPaths.{IsServed}
-use Rattle.node_spec.specs.Resolution.{Resolves}
-use Rattle.node_spec.specs.Resolution as node
+use Rattle.node_spec.specs.EsmResolve.{Resolves}
 use Rattle.import_map_spec.specs.ParsedMap.{ParsedMap}
 use Rattle.import_map_spec.specs.Parsing.{ParsesMap}
 use Rattle.import_map_spec.specs.Resolving as html
@@ -23,20 +22,19 @@ pub data Reachable (tree : Tree) (config : Config) : Referrer Module → Type 0 
       (referrer : Referrer Module) (specifiers : List (List ℕ)) (specifier : List ℕ) (target : Module)
       → Reachable tree config referrer → requests (get tree) config referrer ≡ Some specifiers
       → Contains specifiers specifier
-      → Resolves tree (path_of config referrer) specifier (node.Resolved target.path target.suffix)
+      → Resolves tree config.conditions (path_of config referrer) specifier (Ok target)
       → Reachable tree config (a_module target)
 
 -- own: Node answers a specifier with a file, HTML's resolution through the map ends at a URL, and this file is served
 -- there
 pub record Leads (tree : Tree) (config : Config) (map : ParsedMap) (referrer : Referrer Module)
     (name specifier : List ℕ) : Type 0 where
-  pub path : List ℕ
-  pub suffix : List ℕ
+  pub target : Module
   pub url : List ℕ
-  pub node : Resolves tree (path_of config referrer) specifier (node.Resolved path suffix)
-  pub web : web config.base path suffix ≡ Some url
+  pub node : Resolves tree config.conditions (path_of config referrer) specifier (Ok target)
+  pub web : web config.base target.path target.suffix ≡ Some url
   pub html : html.Resolves map name specifier (html.Resolved url)
-  pub served : IsServed config.base url path
+  pub served : IsServed config.base url target.path
 
 -- own: a referrer has its requests, and each of them is led to its file
 pub record AllLead (tree : Tree) (config : Config) (map : ParsedMap) (referrer : Referrer Module) : Type 0 where

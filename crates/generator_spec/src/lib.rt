@@ -9,6 +9,7 @@ ghost use Rattle.generator_spec.specs.Laws.{OneOutcome, SomeOutcome, EndsKeepPro
 use page_spec::InjectFault;
 use primitives::Text;
 use trace_spec::TraceFault;
+use tree_spec::LimitName;
 
 /// What is asked for.
 #[derive(Clone, Copy, Debug, PartialEq, Eq)]
@@ -37,6 +38,8 @@ pub enum Refusal {
     Words,
     /// A text that gives no base.
     BadBase { text: Text },
+    /// A quantity of the words passes its limit.
+    Limit { which: LimitName },
     /// There is no page to put the map into.
     Page { fault: PageFault },
     /// There is no trace.

@@ -3,11 +3,14 @@
 --     AreDistinct needs      no need stands twice
 --     NoClash needs      needs of one referrer and one specifier have one target
 --     IsAskedByFile need      the referrer is the URL of a file
---     NamesFiles need      the texts are those of URLs, and neither the referrer nor what is asked for is a folder
+--     IsAsked asked      the text stands for itself at every base, and is no folder's
+--     NamesFiles need      referrer and target are URLs, what is asked for stands for itself, and neither the referrer
+--                          nor what is asked for is a folder's
 use Rattle.std.specs.List.{list_any}
-use Rattle.std.specs.Prelude.{Bool, ◌&&◌, not, bytes_eq, List, [], ◌∷◌, ◌++◌, if◌then◌else◌, ◌≡◌, Contains, ⊤, false}
+use Rattle.std.specs.Prelude.{Bool, ◌&&◌, not, bytes_eq, ℕ, List, [], ◌∷◌, ◌++◌, if◌then◌else◌, ◌≡◌, ◌≢◌, Contains, ⊤, false}
+use Rattle.std.specs.Str.{IsUtf8}
 use Rattle.url_spec.specs.Parsing.{IsUrl}
-use Rattle.url_spec.specs.Specifiers.{ends_in_slash}
+use Rattle.url_spec.specs.Specifiers.{normalized, ends_in_slash}
 use Rattle.layout_spec.specs.declared.Need.{Need}
 
 -- the same need
@@ -48,10 +51,17 @@ pub record IsAskedByFile (need : Need) : Type 0 where
   pub referrer : IsUrl need.referrer
   pub is_file : ends_in_slash need.referrer ≡ false
 
--- own: the texts of a need are those of URLs, and neither its referrer nor what it asks for is a folder
+-- own: a URL or a bare text that can be the key of a mapping: it isn't empty, is its own normalized specifier at every
+-- base, and ends in no `/`
+pub record IsAsked (asked : List ℕ) : Type 0 where
+  pub nonempty : asked ≢ []
+  pub utf8 : IsUtf8 asked
+  pub normal : (base : List ℕ) → normalized base asked ≡ asked
+  pub no_folder : ends_in_slash asked ≡ false
+
+-- own: the referrer and the target of a need are URLs, and neither the referrer nor what it asks for is a folder's
 pub record NamesFiles (need : Need) : Type 0 where
   pub referrer : IsUrl need.referrer
-  pub asked : IsUrl need.asked
+  pub asked : IsAsked need.asked
   pub target : IsUrl need.target
   pub referrer_is_file : ends_in_slash need.referrer ≡ false
-  pub asked_is_file : ends_in_slash need.asked ≡ false

@@ -1,4 +1,3 @@
-pub mod Readings
 pub mod Suffixes
 pub mod Tails
 pub mod TokenLaws
@@ -7,5 +6,5 @@ pub mod BracketLaws
 pub mod Terminals
 pub mod FormLaws
 pub mod OutlineLaws
+pub mod OutlineReadings
 pub mod examples
-pub mod PlainReadings

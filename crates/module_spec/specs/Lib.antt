@@ -1,4 +1,3 @@
-pub mod PlainForm
 pub mod Characters
 pub mod Spellings
 pub mod Sorts
@@ -10,5 +9,6 @@ pub mod Forms
 pub mod Declarations
 pub mod StringValues
 pub mod Outlines
+pub mod OutlineReading
 pub mod Examples
 pub mod Laws

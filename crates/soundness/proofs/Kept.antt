@@ -3,13 +3,12 @@ use Rattle.std.proofs.Common.{refl, sym, ap, ◌∙◌, subst}
 use Rattle.std.proofs.lemmas.Bool.{cond-false, and_left}
 use Rattle.std.proofs.lemmas.Option.{none-some}
 use Rattle.std.specs.FinMap.{get, empty}
-use Rattle.std.specs.Prelude.{◌≡◌, ℕ, false, List, [], ◌∷◌, Option, Some, unwrap_or, Contains}
+use Rattle.std.specs.Prelude.{◌≡◌, ◌≢◌, ℕ, false, List, [], ◌∷◌, Option, Some, unwrap_or, Contains}
 use Rattle.url_spec.proofs.AgainstBases.{urls_against}
-use Rattle.url_spec.proofs.NoUrls.{no_urls}
 use Rattle.url_spec.proofs.OwnTexts.{utf8_url}
 use Rattle.url_spec.proofs.OwnUrls.{own_urls}
 use Rattle.url_spec.specs.Parsing.{IsUrl}
-use Rattle.url_spec.specs.Specifiers.{normalized, ends_in_slash}
+use Rattle.url_spec.specs.Specifiers.{ends_in_slash}
 use Rattle.import_map_spec.proofs.Entries.{get_nowhere}
 use Rattle.import_map_spec.specs.ParsedMap.{Texts, Addresses, ParsedMap}
 use Rattle.import_map_spec.specs.Parsing.{is_empty, fitting}
@@ -21,13 +20,9 @@ use Rattle.layout_spec.specs.declared.Need.{Need}
 use Rattle.soundness.proofs.Leading.{scope_url}
 use Rattle.soundness.specs.Soundness.{MapsReadBack}
 
-url_not_empty : (url : List ℕ) → IsUrl url → is_empty url ≡ false
-url_not_empty [] is = absurd (none-some _ (sym no_urls.1 ∙ is))
-url_not_empty (b ∷ rest) is = refl
-
-normal_url : (base url : List ℕ) → IsUrl url → normalized base url ≡ url
-unfolding normalized
-normal_url base url is = ap (λ found. unwrap_or found url) (own_urls.0 base url is)
+not_empty : (text : List ℕ) → text ≢ [] → is_empty text ≡ false
+not_empty [] some = absurd (some refl)
+not_empty (b ∷ rest) some = refl
 
 -- an address under a key that is no folder
 address_stands : (base key target : List ℕ) → ends_in_slash key ≡ false → IsUrl target → IsKeptAddress base key (Some target)
@@ -35,10 +30,10 @@ address_stands base key target is_file is = (ap (fitting key) (own_urls.0 base t
 
 need_kept : (base : List ℕ) (need : Need) → NamesFiles need → IsKeptKey base need.asked (Some need.target)
 need_kept base need names = record {
-  not_empty = url_not_empty need.asked names.asked;
-  normal = normal_url base need.asked names.asked;
-  utf8 = utf8_url need.asked names.asked;
-  stands = address_stands base need.asked need.target names.asked_is_file names.target;
+  not_empty = not_empty need.asked names.asked.nonempty;
+  normal = names.asked.normal base;
+  utf8 = names.asked.utf8;
+  stands = address_stands base need.asked need.target names.asked.no_folder names.target;
 }
 
 module _ (base : List ℕ) (is_base : IsUrl base) (needs : List Need) (m : ParsedMap) (of_needs : OfNeeds needs m) (files : (need : Need) → Contains needs need → NamesFiles need) where

@@ -53,7 +53,7 @@ module _ (needs : List Need) (m : ParsedMap) (of_needs : OfNeeds needs m) (files
       elim (cases_option (held m key place)) [
         | inl none ↦ none
         | inr some ↦ let found = of_needs.only place key some.0 some.1 in
-            absurd (true≢false (sym slash ∙ (ap ends_in_slash (sym found.1.asked_is) ∙ (files found.0 found.1.is_need).asked_is_file)))
+            absurd (true≢false (sym slash ∙ (ap ends_in_slash (sym found.1.asked_is) ∙ (files found.0 found.1.is_need).asked.no_folder)))
       ]
 
   -- a place answers what it holds

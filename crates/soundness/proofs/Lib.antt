@@ -1,3 +1,4 @@
+pub mod Asking
 pub mod Leading
 pub mod Kept
 pub mod Reaching

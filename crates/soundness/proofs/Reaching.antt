@@ -1,20 +1,15 @@
 -- Whatever the headline reaches by Node's answers the trace reaches too; and what is known there of names.
 use Rattle.std.proofs.Common.{refl, sym, ap, ◌∙◌, subst}
-use Rattle.std.proofs.lemmas.Bool.{cond-true}
 use Rattle.std.proofs.lemmas.Option.{same_Some}
 use Rattle.std.specs.FinMap.{get}
-use Rattle.std.specs.Prelude.{◌≡◌, ℕ, suc, true, false, List, [], Option, Some, None, Ok, unwrap_or, Contains}
+use Rattle.std.specs.Prelude.{◌≡◌, ℕ, suc, false, List, [], Option, Some, None, Ok, unwrap_or, Contains}
 use Rattle.asking_spec.proofs.AskingLemmas.{ok_parts}
 use Rattle.tree_spec.specs.Limits.{limit_number}
 use Rattle.tree_spec.specs.Trees.{Tree}
 use Rattle.tree_spec.specs.declared.LimitName.TheVariants.{Modules}
 use Rattle.url_spec.proofs.KeptUrls.{kept_urls}
-use Rattle.url_spec.proofs.OwnUrls.{own_urls}
-use Rattle.url_spec.specs.Specifiers.{is_relative, ends_in_slash}
-use Rattle.url_spec.specs.WebNames.{web}
-use Rattle.node_spec.proofs.OneAnswer.{one_answer}
-use Rattle.node_spec.proofs.RelativeLemmas.{finds_relative}
-use Rattle.node_spec.specs.Resolution as node
+use Rattle.url_spec.specs.Specifiers.{ends_in_slash}
+use Rattle.node_spec.specs.EsmResolve.{Resolves}
 use Rattle.layout_spec.proofs.Contained.{contains_given, given_from}
 use Rattle.layout_spec.specs.Needs.{NamesFiles}
 use Rattle.layout_spec.specs.declared.Need.{Need}
@@ -23,12 +18,13 @@ use Rattle.trace_spec.proofs.Traces.{requests_pass, needs_are_requests}
 use Rattle.trace_spec.specs.Checks.{Gathered, page_opened, opens, nothing_gathered, rules}
 use Rattle.trace_spec.specs.Laws.{Passes}
 use Rattle.trace_spec.specs.Levels.{page as page_is_reached, requested as is_requested}
-use Rattle.trace_spec.specs.Modules.{Config, Module, path_of, web_name, served_name}
+use Rattle.trace_spec.specs.Modules.{Config, Module, path_of, web_name, served_at}
 use Rattle.trace_spec.specs.Questions.{always}
-use Rattle.trace_spec.specs.Traces.{traced, requests, specifiers, module_in, leads, ReachedByPage as IsReached}
+use Rattle.trace_spec.specs.Traces.{traced, requests, specifiers, if_ok, leads, ReachedByPage as IsReached}
 use Rattle.trace_spec.specs.Walking.{Referrer, the_page, a_module, Opened, followed, visited, walked}
 use Rattle.generator_spec.specs.Generation.{PageIsFile}
 use Rattle.generator_spec.specs.Serves.{Reachable, page, requested}
+use Rattle.soundness.proofs.Asking.{is_asked}
 
 -- a web name that is no folder's
 pub record IsNamed (config : Config) (referrer : Referrer Module) : Type 0 where
@@ -44,17 +40,15 @@ module _ (tree : Tree) (config : Config) (all : Gathered) (is_traced : traced (g
       pass.pass specifier (subst (λ some. Contains some specifier) (same_Some specifiers pass.specifiers (sym asks ∙ pass.asks)) asked)
 
   -- Node's answer is the one that the trace asks for
-  node_leads : (referrer : Referrer Module) (specifier : List ℕ) (target : Module) → is_relative specifier ≡ true → node.Resolves tree (path_of config referrer) specifier (node.Resolved target.path target.suffix) → leads (get tree) config referrer specifier ≡ Some target
-  node_leads referrer specifier target relative answers =
-      cond-true _ _ _ relative ∙ ap module_in (one_answer tree (path_of config referrer) specifier _ _ (finds_relative tree (path_of config referrer) specifier relative) answers)
+  node_leads : (referrer : Referrer Module) (specifier : List ℕ) (target : Module) → Resolves tree config.conditions (path_of config referrer) specifier (Ok target) → leads (get tree) config referrer specifier ≡ Some target
+  node_leads referrer specifier target answers = ap if_ok (sym answers)
 
   pub reached : (referrer : Referrer Module) → Reachable tree config referrer → IsReached (get tree) config referrer
   reached the_page page = page_is_reached
   reached (a_module _) (requested referrer asks specifier target before is_asking asked answers) =
       let earlier = reached referrer before in
-      let passes = passes_at referrer asks specifier earlier is_asking asked in
       let at : Contains (specifiers (get tree) config referrer) specifier = subst (λ o. Contains (unwrap_or o []) specifier) (sym is_asking) asked in
-      is_requested earlier (contains_given (leads (get tree) config referrer) specifier target (specifiers (get tree) config referrer) at (node_leads referrer specifier target passes.relative answers))
+      is_requested earlier (contains_given (leads (get tree) config referrer) specifier target (specifiers (get tree) config referrer) at (node_leads referrer specifier target answers))
 
   -- ---- names
 
@@ -62,15 +56,15 @@ module _ (tree : Tree) (config : Config) (all : Gathered) (is_traced : traced (g
   page_named page_is_file =
       let walk = ok_parts (always (get tree)) (visited (rules config) nothing_gathered the_page) (λ after. walked (rules config) (suc (limit_number Modules)) after 0) all (traced_outcome (get tree) config all is_traced) in
       let visit = ok_parts (always (get tree)) (opens config nothing_gathered the_page) (λ (opened : Opened Gathered). followed (rules config) opened.after the_page opened.specifiers) walk.value walk.first_is in
-      by (served_name config.base config.page (web config.base config.page [])) visit.value refl visit.first_is
+      by (served_at config the_page) visit.value refl visit.first_is
     where
-      by : (found : Option (List ℕ)) (opened : Opened Gathered) → served_name config.base config.page (web config.base config.page []) ≡ found → page_opened config nothing_gathered found ≡ Ok opened → IsNamed config the_page
+      by : (found : Option (List ℕ)) (opened : Opened Gathered) → served_at config the_page ≡ found → page_opened config nothing_gathered found ≡ Ok opened → IsNamed config the_page
       by None opened is e = absurd (cc)
-      by (Some name) opened is e = let named = (served_parts config.base config.page (web config.base config.page []) name is).0 in record { name = name; named = named; is_file = page_is_file name named }
+      by (Some name) opened is e = let named = (served_parts config.base config.page (web_name config the_page) name is).0 in record { name = name; named = named; is_file = page_is_file name named }
 
   target_named : (referrer : Referrer Module) (specifier : List ℕ) (target : Module) → Passes (get tree) config all referrer specifier → leads (get tree) config referrer specifier ≡ Some target → IsNamed config (a_module target)
   target_named referrer specifier target passes led =
-      let same = same_Some passes.target target (sym (cond-true _ _ _ passes.relative ∙ ap module_in passes.answers) ∙ led) in
+      let same = same_Some passes.target target (sym (ap if_ok passes.answers) ∙ led) in
       let need = (needs_are_requests (get tree) config all is_traced).each passes.need passes.is_need in
       record { name = passes.need.target; named = subst (λ m. web_name config (a_module m) ≡ Some passes.need.target) same passes.servable.name; is_file = (file_name_parts config need.target passes.need.target need.is_name).is_file }
 
@@ -89,8 +83,7 @@ module _ (tree : Tree) (config : Config) (all : Gathered) (is_traced : traced (g
       let referrer = is_named page_is_file is.referrer is.reached in
       record {
         referrer = kept_urls.2 _ _ _ _ is.named;
-        asked = own_urls.1 need.referrer is.specifier need.asked is.asks;
+        asked = is_asked need.referrer is.specifier need.asked is.utf8 is.asks;
         target = kept_urls.2 _ _ _ _ file.servable.name;
         referrer_is_file = subst (λ name. ends_in_slash name ≡ false) (same_Some referrer.name need.referrer (sym referrer.named ∙ is.named)) referrer.is_file;
-        asked_is_file = is.asked_is_file;
       }

@@ -1,13 +1,10 @@
 -- What is generated serves: a map of the needs of a trace does that captures none of them and has no mappings but theirs.
-use Rattle.std.proofs.Common.{refl, sym, ap, ◌∙◌, subst}
+use Rattle.std.proofs.Common.{refl, sym, ◌∙◌, subst}
 use Rattle.std.proofs.lemmas.Option.{same_Some}
 use Rattle.std.specs.FinMap.{get, empty}
-use Rattle.std.specs.Prelude.{◌≡◌, ℕ, List, Some, Ok, unwrap_or, Contains}
+use Rattle.std.specs.Prelude.{◌≡◌, ℕ, List, Some, Ok, Contains}
 use Rattle.tree_spec.specs.Trees.{Tree}
 use Rattle.url_spec.proofs.KeptUrls.{kept_urls}
-use Rattle.url_spec.specs.Specifiers.{as_url, normalized}
-use Rattle.node_spec.proofs.RelativeLemmas.{finds_relative}
-use Rattle.node_spec.specs.Resolution as node
 use Rattle.import_map_spec.proofs.ResolvesByCases.{resolves_by_cases}
 use Rattle.import_map_spec.specs.ParsedMap.{ParsedMap}
 use Rattle.import_map_spec.specs.Parsing.{ParsesMap}
@@ -27,19 +24,16 @@ use Rattle.trace_spec.proofs.Traces.{requests_pass, needs_are_requests}
 use Rattle.trace_spec.specs.Checks.{Gathered}
 use Rattle.trace_spec.specs.Laws.{Passes}
 use Rattle.trace_spec.specs.Levels.{page as page_is_reached}
-use Rattle.trace_spec.specs.Modules.{Config, Module, path_of, web_name}
+use Rattle.trace_spec.specs.Modules.{Config, Module, web_name}
 use Rattle.trace_spec.specs.Traces.{traced}
 use Rattle.trace_spec.specs.Walking.{Referrer, the_page}
 use Rattle.generator_spec.specs.Generation.{PageIsFile}
 use Rattle.generator_spec.specs.Serves.{Reachable, Leads, AllLead, Serves}
+use Rattle.soundness.proofs.Asking.{asks_normal}
 use Rattle.soundness.proofs.Kept.{map_kept}
 use Rattle.soundness.proofs.Leading.{need_leads}
 use Rattle.soundness.proofs.Reaching.{reached, is_named, needs_name}
 use Rattle.soundness.specs.Soundness.{MapsServe, AgreedMapsServe, Soundness, MapsArePlain, OneMapInPage}
-
-normal_by_url : (referrer specifier asked : List ℕ) → as_url referrer specifier ≡ Some asked → normalized referrer specifier ≡ asked
-unfolding normalized
-normal_by_url referrer specifier asked e = ap (λ found. unwrap_or found specifier) e
 
 module _ (tree : Tree) (config : Config) (all : Gathered) (is_traced : traced (get tree) config ≡ Ok all) (page_is_file : PageIsFile config) (m : ParsedMap) (no_capture : NoCapture all.needs m) (of_needs : OfNeeds all.needs m) where
   files : (need : Need) → Contains all.needs need → NamesFiles need
@@ -51,13 +45,12 @@ module _ (tree : Tree) (config : Config) (all : Gathered) (is_traced : traced (g
       let need = passes.need in
       let same : need.referrer ≡ name = same_Some need.referrer name (sym passes.named ∙ named) in
       record {
-        path = passes.target.path;
-        suffix = passes.target.suffix;
+        target = passes.target;
         url = need.target;
-        node = subst (node.Resolves tree (path_of config referrer) specifier) passes.answers (finds_relative tree (path_of config referrer) specifier passes.relative);
+        node = sym passes.answers;
         web = passes.servable.name;
         html = subst (λ n. html.Resolves m n specifier (html.Resolved need.target)) same
-            ((resolves_by_cases m need.referrer specifier (html.Resolved need.target)).0 (need_leads all.needs m no_capture of_needs files need specifier passes.is_need (normal_by_url need.referrer specifier need.asked passes.asks)));
+            ((resolves_by_cases m need.referrer specifier (html.Resolved need.target)).0 (need_leads all.needs m no_capture of_needs files need specifier passes.is_need (asks_normal need.referrer specifier need.asked passes.asks)));
         served = passes.servable.back;
       }
 

@@ -11,4 +11,7 @@ pub mod Traces
 pub mod RefusalOrder
 pub mod RefusalKinds
 pub mod NeedLemmas
+pub mod SpellingLemmas
+pub mod Clashes
 pub mod TextLimits
+pub mod Generations

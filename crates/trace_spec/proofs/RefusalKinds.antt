@@ -1,59 +1,138 @@
 -- The kinds of refusals.
-use Rattle.std.specs.Prelude.{◌≡◌, ⊤, ℕ, List, [], length, Option, Some, None, Result, Ok, Err, nat_lt}
+use Rattle.std.specs.Prelude.{◌≡◌, ◌≤◌, ◌&&◌, not, ⊤, ℕ, Bool, true, false, List, length, map, Option, Some, None, Result, Ok, Err}
+use Rattle.std.specs.Prelude.{nat_lt, if◌then◌else◌}
 use Rattle.std.specs.List.{list_any}
+use Rattle.std.specs.Str.{is_utf8}
+use Rattle.std.specs.Str.Lossy.{utf8_valid_len}
 use Rattle.std.proofs.Common.{refl, sym, ◌∙◌, subst}
-use mathlib.Core.Logic.{inl, inr}
-use Rattle.std.proofs.lemmas.Bool.{cases_Bool, cond-true, cond-false}
+use Rattle.std.proofs.lemmas.Bool.{ltb-false}
 use Rattle.asking_spec.specs.Askings.{Asking, outcome}
 use Rattle.asking_spec.specs.Evaluation.{Ended, ends, stopped, evaluated}
 use Rattle.asking_spec.proofs.EvaluationLemmas.{ends_outcome, evaluated_stops}
 use Rattle.tree_spec.specs.declared.Entry.{Entry}
 use Rattle.tree_spec.specs.declared.Entry.TheVariants.{Stored, Directory}
 use Rattle.tree_spec.specs.declared.LimitName.{LimitName}
-use Rattle.tree_spec.specs.declared.LimitName.TheVariants.{File, Modules}
+use Rattle.tree_spec.specs.declared.LimitName.TheVariants.{File, Looks, Bytes, Modules, Requests, Specifier}
 use Rattle.tree_spec.specs.Limits.{limit_number}
 use Rattle.tree_spec.specs.LookAskings.{Sights}
-use Rattle.url_spec.specs.WebNames.{web}
-use Rattle.node_spec.specs.declared.Cause.{Cause}
-use Rattle.node_spec.specs.declared.Cause.TheVariants as cause
-use Rattle.node_spec.specs.Resolution as node
+use Rattle.tree_spec.specs.LookLimits.{Trail, begun, look_limits, seen_again, seen_first, counted, told, limited}
+use Rattle.url_spec.specs.Specifiers.{ends_in_slash}
+use Rattle.module_spec.specs.declared.request.Request.{Request}
+use Rattle.module_spec.specs.declared.request.ModuleFault.{ModuleFault}
+use Rattle.module_spec.specs.declared.request.ModuleFault.TheVariants as fault
+use Rattle.module_spec.specs.Outlines.{Outline}
+use Rattle.module_spec.specs.OutlineReading.{read_outline}
+use Rattle.node_spec.specs.declared.Reason.TheVariants.{CommonJs, Unreadable}
+use Rattle.node_spec.specs.EsmFileFormat.{Format, IsModule, IsDetected, IsCommonJs, IsJson, IsAddon, HasBadConfig}
+use Rattle.node_spec.specs.EsmFileFormat.{IsOther, file_format}
+use Rattle.node_spec.specs.NodeAnswers.{Refusal, by_cause, too_deep}
 use Rattle.layout_spec.specs.declared.Need.{Need}
 use Rattle.layout_spec.specs.Needs.{clashes}
+use Rattle.asking_spec.proofs.AskingLemmas.{outcome_then}
+use Rattle.trace_spec.specs.declared.AskCause.{AskCause}
+use Rattle.trace_spec.specs.declared.AskCause.TheVariants.{TrailingSlash}
 use Rattle.trace_spec.specs.declared.TraceFault.{TraceFault}
-use Rattle.trace_spec.specs.declared.TraceFault.TheVariants.{RequestNotBuilt, Limit}
+use Rattle.trace_spec.specs.declared.TraceFault.TheVariants.{Limit}
 use Rattle.trace_spec.specs.Walking.{Referrer, the_page, a_module}
-use Rattle.trace_spec.specs.Modules.{Config, Module, path_of, shown, served_name, file_name}
-use Rattle.trace_spec.specs.Questions.{Source, Question, of_request, Answer, Trail, within_limit, limited}
-use Rattle.trace_spec.specs.Questions.{answers, always, put}
-use Rattle.trace_spec.specs.Checks.{Gathered, page_opened, module_opened, opens, Wanted, wanted, refused_by}
-use Rattle.trace_spec.specs.Checks.{with_request}
-use Rattle.trace_spec.specs.Checks.{has_room, with_room, needed, named, led, followed_by, follows}
-use Rattle.trace_spec.specs.Traces.{result_of, source}
-use Rattle.trace_spec.specs.Kinds.{IsOfTrace}
+use Rattle.trace_spec.specs.Modules.{Config, Module, served_at}
+use Rattle.trace_spec.specs.Questions.{Source, NoSource, not_module, above, Question, of_module, Answer, by_outline}
+use Rattle.trace_spec.specs.Questions.{by_bytes, by_entry, by_format, put, answers, always}
+use Rattle.trace_spec.specs.Checks.{Gathered, Spelling, page_opened, module_opened, opens, Wanted, wanted, refused_by}
+use Rattle.trace_spec.specs.Checks.{wants, checked, clashing, clash_with, with_request, has_room, with_room, needed}
+use Rattle.trace_spec.specs.Checks.{named, led, followed_by, follows}
+use Rattle.trace_spec.specs.Traces.{result_of, resolution}
+use Rattle.trace_spec.specs.Kinds.{IsTraceLimit, IsOfTrace}
 use Rattle.trace_spec.specs.Laws.{ComesTo, RefusedAt, at_opening, at_request, RefusesByKind}
 use Rattle.trace_spec.proofs.Steps.{answers_always}
 use Rattle.trace_spec.proofs.RefusalOrder.{refused_in_order}
 
--- ---- limits
+-- ---- limits of looks
 
-within_stops : (found : Option Entry) (trail after : Trail) (limit : LimitName)
-    → within_limit found trail ≡ stopped limit after → limit ≡ File
-within_stops None trail after limit e = absurd (cc)
-within_stops (Some Directory) trail after limit e = absurd (cc)
-within_stops (Some (Stored bytes)) trail after limit e =
-    let above : Ended (Option Entry) Trail LimitName = stopped File trail in
-    let within : Ended (Option Entry) Trail LimitName = ends (Some (Stored bytes)) trail in
-    elim (cases_Bool (nat_lt (limit_number File) (length bytes))) [
-      | inl test ↦ (let f : above ≡ stopped limit after = sym (cond-true _ above within test) ∙ e in cc)
-      | inr test ↦ absurd (let f : within ≡ stopped limit after = sym (cond-false _ above within test) ∙ e in cc)
-    ]
+chain_stops : (seen large room heavy : Bool) (again first : Trail) (limit : LimitName)
+    → (if seen then (if large then Err File else Ok again)
+    else if room then Err Looks
+    else if large then Err File
+    else if heavy then Err Bytes
+    else Ok first) ≡ Err limit
+    → IsTraceLimit limit
+chain_stops true true room heavy again first limit e = let p : File ≡ limit = cc in subst IsTraceLimit p tt
+chain_stops true false room heavy again first limit e = absurd (cc)
+chain_stops false large true heavy again first limit e = let p : Looks ≡ limit = cc in subst IsTraceLimit p tt
+chain_stops false true false heavy again first limit e = let p : File ≡ limit = cc in subst IsTraceLimit p tt
+chain_stops false false false true again first limit e = let p : Bytes ≡ limit = cc in subst IsTraceLimit p tt
+chain_stops false false false false again first limit e = absurd (cc)
 
--- an answer stops for a file above its limit
+told_stops : (found : Option Entry) (trail after : Trail) (limit : LimitName) (counts : Result Trail LimitName)
+    → ((name : LimitName) → counts ≡ Err name → IsTraceLimit name)
+    → told found trail counts ≡ stopped limit after → IsTraceLimit limit
+told_stops found trail after limit (Ok next) kinds e = absurd (cc)
+told_stops found trail after limit (Err name) kinds e =
+    let p : name ≡ limit = cc in subst IsTraceLimit p (kinds name refl)
+
+look_stops : (sights : Sights) (trail after : Trail) (path : List ℕ) (limit : LimitName)
+    → limited look_limits sights trail path ≡ stopped limit after → IsTraceLimit limit
+look_stops sights trail after path limit e =
+    told_stops (sights path) trail after limit (counted look_limits trail path (sights path))
+    (λ name f. chain_stops _ _ _ _ (seen_again trail path) (seen_first trail path (sights path)) name f) e
+
 answers_stop : (sights : Sights) (trail after : Trail) (question : Question) (limit : LimitName)
-    → answers sights trail question ≡ stopped limit after → limit ≡ File
+    → answers sights trail question ≡ stopped limit after → IsTraceLimit limit
 answers_stop sights trail after question limit e =
-    evaluated_stops (λ limit. limit ≡ File) (limited sights)
-    (λ state later path stop f. within_stops (sights path) state later stop f) trail after (put question) limit e
+    evaluated_stops IsTraceLimit (limited look_limits sights)
+    (λ state later path stop f. look_stops sights state later path stop f) (begun trail) after (put question) limit e
+
+-- ---- sources
+
+-- a limit that is passed as a module is read is a trace's
+abbrev IsFine : Result Source NoSource → Type 0
+IsFine (Ok source) = ⊤
+IsFine (Err (not_module reason)) = ⊤
+IsFine (Err (above limit)) = IsTraceLimit limit
+
+outline_fine : (is_detected : Bool) (bytes : List ℕ) (read : Result Outline ModuleFault)
+    → IsFine (by_outline is_detected bytes read)
+outline_fine is_detected bytes (Err (fault.Unreadable at)) = tt
+outline_fine is_detected bytes (Err fault.TooDeep) = tt
+outline_fine is_detected bytes (Err fault.TooManyRequests) = tt
+outline_fine is_detected bytes (Ok outline) =
+    by (is_detected && not outline.declares)
+  where
+    by : (test : Bool) → IsFine (if test
+        then Err (not_module CommonJs)
+        else Ok (record { bytes = bytes; specifiers = map (λ (request : Request). request.text) outline.requests }))
+    by true = tt
+    by false = tt
+
+bytes_fine : (is_detected : Bool) (bytes : List ℕ) → IsFine (by_bytes is_detected bytes)
+bytes_fine is_detected bytes = by (is_utf8 bytes)
+  where
+    by : (text : Bool) → IsFine (if text
+        then by_outline is_detected bytes (read_outline bytes)
+        else Err (not_module (Unreadable (utf8_valid_len bytes))))
+    by true = outline_fine is_detected bytes (read_outline bytes)
+    by false = tt
+
+entry_fine : (is_detected : Bool) (found : Option Entry) → IsFine (by_entry is_detected found)
+entry_fine is_detected None = tt
+entry_fine is_detected (Some Directory) = tt
+entry_fine is_detected (Some (Stored bytes)) = bytes_fine is_detected bytes
+
+format_fine : (sights : Sights) (path : List ℕ) (format : Result Format Refusal)
+    → IsFine (outcome sights (by_format path format))
+format_fine sights path (Ok IsModule) = entry_fine false (sights path)
+format_fine sights path (Ok IsDetected) = entry_fine true (sights path)
+format_fine sights path (Ok IsCommonJs) = tt
+format_fine sights path (Ok IsJson) = tt
+format_fine sights path (Ok IsAddon) = tt
+format_fine sights path (Ok HasBadConfig) = tt
+format_fine sights path (Ok IsOther) = tt
+format_fine sights path (Err (by_cause cause)) = tt
+format_fine sights path (Err too_deep) = tt
+
+source_fine : (sights : Sights) (path : List ℕ) → IsFine (always sights (of_module path))
+source_fine sights path =
+    subst IsFine (sym (outcome_then sights (file_format path) (by_format path)))
+    (format_fine sights path (outcome sights (file_format path)))
 
 -- ---- checks
 
@@ -62,107 +141,138 @@ abbrev OfKind : {X : Type 0} → Config → Result X TraceFault → Type 0
 OfKind config (Ok value) = ⊤
 OfKind config (Err refusal) = IsOfTrace config refusal
 
+abbrev IsShort : List ℕ → Type 0
+IsShort specifier = length specifier ≤ limit_number Specifier
+
+-- what is checked before Node is asked; where that passes, the specifier isn't too long
+abbrev OfCheck : Config → List ℕ → Result Wanted TraceFault → Type 0
+OfCheck config specifier (Ok want) = IsShort specifier
+OfCheck config specifier (Err refusal) = IsOfTrace config refusal
+
 module _ (sights : Sights) (config : Config) where
-  page_kind : (before : Gathered) (name : Option (List ℕ))
-      → served_name config.base config.page (web config.base config.page []) ≡ name
+  page_kind : (before : Gathered) (name : Option (List ℕ)) → served_at config the_page ≡ name
       → OfKind config (page_opened config before name)
-  page_kind before None is = (refl, refl, is)
+  page_kind before None is = record { which = the_page; path_is = refl; url_is = refl; lost = is }
   page_kind before (Some url) is = tt
 
-  module_kind : (before : Gathered) (m : Module) (found : Option Source)
+  module_kind : (before : Gathered) (m : Module) (found : Result Source NoSource) → IsFine found
       → OfKind config (module_opened config before m found)
-  module_kind before m None = tt
-  module_kind before m (Some found) = tt
+  module_kind before m (Err (not_module reason)) fine = tt
+  module_kind before m (Err (above limit)) fine = fine
+  module_kind before m (Ok found) fine = tt
 
   opens_kind : (before : Gathered) (referrer : Referrer Module)
       → OfKind config (outcome (always sights) (opens config before referrer))
-  opens_kind before the_page =
-      page_kind before (served_name config.base config.page (web config.base config.page [])) refl
-  opens_kind before (a_module m) = module_kind before m (source sights m)
+  opens_kind before the_page = page_kind before (served_at config the_page) refl
+  opens_kind before (a_module m) =
+      module_kind before m (always sights (of_module m.path)) (source_fine sights m.path)
 
-  refused_kind : (why : Cause) (referrer specifier : List ℕ) → IsOfTrace config (refused_by why referrer specifier)
-  refused_kind cause.Builtin referrer specifier = tt
-  refused_kind cause.ExternalUrl referrer specifier = tt
-  refused_kind cause.InvalidSpecifier referrer specifier = tt
-  refused_kind cause.InvalidConfig referrer specifier = tt
-  refused_kind cause.InvalidTarget referrer specifier = tt
-  refused_kind cause.NotExported referrer specifier = tt
-  refused_kind cause.ImportNotDefined referrer specifier = tt
-  refused_kind cause.NotFound referrer specifier = refl
-  refused_kind cause.DirectoryImport referrer specifier = tt
+  wants_kind : (referrer : Referrer Module) (specifier : List ℕ) → IsShort specifier → (want : Result Wanted AskCause)
+      → OfCheck config specifier (wants config referrer specifier want)
+  wants_kind referrer specifier short (Ok want) = short
+  wants_kind referrer specifier short (Err cause) = short
 
-  with_room_kind : (before : Gathered) (need : Need) (target : Module) → OfKind config (with_room before need target)
-  with_room_kind before need target =
-      let fits : Result Gathered TraceFault = Ok (with_request before need target) in
-      let full : Result Gathered TraceFault = Err (Limit Modules) in
-      elim (cases_Bool (has_room before.modules target)) [
-        | inl room ↦ subst (OfKind config) (sym (cond-true _ fits full room)) tt
-        | inr none ↦ subst (OfKind config) (sym (cond-false _ fits full none)) (inr refl)
-      ]
+  checked_kind : (before : Gathered) (referrer : Referrer Module) (specifier : List ℕ)
+      → OfCheck config specifier (checked config before referrer specifier)
+  checked_kind before referrer specifier =
+      by (nat_lt before.requests (limit_number Requests)) (nat_lt (limit_number Specifier) (length specifier)) refl
+    where
+      by : (few long : Bool) → nat_lt (limit_number Specifier) (length specifier) ≡ long
+          → OfCheck config specifier (if few
+          then (if long
+          then Err (Limit Specifier)
+          else wants config referrer specifier (wanted config referrer specifier))
+          else Err (Limit Requests))
+      by false long is = tt
+      by true true is = tt
+      by true false is =
+          wants_kind referrer specifier (ltb-false (limit_number Specifier) (length specifier) is)
+          (wanted config referrer specifier)
 
-  needed_kind : (refusal : TraceFault) (before : Gathered) (need : Need) (target : Module) → IsOfTrace config refusal
-      → OfKind config (needed refusal before need target)
-  needed_kind refusal before need target is =
-      let refuses : Result Gathered TraceFault = Err refusal in
-      elim (cases_Bool (list_any (clashes need) before.needs)) [
-        | inl clash ↦ subst (OfKind config) (sym (cond-true _ refuses (with_room before need target) clash)) is
-        | inr clear ↦
-            subst (OfKind config) (sym (cond-false _ refuses (with_room before need target) clear))
-            (with_room_kind before need target)
-      ]
+  with_room_kind : (before : Gathered) (need : Need) (spelling : Spelling)
+      → OfKind config (with_room before need spelling)
+  with_room_kind before need spelling = by (has_room before.modules spelling.target)
+    where
+      by : (room : Bool) → OfKind config (if room then Ok (with_request before need spelling) else Err (Limit Modules))
+      by true = tt
+      by false = tt
 
-  named_kind : (refusal : TraceFault) (before : Gathered) (want : Wanted) (target : Module) (name : Option (List ℕ))
-      → IsOfTrace config refusal → OfKind config (named refusal before want target name)
-  named_kind refusal before want target None is = is
-  named_kind refusal before want target (Some url) is =
-      needed_kind refusal before (record { referrer = want.referrer; asked = want.asked; target = url }) target is
+  needed_kind : (before : Gathered) (referrer : Referrer Module) (need : Need) (spelling : Spelling)
+      → IsShort spelling.specifier → OfKind config (needed config before referrer need spelling)
+  needed_kind before referrer need spelling short = by (list_any (clashes need) before.needs)
+    where
+      by : (clash : Bool) → OfKind config (if clash
+          then Err (clash_with config referrer (clashing need before.needs before.spellings) spelling)
+          else with_room before need spelling)
+      by true = short
+      by false = with_room_kind before need spelling
 
-  led_kind : (before : Gathered) (referrer : Referrer Module) (specifier : List ℕ) (want : Wanted) (found : node.Answer)
-      → OfKind config (led config before referrer specifier want found)
-  led_kind before referrer specifier want (node.Refused why) = refused_kind why (shown config referrer) specifier
-  led_kind before referrer specifier want (node.Resolved path suffix) =
-      let target : Module = record { path = path; suffix = suffix } in
-      named_kind (RequestNotBuilt (shown config referrer) specifier) before want target (file_name config target) tt
+  named_kind : (before : Gathered) (referrer : Referrer Module) (want : Wanted) (spelling : Spelling)
+      (name : Option (List ℕ)) → served_at config (a_module spelling.target) ≡ name → IsShort spelling.specifier
+      → OfKind config (named config before referrer want spelling name)
+  named_kind before referrer want spelling None is short =
+      record { which = a_module spelling.target; path_is = refl; url_is = refl; lost = is }
+  named_kind before referrer want spelling (Some url) is short = by (ends_in_slash url)
+    where
+      by : (slash : Bool) → OfKind config (if slash
+          then Err (refused_by config referrer spelling.specifier TrailingSlash)
+          else needed config before referrer (record { referrer = want.referrer; asked = want.asked; target = url })
+          spelling)
+      by true = short
+      by false = needed_kind before referrer _ spelling short
 
-  followed_kind : (before : Gathered) (referrer : Referrer Module) (specifier : List ℕ) (want : Option Wanted)
+  led_kind : (before : Gathered) (referrer : Referrer Module) (specifier : List ℕ) (want : Wanted) → IsShort specifier
+      → (found : Result Module Refusal) → OfKind config (led config before referrer specifier want found)
+  led_kind before referrer specifier want short (Err (by_cause cause)) = short
+  led_kind before referrer specifier want short (Err too_deep) = tt
+  led_kind before referrer specifier want short (Ok target) =
+      named_kind before referrer want (record { specifier = specifier; target = target })
+      (served_at config (a_module target)) refl short
+
+  followed_kind : (before : Gathered) (referrer : Referrer Module) (specifier : List ℕ)
+      (want : Result Wanted TraceFault) → OfCheck config specifier want
       → OfKind config (outcome (always sights) (followed_by config before referrer specifier want))
-  followed_kind before referrer specifier None = tt
-  followed_kind before referrer specifier (Some want) =
-      led_kind before referrer specifier want (always sights (of_request (path_of config referrer) specifier))
+  followed_kind before referrer specifier (Err refusal) kind = kind
+  followed_kind before referrer specifier (Ok want) short =
+      led_kind before referrer specifier want short (resolution sights config referrer specifier)
 
   -- ---- a refusal
 
-  answers_stopped : {X : Type 0} (asking : Asking Question Answer X) (trail : Trail) (limit : LimitName)
-      → evaluated (answers sights) tt asking ≡ stopped limit trail → limit ≡ File
-  answers_stopped asking trail limit e =
-      evaluated_stops (λ limit. limit ≡ File) (answers sights)
-      (λ state after question stop f. answers_stop sights state after question stop f) tt trail asking limit e
+  answers_stopped : {X : Type 0} (asking : Asking Question Answer X) (before after : Trail) (limit : LimitName)
+      → evaluated (answers sights) before asking ≡ stopped limit after → IsTraceLimit limit
+  answers_stopped asking before after limit e =
+      evaluated_stops IsTraceLimit (answers sights)
+      (λ state later question stop f. answers_stop sights state later question stop f) before after asking limit e
 
-  result_kind : {X : Type 0} (asking : Asking Question Answer (Result X TraceFault)) (refusal : TraceFault)
-      → OfKind config (outcome (always sights) asking) → (end : Ended (Result X TraceFault) Trail LimitName)
-      → evaluated (answers sights) tt asking ≡ end → result_of end ≡ Err refusal → IsOfTrace config refusal
-  result_kind asking refusal kind (ends result trail) is e =
+  result_kind : {X : Type 0} (asking : Asking Question Answer (Result X TraceFault)) (before : Trail)
+      (refusal : TraceFault) → OfKind config (outcome (always sights) asking)
+      → (end : Ended (Result X TraceFault) Trail LimitName)
+      → evaluated (answers sights) before asking ≡ end → result_of end ≡ Err refusal → IsOfTrace config refusal
+  result_kind asking before refusal kind (ends result trail) is e =
       let outcome_is =
-      ends_outcome (answers sights) (always sights) (answers_always sights) tt trail asking result is in
+      ends_outcome (answers sights) (always sights) (answers_always sights) before trail asking result is in
       subst (OfKind config) (sym outcome_is ∙ e) kind
-  result_kind asking refusal kind (stopped limit trail) is e =
+  result_kind asking before refusal kind (stopped limit trail) is e =
       let same : Limit limit ≡ refusal = cc in
-      subst (IsOfTrace config) same (inl (answers_stopped asking trail limit is))
+      subst (IsOfTrace config) same (answers_stopped asking before trail limit is)
 
-  comes_kind : {X : Type 0} (asking : Asking Question Answer (Result X TraceFault)) (refusal : TraceFault)
-      → OfKind config (outcome (always sights) asking) → ComesTo sights asking (Err refusal) → IsOfTrace config refusal
-  comes_kind asking refusal kind comes =
-      result_kind asking refusal kind (evaluated (answers sights) tt asking) refl comes
+  comes_kind : {X : Type 0} (asking : Asking Question Answer (Result X TraceFault)) (before : Trail)
+      (refusal : TraceFault) → OfKind config (outcome (always sights) asking)
+      → ComesTo sights before asking (Err refusal) → IsOfTrace config refusal
+  comes_kind asking before refusal kind comes =
+      result_kind asking before refusal kind (evaluated (answers sights) before asking) refl comes
 
-  refused_at_kind : (before : Gathered) (referrer : Referrer Module) (refusal : TraceFault) (asked : List Question)
-      → RefusedAt sights config before referrer refusal asked → IsOfTrace config refusal
-  refused_at_kind before referrer refusal asked (at_opening refuses) =
-      comes_kind (opens config before referrer) refusal (opens_kind before referrer) refuses
-  refused_at_kind before referrer refusal asked (at_request front specifier is) =
-      comes_kind (follows config is.tables referrer specifier) refusal
-      (followed_kind is.tables referrer specifier (wanted config referrer specifier)) is.refused
+  refused_at_kind : (before : Gathered) (trail : Trail) (referrer : Referrer Module) (refusal : TraceFault)
+      (asked : List Question) → RefusedAt sights config before trail referrer refusal asked
+      → IsOfTrace config refusal
+  refused_at_kind before trail referrer refusal _ (at_opening refuses) =
+      comes_kind (opens config before referrer) trail refusal (opens_kind before referrer) refuses
+  refused_at_kind before trail referrer refusal _ (at_request front specifier is) =
+      comes_kind (follows config is.tables referrer specifier) is.later refusal
+      (followed_kind is.tables referrer specifier (checked config is.tables referrer specifier)
+      (checked_kind is.tables referrer specifier)) is.refused
 
 pub refuses_by_kind : RefusesByKind
 refuses_by_kind sights config refusal e =
     let at = refused_in_order sights config refusal e in
-    refused_at_kind sights config at.before at.referrer refusal at.asked_last at.refused
+    refused_at_kind sights config at.before at.trail at.referrer refusal at.asked_last at.refused

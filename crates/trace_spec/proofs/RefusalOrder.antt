@@ -1,5 +1,5 @@
 -- The tables and the questions of a trace up to its first refusal.
-use Rattle.std.specs.Prelude.{◌≡◌, ℕ, suc, List, [], ◌∷◌, ◌++◌, length, map, slice_get, Option, Some, None, option_map}
+use Rattle.std.specs.Prelude.{◌≡◌, ℕ, suc, List, [], ◌∷◌, ◌++◌, length, map, slice_get, Option, Some, option_map}
 use Rattle.std.specs.Prelude.{Result, Ok, Err}
 use Rattle.std.proofs.Common.{refl, sym, ap, ◌∙◌, subst, arith, length-append, append_assoc, append-nil}
 use Rattle.std.proofs.lemmas.Option.{slice_get-map}
@@ -17,13 +17,15 @@ use Rattle.trace_spec.specs.declared.TraceFault.TheVariants.{Limit}
 use Rattle.trace_spec.specs.Walking.{Referrer, the_page, a_module, new_modules, followed, visited}
 use Rattle.trace_spec.specs.FirstRefusals.{Failure, refused, halted, failed, Passed, page_passes, next_passes, Comes}
 use Rattle.trace_spec.specs.FirstRefusals.{page_first, module_next, FailsIn, by_opening, by_request}
-use Rattle.trace_spec.specs.Modules.{Config, Module, is_module, path_of}
-use Rattle.trace_spec.specs.Questions.{Question, of_module, of_request, Answer, Trail, answers, always}
-use Rattle.trace_spec.specs.Checks.{Gathered, module_opened, opens, Wanted, wanted, led, followed_by, follows, nothing_gathered}
-use Rattle.trace_spec.specs.Checks.{rules}
+use Rattle.tree_spec.specs.LookLimits.{Trail, no_trail}
+use Rattle.trace_spec.specs.Modules.{Config, Module, is_module}
+use Rattle.trace_spec.specs.Questions.{Question, of_module, Answer, answers, always}
+use Rattle.trace_spec.specs.Checks.{Gathered, module_opened, opens, Wanted, checked, led, asking_at, followed_by, follows}
+use Rattle.trace_spec.specs.Checks.{nothing_gathered, rules}
 use Rattle.trace_spec.specs.Traces.{trace, result_of, state_of, traced, specifiers, leads, targets}
 use Rattle.trace_spec.specs.Laws.{refusal_by, opening, opening_put, requests_put, visits_put, asked_in, visits_of}
-use Rattle.trace_spec.specs.Laws.{none_asked, if_wanted, asked_for, ComesTo, RefusedAt, at_opening, at_request}
+use Rattle.trace_spec.specs.Laws.{none_asked, if_checked, asked_for, ComesTo, RefusedRequest, asked_up_to, RefusedAt}
+use Rattle.trace_spec.specs.Laws.{at_opening, at_request}
 use Rattle.trace_spec.specs.Laws.{RefusedInOrder, RefusesInOrder}
 use Rattle.trace_spec.proofs.Steps.{answers_always}
 use Rattle.trace_spec.proofs.WalkModules.{slice_there, visited_modules}
@@ -65,7 +67,7 @@ module _ (sights : Sights) (config : Config) where
 
   passed_without : (before : Gathered) (state : Told) (count : ℕ)
       → Passed told (rules config) none_asked before state count
-      → Passed (answers sights) (rules config) tt before state.state count
+      → Passed (answers sights) (rules config) no_trail before state.state count
   passed_without before state count (page_passes e) =
       page_passes (without (visited (rules config) nothing_gathered the_page) none_asked (ends (Ok before) state) e)
   passed_without before state count (next_passes {before = earlier} {after = a} {state = s} {later = l} {count = n}
@@ -75,7 +77,7 @@ module _ (sights : Sights) (config : Config) where
 
   comes_without : (before : Gathered) (state : Told) (referrer : Referrer Module)
       → Comes told (rules config) none_asked before state referrer
-      → Comes (answers sights) (rules config) tt before state.state referrer
+      → Comes (answers sights) (rules config) no_trail before state.state referrer
   comes_without _ _ _ page_first = page_first
   comes_without before state referrer (module_next {before = b} {state = s} {count = n} {found = m} passed is) =
       module_next (passed_without b s n passed) is
@@ -131,7 +133,7 @@ module _ (sights : Sights) (config : Config) where
 
   abbrev asked_at : Referrer Module → List Question
   asked_at referrer =
-      opening referrer ++ map (of_request (path_of config referrer)) (specifiers sights config referrer)
+      opening referrer ++ map (asking_at config referrer) (specifiers sights config referrer)
 
   asked_more : (visits : List (Referrer Module)) (referrer : Referrer Module)
       → asked_in sights config visits ++ asked_at referrer ≡ asked_in sights config (visits ++ referrer ∷ [])
@@ -139,8 +141,8 @@ module _ (sights : Sights) (config : Config) where
       ap (λ qs. asked_in sights config visits ++ qs) (sym (append-nil (asked_at referrer)))
       ∙ sym (flat_map-append asked_at visits (referrer ∷ []))
 
-  abbrev asking_at : Referrer Module → List ℕ → Question
-  asking_at referrer = of_request (path_of config referrer)
+  abbrev asking : Referrer Module → List ℕ → Question
+  asking referrer = asking_at config referrer
 
   visit_done : (before after : Gathered) (state later : Told) (place : ℕ) (referrer : Referrer Module)
       → Coming before state place referrer
@@ -154,7 +156,7 @@ module _ (sights : Sights) (config : Config) where
       (lead sights config) referrer before after (sym came.is) in
       let visit =
       visit_in_order (always sights) (rules config) (specifiers sights config)
-      (leads sights config) opening asking_at
+      (leads sights config) opening asking
       (opening_put sights) (put_request sights config) (request_of sights config) (lead sights config)
       (put_in sights config)
       referrer before after (sym came.is) in
@@ -220,7 +222,7 @@ module _ (sights : Sights) (config : Config) where
 
   fails_so : {X : Type 0} (asking : Asking Question Answer (Result X TraceFault)) (state : Told)
       (why : Failure TraceFault LimitName) (after : Told)
-      → evaluated told state asking ≡ failed why after → ComesTo sights asking (Err (refusal_by why))
+      → evaluated told state asking ≡ failed why after → ComesTo sights state.state asking (Err (refusal_by why))
   fails_so asking state why after e = ap result_of (without asking state (failed why after) e) ∙ failed_shown why after
 
   one_asked : {X : Type 0} (question : Question) (next : Answer question → Result X TraceFault)
@@ -239,21 +241,21 @@ module _ (sights : Sights) (config : Config) where
       (answers sights state.state (of_module m.path))
 
   follows_asked : (before : Gathered) (referrer : Referrer Module) (specifier : List ℕ) (state : Told)
-      (want : Option Wanted)
+      (want : Result Wanted TraceFault)
       → asked_after state (followed_by config before referrer specifier want)
-      ≡ with_asked state.asked (if_wanted (asking_at referrer specifier) want)
-  follows_asked before referrer specifier state None = sym (asked_none state.asked)
-  follows_asked before referrer specifier state (Some want) =
-      one_asked (asking_at referrer specifier) (led config before referrer specifier want)
-      (with_asked state.asked (asking_at referrer specifier ∷ []))
-      (answers sights state.state (asking_at referrer specifier))
+      ≡ with_asked state.asked (if_checked (asking referrer specifier) want)
+  follows_asked before referrer specifier state (Err refusal) = sym (asked_none state.asked)
+  follows_asked before referrer specifier state (Ok want) =
+      one_asked (asking referrer specifier) (led config before referrer specifier want)
+      (with_asked state.asked (asking referrer specifier ∷ []))
+      (answers sights state.state (asking referrer specifier))
 
   -- ---- the visit that fails
 
   record Refused (before : Gathered) (state : Told) (referrer : Referrer Module) (why : Failure TraceFault LimitName)
       (after : Told) (visits : List (Referrer Module)) : Type 0 where
     asked_last : List Question
-    refused : RefusedAt sights config before referrer (refusal_by why) asked_last
+    refused : RefusedAt sights config before state.state referrer (refusal_by why) asked_last
     asked : after.asked ≡ Some (asked_in sights config visits ++ asked_last)
 
   asked_before : (visits : List (Referrer Module)) (some more last : List Question)
@@ -284,32 +286,33 @@ module _ (sights : Sights) (config : Config) where
       let opens_so = (put_in sights config).opens before referrer opened (sym opening_came.is) in
       let front_came = came_to (followed (rules config) opened.after referrer front) middle (Ok tables) later pass in
       let puts =
-      in_order (always sights) (rules config) (specifiers sights config) (leads sights config) opening asking_at
+      in_order (always sights) (rules config) (specifiers sights config) (leads sights config) opening asking
       (opening_put sights) (put_request sights config) (request_of sights config) (lead sights config)
       (put_in sights config)
       referrer front opened.after tables (sym front_came.is) in
+      let is : RefusedRequest sights config before state.state referrer (refusal_by why) front specifier = record {
+        behind = behind;
+        split = sym opens_so.0 ∙ split;
+        opened = opened;
+        middle = middle.state;
+        opens_so = without (opens config before referrer) state (ends (Ok opened) middle) f;
+        tables = tables;
+        tables_are =
+            puts.is ∙ (sym (requests_put_is sights config referrer front opened.after)
+            ∙ ap (λ b. requests_put sights config referrer b front) opens_so.1);
+        later = later.state;
+        passed = without (followed (rules config) opened.after referrer front) middle (ends (Ok tables) later) pass;
+        refused = fails_so (follows config tables referrer specifier) later why after fails;
+      } in
       record {
-        asked_last = opening referrer ++ map (asking_at referrer) front ++ asked_for config referrer specifier;
-        refused = at_request front specifier (record {
-          behind = behind;
-          split = sym opens_so.0 ∙ split;
-          opened = opened;
-          opens_so = ap result_of (without (opens config before referrer) state (ends (Ok opened) middle) f);
-          tables = tables;
-          tables_are =
-              puts.is ∙ (sym (requests_put_is sights config referrer front opened.after)
-              ∙ ap (λ b. requests_put sights config referrer b front) opens_so.1);
-          passed =
-              ap result_of (without (followed (rules config) opened.after referrer front) middle
-              (ends (Ok tables) later) pass);
-          refused = fails_so (follows config tables referrer specifier) later why after fails;
-        });
-        asked = asked_before visits (opening referrer) (map (asking_at referrer) front)
-            (asked_for config referrer specifier) state.asked middle.asked later.asked after.asked asked
+        asked_last = asked_up_to config tables referrer front specifier;
+        refused = at_request front specifier is;
+        asked = asked_before visits (opening referrer) (map (asking referrer) front)
+            (asked_for config tables referrer specifier) state.asked middle.asked later.asked after.asked asked
             (opening_came.asked ∙ ap (λ qs. with_asked state.asked qs) opens_so.2)
             (front_came.asked ∙ ap (λ qs. with_asked middle.asked qs) puts.are_asked)
             (failed_asked (follows config tables referrer specifier) later why after fails
-            ∙ follows_asked tables referrer specifier later (wanted config referrer specifier));
+            ∙ follows_asked tables referrer specifier later (checked config tables referrer specifier));
       }
 
   record Failed (refusal : TraceFault) (end : Ended (Result Gathered TraceFault) Told LimitName) : Type 0 where
@@ -344,10 +347,11 @@ module _ (sights : Sights) (config : Config) where
         before = first.before;
         tables = coming.tables;
         in_order = coming.split;
+        trail = first.state.state;
         comes = comes_without first.before first.state first.referrer first.comes;
         asked_last = there.asked_last;
         refused =
-            subst (λ r. RefusedAt sights config first.before first.referrer r there.asked_last)
+            subst (λ r. RefusedAt sights config first.before first.state.state first.referrer r there.asked_last)
             (sym end.shown) there.refused;
         asked = sym (failed_asked (trace config) none_asked end.why end.after end.fails) ∙ there.asked;
       }

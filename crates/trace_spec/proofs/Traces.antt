@@ -1,20 +1,20 @@
 -- The laws of a config's trace, by what its steps do.
-use Rattle.std.specs.Prelude.{◌≡◌, ◌≤◌, ◌↔◌, ◌||◌, ℕ, true, false, List, [], ◌∷◌, ◌++◌, length, map}
+use Rattle.std.specs.Prelude.{◌≡◌, ◌≤◌, ◌↔◌, ◌||◌, ℕ, true, List, [], ◌∷◌, ◌++◌, length, map}
 use Rattle.std.specs.Prelude.{Option, Some, None, option_map, Result, Ok, Err, unwrap_or, nat_lt, Contains}
-use Rattle.std.proofs.Common.{refl, sym, ap, ◌∙◌, subst, arith, length-append, append_assoc, append-nil}
+use Rattle.std.specs.Str.{IsUtf8}
+use Rattle.std.proofs.Common.{refl, sym, ap, ◌∙◌, subst, arith, lit≤, length-append, append_assoc, append-nil}
 use mathlib.Core.Logic.{inl, inr}
-use Rattle.std.proofs.lemmas.Bool.{cond-true, ltb-true}
+use Rattle.std.proofs.lemmas.Bool.{ltb-true}
 use Rattle.std.proofs.lemmas.List.Elements.{Contains-append_left}
 use Rattle.asking_spec.specs.Askings.{outcome}
 use Rattle.asking_spec.specs.Evaluation.{Ended, ends, stopped, evaluated}
 use Rattle.asking_spec.proofs.EvaluationLemmas.{ends_outcome}
 use Rattle.tree_spec.specs.declared.LimitName.{LimitName}
-use Rattle.tree_spec.specs.declared.LimitName.TheVariants.{Modules}
+use Rattle.tree_spec.specs.declared.LimitName.TheVariants.{Modules, Requests}
 use Rattle.tree_spec.specs.Limits.{limit_number}
 use Rattle.tree_spec.specs.LookAskings.{Sights}
-use Rattle.url_spec.specs.Specifiers.{ends_in_slash}
-use Rattle.url_spec.specs.Specifiers.{is_relative, as_url}
-use Rattle.node_spec.specs.Resolution as node
+use Rattle.tree_spec.specs.LookLimits.{Trail, no_trail}
+use Rattle.url_spec.specs.Specifiers.{normalized}
 use Rattle.layout_spec.specs.declared.Need.{Need}
 use Rattle.layout_spec.specs.Needs.{NoClash}
 use Rattle.layout_spec.proofs.Contained.{contains_none, contains_here, contains_there}
@@ -24,19 +24,22 @@ use Rattle.trace_spec.specs.declared.TraceFault.TheVariants.{Limit}
 use Rattle.trace_spec.specs.Walking.{Referrer, the_page, a_module, new_modules}
 use Rattle.trace_spec.specs.Levels.{page}
 use Rattle.trace_spec.specs.FirstRefusals.{Failure, refused, halted, failed}
-use Rattle.trace_spec.specs.Modules.{Config, Module, is_module, path_of, web_name, file_name}
-use Rattle.trace_spec.specs.Questions.{Source, of_request, Trail, answers, always}
-use Rattle.trace_spec.specs.Checks.{Gathered, opens, follows, with_request, has_room, nothing_gathered, rules}
-use Rattle.trace_spec.specs.Traces.{trace, result_of, traced, source, specifiers, resolution, module_in, leads}
+use Rattle.trace_spec.specs.Modules.{Config, Module, is_module, web_name, file_name}
+use Rattle.trace_spec.specs.Questions.{Source, answers, always}
+use Rattle.trace_spec.specs.Checks.{Gathered, Spelling, opens, asking_at, follows, with_request, has_room}
+use Rattle.trace_spec.specs.Checks.{nothing_gathered, rules}
+use Rattle.trace_spec.specs.Traces.{trace, result_of, traced, if_ok, source, specifiers, resolution, leads}
 use Rattle.trace_spec.specs.Traces.{ReachedByPage}
-use Rattle.trace_spec.specs.Laws.{HasLevels, IsWhatIsReached, ModulesOnce, FewModules, refusal_by, IsFirst, Decides}
+use Rattle.trace_spec.specs.Laws.{HasLevels, IsWhatIsReached, ModulesOnce, FewRequests, FewModules, refusal_by, IsFirst, Decides}
 use Rattle.trace_spec.specs.Laws.{FirstRefusalDecides, NeverOutOfRoom, no_module, no_source, target_of, need_of}
-use Rattle.trace_spec.specs.Laws.{request_put, requests_put, opening_put, visits_put, opening, visits_of, InOrder}
-use Rattle.trace_spec.specs.Laws.{GoesInOrder, Passes, AllPass, RequestsPass, NeedsAre, NeedsAreRequests}
+use Rattle.trace_spec.specs.Laws.{spelling_of, request_put, requests_put, opening_put, visits_put, opening, visits_of}
+use Rattle.trace_spec.specs.Laws.{InOrder, GoesInOrder, AsksFor, AreSpelled, Passes, AllPass, RequestsPass, NeedsAre}
+use Rattle.trace_spec.specs.Laws.{NeedsAreRequests}
+use Rattle.trace_spec.proofs.SpellingLemmas.{spelled_more}
 use Rattle.trace_spec.proofs.Lists.{same_module, AreOnce, new_module, once_more}
 use Rattle.trace_spec.proofs.NeedLemmas.{with_need_old, with_need_new, with_need_cases, no_clash_more}
 use Rattle.trace_spec.proofs.Steps.{answers_always, traced_outcome, file_name_parts, opens_is, Leaves, opens_leaves}
-use Rattle.trace_spec.proofs.Steps.{Fits, Follows, follows_is}
+use Rattle.trace_spec.proofs.Steps.{Fits, Follows, follows_is, follows_asks}
 use Rattle.trace_spec.proofs.WalkModules.{LeadsBy, walk_has_levels, walk_is_reached}
 use Rattle.trace_spec.proofs.WalkOrder.{all_in, PutsBy, walk_in_order}
 use Rattle.trace_spec.proofs.WalkRefusals.{Grows, KeepsFew, walk_where_all_pass, walk_fails_first, walk_few}
@@ -51,11 +54,10 @@ pub record Link : Type 0 where
 module _ (sights : Sights) (config : Config) where
   -- ---- where requests lead
 
-  leads_there : (referrer : Referrer Module) (specifier : List ℕ) (target : Module) → is_relative specifier ≡ true
-      → resolution sights config referrer specifier ≡ node.Resolved target.path target.suffix
+  leads_there : (referrer : Referrer Module) (specifier : List ℕ) (target : Module)
+      → resolution sights config referrer specifier ≡ Ok target
       → leads sights config referrer specifier ≡ Some target
-  leads_there referrer specifier target relative answers =
-      cond-true _ (module_in (resolution sights config referrer specifier)) None relative ∙ ap module_in answers
+  leads_there referrer specifier target answers = ap if_ok answers
 
   pub lead : LeadsBy (always sights) (rules config) (specifiers sights config) (leads sights config)
   lead = record {
@@ -65,7 +67,7 @@ module _ (sights : Sights) (config : Config) where
     follows = λ before referrer specifier after e.
         let is = follows_is sights config before referrer specifier after e in (
           is.target,
-          leads_there referrer specifier is.target is.wants.relative is.answers,
+          leads_there referrer specifier is.target is.answers,
           ap (λ b. b.modules) is.fits.is,
         );
   }
@@ -85,17 +87,17 @@ module _ (sights : Sights) (config : Config) where
             omega (arith, length-append modules (new_modules is_module modules (target ∷ [])), ap length new.1)
       ]
 
-  grows_by : (before after : Gathered) (need : Need) (target : Module) → Fits before need target after
-      → Grows (answers sights) (rules config) tt before after
-  grows_by before after need target fits = record {
+  grows_by : (before after : Gathered) (need : Need) (spelling : Spelling) → Fits before need spelling after
+      → Grows (answers sights) (rules config) no_trail before after
+  grows_by before after need spelling fits = record {
     few = λ few. subst (λ b. length b.modules ≤ limit_number Modules) (sym fits.is)
-        (one_more target before.modules fits.room few);
+        (one_more spelling.target before.modules fits.room few);
     longer =
         subst (λ b. length before.modules ≤ length b.modules) (sym fits.is)
-        (omega (arith, length-append before.modules (new_modules is_module before.modules (target ∷ []))));
+        (omega (arith, length-append before.modules (new_modules is_module before.modules (spelling.target ∷ []))));
   }
 
-  pub keep_few : KeepsFew (answers sights) (rules config) tt
+  pub keep_few : KeepsFew (answers sights) (rules config) no_trail
   keep_few = record {
     starts = refl;
     opens = λ before state referrer opened after e.
@@ -112,7 +114,7 @@ module _ (sights : Sights) (config : Config) where
         follows_is sights config before referrer specifier after
         (sym (ends_outcome (answers sights) (always sights) (answers_always sights) state later
         (follows config before referrer specifier) (Ok after) e)) in
-        grows_by before after _ is.target is.fits;
+        grows_by before after _ _ is.fits;
   }
 
   -- ---- the order
@@ -123,6 +125,12 @@ module _ (sights : Sights) (config : Config) where
   abbrev pub put_request : Gathered → Link → Gathered
   put_request before link = request_put sights config before link.referrer link.specifier
 
+  target_is : (before : Gathered) (referrer : Referrer Module) (specifier : List ℕ) (after : Gathered)
+      (is : Follows sights config before referrer specifier after)
+      → target_of sights config referrer specifier ≡ is.target
+  target_is before referrer specifier after is =
+      ap (λ o. unwrap_or o no_module) (leads_there referrer specifier is.target is.answers)
+
   -- what a request that went through needs
   need_is : (before : Gathered) (referrer : Referrer Module) (specifier : List ℕ) (after : Gathered)
       (is : Follows sights config before referrer specifier after)
@@ -130,23 +138,22 @@ module _ (sights : Sights) (config : Config) where
       ≡ record { referrer = is.want.referrer; asked = is.want.asked; target = is.url }
   need_is before referrer specifier after is =
       let name : unwrap_or (web_name config referrer) [] ≡ is.want.referrer =
-      ap (λ o. unwrap_or o []) is.wants.named in
-      let asked : unwrap_or (as_url (unwrap_or (web_name config referrer) []) specifier) [] ≡ is.want.asked =
-      ap (λ n. unwrap_or (as_url n specifier) []) name ∙ ap (λ o. unwrap_or o []) is.wants.asks in
-      let target : target_of sights config referrer specifier ≡ is.target =
-      ap (λ o. unwrap_or o no_module) (leads_there referrer specifier is.target is.wants.relative is.answers) in
+      ap (λ o. unwrap_or o []) is.checked.wants.named in
+      let asked : normalized (unwrap_or (web_name config referrer) []) specifier ≡ is.want.asked =
+      ap (λ n. normalized n specifier) name ∙ is.checked.wants.asks in
       let url : unwrap_or (file_name config (target_of sights config referrer specifier)) [] ≡ is.url =
-      ap (λ m. unwrap_or (file_name config m) []) target ∙ ap (λ o. unwrap_or o []) is.is_name in
+      ap (λ m. unwrap_or (file_name config m) []) (target_is before referrer specifier after is)
+      ∙ ap (λ o. unwrap_or o []) is.is_name in
       same_need _ _ name asked url
 
-  target_is : (before : Gathered) (referrer : Referrer Module) (specifier : List ℕ) (after : Gathered)
+  spelling_is : (before : Gathered) (referrer : Referrer Module) (specifier : List ℕ) (after : Gathered)
       (is : Follows sights config before referrer specifier after)
-      → target_of sights config referrer specifier ≡ is.target
-  target_is before referrer specifier after is =
-      ap (λ o. unwrap_or o no_module) (leads_there referrer specifier is.target is.wants.relative is.answers)
+      → spelling_of sights config referrer specifier ≡ record { specifier = specifier; target = is.target }
+  spelling_is before referrer specifier after is =
+      λ i. record { specifier = specifier; target = target_is before referrer specifier after is i }
 
   pub put_in : PutsBy (always sights) (rules config) (specifiers sights config) (leads sights config) opening
-      (λ referrer. of_request (path_of config referrer)) (opening_put sights) put_request request_of
+      (asking_at config) (opening_put sights) put_request request_of
   put_in = record {
     opens = λ before referrer opened e. let is = opens_is sights config before referrer opened e in
         (sym (ap (λ o. unwrap_or o []) is.asks), is.after, is.questions);
@@ -154,7 +161,7 @@ module _ (sights : Sights) (config : Config) where
         let is = follows_is sights config before referrer specifier after e in
         let same : after ≡ put_request before (request_of referrer specifier) =
         is.fits.is ∙ (λ i. with_request before (sym (need_is before referrer specifier after is) i)
-        (sym (target_is before referrer specifier after is) i)) in
+        (sym (spelling_is before referrer specifier after is) i)) in
         (same, is.questions);
   }
 
@@ -214,38 +221,40 @@ module _ (sights : Sights) (config : Config) where
   -- ---- what holds of the tables
 
   -- a need of a request of the page, or of a module that stands in the table
-  record IsOf (before : Gathered) (need : Need) : Type 0 where
-    referrer : Referrer Module
-    visited : IsVisited before.modules referrer
-    named : web_name config referrer ≡ Some need.referrer
-    specifier : List ℕ
-    is_request : Contains (specifiers sights config referrer) specifier
-    asks : as_url need.referrer specifier ≡ Some need.asked
-    asked_is_file : ends_in_slash need.asked ≡ false
-    target : Module
-    leads_to : leads sights config referrer specifier ≡ Some target
-    is_name : file_name config target ≡ Some need.target
+  pub record IsOf (before : Gathered) (need : Need) : Type 0 where
+    pub referrer : Referrer Module
+    pub visited : IsVisited before.modules referrer
+    pub named : web_name config referrer ≡ Some need.referrer
+    pub specifier : List ℕ
+    pub is_request : Contains (specifiers sights config referrer) specifier
+    pub utf8 : IsUtf8 specifier
+    pub asks : AsksFor need.referrer specifier need.asked
+    pub target : Module
+    pub leads_to : leads sights config referrer specifier ≡ Some target
+    pub is_name : file_name config target ≡ Some need.target
 
-  record Stands (before : Gathered) : Type 0 where
-    each : (need : Need) → Contains before.needs need → IsOf before need
-    no_clash : NoClash before.needs
-    once : AreOnce before.modules
+  pub record Stands (before : Gathered) : Type 0 where
+    pub each : (need : Need) → Contains before.needs need → IsOf before need
+    pub spelled : AreSpelled sights config before.needs before.spellings
+    pub no_clash : NoClash before.needs
+    pub once : AreOnce before.modules
+    pub few_requests : before.requests ≤ limit_number Requests
 
   visited_more : (referrer : Referrer Module) (modules more : List Module) → IsVisited modules referrer
       → IsVisited (modules ++ more) referrer
   visited_more the_page modules more is = tt
   visited_more (a_module m) modules more is = Contains-append_left modules more m is
 
-  still_of : (before : Gathered) (need other : Need) (target : Module) → IsOf before other
-      → IsOf (with_request before need target) other
-  still_of before need other target is = record {
+  still_of : (before : Gathered) (need other : Need) (spelling : Spelling) → IsOf before other
+      → IsOf (with_request before need spelling) other
+  still_of before need other spelling is = record {
     referrer = is.referrer;
-    visited = visited_more is.referrer before.modules (new_modules is_module before.modules (target ∷ [])) is.visited;
+    visited = visited_more is.referrer before.modules (new_modules is_module before.modules (spelling.target ∷ [])) is.visited;
     named = is.named;
     specifier = is.specifier;
     is_request = is.is_request;
+    utf8 = is.utf8;
     asks = is.asks;
-    asked_is_file = is.asked_is_file;
     target = is.target;
     leads_to = is.leads_to;
     is_name = is.is_name;
@@ -259,23 +268,35 @@ module _ (sights : Sights) (config : Config) where
       let own : IsOf before need = record {
         referrer = referrer;
         visited = visited;
-        named = is.wants.named;
+        named = is.checked.wants.named;
         specifier = specifier;
         is_request = asked_for;
-        asks = is.wants.asks;
-        asked_is_file = is.wants.asks_file;
+        utf8 = is.checked.wants.utf8;
+        asks = follows_asks sights config before referrer specifier after is;
         target = is.target;
-        leads_to = leads_there referrer specifier is.target is.wants.relative is.answers;
+        leads_to = leads_there referrer specifier is.target is.answers;
         is_name = is.is_name;
       } in
       subst Stands (sym is.fits.is)
       (record {
-        each = λ other c. still_of before need other is.target (elim (with_need_cases before.needs need other c) [
+        each = λ other c. still_of before need other _ (elim (with_need_cases before.needs need other c) [
           | inl old ↦ stands.each other old
           | inr new ↦ subst (IsOf before) new own
         ]);
+        spelled = spelled_more sights config before.needs need before.spellings _ stands.spelled (record {
+          referrer = referrer;
+          leads_for = record {
+            named = own.named;
+            is_request = asked_for;
+            asks = own.asks;
+            leads_there = own.leads_to;
+            is_name = is.is_name;
+          };
+        });
         no_clash = no_clash_more before.needs need stands.no_clash is.fits.clear;
         once = once_more before.modules is.target stands.once;
+        few_requests =
+            let room = ltb-true before.requests (limit_number Requests) is.checked.few in omega (arith, room);
       })
 
   passes_now : (before : Gathered) (referrer : Referrer Module) (specifier : List ℕ) (after : Gathered)
@@ -285,28 +306,26 @@ module _ (sights : Sights) (config : Config) where
       record {
         need = need;
         target = is.target;
-        named = is.wants.named;
-        relative = is.wants.relative;
-        asks = is.wants.asks;
-        asked_is_file = is.wants.asks_file;
+        named = is.checked.wants.named;
+        utf8 = is.checked.wants.utf8;
+        asks = follows_asks sights config before referrer specifier after is;
         answers = is.answers;
         servable = (file_name_parts config is.target is.url is.is_name).servable;
         is_name = is.is_name;
         is_need = subst (λ b. Contains b.needs need) (sym is.fits.is) (with_need_new before.needs need);
       }
 
-  passes_still : (before : Gathered) (need : Need) (target : Module) (after : Gathered) (referrer : Referrer Module)
-      (specifier : List ℕ) → after ≡ with_request before need target → Passes sights config before referrer specifier
+  passes_still : (before : Gathered) (need : Need) (spelling : Spelling) (after : Gathered) (referrer : Referrer Module)
+      (specifier : List ℕ) → after ≡ with_request before need spelling → Passes sights config before referrer specifier
       → Passes sights config after referrer specifier
-  passes_still before need target after referrer specifier is passes =
+  passes_still before need spelling after referrer specifier is passes =
       subst (λ b. Passes sights config b referrer specifier) (sym is)
       (record {
         need = passes.need;
         target = passes.target;
         named = passes.named;
-        relative = passes.relative;
+        utf8 = passes.utf8;
         asks = passes.asks;
-        asked_is_file = passes.asked_is_file;
         answers = passes.answers;
         servable = passes.servable;
         is_name = passes.is_name;
@@ -320,18 +339,27 @@ module _ (sights : Sights) (config : Config) where
     named = is.named;
     specifier = is.specifier;
     is_request = is.is_request;
+    utf8 = is.utf8;
     asks = is.asks;
-    asked_is_file = is.asked_is_file;
     target = is.target;
     leads_to = is.leads_to;
     is_name = is.is_name;
   }
 
+  spelled_on : (before after : Gathered) → Leaves before after
+      → AreSpelled sights config before.needs before.spellings
+      → AreSpelled sights config after.needs after.spellings
+  spelled_on before after leaves spelled =
+      subst (λ ns. AreSpelled sights config ns after.spellings) (sym leaves.needs)
+      (subst (λ ss. AreSpelled sights config before.needs ss) (sym leaves.spellings) spelled)
+
   stand_on : (before after : Gathered) → Leaves before after → Stands before → Stands after
   stand_on before after leaves stands = record {
     each = λ need c. of_on before after need leaves (stands.each need (subst (λ ns. Contains ns need) leaves.needs c));
+    spelled = spelled_on before after leaves stands.spelled;
     no_clash = subst NoClash (sym leaves.needs) stands.no_clash;
     once = subst AreOnce (sym leaves.modules) stands.once;
+    few_requests = subst (λ n. n ≤ limit_number Requests) (sym leaves.requests) stands.few_requests;
   }
 
   pass_on : (before after : Gathered) (referrer : Referrer Module) (specifier : List ℕ) → Leaves before after
@@ -340,23 +368,24 @@ module _ (sights : Sights) (config : Config) where
     need = passes.need;
     target = passes.target;
     named = passes.named;
-    relative = passes.relative;
+    utf8 = passes.utf8;
     asks = passes.asks;
-    asked_is_file = passes.asked_is_file;
     answers = passes.answers;
     servable = passes.servable;
     is_name = passes.is_name;
     is_need = subst (λ ns. Contains ns passes.need) (sym leaves.needs) passes.is_need;
   }
 
-  keep : Keeps (always sights) (rules config) (specifiers sights config) (leads sights config) lead Stands
+  pub keep : Keeps (always sights) (rules config) (specifiers sights config) (leads sights config) lead Stands
       (λ referrer specifier before. Passes sights config before referrer specifier)
   keep = record {
     starts =
         record {
           each = λ need c. absurd (contains_none need c);
+          spelled = tt;
           no_clash = λ one other c d. absurd (contains_none one c);
           once = λ i j m e f. absurd (cc);
+          few_requests = lit≤ tt;
         };
     opens = λ before referrer opened e stands.
         stand_on before opened.after (opens_leaves sights config before referrer opened e) stands;
@@ -371,7 +400,7 @@ module _ (sights : Sights) (config : Config) where
         (follows_is sights config before referrer specifier after e);
     stays = λ before referrer specifier after e other earlier passes.
         let is = follows_is sights config before referrer specifier after e in
-        passes_still before _ is.target after other earlier is.fits.is passes;
+        passes_still before _ _ after other earlier is.fits.is passes;
   }
 
   -- ---- a trace of this config
@@ -420,12 +449,13 @@ module _ (sights : Sights) (config : Config) where
             named = of.named;
             specifier = of.specifier;
             is_request = of.is_request;
+            utf8 = of.utf8;
             asks = of.asks;
-            asked_is_file = of.asked_is_file;
             target = of.target;
             leads_there = of.leads_to;
             is_name = of.is_name;
           };
+      spelled = end.holds.spelled;
       no_clash = end.holds.no_clash;
     }
 
@@ -433,8 +463,7 @@ module _ (sights : Sights) (config : Config) where
     in_order =
         let order =
         walk_in_order (always sights) (rules config) (specifiers sights config) (leads sights config) opening
-        (λ referrer. of_request (path_of config referrer))
-        (opening_put sights) put_request request_of lead put_in all whole in
+        (asking_at config) (opening_put sights) put_request request_of lead put_in all whole in
         let page : Gathered = visit_in nothing_gathered the_page in
         let sources : all.sources ≡ map opened_source all.modules =
         ap (λ b. b.sources) order.tables ∙ (sources_put all.modules page
@@ -451,17 +480,28 @@ module _ (sights : Sights) (config : Config) where
 
   -- ---- the first refusal
 
+  record OkEnded (all : Gathered) (end : Ended (Result Gathered TraceFault) Trail LimitName) : Type 0 where
+    trail : Trail
+    is : end ≡ ends (Ok all) trail
+
   ok_ended : (all : Gathered) (end : Ended (Result Gathered TraceFault) Trail LimitName) → result_of end ≡ Ok all
-      → end ≡ ends (Ok all) tt
-  ok_ended all (ends result trail) e = ap (λ r. ends r trail) e
+      → OkEnded all end
+  ok_ended all (ends result trail) e = record { trail = trail; is = ap (λ r. ends r trail) e }
   ok_ended all (stopped limit trail) e = absurd (cc)
 
+  record ErrEnded (refusal : TraceFault) (end : Ended (Result Gathered TraceFault) Trail LimitName) : Type 0 where
+    why : Failure TraceFault LimitName
+    shown : refusal ≡ refusal_by why
+    trail : Trail
+    is : end ≡ failed why trail
+
   err_ended : (refusal : TraceFault) (end : Ended (Result Gathered TraceFault) Trail LimitName)
-      → result_of end ≡ Err refusal → (why : Failure TraceFault LimitName) × (refusal ≡ refusal_by why)
-      × (end ≡ failed why tt)
+      → result_of end ≡ Err refusal → ErrEnded refusal end
   err_ended refusal (ends (Ok all) trail) e = absurd (cc)
-  err_ended refusal (ends (Err other) trail) e = let p : refusal ≡ other = cc in (refused other, p, refl)
-  err_ended refusal (stopped limit trail) e = let p : refusal ≡ Limit limit = cc in (halted limit, p, refl)
+  err_ended refusal (ends (Err other) trail) e =
+      record { why = refused other; shown = (let p : refusal ≡ other = cc in p); trail = trail; is = refl }
+  err_ended refusal (stopped limit trail) e =
+      record { why = halted limit; shown = (let p : refusal ≡ Limit limit = cc in p); trail = trail; is = refl }
 
   failed_refuses : (why : Failure TraceFault LimitName) (trail : Trail)
       → result_of {X = Gathered} (failed why trail) ≡ Err (refusal_by why)
@@ -470,25 +510,29 @@ module _ (sights : Sights) (config : Config) where
 
   first_of : (refusal : TraceFault) → traced sights config ≡ Err refusal → IsFirst sights config refusal
   first_of refusal e =
-      let end = err_ended refusal (evaluated (answers sights) tt (trace config)) e in
+      let end = err_ended refusal (evaluated (answers sights) no_trail (trace config)) e in
       record {
-        why = end.0;
-        shown = end.1;
-        trail = tt;
-        first = (walk_fails_first (answers sights) (rules config) tt keep_few end.0 tt).0 end.2;
+        why = end.why;
+        shown = end.shown;
+        trail = end.trail;
+        first = (walk_fails_first (answers sights) (rules config) no_trail keep_few end.why end.trail).0 end.is;
       }
 
   refusal_from : (refusal : TraceFault) → IsFirst sights config refusal → traced sights config ≡ Err refusal
   refusal_from refusal first =
-      ap result_of ((walk_fails_first (answers sights) (rules config) tt keep_few first.why first.trail).1 first.first)
+      ap result_of ((walk_fails_first (answers sights) (rules config) no_trail keep_few first.why first.trail).1 first.first)
       ∙ (failed_refuses first.why first.trail ∙ ap Err (sym first.shown))
 
   pub decides : Decides sights config
   decides = record {
     passes = λ all. (
-      (λ e. (walk_where_all_pass (answers sights) (rules config) tt keep_few all tt).0
-          (ok_ended all (evaluated (answers sights) tt (trace config)) e)),
-      (λ passed. ap result_of ((walk_where_all_pass (answers sights) (rules config) tt keep_few all tt).1 passed)),
+      (λ e. let end = ok_ended all (evaluated (answers sights) no_trail (trace config)) e in
+          record {
+            trail = end.trail;
+            passed = (walk_where_all_pass (answers sights) (rules config) no_trail keep_few all end.trail).0 end.is;
+          }),
+      (λ pass. ap result_of
+          ((walk_where_all_pass (answers sights) (rules config) no_trail keep_few all pass.trail).1 pass.passed)),
     );
     refuses = λ refusal. (first_of refusal, refusal_from refusal);
   }
@@ -508,14 +552,17 @@ modules_once sights config all is = (end sights config all is).holds.once
 
 pub few_modules : FewModules
 few_modules sights config all is =
-    walk_few (answers sights) (rules config) tt (keep_few sights config) all tt
-    (ok_ended sights config all (evaluated (answers sights) tt (trace config)) is)
+    let end = ok_ended sights config all (evaluated (answers sights) no_trail (trace config)) is in
+    walk_few (answers sights) (rules config) no_trail (keep_few sights config) all end.trail end.is
+
+pub few_requests : FewRequests
+few_requests sights config all is = (end sights config all is).holds.few_requests
 
 pub first_refusal_decides : FirstRefusalDecides
 first_refusal_decides sights config = decides sights config
 
 pub never_out_of_room : NeverOutOfRoom
-never_out_of_room sights config above = walk_same (answers sights) (rules config) tt above (keep_few sights config)
+never_out_of_room sights config above = walk_same (answers sights) (rules config) no_trail above (keep_few sights config)
 
 pub goes_in_order : GoesInOrder
 goes_in_order sights config all is = in_order sights config all is

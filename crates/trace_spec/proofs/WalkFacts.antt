@@ -39,12 +39,12 @@ module _ {M B R Q : Type 0} {A : Q → Type 0} (answers : (question : Q) → A q
 
   module _ (keeps : Keeps) where
     -- what was left stays, and what holds is kept
-    record Later (before after : B) : Type 0 where
-      holds : Holds before → Holds after
-      stays : (other : Referrer M) (earlier : List ℕ) → Leaves other earlier before → Leaves other earlier after
+    pub record Later (before after : B) : Type 0 where
+      pub holds : Holds before → Holds after
+      pub stays : (other : Referrer M) (earlier : List ℕ) → Leaves other earlier before → Leaves other earlier after
 
     -- these are specifiers of the referrer's requests
-    abbrev AreRequests : Referrer M → List (List ℕ) → Type 0
+    abbrev pub AreRequests : Referrer M → List (List ℕ) → Type 0
     AreRequests referrer some =
         (specifier : List ℕ) → Contains some specifier → Contains (specifiers referrer) specifier
 
@@ -53,7 +53,7 @@ module _ {M B R Q : Type 0} {A : Q → Type 0} (answers : (question : Q) → A q
     visited_still the_page modules more is = tt
     visited_still (a_module m) modules more is = Contains-append_left modules more m is
 
-    followed_later : (referrer : Referrer M) (some : List (List ℕ)) (before after : B)
+    pub followed_later : (referrer : Referrer M) (some : List (List ℕ)) (before after : B)
         → IsVisited (rules.modules before) referrer → AreRequests referrer some
         → outcome answers (followed rules before referrer some) ≡ Ok after → Later before after
     followed_later referrer [] before after is are e =
@@ -97,10 +97,10 @@ module _ {M B R Q : Type 0} {A : Q → Type 0} (answers : (question : Q) → A q
           | inr later ↦ followed_leaves referrer more parts.value after still behind parts.next_is specifier later
         ]
 
-    record Visit (before after : B) (referrer : Referrer M) : Type 0 where
-      later : Later before after
-      opened : (opened : Opened B) × (outcome answers (rules.opens before referrer) ≡ Ok opened)
-      leaves : (specifier : List ℕ) → Contains (specifiers referrer) specifier → Leaves referrer specifier after
+    pub record Visit (before after : B) (referrer : Referrer M) : Type 0 where
+      pub later : Later before after
+      pub opened : (opened : Opened B) × (outcome answers (rules.opens before referrer) ≡ Ok opened)
+      pub leaves : (specifier : List ℕ) → Contains (specifiers referrer) specifier → Leaves referrer specifier after
 
     later_then : (before middle after : B) → Later before middle → Later middle after → Later before after
     later_then before middle after one rest =
@@ -109,7 +109,7 @@ module _ {M B R Q : Type 0} {A : Q → Type 0} (answers : (question : Q) → A q
           stays = λ other earlier l. rest.stays other earlier (one.stays other earlier l);
         }
 
-    visit : (referrer : Referrer M) (before after : B) → IsVisited (rules.modules before) referrer
+    pub visit : (referrer : Referrer M) (before after : B) → IsVisited (rules.modules before) referrer
         → outcome answers (visited rules before referrer) ≡ Ok after → Visit before after referrer
     visit referrer before after is e =
         let parts =

@@ -2,6 +2,7 @@ pub mod Walking
 pub mod Levels
 pub mod FirstRefusals
 pub mod Modules
+pub mod Causes
 pub mod Questions
 pub mod Checks
 pub mod Traces

@@ -1,5 +1,6 @@
 -- Configs, modules, and what is known of a referrer by its config alone.
---     Config, Module             what to generate for; a path with a suffix
+--     Config                     what to generate for
+--     Module                     a path with a suffix, as Node's resolution answers it
 --     path_of config referrer    the path of the page or of a module
 --     web_name config referrer   the URL at which it is served, before it is asked whether it is served there
 --     shown config referrer      its path and suffix, as they are shown to a user
@@ -9,18 +10,15 @@ use Rattle.url_spec.specs.Specifiers.{ends_in_slash}
 use Rattle.url_spec.specs.WebNames.{web}
 use Rattle.url_spec.specs.ServedPaths.{IsServed}
 use Rattle.url_spec.specs.PathTests.{is_served}
+pub use Rattle.node_spec.specs.NodeAnswers.{Module}
 use Rattle.trace_spec.specs.Walking.{Referrer, the_page, a_module}
 
--- own: the base, the page's path, and the entries, which are distinct specifiers
+-- own: the base, the page's path, the conditions, and the entries, which are distinct specifiers
 pub record Config : Type 0 where
   pub base : List ℕ
   pub page : List ℕ
+  pub conditions : List (List ℕ)
   pub entries : List (List ℕ)
-
--- own: a path with a suffix, which is a URL's query and fragment
-pub record Module : Type 0 where
-  pub path : List ℕ
-  pub suffix : List ℕ
 
 abbrev pub is_module : Module → Module → Bool
 is_module one other = bytes_eq one.path other.path && bytes_eq one.suffix other.suffix
@@ -49,9 +47,13 @@ abbrev pub served_name : List ℕ → List ℕ → Option (List ℕ) → Option 
 served_name base path None = None
 served_name base path (Some url) = if is_served base url path then Some url else None
 
+-- the web name of the page or of a module, where it leads back to its path
+abbrev pub served_at : Config → Referrer Module → Option (List ℕ)
+served_at config referrer = served_name config.base (path_of config referrer) (web_name config referrer)
+
 abbrev pub not_folder : Option (List ℕ) → Option (List ℕ)
 not_folder None = None
 not_folder (Some url) = if ends_in_slash url then None else Some url
 
 abbrev pub file_name : Config → Module → Option (List ℕ)
-file_name config m = not_folder (served_name config.base m.path (web config.base m.path m.suffix))
+file_name config m = not_folder (served_at config (a_module m))

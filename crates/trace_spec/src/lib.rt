@@ -5,36 +5,80 @@
 ghost use Rattle.trace_spec.specs.Laws.{HasLevels, IsWhatIsReached, ModulesOnce, FewModules};
 ghost use Rattle.trace_spec.specs.Laws.{FirstRefusalDecides, RefusesByKind, NeverOutOfRoom, GoesInOrder};
 ghost use Rattle.trace_spec.specs.Laws.{RefusesInOrder, SourcesAreRead, RequestsPass};
-ghost use Rattle.trace_spec.specs.Laws.{NeedsAreRequests, LimitsOfTexts};
+ghost use Rattle.trace_spec.specs.Laws.{NeedsAreRequests, LimitsOfTexts, LooksAreOfQuestions};
+ghost use Rattle.trace_spec.specs.Laws.{FewRequests, ClashesAreOfRequests};
 
-use node_spec::Cause;
+use node_spec::{Cause, Reason};
 use primitives::Text;
 use std::alloc::AllocError;
 use tree_spec::LimitName;
 
-/// Why there is no trace: its first refusal, with what is shown of it, or what ends the work on it. A referrer and a
-/// module are shown by path and suffix.
+/// Why a request is refused: a cause of Node's, or one of what a specifier asks for by HTML.
+#[derive(Clone, Copy, Debug, PartialEq, Eq)]
+pub enum AskCause {
+    Builtin,
+    ExternalUrl,
+    InvalidSpecifier,
+    InvalidConfig,
+    InvalidTarget,
+    NotExported,
+    ImportNotDefined,
+    NotFound,
+    DirectoryImport,
+    /// A relative specifier has no URL.
+    Unaskable,
+    /// The URL of a relative specifier, or of what it leads to, ends in `/`.
+    TrailingSlash,
+}
+
+impl From<Cause> for AskCause {
+    ghost use Rattle.std.specs.Prelude.{◌≡◌};
+    ghost use Rattle.trace_spec.specs.Causes.{ask_cause};
+
+    ghost from_gives = { λ cause shown. shown ≡ ask_cause cause };
+
+    fn from(cause: Cause) -> Self {
+        match cause {
+            Cause::Builtin => AskCause::Builtin,
+            Cause::ExternalUrl => AskCause::ExternalUrl,
+            Cause::InvalidSpecifier => AskCause::InvalidSpecifier,
+            Cause::InvalidConfig => AskCause::InvalidConfig,
+            Cause::InvalidTarget => AskCause::InvalidTarget,
+            Cause::NotExported => AskCause::NotExported,
+            Cause::ImportNotDefined => AskCause::ImportNotDefined,
+            Cause::NotFound => AskCause::NotFound,
+            Cause::DirectoryImport => AskCause::DirectoryImport,
+        }
+    }
+}
+
+/// Why there is no trace: its first refusal, with what is shown of it, or what ends the work on it. A referrer, a
+/// module and a target are shown by path and suffix.
 #[derive(Debug, Drop)]
 pub enum TraceFault {
-    /// The path isn't served at its web name, which is given where it has one.
+    /// A request is refused.
+    Refused {
+        referrer: Text,
+        specifier: Text,
+        cause: AskCause,
+    },
+    /// The page, or what a request leads to, isn't served at its web name, which is given where it has one.
     Unservable {
         path: Text,
         url: Option<Text>,
     },
-    /// Node refuses a request.
-    Refused {
+    /// Two requests of one referrer ask for the same, and lead to two modules.
+    Clash {
         referrer: Text,
-        specifier: Text,
-        cause: Cause,
+        first: Text,
+        first_to: Text,
+        second: Text,
+        second_to: Text,
     },
-    /// What a request wants isn't built.
-    RequestNotBuilt {
-        referrer: Text,
-        specifier: Text,
-    },
-    /// A module whose name or text isn't built.
-    ModuleNotBuilt {
-        module: Text,
+    /// What a request leads to is no module.
+    NotModule {
+        path: Text,
+        reason: Reason,
     },
     /// A quantity passes its limit.
     Limit {
@@ -77,6 +121,11 @@ pub fn few_modules()
     ensures { FewModules }
 {}
 
+/// A trace has at most 200,000 requests.
+pub fn few_requests()
+    ensures { FewRequests }
+{}
+
 /// There is a trace exactly where all visits pass; else the refusal is that of the first check that isn't passed.
 pub fn first_refusal_decides()
     ensures { FirstRefusalDecides }
@@ -102,7 +151,7 @@ pub fn refuses_in_order()
     ensures { RefusesInOrder }
 {}
 
-/// A module has a source exactly where a file stands at its path that is of the form.
+/// A module has a source exactly where a file stands at its path whose format and text are those of a module.
 pub fn sources_are_read()
     ensures { SourcesAreRead }
 {}
@@ -117,8 +166,18 @@ pub fn needs_are_requests()
     ensures { NeedsAreRequests }
 {}
 
+/// A clash is one of two requests, which ask for the same and lead to two modules.
+pub fn clashes_are_of_requests()
+    ensures { ClashesAreOfRequests }
+{}
+
 /// The numbers of a module's text are those of the limits.
 #[tactic(auto, using(crate::proofs::TextLimits::limits_of_texts))]
 pub fn limits_of_texts()
     ensures { LimitsOfTexts }
+{}
+
+/// What a generation looks at are the looks of its questions, and its limits are those of these looks.
+pub fn looks_are_of_questions()
+    ensures { LooksAreOfQuestions }
 {}
