@@ -119,11 +119,7 @@ pub fn prepare_page<F: Folder>(
 }
 
 // Looks at the page, once.
-fn open_page<F: Folder>(
-    alloc: Global,
-    folder: &mut F,
-    config: &Config,
-) -> Result<OpenPage, Stop>
+fn open_page<F: Folder>(alloc: Global, folder: &mut F, config: &Config) -> Result<OpenPage, Stop>
     ensures { OpensPage config.now (F.state folder.old) result (F.state folder.new) }
 {
     match folder.look(alloc, config.page(), MOST_FILE_BYTES) {

@@ -66,12 +66,7 @@ fn inject<F: Folder, O: Sink>(alloc: Global, folder: &mut F, config: &Config, ou
 }
 
 // Writes the file, and says so.
-fn finish<F: Folder, O: Sink>(
-    alloc: Global,
-    folder: &mut F,
-    prepared: &Prepared,
-    out: &mut O,
-) -> u8
+fn finish<F: Folder, O: Sink>(alloc: Global, folder: &mut F, prepared: &Prepared, out: &mut O) -> u8
     ensures { Finishes prepared.now (F.state folder.old) (F.state folder.new) (O.state out.old)
         (O.state out.new) result }
 {
