@@ -1,2 +1,0 @@
-pub mod NeedLemmas
-pub mod DifferenceLemmas

@@ -1,3 +1,0 @@
-pub mod OutcomeLemmas
-pub mod FrontLemmas
-pub mod WalkLemmas

@@ -1,3 +1,0 @@
-pub mod TextMapLemmas
-pub mod FaultLemmas
-pub mod ScopeLemmas
