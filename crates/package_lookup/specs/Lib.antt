@@ -1,9 +1,0 @@
-pub mod SeenLooks
-pub mod Readings
-pub mod Looked
-pub mod Trails
-pub mod Responses
-pub mod Answered
-pub mod Fetching
-pub mod Recorded
-pub mod Formats
