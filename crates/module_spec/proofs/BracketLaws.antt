@@ -1,5 +1,5 @@
 -- Brackets that are open, and partners.
-use Rattle.std.proofs.Common.{◌≡◌, ◌≤◌, ◌<◌, ◌+◌, ◌-◌, ◌==◌, ℕ, suc, List, [], ◌∷◌, ◌++◌, Bool, true, false, length, if◌then◌else◌, Option, Some, None, ◌⊎◌, inl, inr, refl, sym, ◌∙◌, ap, subst, arith}
+use Rattle.std.proofs.Common.{◌≡◌, ◌≤◌, ◌<◌, ◌+◌, ◌-◌, ◌==◌, ℕ, List, [], ◌∷◌, ◌++◌, Bool, true, false, length, if◌then◌else◌, Option, Some, None, refl, sym, ◌∙◌, ap, subst, arith}
 use Rattle.std.proofs.lemmas.List.{length-append}
 use Rattle.module_spec.specs.declared.token.Mark.TheVariants.{OpenRound, OpenSquare, OpenCurly, CloseRound, CloseSquare, CloseCurly, Dot, Step, Stop, Operator}
 use Rattle.module_spec.specs.declared.token.Sort.{Sort}
@@ -9,12 +9,12 @@ use Rattle.module_spec.specs.declared.token.Bracket.TheVariants.{Round, Square, 
 use Rattle.module_spec.specs.declared.token.LexKind.{LexKind}
 use Rattle.module_spec.specs.declared.token.LexKind.TheVariants.{Unreadable}
 use Rattle.module_spec.specs.Sorts.{opens, closes, same_bracket}
-use Rattle.module_spec.specs.Tokens.{Piece, piece, Lexeme, Balanced, Innermost, Next, next_from, next_at, unless_refused, refusal, is_closed_by, is_template, opener, count, depth, most_brackets, IsNext, Reaches}
+use Rattle.module_spec.specs.Tokens.{Piece, piece, Lexeme, Balanced, Innermost, Next, next_from, next_at, unless_refused, refusal, is_closed_by, is_template, opener, count, depth, IsNext, Reaches}
 use Rattle.module_spec.specs.Tokens.Innermost.{none, bracket}
 use Rattle.module_spec.specs.Tokens.Next.{Ends, Faults, Gives}
 use Rattle.module_spec.specs.Tokens.IsNext.{next}
 use Rattle.module_spec.specs.Tokens.Reaches.{begin, go}
-use Rattle.module_spec.specs.Brackets.{openers, closers, ArePartners, StaysOpen}
+use Rattle.module_spec.specs.Brackets.{StaysOpen}
 use Rattle.module_spec.specs.Laws.{DepthCounts, OnePartner, CurlyPartners}
 use Rattle.module_spec.proofs.TokenLaws.{open_brackets, pushed, popped, behind_top, top_of, innermost_top, one_innermost}
 

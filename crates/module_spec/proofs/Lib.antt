@@ -7,5 +7,6 @@ pub mod BracketLaws
 pub mod Terminals
 pub mod FormLaws
 pub mod OutlineLaws
+pub mod OutlineReadings
 pub mod examples
 pub mod PlainReadings

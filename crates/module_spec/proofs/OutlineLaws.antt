@@ -1,11 +1,9 @@
 -- A text has one outline or one first fault.
-use Rattle.std.proofs.Common.{◌≡◌, ◌-◌, ℕ, List, length, reverse, Result, Err, refl, sym, ap, ◌∙◌}
-use Rattle.module_spec.specs.declared.token.LexKind.{LexKind}
-use Rattle.module_spec.specs.declared.request.ModuleFault.{ModuleFault}
+use Rattle.std.proofs.Common.{◌≡◌, List, length, reverse, refl, sym, ap, ◌∙◌}
 use Rattle.module_spec.specs.Tokens.{Lexeme}
 use Rattle.module_spec.specs.Tokens.Next.{Ends, Faults}
 use Rattle.module_spec.specs.Places.{places}
-use Rattle.module_spec.specs.Outlines.{Outline, ReadsOutline, outlined, lexical_fault}
+use Rattle.module_spec.specs.Outlines.{outlined}
 use Rattle.module_spec.specs.Outlines.ReadsOutline.{all, fault}
 use Rattle.module_spec.specs.Laws.{OneOutline}
 use Rattle.module_spec.proofs.TokenLaws.{same_end, ends_last, faults_last}

@@ -1,4 +1,4 @@
-pub mod PlainExamples
 pub mod DepthExamples
 pub mod TokenExamples
 pub mod OutlineExamples
+pub mod ReadingExamples

@@ -1,5 +1,5 @@
 -- Worked examples, as statements: what texts have for tokens, and what they ask for.
-use Rattle.std.specs.Prelude.{◌≡◌, ℕ, ◌+◌, true, false, List, [], ◌∷◌, Some, None, Result, Ok, Err, codes, replicate, length}
+use Rattle.std.specs.Prelude.{◌≡◌, ℕ, ◌+◌, Bool, true, false, List, [], ◌∷◌, Some, None, Result, Ok, Err, codes, replicate, length}
 use Rattle.module_spec.specs.declared.token.Kind.{Kind}
 use Rattle.module_spec.specs.declared.token.Kind.TheVariants as kinds
 use Rattle.module_spec.specs.declared.token.LexKind.TheVariants.{Unreadable, TooDeep}
@@ -7,29 +7,12 @@ use Rattle.module_spec.specs.declared.token.Token.{Token}
 use Rattle.module_spec.specs.declared.request.Request.{Request}
 use Rattle.module_spec.specs.declared.request.ModuleFault as module_faults
 use Rattle.module_spec.specs.declared.request.ModuleFault.TheVariants as module_fault
-use Rattle.module_spec.specs.PlainForm.{IsPlain}
 use Rattle.module_spec.specs.Tokens.{ReadsTokens}
 use Rattle.module_spec.specs.Places.{Placed}
 use Rattle.module_spec.specs.StringValues.{string_value}
 use Rattle.module_spec.specs.Outlines.{Outline, requests, outlined}
 use Rattle.module_spec.specs.Outlines.Finding.{specifier}
-
--- ---- texts of the plain form
-
-pub record ReadExamples : Type 0 where
-  pub empty : IsPlain [] []
-  pub one : IsPlain (codes "import \"./b.mjs\";") (codes "./b.mjs" ∷ [])
-  pub two : IsPlain (codes " import\"a\";\n\timport \"b\" ;\n") (codes "a" ∷ codes "b" ∷ [])
-  pub twice : IsPlain (codes "import\"a\";import\"a\";") (codes "a" ∷ codes "a" ∷ [])
-
-pub record UnreadExamples : Type 0 where
-  pub single_quotes : (specifiers : List (List ℕ)) → IsPlain (codes "import './b.mjs';") specifiers → ⊥
-  pub no_semicolon : (specifiers : List (List ℕ)) → IsPlain (codes "import \"./b.mjs\"") specifiers → ⊥
-  pub other_word : (specifiers : List (List ℕ)) → IsPlain (codes "export {};") specifiers → ⊥
-
-pub record WorkedExamples : Type 0 where
-  pub read : ReadExamples
-  pub unread : UnreadExamples
+use Rattle.module_spec.specs.OutlineReading.{read_outline}
 
 -- ---- tokens
 
@@ -180,3 +163,29 @@ pub record ManyExamples : Type 0 where
   pub most : requests [] (replicate 4096 (specifier (text_at 7 (codes "'a'"))))
       ≡ Ok (replicate 4096 (request 7 10 (codes "a")))
   pub too_many : requests [] (replicate 4097 (specifier (text_at 7 (codes "'a'")))) ≡ Err module_fault.TooManyRequests
+
+-- ---- whole texts
+
+abbrev pub asking : ℕ → ℕ → List ℕ → Request
+asking from to text = record { from = from; to = to; text = text }
+
+abbrev pub Reads : List ℕ → List Request → Bool → Type 0
+Reads text requests declares = read_outline text ≡ Ok (record { requests = requests; declares = declares })
+
+abbrev pub FaultsAt : List ℕ → ℕ → Type 0
+FaultsAt text at = read_outline text ≡ Err (module_fault.Unreadable at)
+
+pub record ReadingExamples : Type 0 where
+  pub empty : Reads [] [] false
+  pub effects : Reads (codes "import \"./b.mjs\";") (asking 7 16 (codes "./b.mjs") ∷ []) true
+  pub two : Reads (codes " import\"a\";\n\timport 'b'") (asking 7 10 (codes "a") ∷ asking 20 23 (codes "b") ∷ []) true
+  pub bindings :
+      Reads (codes "import a, {b} from \"x\";export*from'y'")
+      (asking 19 22 (codes "x") ∷ asking 34 37 (codes "y") ∷ []) true
+  pub no_request : Reads (codes "export {};") [] true
+  pub no_declaration : Reads (codes "module.exports = 1;") [] false
+  pub a_comment : Reads (codes "// import \"a\"") [] false
+  pub a_hashbang : Reads (codes "#! import \"a\"") [] false
+  pub wrong_form : FaultsAt (codes "import x y") 0
+  pub cut : FaultsAt (codes "import \"./b.mjs") 7
+  pub open_at_end : FaultsAt (codes "a(") 2

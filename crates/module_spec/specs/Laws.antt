@@ -15,6 +15,7 @@ use Rattle.module_spec.specs.Forms.{import_declaration, export_declaration}
 use Rattle.module_spec.specs.Forms.Form.{wrong, alone, asks}
 use Rattle.module_spec.specs.Declarations.{ImportDeclaration, ExportFrom, ExportAlone, Begins, Asks}
 use Rattle.module_spec.specs.Outlines.{Outline, ReadsOutline}
+use Rattle.module_spec.specs.OutlineReading.{read_outline}
 
 -- a text of the plain form asks for one list of specifiers
 abbrev pub OneReading : Type 0
@@ -84,3 +85,7 @@ abbrev pub OneOutline : Type 0
 OneOutline =
     (text : List ℕ) (some other : Result Outline ModuleFault) → ReadsOutline text some → ReadsOutline text other
     → some ≡ other
+
+-- the outline of a text, or its first fault, is what the function reads
+abbrev pub OutlineIsRead : Type 0
+OutlineIsRead = (text : List ℕ) (out : Result Outline ModuleFault) → ReadsOutline text out ↔ (read_outline text ≡ out)

@@ -10,5 +10,6 @@ pub mod Forms
 pub mod Declarations
 pub mod StringValues
 pub mod Outlines
+pub mod OutlineReading
 pub mod Examples
 pub mod Laws

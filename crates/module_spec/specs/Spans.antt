@@ -2,7 +2,7 @@
 --     IsSpan text token      the token has a byte at least, and begins and ends between characters
 --     Stands text t      the lexeme is what the text has at the span of its token
 use Rattle.std.specs.Prelude.{ℕ, ◌≡◌, ◌<◌, List, length, slice_range}
-use Rattle.std.specs.Str.{IsUtf8, IsCharBoundary}
+use Rattle.std.specs.Str.{IsCharBoundary}
 use Rattle.module_spec.specs.declared.token.Token.{Token}
 use Rattle.module_spec.specs.Tokens.{Lexeme, token_of}
 

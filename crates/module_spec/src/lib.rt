@@ -1,10 +1,9 @@
 //! What a module text is made of and what it asks for: definitions and their laws. The tokens of ECMA-262; the forms
-//! of its import and export declarations, with the values of their module specifiers; and texts of the plain form,
-//! which consist of white space and of statements that import a module for its effects.
+//! of its import and export declarations; and the values of their module specifiers.
 #![tactic(auto)]
 
-ghost use Rattle.module_spec.specs.Examples.{ManyExamples, OutlineExamples, TokenExamples, ValueExamples, WorkedExamples};
-ghost use Rattle.module_spec.specs.Laws.{CurlyPartners, DepthCounts, FormsAreProductions, OneOutline, OnePartner, OneReach, OneReading, OneTokens, TokensStand};
+ghost use Rattle.module_spec.specs.Examples.{ManyExamples, OutlineExamples, TokenExamples, ReadingExamples, ValueExamples};
+ghost use Rattle.module_spec.specs.Laws.{CurlyPartners, DepthCounts, FormsAreProductions, OneOutline, OnePartner, OneReach, OneReading, OneTokens, OutlineIsRead, TokensStand};
 
 mod request;
 mod token;
@@ -12,16 +11,10 @@ mod token;
 pub use request::{ModuleFault, Request};
 pub use token::{Bracket, Kind, LexFault, LexKind, Mark, Sort, Token, Word};
 
-/// A text is read in one way at most.
+/// A text of the plain form is read in one way at most.
 #[tactic(auto, using(crate::proofs::Readings::one_reading))]
 pub fn one_reading()
     ensures { OneReading }
-{}
-
-/// Worked examples.
-#[tactic(auto, using(crate::proofs::examples::PlainExamples::worked_examples))]
-pub fn worked_examples()
-    ensures { WorkedExamples }
 {}
 
 /// A text has at most one list of tokens or one first fault, and not both.
@@ -70,6 +63,12 @@ pub fn one_outline()
     ensures { OneOutline }
 {}
 
+/// The outline of a text, or its first fault, is what the function reads.
+#[tactic(auto, using(crate::proofs::OutlineReadings::outline_is_read))]
+pub fn outline_is_read()
+    ensures { OutlineIsRead }
+{}
+
 /// Worked examples of tokens.
 #[tactic(auto, using(crate::proofs::examples::TokenExamples::token_examples))]
 pub fn token_examples()
@@ -86,6 +85,12 @@ pub fn value_examples()
 #[tactic(auto, using(crate::proofs::examples::OutlineExamples::outline_examples))]
 pub fn outline_examples()
     ensures { OutlineExamples }
+{}
+
+/// Worked examples of whole texts.
+#[tactic(auto, using(crate::proofs::examples::ReadingExamples::reading_examples))]
+pub fn reading_examples()
+    ensures { ReadingExamples }
 {}
 
 /// Worked examples at the limit of requests.

@@ -16,6 +16,7 @@ pub mod RelativeLemmas
 pub mod NearestFolders
 pub mod RecordLooks
 pub mod NodeLemmas
+pub mod BareSpecifiers
 pub mod TargetOutcomes
 pub mod KeyChoice
 pub mod TargetsFollowed

@@ -1,6 +1,6 @@
 -- The laws of Node's rules as askings. Each is the contract of a function of this crate.
 use Rattle.std.specs.FinMap.{get}
-use Rattle.std.specs.Prelude.{◌≡◌, ◌↔◌, ◌++◌, ℕ, true, false, List, [], ◌∷◌, Option, Some, Result, Ok, MatchOption}
+use Rattle.std.specs.Prelude.{◌≡◌, ◌↔◌, ◌++◌, ℕ, true, false, List, [], ◌∷◌, Option, Some, Result, Ok, MatchOption, ◌≢◌, None}
 use Rattle.asking_spec.specs.Askings.{outcome}
 use Rattle.asking_spec.specs.Laws.{AgreesOn}
 use Rattle.json_spec.specs.Value.{Json}
@@ -9,7 +9,8 @@ use Rattle.tree_spec.specs.LookAskings.{Sights, looks, footprint}
 use Rattle.tree_spec.specs.Paths.{IsPath}
 use Rattle.tree_spec.specs.Trees.{Tree, IsTree}
 use Rattle.tree_spec.specs.declared.Entry.TheVariants.{Stored}
-use Rattle.url_spec.specs.Specifiers.{is_relative}
+use Rattle.url_spec.specs.Specifiers.{is_relative, ends_in_slash}
+use Rattle.url_spec.specs.Parsing.{parse_alone}
 use Rattle.node_spec.specs.BareCalls.{Tells}
 use Rattle.node_spec.specs.EsmFileFormat.{file_format}
 use Rattle.node_spec.specs.EsmResolve.{node, Resolves}
@@ -149,3 +150,17 @@ abbrev pub NodeConditionsAreASet : Type 0
 NodeConditionsAreASet =
     (some other : List (List ℕ)) (parent specifier : List ℕ) → IsSameSet some other
     → node some parent specifier ≡ node other parent specifier
+
+-- ---- bare specifiers
+
+-- the text is no URL, isn't empty, and doesn't end in `/`
+pub record IsBare (specifier : List ℕ) : Type 0 where
+  pub no_url : parse_alone specifier ≡ None
+  pub nonempty : specifier ≢ []
+  pub no_folder : ends_in_slash specifier ≡ false
+
+-- own law: a specifier that isn't relative and has an answer is bare
+abbrev pub AnsweredIsBare : Type 0
+AnsweredIsBare =
+    (sights : Sights) (conditions : List (List ℕ)) (parent specifier : List ℕ) (found : Module)
+    → is_relative specifier ≡ false → outcome sights (node conditions parent specifier) ≡ Ok found → IsBare specifier

@@ -5,7 +5,7 @@
 ghost use Rattle.node_spec.specs.Laws.{AnswersDetermine, ConditionsAreASet, DecidingCallIsLast, ExportsAskNothing, KeysAreInOrder, OneAnswer, OneChoice, OneOutcome, OneRecord, OneUnder, PatternMatchIsSlice, PatternMatchStands, PlacesBeginWithDotSlash, RecordNamesAreDistinct, SomeAnswer, SomeChoice, SomeOutcome, SomeOutcomeInTurn, SomeRecord};
 ghost use Rattle.node_spec.specs.WorkedExamples.{WorkedExamples};
 ghost use Rattle.node_spec.specs.NodeExamples.{NodeExamples};
-ghost use Rattle.node_spec.specs.NodeLaws.{OneNode, SomeNode, GivesFile, SameNode, SameFormat, RelativeNode, OneNearest, FindsPackageScope, FindsPackageFolder, FindsRecord, OneRecordAt, RecordIsRead, FindsTarget, ExportsLookAtNothing, FindsKey, NodeConditionsAreASet};
+ghost use Rattle.node_spec.specs.NodeLaws.{OneNode, SomeNode, GivesFile, SameNode, SameFormat, RelativeNode, OneNearest, FindsPackageScope, FindsPackageFolder, FindsRecord, OneRecordAt, RecordIsRead, FindsTarget, ExportsLookAtNothing, FindsKey, NodeConditionsAreASet, AnsweredIsBare};
 ghost use Rattle.node_spec.specs.PatternExamples.{PatternExamples};
 ghost use Rattle.node_spec.specs.TargetCalls.{FollowsTarget, TargetAnswered};
 ghost use Rattle.node_spec.specs.RelativeResolution.{FindsRelative};
@@ -46,6 +46,23 @@ pub enum PackageKind {
     CommonJs,
     /// No type, or another one, which says nothing.
     Unstated,
+}
+
+/// Why a file is no module.
+#[derive(Clone, Copy, Debug, PartialEq, Eq)]
+pub enum Reason {
+    /// Its name, its package or its text says that it is a CommonJS module.
+    CommonJs,
+    /// Its name says that it is JSON.
+    Json,
+    /// Its name says that it is an addon.
+    Addon,
+    /// Its name has another ending, or none.
+    Other,
+    /// The package.json of its package scope isn't well formed.
+    Config,
+    /// What stands at the place in its text, in bytes, can't be read as a module's.
+    Unreadable { at: usize },
 }
 
 /// What the resolution of a bare text that a target names comes to.
@@ -322,4 +339,9 @@ pub fn target_answered<T, S, X>()
 /// Conditions are a set in the whole of Node's resolution.
 pub fn node_conditions_are_a_set()
     ensures { NodeConditionsAreASet }
+{}
+
+/// A specifier that isn't relative and has an answer is no URL, and names no folder.
+pub fn answered_is_bare()
+    ensures { AnsweredIsBare }
 {}

@@ -1,6 +1,7 @@
 pub mod KeptUrls
 pub mod NoUrls
 pub mod OwnUrls
+pub mod NormalTexts
 pub mod Bases
 pub mod OnePlace
 pub mod ParserParts

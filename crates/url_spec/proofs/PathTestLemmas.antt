@@ -1,15 +1,13 @@
 -- The tests of paths and of what is served decide.
-use Rattle.std.proofs.Common.{◌≡◌, ◌⊎◌, ◌&&◌, not, ℕ, Bool, true, false, List, ◌++◌, length, drop, refl, sym, ap, ◌∙◌, subst, inl, inr}
-use Rattle.std.specs.Prelude.{codes, bytes_eq, flat_map, IsUtf8}
-use Rattle.std.specs.Str.{is_utf8}
-use Rattle.std.specs.Bool.{Decides}
+use Rattle.std.proofs.Common.{◌≡◌, ◌&&◌, not, ℕ, Bool, true, false, List, ◌++◌, length, drop, refl, sym, ap, ◌∙◌, subst}
+use Rattle.std.specs.Prelude.{codes, flat_map}
 use Rattle.std.proofs.lemmas.Bool.{and_parts}
 use Rattle.std.proofs.lemmas.Str.{IsUtf8-from_is_utf8, is_utf8-from_IsUtf8}
 use Rattle.std.proofs.lemmas.Slice.Eq.{bytes_eq-Decides}
 use Rattle.std.proofs.Math.Seq.{drop-append_seam}
 use Rattle.url_spec.specs.Suffixes.{before_suffix}
 use Rattle.url_spec.specs.ServedPaths.{holds_escape, segments, read_segment, IsServed}
-use Rattle.url_spec.specs.PathTests.{is_path, spells, is_served}
+use Rattle.url_spec.specs.PathTests.{is_served}
 use Rattle.url_spec.proofs.PathDecisions.{path_by_test, test_by_path}
 
 not_false : (b : Bool) → not b ≡ true → b ≡ false

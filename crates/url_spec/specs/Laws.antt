@@ -13,7 +13,7 @@ use Rattle.url_spec.specs.FileUrls.{IsPlace, file_text, names_host, url_path}
 use Rattle.url_spec.specs.PathTests.{is_path, is_served}
 use Rattle.url_spec.specs.Parsing.{parse_alone, parse_against, IsUrl, text_of}
 use Rattle.url_spec.specs.ServedPaths.{IsServed}
-use Rattle.url_spec.specs.Specifiers.{as_url, ends_in_slash}
+use Rattle.url_spec.specs.Specifiers.{is_relative, as_url, normalized, ends_in_slash}
 use Rattle.url_spec.specs.WebNames.{web, escaped}
 
 -- own law: what parsing gives, with or without a base, is the text of a URL, and so is a web name
@@ -58,6 +58,13 @@ abbrev pub OwnUrls : Type 0
 OwnUrls =
     ((base url : List ℕ) → IsUrl url → as_url base url ≡ Some url)
     × ((base text url : List ℕ) → as_url base text ≡ Some url → IsUrl url)
+
+-- own law: the text of a URL is normalized to itself, whatever the base; and so is a text that is neither relative nor
+-- a URL
+abbrev pub NormalTexts : Type 0
+NormalTexts =
+    ((base url : List ℕ) → IsUrl url → normalized base url ≡ url)
+    × ((base text : List ℕ) → is_relative text ≡ false → parse_alone text ≡ None → normalized base text ≡ text)
 
 -- own law: the text of a URL, parsed against any URL, is that URL
 abbrev pub SameAgainst : Type 0

@@ -2,7 +2,7 @@
 //! and their laws as the contracts of functions that do nothing.
 #![tactic(auto)]
 
-ghost use Rattle.url_spec.specs.Laws.{SameAgainst, FilesEndInNoSlash, FileUrls, AsciiUrls, KeptWhole, KeptUrls, NoUrls, OwnUrls, BasesStay, OneServed, OnePlace, PathsAreTested};
+ghost use Rattle.url_spec.specs.Laws.{SameAgainst, FilesEndInNoSlash, FileUrls, AsciiUrls, KeptWhole, KeptUrls, NoUrls, OwnUrls, NormalTexts, BasesStay, OneServed, OnePlace, PathsAreTested};
 ghost use Rattle.url_spec.specs.WorkedExamples.{WorkedExamples};
 
 /// What parsing gives, with or without a base, is the text of a URL, and so is a web name.
@@ -36,6 +36,11 @@ pub fn no_urls()
 #[tactic(auto, using(crate::proofs::OwnUrls::own_urls))]
 pub fn own_urls()
     ensures { OwnUrls }
+{}
+
+/// As a specifier the text of a URL stands for itself, and so does a text that is neither relative nor a URL.
+pub fn normal_texts()
+    ensures { NormalTexts }
 {}
 
 /// The text of a URL, parsed against any URL, is that URL.

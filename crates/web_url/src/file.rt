@@ -83,6 +83,14 @@ impl FileUrl {
             url: self.url.clone()?,
         })
     }
+
+    /// Whether the URL has a host that isn't empty.
+    #[tactic(auto, using(crate::proofs::UrlTexts::texts))]
+    pub fn names_host(&self) -> bool
+        ensures { result ≡ names_host self.now }
+    {
+        self.url.has_host()
+    }
 }
 
 /// The URL of a file or a folder.
@@ -128,15 +136,22 @@ pub fn file_join(_alloc: Global, text: &str, parent: &FileUrl) -> Result<Option<
 }
 
 /// The place that a file URL names, which must have no host.
-#[tactic(auto, using(std::proofs::lemmas::Str::Pattern::ends_text))]
 pub fn file_of(alloc: Global, url: &FileUrl) -> Result<Place, FileFault>
     ensures place { IfOk result (λ place. IsPlace url.now place.path place.folder_only place.escaped place.suffix) }
     ensures no_host { IfOk result (λ place. names_host url.now ≡ false) }
     ensures host { IsErrOf result FileFault.BadFileUrl → names_host url.now ≡ true }
 {
-    if has_host(url) {
+    if url.names_host() {
         return Err(FileFault::BadFileUrl);
     }
+    Ok(place_of(alloc, url)?)
+}
+
+/// The place that the path of a file URL names, whatever its host.
+#[tactic(auto, using(std::proofs::lemmas::Str::Pattern::ends_text))]
+pub fn place_of(alloc: Global, url: &FileUrl) -> Result<Place, Memory>
+    ensures { IfOk result (λ place. IsPlace url.now place.path place.folder_only place.escaped place.suffix) }
+{
     let url_path = path(url);
     Ok(Place {
         path: named_path(alloc, url_path)?,
@@ -144,13 +159,6 @@ pub fn file_of(alloc: Global, url: &FileUrl) -> Result<Place, FileFault>
         escaped: escapes_separator(url_path),
         suffix: Suffix::behind(alloc, url.as_str())?,
     })
-}
-
-#[tactic(auto, using(crate::proofs::UrlTexts::texts))]
-fn has_host(url: &FileUrl) -> bool
-    ensures { result ≡ names_host url.now }
-{
-    url.url.has_host()
 }
 
 #[tactic(auto, using(crate::proofs::UrlTexts::texts))]

@@ -15,7 +15,7 @@ mod url_text;
 mod web_url;
 
 pub use base::{Base, BaseFault};
-pub use file::{FileFault, FileUrl, Place, file_join, file_of, file_url};
+pub use file::{FileFault, FileUrl, Place, file_join, file_of, file_url, place_of};
 pub use names::{WebFault, served, web_of};
 pub use specifier::{AskFault, Asked, Scheme, as_url, ask, is_relative, normalized, scheme_of};
 pub use suffix::Suffix;

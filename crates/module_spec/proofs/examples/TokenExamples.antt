@@ -1,12 +1,10 @@
 -- Worked examples of tokens.
-use Rattle.std.specs.Prelude.{ℕ, [], ◌∷◌, Ok, Err, codes}
+use Rattle.std.specs.Prelude.{[], ◌∷◌, Ok, Err, codes}
 use Rattle.std.proofs.Common.{refl}
-use Rattle.module_spec.specs.declared.token.Kind.{Kind}
 use Rattle.module_spec.specs.declared.token.Kind.TheVariants as kinds
 use Rattle.module_spec.specs.declared.token.Mark.TheVariants as marks
 use Rattle.module_spec.specs.declared.token.Sort.TheVariants as sorts
-use Rattle.module_spec.specs.declared.token.LexKind.TheVariants.{Unreadable, TooDeep}
-use Rattle.module_spec.specs.declared.token.Token.{Token}
+use Rattle.module_spec.specs.declared.token.LexKind.TheVariants.{Unreadable}
 use Rattle.module_spec.specs.Characters.{name_size}
 use Rattle.module_spec.specs.Spellings.{blank_rest}
 use Rattle.module_spec.specs.Sorts.{word}

@@ -1,0 +1,5 @@
+use Rattle.check_spec.proofs.DifferenceLemmas as lemmas
+use Rattle.check_spec.proofs.differences_ascend.Goals as goal
+
+pub returns : goal.returns
+returns c = lemmas.differences_ascend

@@ -1,0 +1,3 @@
+pub mod OutcomeLemmas
+pub mod FrontLemmas
+pub mod WalkLemmas

@@ -1,0 +1,3 @@
+pub mod TextMapLemmas
+pub mod FaultLemmas
+pub mod ScopeLemmas

@@ -1,0 +1,27 @@
+-- How scopes are put one by one.
+use Rattle.std.proofs.Common.{◌≡◌, ◌<◌, ◌+◌, ℕ, List, ◌∷◌, drop, length, ap, sym, ◌∙◌, subst}
+use Rattle.std.specs.Prelude.{Result, slice_index_or}
+use Rattle.std.proofs.lemmas.List.{drop_more}
+use denote.Ref.{Bor}
+use Rattle.json_spec.specs.Value.{Json, an_object, Members, a_member}
+use Rattle.url_spec.specs.Parsing.{parse_against}
+use Rattle.import_map_spec.specs.ParsedMap.{Addresses, Texts}
+use Rattle.import_map_spec.specs.declared.MapPart.{MapPart}
+use Rattle.ordered_json.specs.Shown.{json_of}
+use Rattle.ordered_json.specs.declared.value.Value.{Value}
+use Rattle.property_order.specs.Lent.{lent}
+use Rattle.map_parse.specs.Faults.{FailsPart}
+use Rattle.map_parse.specs.declared.fault.MapFault.{MapFault}
+use Rattle.import_map_spec.specs.Parsing.{scopes_onto, with_scope, normalized_addresses}
+
+pub scope_put : (base : List ℕ) (old new : Texts Addresses) (key : List ℕ) (value : Json) (ms more : Members) → value ≡ an_object ms
+    → new ≡ with_scope (parse_against base key) (normalized_addresses base ms) old → scopes_onto base old (a_member key value more) ≡ scopes_onto base new more
+scope_put base old new key value ms more object e = ap (λ v. scopes_onto base old (a_member key v more)) object ∙ ap (λ m. scopes_onto base m more) (sym e)
+
+-- the fault of the next member is that of what is left
+pub next_fails : (base : List ℕ) (m : Texts Addresses) (out : Result (Texts Addresses) MapPart) (fault : MapFault) (pairs : List (Bor (List ℕ × Value))) (i : ℕ) (pair : Bor (List ℕ × Value)) (key : List ℕ) (value : Json) → out ≡ scopes_onto base m (lent (drop i pairs))
+    → i < length pairs → pair ≡ slice_index_or pairs i pair → ((ms : Members) → FailsPart fault (scopes_onto base m (a_member key value ms))) → key ≡ pair.now.0 → value ≡ json_of pair.now.1 → FailsPart fault out
+next_fails base m out fault pairs i pair key value e inside here f same also =
+    let split : drop i pairs ≡ pair ∷ drop (i + 1) pairs = drop_more pairs i pair inside ∙ ap (λ p. p ∷ drop (i + 1) pairs) (sym here) in
+    subst (FailsPart fault)
+    (sym (e ∙ (ap (λ ps. scopes_onto base m (lent ps)) split ∙ (sym (ap (λ k. scopes_onto base m (a_member k (json_of pair.now.1) (lent (drop (i + 1) pairs)))) same) ∙ sym (ap (λ v. scopes_onto base m (a_member key v (lent (drop (i + 1) pairs)))) also))))) (f (lent (drop (i + 1) pairs)))

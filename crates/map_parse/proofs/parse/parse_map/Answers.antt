@@ -1,0 +1,5 @@
+use Rattle.map_parse.proofs.FaultLemmas.{whole}
+use Rattle.map_parse.proofs.parse.parse_map.Goals as goal
+
+pub returns-in-Ok : goal.returns-in-Ok
+returns-in-Ok c = whole c.args.base.now c.args.bytes.now _ c.map_of_value.result c.in-Ok.ensures.reads c.map_of_value.ensures

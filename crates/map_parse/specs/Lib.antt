@@ -1,0 +1,4 @@
+pub mod TextMaps
+pub mod Parts
+pub mod Faults
+pub mod Codes

@@ -1,0 +1,183 @@
+-- The function that reads an outline reads what the relation says.
+use Rattle.std.proofs.Common.{◌≡◌, ◌<◌, ◌==◌, ℕ, zero, suc, Bool, true, false, List, [], ◌∷◌, length, Option, Some, None, if◌then◌else◌, refl, ap, ◌∙◌, subst, arith}
+use Rattle.module_spec.specs.declared.token.Bracket.{Bracket}
+use Rattle.module_spec.specs.declared.token.Bracket.TheVariants.{Round, Square, Curly, Template}
+use Rattle.module_spec.specs.declared.token.Sort.{Sort}
+use Rattle.module_spec.specs.declared.token.LexKind.{LexKind}
+use Rattle.module_spec.specs.declared.token.LexKind.TheVariants.{Unreadable}
+use Rattle.module_spec.specs.Sorts.{opens, closes, same_bracket}
+use Rattle.module_spec.specs.Spellings.{blank_rest, hashbang_rest}
+use Rattle.module_spec.specs.Tokens.{Piece, piece, Lexeme, lexeme, Next, next_from, next_at, unless_refused, refusal}
+use Rattle.module_spec.specs.Tokens.{is_closed_by, is_template, opener, depth, Balanced, Outside, Innermost, Slash, Skips}
+use Rattle.module_spec.specs.Tokens.{IsNext, Reaches}
+use Rattle.module_spec.specs.Tokens.Next.{Ends, Faults, Gives}
+use Rattle.module_spec.specs.Tokens.Balanced.{same, neither, closed}
+use Rattle.module_spec.specs.Tokens.Outside.{first, later}
+use Rattle.module_spec.specs.Tokens.Innermost.{none, bracket}
+use Rattle.module_spec.specs.Tokens.Slash.{start, token}
+use Rattle.module_spec.specs.Tokens.Skips.{stop, more}
+use Rattle.module_spec.specs.Tokens.IsNext.{next}
+use Rattle.module_spec.specs.Tokens.Reaches.{begin, go}
+use Rattle.module_spec.specs.Outlines.{ReadsOutline}
+use Rattle.module_spec.specs.Outlines.ReadsOutline.{all, fault}
+use Rattle.module_spec.specs.OutlineReading.{without_closed, with_opened, open_brackets, innermost, begins_regex}
+use Rattle.module_spec.specs.OutlineReading.{or_further, skipped, next_of, read_on, read_from, read_outline}
+use Rattle.module_spec.specs.Laws.{OutlineIsRead}
+use Rattle.module_spec.proofs.OutlineLaws.{one_outline}
+use Rattle.module_spec.proofs.Suffixes.{blank_shorter, next_shorter}
+
+-- ---- the brackets that are open
+
+data AreOpen : List Lexeme → List (List Lexeme) → Type 0 where
+  empty : {before : List Lexeme} → Balanced before [] → AreOpen before []
+  inside : {o : Lexeme} {before inner outer : List Lexeme} {k : Bracket} {unclosed : List (List Lexeme)}
+      → Balanced before (o ∷ inner) → opens o.sort ≡ Some k → Outside o inner outer → AreOpen outer unclosed
+      → AreOpen before ((o ∷ inner) ∷ unclosed)
+
+innermost_is : {before : List Lexeme} {unclosed : List (List Lexeme)} → AreOpen before unclosed
+    → Innermost before (innermost unclosed)
+innermost_is (empty b) = none b
+innermost_is (inside b e out below) = bracket b e
+
+outward : {outer before : List Lexeme} {unclosed : List (List Lexeme)}
+    → ((at : List Lexeme) → Balanced outer at → Balanced before at) → AreOpen outer unclosed → AreOpen before unclosed
+outward onto (empty b) = empty (onto [] b)
+outward onto (inside {o} {inner = inner} b e out below) = inside (onto (o ∷ inner) b) e out below
+
+open_more : (t : Lexeme) (before : List Lexeme) (unclosed : List (List Lexeme)) (o c : Option Bracket)
+    → opens t.sort ≡ o → closes t.sort ≡ c → AreOpen before unclosed
+    → ((k : Bracket) → c ≡ Some k → opener (innermost unclosed) ≡ Some k)
+    → AreOpen (t ∷ before) (with_opened o (t ∷ before) (without_closed c unclosed))
+open_more t before unclosed None None eo ec is allowed = outward (λ at b. neither eo ec b) is
+open_more t before unclosed (Some k) None eo ec is allowed = inside same eo (first ec) is
+open_more t before unclosed None (Some k) eo ec (empty b) allowed = absurd (let e = allowed k refl in cc)
+open_more t before unclosed None (Some k) eo ec (inside b e out below) allowed =
+    outward (λ at further. closed eo ec b (allowed k refl) out further) below
+open_more t before unclosed (Some l) (Some k) eo ec (empty b) allowed = absurd (let e = allowed k refl in cc)
+open_more t before unclosed (Some l) (Some k) eo ec (inside b e out below) allowed =
+    inside same eo (later ec b (allowed k refl) out) below
+
+-- ---- a token that isn't refused closes the innermost bracket or none
+
+same_is : (a b : Bracket) → same_bracket a b ≡ true → a ≡ b
+same_is Round Round e = refl
+same_is Round Square e = absurd (cc)
+same_is Round Curly e = absurd (cc)
+same_is Round Template e = absurd (cc)
+same_is Square Round e = absurd (cc)
+same_is Square Square e = refl
+same_is Square Curly e = absurd (cc)
+same_is Square Template e = absurd (cc)
+same_is Curly Round e = absurd (cc)
+same_is Curly Square e = absurd (cc)
+same_is Curly Curly e = refl
+same_is Curly Template e = absurd (cc)
+same_is Template Round e = absurd (cc)
+same_is Template Square e = absurd (cc)
+same_is Template Curly e = absurd (cc)
+same_is Template Template e = refl
+
+closes_innermost : (o : Option Bracket) (k : Bracket) (c : Bool) → is_closed_by o k ≡ c
+    → (if c then None else Some Unreadable) ≡ None → o ≡ Some k
+closes_innermost o k false e f = absurd (cc)
+closes_innermost None k true e f = absurd (cc)
+closes_innermost (Some x) k true e f = ap (λ b. Some b) (same_is x k e)
+
+allowed_by : (o c inner : Option Bracket) (d : ℕ) (k : Bracket) → refusal o c inner d ≡ None → c ≡ Some k
+    → inner ≡ Some k
+allowed_by o None inner d k e f = absurd (cc)
+allowed_by o (Some l) inner d k e f = closes_innermost inner l (is_closed_by inner l) refl e ∙ f
+
+-- what comes next is the end, a fault, or a token that isn't refused
+data Comes (inner : Option Bracket) (d : ℕ) : Next → Type 0 where
+  an_end : Comes inner d Ends
+  a_fault : (left : ℕ) (kind : LexKind) → Comes inner d (Faults left kind)
+  a_token : (t : Lexeme) (after : List ℕ) → refusal (opens t.sort) (closes t.sort) inner d ≡ None
+      → Comes inner d (Gives t after)
+
+comes_unless : (inner : Option Bracket) (d : ℕ) (bytes : List ℕ) (refused : Option LexKind) (sort : Sort) (rest : List ℕ)
+    → refusal (opens sort) (closes sort) inner d ≡ refused → Comes inner d (unless_refused refused sort bytes rest)
+comes_unless inner d bytes None sort rest e = a_token (lexeme sort bytes rest) rest e
+comes_unless inner d bytes (Some kind) sort rest e = a_fault (length bytes) kind
+
+comes_from : (inner : Option Bracket) (d : ℕ) (bytes : List ℕ) (found : Piece)
+    → Comes inner d (next_from inner d bytes found)
+comes_from inner d bytes None = a_fault (length bytes) Unreadable
+comes_from inner d bytes (Some found) =
+    comes_unless inner d bytes (refusal (opens found.0) (closes found.0) inner d) found.0 found.1 refl
+
+comes_end : (inner : Option Bracket) (d : ℕ) (c : Bool) → Comes inner d (if c then Ends else Faults 0 Unreadable)
+comes_end inner d true = an_end
+comes_end inner d false = a_fault 0 Unreadable
+
+comes_at : (slash : Bool) (inner : Option Bracket) (d : ℕ) (bytes : List ℕ)
+    → Comes inner d (next_at slash inner d bytes)
+unfolding next_at
+comes_at slash inner d [] = comes_end inner d (d == 0)
+comes_at slash inner d (b ∷ rest) = comes_from inner d (b ∷ rest) (piece slash (is_template inner) (b ∷ rest))
+
+-- ---- what comes next
+
+skips_by : (room : ℕ) (bytes : List ℕ) (out : Option (List ℕ)) → blank_rest bytes ≡ out
+    → ((rest : List ℕ) → blank_rest bytes ≡ Some rest → Skips rest (skipped room rest))
+    → Skips bytes (or_further bytes out (λ rest. skipped room rest))
+skips_by room bytes None e further = stop e
+skips_by room bytes (Some rest) e further = more e (further rest e)
+
+skips : (room : ℕ) (bytes : List ℕ) → length bytes < room → Skips bytes (skipped room bytes)
+skips zero bytes l = absurd (omega arith)
+skips (suc room) bytes l =
+    skips_by room bytes (blank_rest bytes) refl
+    (λ rest e. let shorter = blank_shorter bytes rest e in skips room rest (omega arith))
+
+-- the brackets behind all tokens but the last, which the slash goes by, and behind all
+record Kept (before : List Lexeme) : Type 0 where
+  slash : Slash before (begins_regex before)
+  unclosed : AreOpen before (open_brackets before)
+
+kept_more : (t : Lexeme) (before : List Lexeme) → Kept before
+    → refusal (opens t.sort) (closes t.sort) (opener (innermost (open_brackets before))) (depth before) ≡ None
+    → Kept (t ∷ before)
+kept_more t before kept e = record {
+  slash = token (innermost_is kept.unclosed) refl;
+  unclosed = open_more t before (open_brackets before) (opens t.sort) (closes t.sort) refl refl kept.unclosed
+      (λ k f. allowed_by (opens t.sort) (closes t.sort) (opener (innermost (open_brackets before))) (depth before) k e f);
+}
+
+-- ---- the whole text
+
+reads_by : (room : ℕ) (text : List ℕ) (before : List Lexeme) (rest : List ℕ) → length rest < suc room
+    → Reaches text before rest → Kept before
+    → ((further : List Lexeme) (after : List ℕ) → length after < room → Reaches text further after → Kept further
+    → ReadsOutline text (read_from room (length text) further after))
+    → (out : Next) → IsNext before rest out → Comes (opener (innermost (open_brackets before))) (depth before) out
+    → ReadsOutline text (read_on (length text) before out (λ further after. read_from room (length text) further after))
+reads_by room text before rest l reached kept behind out i an_end = all reached i refl
+reads_by room text before rest l reached kept behind out i (a_fault left kind) = fault reached i refl
+reads_by room text before rest l reached kept behind out i (a_token t after e) =
+    let shorter = next_shorter before rest after t i in
+    behind (t ∷ before) after (omega arith) (go reached i) (kept_more t before kept e)
+
+reads_from : (room : ℕ) (text : List ℕ) (before : List Lexeme) (rest : List ℕ) → length rest < room
+    → Reaches text before rest → Kept before → ReadsOutline text (read_from room (length text) before rest)
+reads_from zero text before rest l reached kept = absurd (omega arith)
+reads_from (suc room) text before rest l reached kept =
+    let at : List ℕ = skipped (suc (length rest)) rest in
+    let inner = opener (innermost (open_brackets before)) in
+    let comes : IsNext before rest (next_of before rest) =
+    next kept.slash (innermost_is kept.unclosed) (skips (suc (length rest)) rest (omega arith)) refl in
+    reads_by room text before rest l reached kept
+    (λ further after m r k. reads_from room text further after m r k)
+    (next_of before rest) comes (comes_at (begins_regex before) inner (depth before) at)
+
+reads_outline : (text : List ℕ) → ReadsOutline text (read_outline text)
+unfolding read_outline
+reads_outline text =
+    reads_from (suc (length (hashbang_rest text))) text [] (hashbang_rest text) (omega arith) (begin refl)
+    (record { slash = start; unclosed = empty same })
+
+pub outline_is_read : OutlineIsRead
+outline_is_read text out = (
+  (λ reads. one_outline text (read_outline text) out (reads_outline text) reads),
+  (λ e. subst (ReadsOutline text) e (reads_outline text)),
+)

@@ -1,0 +1,32 @@
+-- Worked examples of whole texts, by computation.
+use Rattle.std.proofs.Common.{refl}
+use Rattle.std.specs.Char.{encode_utf8}
+use Rattle.std.specs.Str.{chars}
+use Rattle.module_spec.specs.Characters.{name_size}
+use Rattle.module_spec.specs.Spellings.{blank_rest}
+use Rattle.module_spec.specs.Sorts.{word}
+use Rattle.module_spec.specs.Tokens.{piece, next_at}
+use Rattle.module_spec.specs.StringValues.{string_value}
+use Rattle.module_spec.specs.OutlineReading.{read_outline}
+use Rattle.module_spec.specs.Examples.{ReadingExamples}
+
+-- what the reading of an outline unfolds to compute on literals
+unfoldable pub outline_on_literals : Unit {0}
+unfolding chars encode_utf8 name_size blank_rest word piece next_at string_value read_outline
+outline_on_literals = tt
+
+pub reading_examples : ReadingExamples
+unfolding outline_on_literals
+reading_examples = record {
+  empty = refl;
+  effects = refl;
+  two = refl;
+  bindings = refl;
+  no_request = refl;
+  no_declaration = refl;
+  a_comment = refl;
+  a_hashbang = refl;
+  wrong_form = refl;
+  cut = refl;
+  open_at_end = refl;
+}

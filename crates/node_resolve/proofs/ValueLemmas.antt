@@ -1,0 +1,59 @@
+-- What a value in a record is.
+--     json_of_null .. json_of_object      by its kind
+--     main_text, main_list, main_dotted, main_plain      the subpath `.` by what is exported
+--     subpath_by_key, subpath_none        another subpath
+use Rattle.std.proofs.Common.{◌≡◌, rules, ℕ, List, Bool, true, false, sym, ap, ◌∙◌}
+use Rattle.std.specs.Prelude.{codes}
+use Rattle.std.proofs.lemmas.Bool.{cond-true, cond-false}
+use Rattle.std.specs.List.{list_all}
+use Rattle.json_spec.specs.Value.{Json, a_null, a_bool, a_number, a_text, a_list, an_object, Items, Members}
+use Rattle.ordered_json.specs.Shown.{json_of}
+use Rattle.ordered_json.specs.declared.value.Value.{the_lemmas}
+use Rattle.ordered_json.specs.declared.value.Value.TheVariants as value
+use Rattle.node_spec.specs.NodeAnswers.{refuses}
+use Rattle.node_spec.specs.PackageExportsResolve.{is_dotted, has_dotted, main_target, main_export, export_paths, subpath_export}
+use Rattle.node_spec.specs.PackageImportsExportsResolve.{keys_of, by_key}
+use Rattle.node_spec.specs.Records.{field}
+use Rattle.node_spec.specs.declared.Cause.TheVariants.{NotExported}
+
+pub json_of_null : json_of value.Null ≡ a_null
+json_of_null = search (rules, the_lemmas)
+
+pub json_of_bool : (b : Bool) → json_of (value.Bool b) ≡ a_bool b
+json_of_bool b = search (rules, the_lemmas)
+
+pub json_of_number : (number : List ℕ) → json_of (value.Number number) ≡ a_number number
+json_of_number number = search (rules, the_lemmas)
+
+module _ (conditions : List (List ℕ)) (folder : List ℕ) (json : Json) where
+  pub main_text : (text : List ℕ) → json ≡ a_text text → main_export conditions folder json ≡ main_target conditions folder json
+  main_text text e = ap (main_export conditions folder) e ∙ ap (main_target conditions folder) (sym e)
+
+  pub main_list : (items : Items) → json ≡ a_list items → main_export conditions folder json ≡ main_target conditions folder json
+  main_list items e = ap (main_export conditions folder) e ∙ ap (main_target conditions folder) (sym e)
+
+  pub main_dotted : (members : Members) → json ≡ an_object members → has_dotted members ≡ true
+      → main_export conditions folder json ≡ main_target conditions folder (field (codes ".") members)
+  main_dotted members e d =
+      ap (main_export conditions folder) e ∙ ap (main_target conditions folder) (cond-true _ (field (codes ".") members) (an_object members) d)
+
+  pub main_plain : (members : Members) → json ≡ an_object members → has_dotted members ≡ false
+      → main_export conditions folder json ≡ main_target conditions folder json
+  main_plain members e d =
+      ap (main_export conditions folder) e
+      ∙ (ap (main_target conditions folder) (cond-false _ (field (codes ".") members) (an_object members) d)
+      ∙ ap (main_target conditions folder) (sym e))
+
+  pub subpath_by_key : (subpath : List ℕ) (members : Members) → json ≡ an_object members
+      → list_all is_dotted (keys_of members) ≡ true
+      → subpath_export conditions folder subpath json ≡ by_key (export_paths conditions folder members) subpath
+  subpath_by_key subpath members e d =
+      ap (subpath_export conditions folder subpath) e
+      ∙ cond-true _ (by_key (export_paths conditions folder members) subpath) (refuses NotExported) d
+
+  pub subpath_none : (subpath : List ℕ) (members : Members) → json ≡ an_object members
+      → list_all is_dotted (keys_of members) ≡ false
+      → subpath_export conditions folder subpath json ≡ refuses NotExported
+  subpath_none subpath members e d =
+      ap (subpath_export conditions folder subpath) e
+      ∙ cond-false _ (by_key (export_paths conditions folder members) subpath) (refuses NotExported) d

@@ -1,0 +1,20 @@
+use Rattle.std.proofs.Common.{Err, ap, sym, ◌∙◌}
+use Rattle.ordered_json.specs.Shown.{json_of}
+use Rattle.ordered_json.proofs.ShownLemmas.{json_of_object}
+use Rattle.node_spec.specs.declared.Cause.TheVariants.{NotExported}
+use Rattle.package_lookup.specs.Responses.{itself}
+use Rattle.node_resolve.specs.declared.fault.NodeFault.TheVariants.{Refused}
+use Rattle.node_resolve.proofs.Answering.{gives_as}
+use Rattle.node_resolve.proofs.TargetLemmas.{given_now}
+use Rattle.node_resolve.proofs.ValueLemmas.{subpath_by_key, subpath_none}
+use Rattle.node_resolve.proofs.package_exports_resolve.subpath_export.Goals as goal
+
+pub returns-then-are_dotted : goal.returns-then-are_dotted
+returns-then-are_dotted c =
+    gives_as itself _ _ c.export_at.result (subpath_by_key c.args.conditions.now c.args.package_folder.now (json_of c.args.exports.now) c.args.subpath.now _ (ap json_of c.in-Object.is ∙ json_of_object _)
+    (sym c.are_dotted.ensures ∙ c.if-are_dotted.true)) c.export_at.ensures
+
+pub returns-else-are_dotted : goal.returns-else-are_dotted
+returns-else-are_dotted c =
+    gives_as itself _ _ (Err (Refused NotExported)) (subpath_none c.args.conditions.now c.args.package_folder.now (json_of c.args.exports.now) c.args.subpath.now _ (ap json_of c.in-Object.is ∙ json_of_object _)
+    (sym c.are_dotted.ensures ∙ c.if-are_dotted.false)) (given_now _)

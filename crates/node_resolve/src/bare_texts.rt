@@ -1,0 +1,250 @@
+//! Targets in `imports`, which may name other packages (Node.js, ECMAScript modules: PACKAGE_TARGET_RESOLVE).
+ghost use Rattle.std.specs.Prelude.{◌≡◌, true, None, IfOk, option_map};
+ghost use Rattle.node_spec.specs.Laws.{BeginsWithDotSlash};
+ghost use Rattle.node_spec.specs.PackageImportsResolve.{bares_from};
+ghost use Rattle.node_spec.specs.PackageTargetResolve.{judge_bare, package_target, came};
+ghost use Rattle.node_spec.specs.PackageTargetResolve.{last_found, target_comes, target_url};
+ghost use Rattle.node_spec.specs.declared.Cause.TheVariants.{ImportNotDefined};
+ghost use Rattle.ordered_json.specs.Shown.{json_of};
+ghost use Rattle.condition_match.specs.Choosing.{judged_by};
+ghost use Rattle.package_lookup.specs.Answered.{state, Answered};
+ghost use Rattle.package_lookup.specs.Responses.{itself};
+ghost use Rattle.node_resolve.specs.BareTexts.{chosen_shown, failing_of, found_shown};
+ghost use Rattle.node_resolve.specs.BareTexts.{last_shown, lost_by, split_shown};
+ghost use Rattle.node_resolve.specs.Responses.{responded, Gives};
+
+use crate::NodeFault;
+use crate::package_resolve::package_resolve;
+use crate::package_target_resolve::own_url;
+use condition_match::{BareTarget, Conditions, choose};
+use node_spec::{BareAnswer, Cause, Outcome};
+use ordered_json::Value;
+use package_lookup::{Known, Trail};
+use primitives::Memory;
+use std::alloc::Global;
+use tree_model::{Folder, Path};
+use tree_spec::LimitName;
+use web_url::FileUrl;
+
+/// Why a bare text has no URL.
+#[derive(Clone, Copy, Debug, PartialEq, Eq)]
+pub enum Refusal {
+    ByCause(Cause),
+    TooDeep,
+}
+
+/// Answers the bare texts of a target in `imports` from its package's folder. It keeps the answer to the last text, and
+/// what kept a text from being answered.
+#[derive(Drop)]
+struct BareTexts<'a, F: Folder> {
+    known: &'a mut Known,
+    folder: &'a mut F,
+    trail: &'a mut Trail,
+    package_folder: &'a Path,
+    conditions: &'a Conditions,
+    last: &'a mut Option<Result<FileUrl, Refusal>>,
+    fault: Option<NodeFault>,
+}
+
+impl<'a, F: Folder> BareTarget for BareTexts<'a, F> {
+    ghost use Rattle.node_spec.specs.PackageResolve.{package_resolve};
+    ghost use Rattle.node_resolve.specs.BareTexts.{kept, GivesBare};
+    ghost use Rattle.package_lookup.specs.Answered.{state};
+
+    ghost gives = { λ old text answer new. (new.known.ghost_name ≡ old.known.ghost_name)
+        × (new.folder.ghost_name ≡ old.folder.ghost_name) × (new.trail.ghost_name ≡ old.trail.ghost_name)
+        × (new.last.ghost_name ≡ old.last.ghost_name)
+        × (new.package_folder ≡ old.package_folder) × (new.conditions ≡ old.conditions)
+        × GivesBare (package_resolve old.conditions.now old.package_folder.now)
+        (kept (state (F.state old.folder.now) old.known.now old.trail.now) old.last.now old.fault) text answer
+        (kept (state (F.state new.folder.now) new.known.now new.trail.now) new.last.now new.fault) };
+
+    ghost fails = { λ old text new. ⊥ };
+
+    fn bare(&mut self, alloc: Global, text: &str) -> Result<BareAnswer, Memory> {
+        let resolved = package_resolve(
+            alloc,
+            self.known,
+            self.folder,
+            self.trail,
+            self.package_folder,
+            text,
+            self.conditions,
+        );
+        match found_of(resolved) {
+            Ok(found) => {
+                let answer = judge_bare(&found);
+                *self.last = Some(found);
+                Ok(answer)
+            }
+            Err(fault) => {
+                self.fault = Some(fault);
+                Ok(BareAnswer::Stop)
+            }
+        }
+    }
+}
+
+/// The answer to a bare text, unless something kept it from being answered.
+fn found_of(resolved: Result<FileUrl, NodeFault>) -> Result<Result<FileUrl, Refusal>, NodeFault>
+    ensures { responded itself resolved ≡ split_shown result }
+{
+    match resolved {
+        Ok(url) => Ok(Ok(url)),
+        Err(NodeFault::Refused(cause)) => Ok(Err(Refusal::ByCause(cause))),
+        Err(
+            NodeFault::Limit {
+                which: LimitName::Depth,
+            },
+        ) => Ok(Err(Refusal::TooDeep)),
+        Err(fault) => Err(fault),
+    }
+}
+
+/// What a target makes of the answer to a bare text.
+fn judge_bare(found: &Result<FileUrl, Refusal>) -> BareAnswer
+    ensures { result ≡ judge_bare (found_shown found.now) }
+{
+    match found {
+        Ok(_) => BareAnswer::Found,
+        Err(Refusal::ByCause(Cause::InvalidTarget)) => BareAnswer::InvalidTarget,
+        Err(_) => BareAnswer::Stop,
+    }
+}
+
+/// The URL that a target in `imports` gives in the package at a folder.
+pub fn import_target<F: Folder>(
+    alloc: Global,
+    known: &mut Known,
+    folder: &mut F,
+    trail: &mut Trail,
+    package_folder: &Path,
+    target: &Value,
+    star: Option<&str>,
+    conditions: &Conditions,
+) -> Result<FileUrl, NodeFault>
+    ensures { Answered (state (F.state folder.old) known.old trail.old)
+        (package_target (bares_from conditions.now package_folder.now)
+        (judged_by conditions.now (option_map (λ part. part.now) star.entry) true)
+        package_folder.now ImportNotDefined (json_of target.now))
+        (responded itself result) (state (F.state folder.new) known.new trail.new) }
+{
+    let mut last = None;
+    match chosen(
+        alloc,
+        known,
+        folder,
+        trail,
+        package_folder,
+        target,
+        star,
+        conditions,
+        &mut last,
+    ) {
+        Err(fault) => Err(fault),
+        Ok(outcome) => url_of(alloc, package_folder, outcome, last),
+    }
+}
+
+/// What a target comes to. The answer to the bare text that was asked for last is put into `last`.
+fn chosen<F: Folder>(
+    alloc: Global,
+    known: &mut Known,
+    folder: &mut F,
+    trail: &mut Trail,
+    package_folder: &Path,
+    target: &Value,
+    star: Option<&str>,
+    conditions: &Conditions,
+    last: &mut Option<Result<FileUrl, Refusal>>,
+) -> Result<Outcome, NodeFault>
+    requires { last.now ≡ None }
+    ensures answered { Answered (state (F.state folder.old) known.old trail.old)
+        (target_comes (bares_from conditions.now package_folder.now)
+        (judged_by conditions.now (option_map (λ part. part.now) star.entry) true) (json_of target.now) None)
+        (chosen_shown result last.new) (state (F.state folder.new) known.new trail.new) }
+    ensures place { IfOk result BeginsWithDotSlash }
+{
+    let mut bares = BareTexts {
+        known,
+        folder,
+        trail,
+        package_folder,
+        conditions,
+        last,
+        fault: None,
+    };
+    chosen_by(alloc, &mut bares, target, star, conditions)
+}
+
+/// The same by an object that was asked for nothing yet.
+fn chosen_by<F: Folder>(
+    alloc: Global,
+    bares: &mut BareTexts<'_, F>,
+    target: &Value,
+    star: Option<&str>,
+    conditions: &Conditions,
+) -> Result<Outcome, NodeFault>
+    requires last { bares.now.last.now ≡ None }
+    requires fault { bares.now.fault ≡ None }
+    ensures known { bares.new.known.ghost_name ≡ bares.old.known.ghost_name }
+    ensures folder { bares.new.folder.ghost_name ≡ bares.old.folder.ghost_name }
+    ensures trail { bares.new.trail.ghost_name ≡ bares.old.trail.ghost_name }
+    ensures last { bares.new.last.ghost_name ≡ bares.old.last.ghost_name }
+    ensures answered { Answered
+        (state (F.state bares.old.folder.now) bares.old.known.now bares.old.trail.now)
+        (target_comes (bares_from bares.old.conditions.now bares.old.package_folder.now)
+        (judged_by conditions.now (option_map (λ part. part.now) star.entry) true) (json_of target.now) None)
+        (chosen_shown result bares.new.last.now)
+        (state (F.state bares.new.folder.now) bares.new.known.now bares.new.trail.now) }
+    ensures place { IfOk result BeginsWithDotSlash }
+{
+    match choose(alloc, target, conditions, star, true, bares) {
+        Err(_) => Err(lost(bares.fault)),
+        Ok(outcome) => match bares.fault {
+            Some(fault) => Err(fault),
+            None => Ok(outcome),
+        },
+    }
+}
+
+/// Why a target comes to nothing where memory is wanting, unless a look had failed before.
+fn lost(fault: Option<NodeFault>) -> NodeFault
+    ensures { failing_of result ≡ lost_by (option_map failing_of fault) }
+{
+    match fault {
+        Some(NodeFault::ReadFault) => NodeFault::ReadFault,
+        _ => NodeFault::Memory,
+    }
+}
+
+/// The URL by what a target comes to.
+fn url_of(
+    alloc: Global,
+    package_folder: &Path,
+    outcome: Outcome,
+    last: Option<Result<FileUrl, Refusal>>,
+) -> Result<FileUrl, NodeFault>
+    requires { BeginsWithDotSlash outcome }
+    ensures { Gives itself (target_url package_folder.now ImportNotDefined (came outcome (last_shown last))) result }
+{
+    match outcome {
+        Outcome::Bare => last_url(last),
+        Outcome::Stopped => last_url(last),
+        own => own_url(alloc, package_folder, Cause::ImportNotDefined, own),
+    }
+}
+
+/// The URL that was found last, or why there is none.
+fn last_url(last: Option<Result<FileUrl, Refusal>>) -> Result<FileUrl, NodeFault>
+    ensures { Gives itself (last_found (last_shown last)) result }
+{
+    match last {
+        None => Err(NodeFault::Refused(Cause::InvalidTarget)),
+        Some(Ok(url)) => Ok(url),
+        Some(Err(Refusal::ByCause(cause))) => Err(NodeFault::Refused(cause)),
+        Some(Err(Refusal::TooDeep)) => Err(NodeFault::Limit {
+            which: LimitName::Depth,
+        }),
+    }
+}

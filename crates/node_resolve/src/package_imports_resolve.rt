@@ -1,0 +1,139 @@
+//! A specifier that begins with `#` (Node.js, ECMAScript modules: PACKAGE_IMPORTS_RESOLVE).
+ghost use Rattle.std.specs.Prelude.{◌≡◌, Some, ◌||◌, codes, bytes_eq};
+ghost use Rattle.json_spec.specs.Value.{HasDistinctNames, AreDistinct};
+ghost use Rattle.url_spec.specs.Specifiers.{begins, ends_in_slash};
+ghost use Rattle.node_spec.specs.PackageImportsExportsResolve.{by_key};
+ghost use Rattle.node_spec.specs.PackageImportsResolve as spec;
+ghost use Rattle.ordered_json.specs.Lists.{pairs_of};
+ghost use Rattle.ordered_json.specs.Shown.{json_of, members_of};
+ghost use Rattle.package_lookup.specs.Answered.{state, Answered};
+ghost use Rattle.package_lookup.specs.Responses.{itself};
+ghost use Rattle.node_resolve.specs.Responses.{responded};
+
+use crate::NodeFault;
+use crate::bare_texts::import_target;
+use crate::fault::behind;
+use crate::package_imports_exports_resolve::target_of;
+use crate::texts::{begins, ends_in_slash};
+use condition_match::Conditions;
+use node_spec::Cause;
+use ordered_json::{Members, Value};
+use package_lookup::{Known, Trail, record_of, scope_of};
+use std::alloc::Global;
+use tree_model::{Folder, Path};
+use web_url::FileUrl;
+
+/// The URL that the package scope of a folder gives for a specifier that begins with `#`.
+pub fn imports_resolve<F: Folder>(
+    alloc: Global,
+    known: &mut Known,
+    folder: &mut F,
+    trail: &mut Trail,
+    from: &Path,
+    text: &str,
+    conditions: &Conditions,
+) -> Result<FileUrl, NodeFault>
+    ensures { Answered (state (F.state folder.old) known.old trail.old)
+        (spec.imports_resolve conditions.now from.now text.now)
+        (responded itself result) (state (F.state folder.new) known.new trail.new) }
+{
+    if is_refused(text) {
+        return Err(NodeFault::Refused(Cause::InvalidSpecifier));
+    }
+    match scope_of(alloc, known, folder, trail, from) {
+        Err(fault) => Err(behind(fault)),
+        Ok(None) => Err(NodeFault::Refused(Cause::ImportNotDefined)),
+        Ok(Some(scope)) => imported_at(alloc, known, folder, trail, &scope, text, conditions),
+    }
+}
+
+/// Whether no key of `imports` may be asked for by this text.
+fn is_refused(text: &str) -> bool
+    ensures { result ≡ (bytes_eq text.now (codes "#")
+        || (begins text.now (codes "#/") || ends_in_slash text.now)) }
+{
+    text == "#" || begins(text, "#/") || ends_in_slash(text)
+}
+
+fn imported_at<F: Folder>(
+    alloc: Global,
+    known: &mut Known,
+    folder: &mut F,
+    trail: &mut Trail,
+    scope: &Path,
+    text: &str,
+    conditions: &Conditions,
+) -> Result<FileUrl, NodeFault>
+    ensures { Answered (state (F.state folder.old) known.old trail.old)
+        (spec.imported_at conditions.now text.now (Some scope.now))
+        (responded itself result) (state (F.state folder.new) known.new trail.new) }
+{
+    match record_of(alloc, known, folder, trail, scope) {
+        Err(fault) => Err(behind(fault)),
+        Ok(None) => Err(NodeFault::Refused(Cause::ImportNotDefined)),
+        Ok(Some(of_scope)) => imported(
+            alloc,
+            known,
+            folder,
+            trail,
+            scope,
+            text,
+            &of_scope.imports,
+            conditions,
+        ),
+    }
+}
+
+/// The URL by the `imports` of the package at a folder.
+fn imported<F: Folder>(
+    alloc: Global,
+    known: &mut Known,
+    folder: &mut F,
+    trail: &mut Trail,
+    scope: &Path,
+    text: &str,
+    imports: &Value,
+    conditions: &Conditions,
+) -> Result<FileUrl, NodeFault>
+    requires { HasDistinctNames (json_of imports.now) }
+    ensures { Answered (state (F.state folder.old) known.old trail.old)
+        (spec.imported conditions.now scope.now text.now (json_of imports.now))
+        (responded itself result) (state (F.state folder.new) known.new trail.new) }
+{
+    match imports {
+        Value::Object(members) => {
+            import_at(
+                alloc, known, folder, trail, scope, text, members, conditions,
+            )
+        }
+        Value::Null => Err(NodeFault::Refused(Cause::ImportNotDefined)),
+        Value::Bool(_) => Err(NodeFault::Refused(Cause::ImportNotDefined)),
+        Value::Number(_) => Err(NodeFault::Refused(Cause::ImportNotDefined)),
+        Value::Text(_) => Err(NodeFault::Refused(Cause::ImportNotDefined)),
+        Value::List(_) => Err(NodeFault::Refused(Cause::ImportNotDefined)),
+    }
+}
+
+/// The URL of the target of the key that is taken.
+fn import_at<F: Folder>(
+    alloc: Global,
+    known: &mut Known,
+    folder: &mut F,
+    trail: &mut Trail,
+    scope: &Path,
+    text: &str,
+    members: &Members,
+    conditions: &Conditions,
+) -> Result<FileUrl, NodeFault>
+    requires { AreDistinct (members_of (pairs_of members.now)) }
+    ensures { Answered (state (F.state folder.old) known.old trail.old)
+        (by_key (spec.import_paths conditions.now scope.now (members_of (pairs_of members.now))) text.now)
+        (responded itself result) (state (F.state folder.new) known.new trail.new) }
+{
+    match target_of(members, text) {
+        None => Err(NodeFault::Refused(Cause::ImportNotDefined)),
+        Some((target, star)) => import_target(
+            alloc, known, folder, trail, scope, target, star, conditions,
+        ),
+    }
+}

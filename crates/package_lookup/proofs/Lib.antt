@@ -1,0 +1,10 @@
+mod ReadingLemmas
+mod PathSets
+mod LookCounts
+mod SightAnswers
+mod Folders
+mod Copies
+mod Sights
+pub mod Questions
+pub mod Searches
+pub mod RecordAnswers

@@ -1,0 +1,74 @@
+-- Lists of distinct paths.
+use Rattle.std.proofs.Common.{◌≡◌, ℕ, false, List, [], ◌∷◌, ◌++◌, refl, sym, ap, ◌∙◌}
+use Rattle.std.specs.Prelude.{◌||◌, bytes_eq, All, if◌then◌else◌}
+use Rattle.std.specs.List.{list_any, IsDistinct, AllByRecursion}
+use Rattle.std.specs.Bool.{one_answer}
+use Rattle.std.proofs.lemmas.Bool.{cond-false}
+use Rattle.std.proofs.lemmas.List.Elements.{All-head, All-tail, recursion_from_All}
+use Rattle.std.proofs.lemmas.Slice.Eq.{bytes_eq-Decides}
+use Rattle.tree_spec.specs.LookAskings.{is_seen, with_seen}
+use Rattle.tree_spec.specs.LookLimits.{Trail}
+use Rattle.indexmap.specs.IndexSet.{insert_key}
+
+pub same_either_way : (one other : List ℕ) → bytes_eq one other ≡ bytes_eq other one
+same_either_way one other =
+    one_answer {P = one ≡ other} (bytes_eq one other) (bytes_eq other one) (bytes_eq-Decides one other)
+    ((λ e. sym ((bytes_eq-Decides other one).0 e)), (λ e. (bytes_eq-Decides other one).1 (sym e)))
+
+pub seen_by : (path : List ℕ) (paths : List (List ℕ)) → list_any (bytes_eq path) paths ≡ is_seen path paths
+seen_by path [] = refl
+seen_by path (first ∷ paths) =
+    (λ i. (same_either_way path first i) || (seen_by path paths i))
+
+-- a set keeps the order of first insertions
+pub inserted : (path : List ℕ) (paths : List (List ℕ)) → insert_key bytes_eq paths path ≡ with_seen paths path
+inserted path paths = ap (λ seen. if seen then paths else paths ++ path ∷ []) (seen_by path paths)
+
+pub inserted_new : (path : List ℕ) (paths : List (List ℕ)) → is_seen path paths ≡ false
+    → insert_key bytes_eq paths path ≡ paths ++ path ∷ []
+inserted_new path paths new = inserted path paths ∙ cond-false _ _ _ new
+
+-- ---- lists that have no path in common
+
+abbrev pub Apart : List (List ℕ) → List ℕ → Type 0
+Apart paths path = All (λ other. bytes_eq path other ≡ false) paths
+
+apart_append : (P : List ℕ → Type 0) (xs ys : List (List ℕ)) → AllByRecursion P xs → AllByRecursion P ys
+    → AllByRecursion P (xs ++ ys)
+apart_append P [] ys a b = b
+apart_append P (x ∷ xs) ys a b = (a.0, apart_append P xs ys a.1 b)
+
+pub distinct_append : (xs ys : List (List ℕ)) → IsDistinct bytes_eq xs → IsDistinct bytes_eq ys → All (Apart ys) xs
+    → IsDistinct bytes_eq (xs ++ ys)
+unfolding IsDistinct
+distinct_append [] ys some more apart = more
+distinct_append (x ∷ xs) ys some more apart = (
+  apart_append (λ y. bytes_eq x y ≡ false) xs ys some.0
+      (recursion_from_All (λ y. bytes_eq x y ≡ false) ys (All-head (Apart ys) x xs apart)),
+  distinct_append xs ys some.1 more (All-tail (Apart ys) x xs apart),
+)
+
+pub distinct_none : IsDistinct bytes_eq []
+unfolding IsDistinct
+distinct_none = tt
+
+pub distinct_one : (path : List ℕ) → IsDistinct bytes_eq (path ∷ [])
+unfolding IsDistinct
+distinct_one path = (tt, tt)
+
+abbrev pub trail_of : List (List ℕ) → ℕ → List (List ℕ) → Trail
+trail_of paths size question = record { paths = paths; size = size; question = question }
+
+-- a path that is new behind the paths of a trail
+pub appended : (paths : List (List ℕ)) (size : ℕ) (question after : List (List ℕ)) (path : List ℕ) (old : Trail)
+    → trail_of paths size question ≡ old → is_seen path old.paths ≡ false
+    → after ≡ insert_key bytes_eq paths path
+    → trail_of after size question ≡ trail_of (old.paths ++ path ∷ []) old.size old.question
+appended paths size question after path old same new inserts =
+    let unseen : is_seen path paths ≡ false = ap (λ (t : Trail). is_seen path t.paths) same ∙ new in
+    let keys : after ≡ paths ++ path ∷ [] = inserts ∙ inserted_new path paths unseen in
+    (λ i. record {
+      paths = (keys ∙ ap (λ (t : Trail). t.paths ++ path ∷ []) same) i;
+      size = (same i).size;
+      question = (same i).question;
+    })

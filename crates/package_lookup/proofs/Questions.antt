@@ -1,0 +1,464 @@
+-- One question after another: what a whole asking comes to, by what its parts come to.
+--     then_given, then_fails       a part, and what comes behind it
+--     now_given                    nothing is asked
+--     no_memory_now, unfinished    memory was wanting before anything was asked, or behind a part
+--     looked_on, resolved_on ..    a fault of a part is the fault of the whole
+--     known_on                     what is known is the same in another form
+--     Left before whole middle rest      whatever the rest comes to from here, the whole comes to
+use Rattle.std.proofs.Common.{◌≡◌, ◌++◌, [], ℕ, true, false, List, Option, Some, None, Result, Err, IfSome, refl, sym, ap, ◌∙◌, subst, arith}
+use Rattle.std.specs.Prelude.{is_some, bytes_eq, All}
+use Rattle.std.specs.FinMap.{get}
+use Rattle.std.proofs.Common.{append_assoc, append-nil}
+use Rattle.std.specs.Option.{option_or}
+use Rattle.std.specs.Result.{IsErrAnd}
+use Rattle.std.proofs.lemmas.Bool.{cases_Bool}
+use Rattle.std.proofs.lemmas.Result.{err_from_is_err_and}
+use Rattle.std.proofs.Common.{⊎_elim}
+use Rattle.std.proofs.lemmas.List.Elements.{All-append, All-weaker, All-nil}
+use Rattle.std.proofs.lemmas.Slice.Eq.{bytes_eq-Decides}
+use Rattle.asking_spec.proofs.EvaluationLemmas.{evaluated_then}
+use Rattle.asking_spec.specs.Askings.{answered, and_then, on_ok, and_ok}
+use Rattle.asking_spec.specs.Evaluation.{Ended, then_ended, evaluated}
+use Rattle.node_spec.specs.NodeAnswers.{Refusal, by_cause, too_deep, Resolving}
+use Rattle.node_spec.specs.declared.Cause.TheVariants as cause
+use Rattle.tree_spec.specs.Counts.{Rose}
+use Rattle.tree_spec.specs.LookAskings.{Sights, LookAsking}
+use Rattle.tree_spec.specs.LookLimits.{Trail, look_limits, limited}
+use Rattle.tree_spec.specs.States.{FolderState, OnlyLooks}
+use Rattle.tree_spec.specs.Trees.{Tree}
+use Rattle.tree_spec.specs.declared.LimitName.{LimitName}
+use Rattle.tree_spec.specs.declared.LimitName.TheVariants.{File, Bytes, Looks, Modules, ModuleRequests, Requests, Specifier, Entries, Brackets, Depth, Session, Map, Choices}
+use Rattle.tree_spec.specs.declared.Look.{Look}
+use Rattle.package_lookup.specs.declared.fault.LookupFault.{LookupFault}
+use Rattle.package_lookup.specs.declared.fault.LookupFault.TheVariants.{ReadFault, Limit, InvalidConfig, Memory}
+use Rattle.package_lookup.specs.declared.known.Known.{Known}
+use Rattle.package_lookup.specs.Looked.{laid_at, kept_at, known_at, look_or, look_in, Sees, Grows, IsSameKnown}
+use Rattle.package_lookup.specs.Responses.{Failing, passes, not_read, no_memory, never, Response, given, fails, by_limit, by_fault, looked, bad_config, deep_config, resolved}
+use Rattle.package_lookup.specs.Answered.{State, state, Fails, Comes, Tells, AsksOnce, Answered}
+use Rattle.package_lookup.proofs.PathSets.{Apart, distinct_append, distinct_none}
+
+-- ---- what is known grows
+
+known_by : (laid kept other : Option Look) (look : Look) → ((l : Look) → kept ≡ Some l → other ≡ Some l)
+    → option_or laid kept ≡ Some look → option_or laid other ≡ Some look
+known_by None kept other look grows e = grows look e
+known_by (Some l) kept other look grows e = e
+
+pub known_grows : (before after : Known) → Grows before after → (path : List ℕ) (look : Look)
+    → known_at before path ≡ Some look → known_at after path ≡ Some look
+known_grows before after grows path look e =
+    ap (λ l. option_or l (kept_at after path)) (grows.laid path)
+    ∙ known_by (laid_at before path) (kept_at before path) (kept_at after path) look (grows.kept path) e
+
+held_by : (some other : Option Look) → ((look : Look) → some ≡ Some look → other ≡ Some look)
+    → is_some some ≡ true → is_some other ≡ true
+held_by None other grows e = absurd (cc)
+held_by (Some look) other grows e = ap is_some (grows look refl)
+
+none_by : (some other : Option Look) → ((look : Look) → some ≡ Some look → other ≡ Some look) → other ≡ None
+    → some ≡ None
+none_by None other grows e = refl
+none_by (Some look) other grows e = (let f = grows look refl in absurd (cc))
+
+pub grows_itself : (known : Known) → Grows known known
+grows_itself known = record { laid = λ path. refl; kept = λ path look e. e }
+
+grows_twice : (before middle after : Known) → Grows before middle → Grows middle after → Grows before after
+grows_twice before middle after one rest = record {
+  laid = λ path. rest.laid path ∙ one.laid path;
+  kept = λ path look e. rest.kept path look (one.kept path look e);
+}
+
+-- ---- what the folder was asked for
+
+-- what is known isn't what is new
+known_apart : (known : Known) (one other : List ℕ) → is_some (known_at known one) ≡ true → known_at known other ≡ None
+    → bytes_eq one other ≡ false
+known_apart known one other held new =
+    ⊎_elim
+    (λ e. let same : one ≡ other = (bytes_eq-Decides one other).0 e in
+    let none : is_some (known_at known one) ≡ false = ap (λ p. is_some (known_at known p)) same ∙ ap is_some new in
+    absurd (cc))
+    (λ e. e)
+    (cases_Bool (bytes_eq one other))
+
+pub asks_then : (old : List (List ℕ)) (before middle after : State) (some rest : Type 0) → (some → ⊥)
+    → Grows before.known middle.known → Grows middle.known after.known → AsksOnce old before middle some
+    → IfSome middle.folder.asked (λ list. AsksOnce list middle after rest) → AsksOnce old before after rest
+asks_then old before middle after some rest done grew grows one more = join (subst (λ asked. IfSome asked (λ list. AsksOnce list middle after rest)) one.asked more)
+  where
+    join : AsksOnce (old ++ one.more) middle after rest → AsksOnce old before after rest
+    join two =
+        let was : All (λ path. is_some (known_at middle.known path) ≡ true) one.more = one.held done in
+        record {
+          more = one.more ++ two.more;
+          asked = two.asked ∙ ap Some (append_assoc old one.more two.more);
+          once = distinct_append one.more two.more one.once two.once
+              (All-weaker (λ path. is_some (known_at middle.known path) ≡ true) (Apart two.more)
+              (λ path held. All-weaker (λ other. known_at middle.known other ≡ None) (λ other. bytes_eq path other ≡ false)
+              (λ other new. known_apart middle.known path other held new) two.more two.new) one.more was);
+          new = All-append (λ path. known_at before.known path ≡ None) one.more two.more one.new
+              (All-weaker (λ path. known_at middle.known path ≡ None) (λ path. known_at before.known path ≡ None)
+              (λ path none. none_by (known_at before.known path) (known_at middle.known path)
+              (known_grows before.known middle.known grew path) none) two.more two.new);
+          held = λ finished. All-append (λ path. is_some (known_at after.known path) ≡ true) one.more two.more
+              (All-weaker (λ path. is_some (known_at middle.known path) ≡ true) (λ path. is_some (known_at after.known path) ≡ true)
+              (λ path held. held_by (known_at middle.known path) (known_at after.known path)
+              (known_grows middle.known after.known grows path) held) one.more was)
+              (two.held finished);
+        }
+
+pub asks_nothing : (old : List (List ℕ)) (before after : State) (unfinished : Type 0)
+    → after.folder.asked ≡ Some old → AsksOnce old before after unfinished
+asks_nothing old before after unfinished same = record {
+  more = [];
+  asked = same ∙ ap Some (sym (append-nil old));
+  once = distinct_none;
+  new = All-nil (λ path. known_at before.known path ≡ None);
+  held = λ finished. All-nil (λ path. is_some (known_at after.known path) ≡ true);
+}
+
+asks_nothing_told : (told : Option (List (List ℕ))) (before after : State) (unfinished : Type 0)
+    → after.folder.asked ≡ told → IfSome told (λ old. AsksOnce old before after unfinished)
+asks_nothing_told None before after unfinished same = tt
+asks_nothing_told (Some old) before after unfinished same = asks_nothing old before after unfinished same
+
+asks_finished : (old : List (List ℕ)) (before after : State) (some other : Type 0) → (some → other)
+    → AsksOnce old before after some → AsksOnce old before after other
+asks_finished old before after some other weaker one = record {
+  more = one.more;
+  asked = one.asked;
+  once = one.once;
+  new = one.new;
+  held = λ finished. one.held (λ s. finished (weaker s));
+}
+
+if_weaker : {X : Type 0} (told : Option X) (P Q : X → Type 0) → ((x : X) → P x → Q x) → IfSome told P → IfSome told Q
+if_weaker None P Q weaker p = tt
+if_weaker (Some x) P Q weaker p = weaker x p
+
+-- ---- what the folder did
+
+looks_then : (before middle after : FolderState) (one rest : Type 0) → (one → ⊥) → OnlyLooks before middle one
+    → OnlyLooks middle after rest → OnlyLooks before after rest
+looks_then before middle after one rest fine first last = record {
+  tree = last.tree ∙ first.tree;
+  writes = last.writes ∙ first.writes;
+  later = (let a = first.later in let b = last.later in omega arith);
+  cause = λ e. subst (λ n. Rose n after.look_faults) (first.quiet fine) (last.cause e);
+  quiet = λ none. last.quiet none ∙ first.quiet fine;
+}
+
+looks_as : (before after : FolderState) (one other : Type 0) → (one → other) → (other → one)
+    → OnlyLooks before after one → OnlyLooks before after other
+looks_as before after one other there back only = record {
+  tree = only.tree;
+  writes = only.writes;
+  later = only.later;
+  cause = λ e. only.cause (back e);
+  quiet = λ none. only.quiet (λ e. none (there e));
+}
+
+pub no_looks : (folder : FolderState) (failed : Type 0) → (failed → ⊥) → OnlyLooks folder folder failed
+no_looks folder failed fine = record {
+  tree = refl;
+  writes = refl;
+  later = omega arith;
+  cause = λ e. absurd (fine e);
+  quiet = λ none. refl;
+}
+
+-- ---- what an asking comes to
+
+sees_still : (tree : Tree) (before after : Known) (sights : Sights)
+    → ((path : List ℕ) → look_in tree after path ≡ look_in tree before path) → Sees tree before sights
+    → Sees tree after sights
+sees_still tree before after sights same sees = record { each = λ path. sees.each path ∙ sym (same path) }
+
+abbrev goes_on : {X Y : Type 0} → Sights → (X → LookAsking Y) → Ended X Trail LimitName → Ended Y Trail LimitName
+goes_on sights next end = then_ended end (λ value after. evaluated (limited look_limits sights) after (next value))
+
+tells_then : {X Y : Type 0} (tree : Tree) (before middle after : State) (part : LookAsking X) (next : X → LookAsking Y)
+    (value : X) (response : Response Y) → Tells tree before part (given value) middle
+    → Tells tree middle (next value) response after → Tells tree before (and_then part next) response after
+tells_then tree before middle after part next value response one rest = record {
+  says = λ sights sees. subst (λ end. Comes end response after.trail)
+      (sym (evaluated_then (limited look_limits sights) before.trail part next
+      ∙ ap (goes_on sights next) (one.says sights sees)))
+      (rest.says sights (sees_still tree before.known middle.known sights one.same sees));
+  same = λ path. rest.same path ∙ one.same path;
+}
+
+fails_on : {X Y : Type 0} (sights : Sights) (next : X → LookAsking Y) (end : Ended X Trail LimitName) (failing : Failing)
+    (after : Trail) → Fails end failing after → Fails (goes_on sights next end) failing after
+fails_on sights next end (passes name) after e = ap (goes_on sights next) e
+fails_on sights next end not_read after e = tt
+fails_on sights next end no_memory after e = tt
+fails_on sights next end never after e = e
+
+tells_fails : {X Y : Type 0} (tree : Tree) (before after : State) (part : LookAsking X) (next : X → LookAsking Y)
+    (failing : Failing) → Tells {X = X} tree before part (fails failing) after
+    → Tells {X = Y} tree before (and_then part next) (fails failing) after
+tells_fails tree before after part next failing one = record {
+  says = λ sights sees. subst (λ end. Fails end failing after.trail)
+      (sym (evaluated_then (limited look_limits sights) before.trail part next))
+      (fails_on sights next (evaluated (limited look_limits sights) before.trail part) failing after.trail
+      (one.says sights sees));
+  same = one.same;
+}
+
+tells_unfinished : {X Y : Type 0} (tree : Tree) (before after : State) (part : LookAsking X) (response : Response X)
+    (whole : LookAsking Y) → Tells tree before part response after
+    → Tells {X = Y} tree before whole (fails no_memory) after
+tells_unfinished tree before after part response whole one = record { says = λ sights sees. tt; same = one.same }
+
+both_told : {X : Type 0} (told : Option X) (P Q R : X → Type 0) → ((x : X) → P x → Q x → R x) → IfSome told P
+    → IfSome told Q → IfSome told R
+both_told None P Q R join p q = tt
+both_told (Some x) P Q R join p q = join x p q
+
+abbrev failed : (X : Type 0) → Failing → Response X
+failed X failing = fails failing
+
+-- the same failing
+carried : {X Y : Type 0} (one other : Failing) → failed X one ≡ failed X other → failed Y one ≡ failed Y other
+carried one other e = (let same : one ≡ other = cc in ap fails same)
+
+-- ---- a part, and what comes behind it
+
+pub then_given : {X Y : Type 0} (before middle after : State) (part : LookAsking X) (next : X → LookAsking Y) (value : X)
+    (response : Response Y) → Answered before part (given value) middle → Answered middle (next value) response after
+    → Answered before (and_then part next) response after
+then_given {X} before middle after part next value response one rest = record {
+  tells = both_told before.folder.holds (λ tree. Tells tree before part (given value) middle)
+      (λ tree. Tells tree middle (next value) response after) (λ tree. Tells tree before (and_then part next) response after)
+      (λ tree. tells_then tree before middle after part next value response) one.tells
+      (subst (λ told. IfSome told (λ tree. Tells tree middle (next value) response after)) one.folder.tree rest.tells);
+  known = grows_twice before.known middle.known after.known one.known rest.known;
+  asked = if_weaker before.folder.asked (λ old. AsksOnce old before middle (given value ≡ fails no_memory))
+      (λ old. AsksOnce old before after (response ≡ fails no_memory))
+      (λ old asks. asks_then old before middle after (given value ≡ fails no_memory) (response ≡ fails no_memory)
+      (λ e. cc) one.known rest.known asks rest.asked) one.asked;
+  folder = looks_then before.folder middle.folder after.folder (given value ≡ fails not_read) (response ≡ fails not_read)
+      (λ e. cc) one.folder rest.folder;
+  possible = rest.possible;
+}
+
+pub then_fails : {X Y : Type 0} (before after : State) (part : LookAsking X) (next : X → LookAsking Y)
+    (failing : Failing) → Answered {X = X} before part (fails failing) after
+    → Answered {X = Y} before (and_then part next) (fails failing) after
+then_fails {X} {Y} before after part next failing one = record {
+  tells = if_weaker before.folder.holds (λ tree. Tells {X = X} tree before part (fails failing) after)
+      (λ tree. Tells {X = Y} tree before (and_then part next) (fails failing) after)
+      (λ tree. tells_fails tree before after part next failing) one.tells;
+  known = one.known;
+  asked = if_weaker before.folder.asked (λ old. AsksOnce old before after (failed X failing ≡ fails no_memory))
+      (λ old. AsksOnce old before after (failed Y failing ≡ fails no_memory))
+      (λ old. asks_finished old before after (failed X failing ≡ fails no_memory)
+      (failed Y failing ≡ fails no_memory) (carried failing no_memory)) one.asked;
+  folder = looks_as before.folder after.folder (failed X failing ≡ fails not_read)
+      (failed Y failing ≡ fails not_read) (carried failing not_read) (carried failing not_read) one.folder;
+  possible = λ e. one.possible (carried failing never e);
+}
+
+-- ---- without a question
+
+nothing_told : {X : Type 0} (before : State) (asking : LookAsking X) (response : Response X) (told : Option Tree)
+    → ((sights : Sights) → Comes (evaluated (limited look_limits sights) before.trail asking) response before.trail)
+    → IfSome told (λ tree. Tells tree before asking response before)
+nothing_told before asking response None comes = tt
+nothing_told before asking response (Some tree) comes =
+    record { says = λ sights sees. comes sights; same = λ path. refl }
+
+pub nothing : {X : Type 0} (before : State) (asking : LookAsking X) (response : Response X)
+    → ((sights : Sights) → Comes (evaluated (limited look_limits sights) before.trail asking) response before.trail)
+    → (response ≡ fails not_read → ⊥) → (response ≡ fails never → ⊥) → Answered before asking response before
+nothing before asking response comes read possible = record {
+  tells = nothing_told before asking response before.folder.holds comes;
+  known = grows_itself before.known;
+  asked = asks_nothing_told before.folder.asked before before (response ≡ fails no_memory) refl;
+  folder = no_looks before.folder (response ≡ fails not_read) read;
+  possible = possible;
+}
+
+pub now_given : {X : Type 0} (before : State) (value : X) → Answered before (answered value) (given value) before
+now_given before value = nothing before (answered value) (given value) (λ sights. refl) (λ e. cc) (λ e. cc)
+
+pub no_memory_now : {X : Type 0} (before : State) (asking : LookAsking X)
+    → Answered {X = X} before asking (fails no_memory) before
+no_memory_now before asking = nothing before asking (fails no_memory) (λ sights. tt) (λ e. cc) (λ e. cc)
+
+-- want of memory behind a part leaves the whole unfinished
+pub unfinished : {X Y : Type 0} (before after : State) (part : LookAsking X) (value : X) (whole : LookAsking Y)
+    → Answered before part (given value) after → Answered {X = Y} before whole (fails no_memory) after
+unfinished {X} {Y} before after part value whole one = record {
+  tells = if_weaker before.folder.holds (λ tree. Tells tree before part (given value) after)
+      (λ tree. Tells {X = Y} tree before whole (fails no_memory) after)
+      (λ tree. tells_unfinished tree before after part (given value) whole) one.tells;
+  known = one.known;
+  asked = if_weaker before.folder.asked (λ old. AsksOnce old before after (given value ≡ fails no_memory))
+      (λ old. AsksOnce old before after (failed Y no_memory ≡ fails no_memory))
+      (λ old. asks_finished old before after (given value ≡ fails no_memory)
+      (failed Y no_memory ≡ fails no_memory) (λ e. refl)) one.asked;
+  folder = looks_as before.folder after.folder (given value ≡ fails not_read) (failed Y no_memory ≡ fails not_read)
+      (λ e. absurd (cc)) (λ e. absurd (cc)) one.folder;
+  possible = λ e. cc;
+}
+
+-- ---- faults are handed on
+
+module _ {X Y : Type 0} (before after : State) (part : LookAsking X) (next : X → LookAsking Y) where
+  limit_on : (deep : Response X) (other : Response Y)
+      → (Answered before part deep after → Answered before (and_then part next) other after) → (which : LimitName)
+      → Answered before part (by_limit deep which) after
+      → Answered before (and_then part next) (by_limit other which) after
+  limit_on deep other on File a = then_fails before after part next (passes File) a
+  limit_on deep other on Bytes a = then_fails before after part next (passes Bytes) a
+  limit_on deep other on Looks a = then_fails before after part next (passes Looks) a
+  limit_on deep other on Modules a = then_fails before after part next never a
+  limit_on deep other on ModuleRequests a = then_fails before after part next never a
+  limit_on deep other on Requests a = then_fails before after part next never a
+  limit_on deep other on Specifier a = then_fails before after part next never a
+  limit_on deep other on Entries a = then_fails before after part next never a
+  limit_on deep other on Brackets a = then_fails before after part next never a
+  limit_on deep other on Depth a = on a
+  limit_on deep other on Session a = then_fails before after part next never a
+  limit_on deep other on Map a = then_fails before after part next never a
+  limit_on deep other on Choices a = then_fails before after part next never a
+
+  -- where what isn't well formed, and what is too deep, are handed on
+  pub fault_on : (config deep : Response X) (other deeper : Response Y)
+      → (Answered before part config after → Answered before (and_then part next) other after)
+      → (Answered before part deep after → Answered before (and_then part next) deeper after) → (fault : LookupFault)
+      → Answered before part (by_fault config deep fault) after
+      → Answered before (and_then part next) (by_fault other deeper fault) after
+  fault_on config deep other deeper on on_deep ReadFault a = then_fails before after part next not_read a
+  fault_on config deep other deeper on on_deep Memory a = then_fails before after part next no_memory a
+  fault_on config deep other deeper on on_deep InvalidConfig a = on a
+  fault_on config deep other deeper on on_deep (Limit which) a = limit_on deep deeper on_deep which a
+
+  impossible : (response : Response Y) → Answered {X = X} before part (fails never) after
+      → Answered before (and_then part next) response after
+  impossible response a = absurd (a.possible refl)
+
+  -- a part that can't be refused, in a whole that can't be, and in one that may be
+  pub looked_on : (fault : LookupFault) → Answered before part (by_fault (fails never) (fails never) fault) after
+      → Answered before (and_then part next) (by_fault (fails never) (fails never) fault) after
+  looked_on fault a =
+      fault_on (fails never) (fails never) (fails never) (fails never) (impossible (fails never))
+      (impossible (fails never)) fault a
+
+  pub looked_to : (other deeper : Response Y) (fault : LookupFault)
+      → Answered before part (by_fault (fails never) (fails never) fault) after
+      → Answered before (and_then part next) (by_fault other deeper fault) after
+  looked_to other deeper fault a =
+      fault_on (fails never) (fails never) other deeper (impossible other) (impossible deeper) fault a
+
+-- a part that may be refused, in a whole that hands the refusal on
+pub refused_on : {X Y : Type 0} (before after : State) (part : Resolving X) (next : X → Resolving Y) (refusal : Refusal)
+    → Answered before part (given (Err refusal)) after → Answered before (and_ok part next) (given (Err refusal)) after
+refused_on before after part next refusal a =
+    then_given before after after part (on_ok next) (Err refusal) (given (Err refusal)) a
+    (now_given after (Err refusal))
+
+pub resolved_on : {X Y : Type 0} (before after : State) (part : Resolving X) (next : X → Resolving Y)
+    (fault : LookupFault) → Answered before part (by_fault bad_config deep_config fault) after
+    → Answered before (and_ok part next) (by_fault bad_config deep_config fault) after
+resolved_on before after part next fault a =
+    fault_on before after part (on_ok next) bad_config deep_config bad_config deep_config
+    (refused_on before after part next (by_cause cause.InvalidConfig)) (refused_on before after part next too_deep)
+    fault a
+
+-- ---- what is known in another form
+
+pub same_known_at : (before after : Known) → IsSameKnown before after → (path : List ℕ)
+    → known_at after path ≡ known_at before path
+same_known_at before after same path = (λ i. option_or (same.laid path i) (same.kept path i))
+
+known_tells : {X : Type 0} (tree : Tree) (before after : State) (known : Known) (asking : LookAsking X)
+    (response : Response X) → IsSameKnown after.known known → Tells tree before asking response after
+    → Tells tree before asking response (state after.folder known after.trail)
+known_tells tree before after known asking response same one = record {
+  says = one.says;
+  same = λ path. ap (λ l. look_or l (get tree path)) (same_known_at after.known known same path) ∙ one.same path;
+}
+
+pub known_on : {X : Type 0} (before after : State) (known : Known) (asking : LookAsking X) (response : Response X)
+    → IsSameKnown after.known known → Answered before asking response after
+    → Answered before asking response (state after.folder known after.trail)
+known_on before after known asking response same one = record {
+  tells = if_weaker before.folder.holds (λ tree. Tells tree before asking response after)
+      (λ tree. Tells tree before asking response (state after.folder known after.trail))
+      (λ tree. known_tells tree before after known asking response same) one.tells;
+  known = record {
+    laid = λ path. same.laid path ∙ one.known.laid path;
+    kept = λ path look e. same.kept path ∙ one.known.kept path look e;
+  };
+  asked = if_weaker before.folder.asked (λ old. AsksOnce old before after (response ≡ fails no_memory))
+      (λ old. AsksOnce old before (state after.folder known after.trail) (response ≡ fails no_memory))
+      (λ old asks. record {
+        more = asks.more;
+        asked = asks.asked;
+        once = asks.once;
+        new = asks.new;
+        held = λ finished. All-weaker (λ path. is_some (known_at after.known path) ≡ true)
+            (λ path. is_some (known_at known path) ≡ true)
+            (λ path held. ap is_some (same_known_at after.known known same path) ∙ held) asks.more (asks.held finished);
+      }) one.asked;
+  folder = one.folder;
+  possible = one.possible;
+}
+
+-- ---- whatever the rest comes to, the whole does
+
+pub record Left {X : Type 0} (before : State) (whole : LookAsking X) (middle : State) (rest : LookAsking X) : Type 0 where
+  pub completes :
+      (response : Response X) (after : State) → Answered middle rest response after
+      → Answered before whole response after
+
+pub left_begins : {X : Type 0} (before : State) (whole : LookAsking X) → Left before whole before whole
+left_begins before whole = record { completes = λ response after a. a }
+
+pub left_twice : {X : Type 0} (before middle later : State) (whole rest last : LookAsking X)
+    → Left before whole middle rest → Left middle rest later last → Left before whole later last
+left_twice before middle later whole rest last one two = record {
+  completes = λ response after a. one.completes response after (two.completes response after a);
+}
+
+pub left_goes : {X Y : Type 0} (before middle later : State) (whole : LookAsking Y) (part : LookAsking X)
+    (next : X → LookAsking Y) (value : X) → Left before whole middle (and_then part next)
+    → Answered middle part (given value) later → Left before whole later (next value)
+left_goes before middle later whole part next value left a = record {
+  completes = λ response after rest. left.completes response after
+      (then_given middle later after part next value response a rest);
+}
+
+-- ---- the same asking, state and response under other names
+
+pub asking_as : {X : Type 0} (before after : State) (one other : LookAsking X) (response : Response X) → one ≡ other
+    → Answered before one response after → Answered before other response after
+asking_as before after one other response same a = subst (λ asking. Answered before asking response after) same a
+
+-- ---- what is returned where a call fails
+
+pub handed : {X E : Type 0} (result : Result X E) (fault : E) → IsErrAnd result (λ given. given ≡ fault)
+    → result ≡ Err fault
+handed result fault e = (let p = err_from_is_err_and result e in p.1 ∙ ap Err p.2)
+
+pub looked_err : {X Y : Type 0} (shown : X → Y) (before after : State) (asking : LookAsking Y)
+    (result : Result X LookupFault) (fault : LookupFault) → IsErrAnd result (λ given. given ≡ fault)
+    → Answered before asking (by_fault (fails never) (fails never) fault) after
+    → Answered before asking (looked shown result) after
+looked_err shown before after asking result fault e a =
+    subst (λ r. Answered before asking (looked shown r) after) (sym (handed result fault e)) a
+
+pub resolved_err : {X Y : Type 0} (shown : X → Y) (before after : State) (asking : Resolving Y)
+    (result : Result X LookupFault) (fault : LookupFault) → IsErrAnd result (λ given. given ≡ fault)
+    → Answered before asking (by_fault bad_config deep_config fault) after
+    → Answered before asking (resolved shown result) after
+resolved_err shown before after asking result fault e a =
+    subst (λ r. Answered before asking (resolved shown r) after) (sym (handed result fault e)) a
+
+pub given_as : {X : Type 0} (before after : State) (asking : LookAsking X) (value other : X) → other ≡ value
+    → Answered before asking (given value) after → Answered before asking (given other) after
+given_as before after asking value other same a = subst (λ v. Answered before asking (given v) after) (sym same) a

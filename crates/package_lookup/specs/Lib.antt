@@ -1,0 +1,9 @@
+pub mod SeenLooks
+pub mod Readings
+pub mod Looked
+pub mod Trails
+pub mod Responses
+pub mod Answered
+pub mod Fetching
+pub mod Recorded
+pub mod Formats

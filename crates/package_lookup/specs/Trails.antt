@@ -1,0 +1,20 @@
+-- One more look on a trail.
+--     has_room trail path                a look at the path isn't one path too many
+--     OnCount old counted result new     the call does what counting the look tells
+use Rattle.std.specs.Prelude.{◌≡◌, ◌||◌, ℕ, nat_lt, Bool, List, length, Result, Ok, Err, ⊤}
+use Rattle.tree_spec.specs.LookAskings.{is_seen}
+use Rattle.tree_spec.specs.LookLimits.{Trail, look_limits}
+use Rattle.tree_spec.specs.declared.LimitName.{LimitName}
+use Rattle.package_lookup.specs.declared.fault.LookupFault.{LookupFault}
+use Rattle.package_lookup.specs.declared.fault.LookupFault.TheVariants.{ReadFault, Limit, InvalidConfig, Memory}
+
+abbrev pub has_room : Trail → List ℕ → Bool
+has_room trail path = nat_lt (length trail.paths) look_limits.looks || is_seen path trail.paths
+
+-- a look that passes a limit leaves the trail
+abbrev pub OnCount : Trail → Result Trail LimitName → Result (Unit {0}) LookupFault → Trail → Type 0
+OnCount old counted (Ok unit) new = counted ≡ Ok new
+OnCount old counted (Err (Limit which)) new = (counted ≡ Err which) × (new ≡ old)
+OnCount old counted (Err Memory) new = ⊤
+OnCount old counted (Err ReadFault) new = ⊥
+OnCount old counted (Err InvalidConfig) new = ⊥

@@ -1,0 +1,154 @@
+ghost use Rattle.std.specs.Prelude.{◌≡◌, Ok, Some, IfOk};
+ghost use Rattle.asking_spec.specs.Askings.{and_then};
+ghost use Rattle.node_spec.specs.EsmFileFormat.{file_format, format_in, format_of_kind, has_ending, HasBadConfig};
+ghost use Rattle.node_spec.specs.LookupPackageScope.{package_scope};
+ghost use Rattle.tree_spec.specs.FoldersAbove.{folder_of};
+ghost use Rattle.tree_spec.specs.LookLimits.{begun};
+ghost use Rattle.package_lookup.specs.Answered.{state, Answered};
+ghost use Rattle.package_lookup.specs.Formats.{by_format, formatted, IsByEnding};
+ghost use Rattle.package_lookup.specs.Responses.{given, by_fault, deep_config};
+
+use crate::packages::{record_of, scope_of};
+use crate::{Known, LookupFault, Trail};
+use node_spec::PackageKind;
+use primitives::Memory;
+use std::alloc::Global;
+use tree_model::{Folder, Path};
+
+/// What is known of a file's format before its text is read.
+#[derive(Clone, Copy, Debug, PartialEq, Eq)]
+pub enum Format {
+    /// It is a module.
+    Module,
+    /// Its text decides.
+    Detect,
+    /// It is no module.
+    Not(Reason),
+}
+
+/// Why a file is no module.
+#[derive(Clone, Copy, Debug, PartialEq, Eq)]
+pub enum Reason {
+    CommonJs,
+    Json,
+    Addon,
+    /// A file whose name has another ending, or none.
+    Other,
+    /// The package.json of its package scope isn't well formed.
+    Config,
+    /// Its text can't be read as a module's.
+    Unreadable { at: usize },
+}
+
+/// The format of a file (Node.js, ECMAScript modules: ESM_FILE_FORMAT). It begins a question; where the text decides,
+/// the caller goes on in that question with a look at the file.
+pub fn format_of<F: Folder>(
+    alloc: Global,
+    known: &mut Known,
+    folder: &mut F,
+    trail: &mut Trail,
+    path: &Path,
+) -> Result<Format, LookupFault>
+    ensures { Answered (state (F.state folder.old) known.old (begun trail.old)) (file_format path.now)
+        (formatted result) (state (F.state folder.new) known.new trail.new) }
+{
+    trail.begin();
+    match format_by_ending(path) {
+        Some(format) => Ok(format),
+        None => format_by_scope(alloc, known, folder, trail, path),
+    }
+}
+
+// What the ending of a file's name says of its format; none where its package scope decides.
+#[tactic(auto, using(crate::proofs::RecordAnswers::by_endings))]
+fn format_by_ending(path: &Path) -> Option<Format>
+    ensures { IsByEnding path.now result }
+{
+    if has_ending(path, b".mjs") {
+        Some(Format::Module)
+    } else if has_ending(path, b".cjs") {
+        Some(Format::Not(Reason::CommonJs))
+    } else if has_ending(path, b".json") {
+        Some(Format::Not(Reason::Json))
+    } else if has_ending(path, b".node") {
+        Some(Format::Not(Reason::Addon))
+    } else if has_ending(path, b".js") {
+        None
+    } else {
+        Some(Format::Not(Reason::Other))
+    }
+}
+
+fn has_ending(path: &Path, ending: &[u8]) -> bool
+    ensures { result ≡ has_ending path.now ending.now }
+{
+    path.as_str().as_bytes().ends_with(ending)
+}
+
+// What the package scope of a file says of its format.
+fn format_by_scope<F: Folder>(
+    alloc: Global,
+    known: &mut Known,
+    folder: &mut F,
+    trail: &mut Trail,
+    path: &Path,
+) -> Result<Format, LookupFault>
+    ensures { Answered (state (F.state folder.old) known.old trail.old)
+        (and_then (package_scope (folder_of path.now)) format_in)
+        (formatted result) (state (F.state folder.new) known.new trail.new) }
+{
+    let from = folder_of(alloc, path)?;
+    match scope_of(alloc, known, folder, trail, &from) {
+        Err(fault) => Err(fault),
+        Ok(None) => Ok(Format::Detect),
+        Ok(Some(scope)) => format_in(alloc, known, folder, trail, &scope),
+    }
+}
+
+fn folder_of(alloc: Global, path: &Path) -> Result<Path, Memory>
+    ensures { IfOk result (λ folder. folder ≡ folder_of path.now) }
+{
+    match path.parent(alloc)? {
+        None => path.copy(alloc),
+        Some(folder) => Ok(folder),
+    }
+}
+
+fn format_in<F: Folder>(
+    alloc: Global,
+    known: &mut Known,
+    folder: &mut F,
+    trail: &mut Trail,
+    scope: &Path,
+) -> Result<Format, LookupFault>
+    ensures { Answered (state (F.state folder.old) known.old trail.old) (format_in (Some scope.now))
+        (formatted result) (state (F.state folder.new) known.new trail.new) }
+{
+    match record_of(alloc, known, folder, trail, scope) {
+        Ok(None) => Ok(Format::Detect),
+        Ok(Some(package)) => Ok(format_of_kind(package.kind)),
+        Err(fault) => without_record(fault),
+    }
+}
+
+// What it says where its package.json isn't well formed.
+fn without_record(fault: LookupFault) -> Result<Format, LookupFault>
+    ensures { formatted result ≡ by_fault (given (Ok HasBadConfig)) deep_config fault }
+{
+    match fault {
+        LookupFault::InvalidConfig => Ok(Format::Not(Reason::Config)),
+        LookupFault::Limit { which } => Err(LookupFault::Limit { which }),
+        LookupFault::ReadFault => Err(LookupFault::ReadFault),
+        LookupFault::Memory => Err(LookupFault::Memory),
+    }
+}
+
+fn format_of_kind(kind: PackageKind) -> Format
+    ensures { by_format result ≡ given (Ok (format_of_kind kind)) }
+{
+    match kind {
+        PackageKind::Module => Format::Module,
+        PackageKind::CommonJs => Format::Not(Reason::CommonJs),
+        PackageKind::Unstated => Format::Detect,
+    }
+}

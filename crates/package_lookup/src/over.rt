@@ -1,0 +1,62 @@
+ghost use Rattle.std.specs.Prelude.{◌≡◌, List, ℕ, None, Some, IfOk, OnOk, OnErr, bytes_eq, option_copied};
+ghost use Rattle.tree_spec.specs.declared.Look.{Look};
+ghost use Rattle.package_lookup.specs.Looked.{over_at, Puts};
+
+use crate::held::Held;
+use primitives::Memory;
+use std::alloc::Global;
+use std::collections::HashMap;
+use tree_model::{Look, Path};
+
+/// Looks that are to be laid over what a folder holds, each at its path.
+#[derive(Drop)]
+pub struct Over {
+    looks: HashMap<Path, Held>,
+}
+
+impl Over {
+    /// No looks.
+    pub fn new(alloc: Global) -> Over
+        ensures { (path : List ℕ) → over_at result path ≡ None }
+    {
+        Over {
+            looks: HashMap::new(alloc),
+        }
+    }
+
+    /// Puts a look at its path, in the place of one that was there.
+    pub fn set(&mut self, alloc: Global, path: &Path, look: Look) -> Result<(), Memory>
+        ensures set { OnOk result (Puts self.old path.now look self.new) }
+        ensures same { OnErr result ((other : List ℕ) → over_at self.new other ≡ over_at self.old other) }
+    {
+        let path = path.copy(alloc)?;
+        let held = Held::of(alloc, look)?;
+        self.put(path, held)
+    }
+
+    pub(crate) fn put(&mut self, path: Path, held: Held) -> Result<(), Memory>
+        ensures set { OnOk result (Puts self.old path held self.new) }
+        ensures same { OnErr result ((other : List ℕ) → over_at self.new other ≡ over_at self.old other) }
+    {
+        self.looks.insert(path, held)?;
+        Ok(())
+    }
+
+    /// An equal one, with all bytes and records shared.
+    pub fn copy(&self, alloc: Global) -> Result<Over, Memory>
+        ensures { IfOk result (λ copy. (path : List ℕ) → over_at copy path ≡ over_at self.now path) }
+    {
+        let mut copy = Over::new(alloc);
+        for (path, held) in self.looks.iter() {
+            copy.put(path.copy(alloc)?, held.copy()?)?;
+        }
+        Ok(copy)
+    }
+
+    /// The look at a path.
+    pub(crate) fn find(&self, path: &Path) -> Option<&Held>
+        ensures { option_copied result ≡ over_at self.now path.now }
+    {
+        self.looks.get(path)
+    }
+}

@@ -1,0 +1,151 @@
+ghost use Rattle.std.specs.Prelude.{◌≡◌, ◌||◌, ◌<◌, ◌++◌, ◌∷◌, [], ℕ, nat_lt, length, Option, Ok, true, false, OnOk, OnErr, IfOk};
+ghost use Rattle.tree_spec.specs.LookAskings.{is_seen, with_seen};
+ghost use Rattle.tree_spec.specs.LookLimits.{begun, counted, look_limits, no_trail, seen_again, size_at};
+ghost use Rattle.tree_spec.specs.declared.Entry.{Entry};
+ghost use Rattle.package_lookup.specs.Trails.{has_room, OnCount};
+
+use crate::LookupFault;
+use indexmap::IndexSet;
+use primitives::Memory;
+use std::alloc::Global;
+use std::marker::Model;
+use tree_model::{Path, Paths};
+use tree_spec::{LimitName, MOST_BYTES, MOST_FILE_BYTES, MOST_LOOKS};
+
+/// The distinct paths that one generation looked at, how many bytes the files among them have together, and the
+/// distinct paths of the present question.
+#[derive(Drop)]
+pub struct Trail {
+    alloc: Global,
+    paths: IndexSet<Path>,
+    size: u64,
+    question: Paths,
+    asked: IndexSet<Path>,
+}
+
+impl Model for Trail {
+    ghost use Rattle.std.specs.Prelude.{◌≡◌};
+    ghost use Rattle.tree_spec.specs.LookLimits as spec;
+
+    ghost Value = { spec.Trail };
+
+    ghost view = { λ trail. record { paths = trail.paths.keys; size = trail.size; question = trail.question } };
+
+    ghost invariant = { λ trail. trail.asked.keys ≡ trail.question };
+}
+
+impl Trail {
+    /// Nothing was looked at.
+    pub fn new(alloc: Global) -> Trail
+        ensures { result ≡ no_trail }
+    {
+        Trail {
+            alloc,
+            paths: IndexSet::new(alloc),
+            size: 0,
+            question: Paths::new(alloc),
+            asked: IndexSet::new(alloc),
+        }
+    }
+
+    /// Begins a question.
+    pub fn begin(&mut self)
+        ensures { self.new ≡ begun self.old }
+    {
+        self.question = Paths::new(self.alloc);
+        self.asked.clear();
+    }
+
+    /// The paths at which the present question looked, in the order of first looks.
+    pub fn question(&self) -> &Paths
+        ensures { result.now ≡ self.now.question }
+    {
+        &self.question
+    }
+
+    /// Whether a look at a path isn't one path too many.
+    pub(crate) fn has_room(&self, path: &Path) -> bool
+        ensures { result ≡ has_room self.now path.now }
+    {
+        self.paths.len() < MOST_LOOKS || self.paths.contains(path)
+    }
+
+    /// Counts a look at a path at which so many bytes stand.
+    pub(crate) fn count(&mut self, alloc: Global, path: &Path, size: u64) -> Result<(), LookupFault>
+        ensures { (found : Option Entry) → size_at found ≡ size
+            → OnCount self.old (counted look_limits self.old path.now found) result self.new }
+    {
+        if self.paths.contains(path) {
+            self.count_again(alloc, path, size)
+        } else {
+            self.count_first(alloc, path, size)
+        }
+    }
+
+    fn count_again(&mut self, alloc: Global, path: &Path, size: u64) -> Result<(), LookupFault>
+        requires { is_seen path.now self.old.paths ≡ true }
+        ensures { (found : Option Entry) → size_at found ≡ size
+            → OnCount self.old (counted look_limits self.old path.now found) result self.new }
+    {
+        if size > MOST_FILE_BYTES {
+            return Err(limit(LimitName::File));
+        }
+        self.note(alloc, path)?;
+        Ok(())
+    }
+
+    fn count_first(&mut self, alloc: Global, path: &Path, size: u64) -> Result<(), LookupFault>
+        requires { is_seen path.now self.old.paths ≡ false }
+        ensures { (found : Option Entry) → size_at found ≡ size
+            → OnCount self.old (counted look_limits self.old path.now found) result self.new }
+    {
+        if self.paths.len() >= MOST_LOOKS {
+            return Err(limit(LimitName::Looks));
+        }
+        if size > MOST_FILE_BYTES {
+            return Err(limit(LimitName::File));
+        }
+        let sum = self.size.saturating_add(size);
+        if sum > MOST_BYTES {
+            return Err(limit(LimitName::Bytes));
+        }
+        self.note(alloc, path)?;
+        self.add(path.copy(alloc)?)?;
+        self.size = sum;
+        Ok(())
+    }
+
+    // Puts a path that is new at the end of the paths.
+    fn add(&mut self, path: Path) -> Result<(), Memory>
+        requires { is_seen path self.old.paths ≡ false }
+        ensures { OnOk result (self.new ≡ record {
+          paths = self.old.paths ++ path ∷ [];
+          size = self.old.size;
+          question = self.old.question;
+        }) }
+    {
+        self.paths.insert(path)?;
+        Ok(())
+    }
+
+    // Puts a path at the end of the question's, unless it is one of them.
+    fn note(&mut self, alloc: Global, path: &Path) -> Result<(), Memory>
+        ensures { OnOk result (self.new ≡ seen_again self.old path.now) }
+    {
+        if self.asked.contains(path) {
+            return Ok(());
+        }
+        let first = path.copy(alloc)?;
+        let second = path.copy(alloc)?;
+        self.asked.reserve(1)?;
+        self.question.push(first)?;
+        self.asked.insert(second)?;
+        Ok(())
+    }
+}
+
+fn limit(which: LimitName) -> LookupFault
+    ensures { result ≡ LookupFault.Limit which }
+{
+    LookupFault::Limit { which }
+}

@@ -1,0 +1,2 @@
+pub mod IndexKeys
+pub mod OrderLemmas
