@@ -1,3 +1,4 @@
+pub mod Readings
 pub mod Suffixes
 pub mod Tails
 pub mod TokenLaws
@@ -8,3 +9,4 @@ pub mod FormLaws
 pub mod OutlineLaws
 pub mod OutlineReadings
 pub mod examples
+pub mod PlainReadings

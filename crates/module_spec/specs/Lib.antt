@@ -1,3 +1,4 @@
+pub mod PlainForm
 pub mod Characters
 pub mod Spellings
 pub mod Sorts
