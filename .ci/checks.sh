@@ -25,7 +25,7 @@ example() {
     cp -R examples/site "$kept/site" &&
         rm -f "$kept/site/importmap.json" &&
         (cd "$kept/site" && "$program" link --base https://app.test/ ./app.mjs >"$kept/out") &&
-        echo 'ok: 5 modules, 8 requests, 2 mappings' | diff - "$kept/out" &&
+        echo 'ok: 5 modules, 8 requests, 1 mappings' | diff - "$kept/out" &&
         diff examples/expected-importmap.json "$kept/site/importmap.json"
 }
 

@@ -40,23 +40,111 @@ MAP
 mkdir "$kept/escaped" && echo 'import "./a%62.mjs";' >"$kept/escaped/app.mjs" && : >"$kept/escaped/ab.mjs"
 row escaped ./app.mjs 0 'ok: 2 modules, 2 requests, 1 mappings' <<'MAP'
 {
+  "imports": {
+    "https://app.test/a%62.mjs": "https://app.test/ab.mjs"
+  }
+}
+MAP
+
+mkdir "$kept/quotes" && echo "  import './b.mjs'" >"$kept/quotes/app.mjs" && echo 'export {};' >"$kept/quotes/b.mjs"
+row quotes ./app.mjs 0 'ok: 2 modules, 2 requests, 0 mappings' <<'MAP'
+{
+  "imports": {}
+}
+MAP
+
+mkdir "$kept/bare"
+row bare ui 1 'refused: NotFound from "/index.html" for "ui"' </dev/null
+
+mkdir "$kept/missing" && echo 'import "./q.mjs";' >"$kept/missing/app.mjs"
+row missing ./app.mjs 1 'refused: NotFound from "/app.mjs" for "./q.mjs"' </dev/null
+
+# Makes the file $kept/NAME with this text: file NAME TEXT.
+file() {
+    mkdir -p "$kept/${1%/*}" && printf '%s' "$2" >"$kept/$1"
+}
+
+# A package below another one, conditions, a pattern, a main file and a style of the app's own.
+file ui/package.json '{"type":"module","dependencies":{"ui":"1.0.0"}}'
+file ui/src/main.js 'import { h } from "ui"; import "ui/x/menu"; import "./style.js";'
+file ui/src/style.js ''
+file ui/node_modules/ui/package.json '{"name":"ui","type":"module","exports":{".":{"types":"./i.d.ts","browser":"./b.js","default":"./n.js"},"./x/*":"./x/*.js"}}'
+file ui/node_modules/ui/b.js 'export { h } from "@ui/core";'
+file ui/node_modules/ui/n.js 'export const h = 0;'
+file ui/node_modules/ui/x/menu.js 'import { h } from "@ui/core"; export default h;'
+file ui/node_modules/ui/node_modules/@ui/core/package.json '{"name":"@ui/core","main":"lib/index.mjs"}'
+file ui/node_modules/ui/node_modules/@ui/core/lib/index.mjs 'export const h = 1;'
+row ui ./src/main.js 0 'ok: 5 modules, 6 requests, 3 mappings' <<'MAP'
+{
+  "imports": {
+    "@ui/core": "https://app.test/node_modules/ui/node_modules/@ui/core/lib/index.mjs",
+    "ui": "https://app.test/node_modules/ui/b.js",
+    "ui/x/menu": "https://app.test/node_modules/ui/x/menu.js"
+  }
+}
+MAP
+
+# The first condition of the object that applies, in the order of the object.
+cp -R "$kept/ui" "$kept/order" && rm -f "$kept/order/importmap.json"
+file order/node_modules/ui/package.json '{"name":"ui","type":"module","exports":{".":{"types":"./i.d.ts","default":"./n.js","browser":"./b.js"},"./x/*":"./x/*.js"}}'
+row order ./src/main.js 0 'ok: 5 modules, 6 requests, 3 mappings' <<'MAP'
+{
+  "imports": {
+    "@ui/core": "https://app.test/node_modules/ui/node_modules/@ui/core/lib/index.mjs",
+    "ui": "https://app.test/node_modules/ui/n.js",
+    "ui/x/menu": "https://app.test/node_modules/ui/x/menu.js"
+  }
+}
+MAP
+
+# Two versions of one package, each where its folder asks for it.
+mkdir "$kept/versions"
+for side in a b; do
+    file "versions/$side/m.mjs" 'import "c";'
+    file "versions/$side/node_modules/c/package.json" '{"exports":"./index.mjs"}'
+    file "versions/$side/node_modules/c/index.mjs" ''
+done
+file versions/app.mjs 'import "./a/m.mjs"; import "./b/m.mjs";'
+row versions ./app.mjs 0 'ok: 5 modules, 5 requests, 2 mappings' <<'MAP'
+{
   "imports": {},
   "scopes": {
-    "https://app.test/app.mjs": {
-      "https://app.test/a%62.mjs": "https://app.test/ab.mjs"
+    "https://app.test/a/": {
+      "c": "https://app.test/a/node_modules/c/index.mjs"
+    },
+    "https://app.test/b/": {
+      "c": "https://app.test/b/node_modules/c/index.mjs"
     }
   }
 }
 MAP
 
-mkdir "$kept/quotes" && echo "  import './b.mjs';" >"$kept/quotes/app.mjs" && : >"$kept/quotes/b.mjs"
-row quotes ./app.mjs 9 'not built: "/app.mjs"' </dev/null
+# A fallback in `imports`, behind a package whose target is invalid.
+file fallback/app.mjs 'import "#d";'
+file fallback/package.json '{"imports":{"#d":["dep","./fb.mjs"]}}'
+file fallback/node_modules/dep/package.json '{"exports":"../x"}'
+file fallback/fb.mjs ''
+row fallback ./app.mjs 0 'ok: 2 modules, 2 requests, 1 mappings' <<'MAP'
+{
+  "imports": {
+    "#d": "https://app.test/fb.mjs"
+  }
+}
+MAP
 
-mkdir "$kept/bare"
-row bare ui 9 'not built: from "/index.html" for "ui"' </dev/null
+file closed/app.mjs 'import "p/priv/x";'
+file closed/node_modules/p/package.json '{"exports":{"./*":"./*.mjs","./priv/*":null}}'
+row closed ./app.mjs 1 'refused: NotExported from "/app.mjs" for "p/priv/x"' </dev/null
 
-mkdir "$kept/missing" && echo 'import "./q.mjs";' >"$kept/missing/app.mjs"
-row missing ./app.mjs 1 'refused: NotFound from "/app.mjs" for "./q.mjs"' </dev/null
+file common/x.js 'module.exports = 1;'
+row common ./x.js 1 'refused: NotModule "/x.js" CommonJs' </dev/null
+
+file data/app.mjs 'import "./data.json";'
+file data/data.json '{}'
+row data ./app.mjs 1 'refused: NotModule "/data.json" Json' </dev/null
+
+file builtin/app.mjs 'import "node:fs";'
+row builtin ./app.mjs 1 'refused: Builtin from "/app.mjs" for "node:fs"' </dev/null
 
 # Injects into the folder $kept/NAME: page NAME STATUS LINE, and the page as it is afterwards on the standard input.
 page() {

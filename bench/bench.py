@@ -58,17 +58,17 @@ def say(passed, text):
 def link(tree, tries):
     """The fastest of a few links of a tree, where each is right."""
     run = best([PROGRAM] + WORDS, tree.folder, tries)
-    wanted = f"ok: {len(tree.paths)} modules, {tree.requests} requests, 0 mappings\n"
+    wanted = f"ok: {len(tree.paths)} modules, {tree.requests} requests, {tree.mappings} mappings\n"
     if run.status != 0 or run.out != wanted:
         say(False, f"{os.path.basename(tree.folder)}: status {run.status}, out {run.out!r}, wanted {wanted!r}")
     return run
 
 
 def floor(tree, tries):
-    """Reads and digests each file of the tree once."""
+    """Reads and digests each file of the tree that is looked at, once."""
     names = os.path.join(tree.folder, "..", os.path.basename(tree.folder) + ".list")
     with open(names, "w", encoding="utf-8") as file:
-        file.write("".join(path + "\0" for path in tree.paths))
+        file.write("".join(path + "\0" for path in tree.paths + tree.records))
     return best(["xargs", "-0", "-n", "100000", "-s", "2000000", "sha384sum", "--"], tree.folder, tries, names)
 
 
@@ -118,6 +118,36 @@ def measure(shape, work, modules, slack, tries, peers):
         against_peer("Node with es-module-lexer", once, node(half, tries), 0.1, label)
 
 
+def measure_packages(work, count, slack, tries, peers):
+    """Measures packages at a tenth of the number and at all of them."""
+    label = f"{count} packages"
+    tenth = trees.packages(os.path.join(work, f"packages-{count // 10}"), count // 10)
+    whole = trees.packages(os.path.join(work, f"packages-{count}"), count)
+    once, ten = link(tenth, tries), link(whole, tries)
+    memory = 3 * whole.size + 64 * MIB
+    say(ten.memory <= memory, f"{label}: {ten.memory / MIB:.1f} MiB for {whole.size / MIB:.1f} MiB of files, "
+                              f"at most {memory / MIB:.1f} MiB")
+    ratio = ten.seconds / max(once.seconds, NOISE / 10)
+    say(ratio <= 12 * slack, f"{label}: {ten.seconds:.3f} s, {ratio:.2f} times as long as for a tenth of them, "
+                             f"{once.seconds:.3f} s, at most {12 * slack}")
+    sums = floor(whole, tries)
+    say(ten.seconds <= max(4 * slack * sums.seconds, NOISE),
+        f"{label}: {ten.seconds / sums.seconds:.2f} times as long as sha384sum, {sums.seconds:.3f} s, at most {4 * slack}")
+    if peers:
+        against_peer("esbuild", ten, esbuild(whole, tries), 0.5, label)
+        against_peer("Node with es-module-lexer", ten, node(whole, tries), 0.1, label)
+
+
+def measure_names(work, modules, slack, tries):
+    """Measures looks at the folders above."""
+    label = f"{modules // 2} names, 40 folders deep"
+    tree = trees.names(os.path.join(work, "names"), modules)
+    run = link(tree, tries)
+    seconds = 10 * slack * modules / 20000
+    say(run.seconds <= seconds, f"{label}: {run.seconds:.3f} s, at most {seconds:g} s")
+    say(run.memory <= 1024 * MIB, f"{label}: {run.memory / MIB:.1f} MiB, at most 1024 MiB")
+
+
 def main():
     smoke = sys.argv[1:] == ["smoke"]
     if sys.argv[1:] and not smoke:
@@ -131,6 +161,12 @@ def main():
                 measure(shape, work, 2000, 10, 2, False)
             else:
                 measure(shape, work, 20000, 1, 3, shape in (trees.chain, trees.fan))
+        if smoke:
+            measure_packages(work, 200, 10, 2, False)
+            measure_names(work, 2000, 10, 2)
+        else:
+            measure_packages(work, 2000, 1, 3, True)
+            measure_names(work, 18000, 1, 2)
     finally:
         shutil.rmtree(work)
     print(f"{failures} failed" if failures else "all passed")

@@ -1,4 +1,4 @@
-"""Trees of modules that ask nothing but `import "..";`, written to disk."""
+"""Trees of modules and of packages, written to disk."""
 
 import os
 
@@ -6,24 +6,34 @@ MOST_REQUESTS = 4000
 
 
 class Tree:
-    """A tree on disk: its folder, its modules' paths in it, and how many requests `link ./app.mjs` counts."""
+    """A tree on disk: its folder, its modules' paths in it, the paths of its other files, and how many requests and
+    mappings `link ./app.mjs` counts."""
 
     def __init__(self, folder):
         self.folder = folder
         self.paths = []
+        self.records = []
         self.requests = 1
+        self.mappings = 0
         self.size = 0
         os.makedirs(folder)
 
-    def add(self, path, specifiers):
-        text = "".join(f'import "{specifier}";\n' for specifier in specifiers)
+    def write(self, path, text):
         place = os.path.join(self.folder, path)
         os.makedirs(os.path.dirname(place), exist_ok=True)
         with open(place, "w", encoding="utf-8") as file:
             file.write(text)
+        self.size += len(text)
+
+    def add(self, path, specifiers, rest=""):
+        self.write(path, "".join(f'import "{specifier}";\n' for specifier in specifiers) + rest)
         self.paths.append(path)
         self.requests += len(specifiers)
-        self.size += len(text)
+
+    def record(self, path, text):
+        """A package.json."""
+        self.write(path, text)
+        self.records.append(path)
 
 
 def chain(folder, modules):
@@ -75,4 +85,44 @@ def shared(folder, modules):
     for i in range(modules):
         name = "app.mjs" if i == 0 else f"m{i}.mjs"
         tree.add(name, [f"./m{j}.mjs" for j in range(i + 1, min(i + 11, modules))])
+    return tree
+
+
+def packages(folder, count):
+    """So many packages in a chain, each with a module of its own and a pattern among its exports, and one that all of
+    them ask for, of which every tenth has another version below it."""
+    tree = Tree(folder)
+    tree.add("app.mjs", ["p0", "p0/x/a", "c"])
+
+    def common(above, version):
+        tree.record(f"{above}/node_modules/c/package.json", '{"name":"c","exports":"./index.mjs"}')
+        tree.add(f"{above}/node_modules/c/index.mjs", [], f"export const v = {version};\n")
+
+    common(".", 0)
+    for i in range(count):
+        place = f"node_modules/p{i}"
+        tree.record(f"{place}/package.json", f'{{"name":"p{i}","type":"module","exports":'
+                    '{".":"./index.js","./x/*":"./x/*.js"}}')
+        tree.add(f"{place}/x/a.js", [], "export {};\n")
+        tree.add(f"{place}/index.js", ["./x/a.js", "c"] + ([f"p{i + 1}"] if i + 1 < count else []))
+        if i % 10 == 3:
+            common(place, 1)
+    tree.mappings = 2 * count + 2 if count > 3 else count + 2
+    return tree
+
+
+def names(folder, modules):
+    """Modules 39 folders below the top, each of which asks for bare names that stand in the folder `node_modules` of
+    the top, so that each folder on the way is looked at for each name."""
+    tree = Tree(folder)
+    levels = [f"f{level}" for level in range(39)]
+    below = "/".join(levels)
+    wanted = modules // 2
+    tree.add("app.mjs", [f"./{below}/m{i}.mjs" for i in range(-(-wanted // 50))])
+    for i in range(-(-wanted // 50)):
+        tree.add(f"{below}/m{i}.mjs", [f"n{name}" for name in range(50 * i, min(50 * i + 50, wanted))])
+    for i in range(wanted):
+        tree.record(f"node_modules/n{i}/package.json", f'{{"name":"n{i}","exports":"./index.mjs"}}')
+        tree.add(f"node_modules/n{i}/index.mjs", [], "export {};\n")
+    tree.mappings = wanted
     return tree
