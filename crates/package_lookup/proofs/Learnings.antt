@@ -3,10 +3,12 @@
 --     learns_nothing       what none learns
 --     learns_as            the same, where more may be left unfinished
 --     learns_by            what a call that asks learns
+--     learns_at            the same beside other trails
 use Rattle.std.proofs.Common.{◌≡◌, Option, Some, None, IfSome, refl, ◌∙◌, subst}
 use Rattle.tree_spec.specs.LookAskings.{LookAsking}
+use Rattle.tree_spec.specs.LookLimits.{Trail}
 use Rattle.tree_spec.specs.Trees.{Tree}
-use Rattle.package_lookup.specs.Answered.{State, Tells, AsksOnce, Answered}
+use Rattle.package_lookup.specs.Answered.{State, state, Tells, AsksOnce, Answered}
 use Rattle.package_lookup.specs.Learning.{IsSameIn, Learns}
 use Rattle.package_lookup.specs.Responses.{Response, fails, no_memory}
 use Rattle.package_lookup.proofs.Questions.{grows_itself, grows_twice, asks_then, asks_nothing_told, asks_finished, if_weaker}
@@ -59,4 +61,17 @@ learns_by before after asking response a = record {
       (λ tree. IsSameIn tree before after) (λ tree tells. tells.same) a.tells;
   known = a.known;
   asked = a.asked;
+}
+
+pub learns_at : (before after : State) (first last : Trail) (unfinished : Type 0) → Learns before after unfinished
+    → Learns (state before.folder before.known first) (state after.folder after.known last) unfinished
+learns_at before after first last unfinished learns = record {
+  tree = learns.tree;
+  same = learns.same;
+  known = learns.known;
+  asked = if_weaker before.folder.asked (λ old. AsksOnce old before after unfinished)
+      (λ old. AsksOnce old (state before.folder before.known first) (state after.folder after.known last) unfinished)
+      (λ old asks.
+      record { more = asks.more; asked = asks.asked; once = asks.once; new = asks.new; held = asks.held })
+      learns.asked;
 }
