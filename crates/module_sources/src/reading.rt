@@ -3,7 +3,7 @@ ghost use Rattle.std.specs.Str.{is_utf8};
 ghost use Rattle.tree_spec.specs.declared.Entry.TheVariants.{Stored};
 ghost use Rattle.tree_spec.specs.LookLimits.{begun};
 ghost use Rattle.module_spec.specs.OutlineReading.{read_outline};
-ghost use Rattle.node_spec.specs.EsmFileFormat as format;
+ghost use Rattle.node_spec.specs.EsmFileFormat as formats;
 ghost use Rattle.node_spec.specs.NodeAnswers.{Refusal};
 ghost use Rattle.trace_spec.specs.Questions as spec;
 ghost use Rattle.package_lookup.specs.Answered.{state, Answered};
@@ -79,7 +79,7 @@ fn source_by_format<F: Folder, L: Ledger>(
     format: Format,
     steps: &mut Steps<L>,
 ) -> Result<Result<Source, NoSource>, LookupFault>
-    ensures answered { (found : Result format.Format Refusal) → by_format format ≡ given found
+    ensures answered { (found : Result formats.Format Refusal) → by_format format ≡ given found
         → Answered (state (F.state folder.old) known.old trail.old) (spec.by_format path.now found)
         (looked source_in result) (state (F.state folder.new) known.new trail.new) }
     ensures cost { steps.new ≤ steps.old + 1 }

@@ -12,13 +12,13 @@ pub returns-in-Err-clause-answered : goal.returns-in-Err-clause-answered
 returns-in-Err-clause-answered g c =
     look_fails _ _ c.args.path.now c.args.is_detected c.in-Err.fault (rw c.in-Err.is at c.look.ensures.answered)
 
-pub returns-in-Ok-clause-answered : goal.returns-in-Ok-clause-answered
-returns-in-Ok-clause-answered g c =
-    look_given _ _ c.args.path.now c.args.is_detected (entry_of c.in-Ok.seen) _ c.in_ok-source_seen.ensures.source
+pub returns-in_ok-source_seen-in-Ok-clause-answered : goal.returns-in_ok-source_seen-in-Ok-clause-answered
+returns-in_ok-source_seen-in-Ok-clause-answered g c =
+    look_given _ _ c.args.path.now c.args.is_detected (entry_of c.in-Ok.seen) _ c.in_ok-source_seen-in-Ok.ensures.source
     (rw c.in-Ok.is at c.look.ensures.answered)
 
-pub returns-in_err-source_seen-clause-answered : goal.returns-in_err-source_seen-clause-answered
-returns-in_err-source_seen-clause-answered g c =
+pub returns-in_err-source_seen-in-Ok-clause-answered : goal.returns-in_err-source_seen-in-Ok-clause-answered
+returns-in_err-source_seen-in-Ok-clause-answered g c =
     looked_err source_in _ _ (read_module c.args.is_detected c.args.path.now) c.from_residual.result Memory
     c.from_residual.ensures.1
     (unfinished _ _ (look_at c.args.path.now) (entry_of c.in-Ok.seen) (read_module c.args.is_detected c.args.path.now)

@@ -13,8 +13,8 @@ returns-in-Module-clause-answered g c = λ found is.
 
 pub returns-in-Detect-clause-answered : goal.returns-in-Detect-clause-answered
 returns-in-Detect-clause-answered g c = λ found is.
-    at_format _ _ c.args.path.now (Ok IsDetected) found (looked source_in c.read_module-2.result)
-    (rw c.in-Detect.is at is) c.read_module-2.ensures.answered
+    at_format _ _ c.args.path.now (Ok IsDetected) found (looked source_in c.read_module-in-Detect.result)
+    (rw c.in-Detect.is at is) c.read_module-in-Detect.ensures.answered
 
 pub returns-in-Not-clause-answered : goal.returns-in-Not-clause-answered
 returns-in-Not-clause-answered g c = λ found is.
