@@ -23,9 +23,10 @@ use Rattle.layout_spec.specs.PrintedMap.{map_text}
 use Rattle.trace_spec.specs.Modules.{Config}
 use Rattle.trace_spec.specs.Checks.{Gathered}
 use Rattle.generator_spec.specs.declared.Command.{Command}
-use Rattle.generator_spec.specs.declared.Command.TheVariants.{Link}
-use Rattle.generator_spec.specs.declared.Refusal.TheVariants.{BadBase, Trace}
-use Rattle.generator_spec.proofs.MapPaths.{map_in_root}
+use Rattle.generator_spec.specs.declared.Command.TheVariants.{Link, Inject}
+use Rattle.generator_spec.specs.declared.PageFault.TheVariants.{Absent}
+use Rattle.generator_spec.specs.declared.Refusal.TheVariants.{BadBase, Page, Trace}
+use Rattle.generator_spec.proofs.MapPaths.{map_in_root, page_in_root}
 use Rattle.generator_spec.proofs.PageNames.{page_of_words_is_file}
 use Rattle.generator_spec.specs.Generation.{Generates}
 use Rattle.generator_spec.specs.Lines.{counts_line}
@@ -53,13 +54,14 @@ use Rattle.generator_examples.proofs.TracedExamples.{traced_examples}
 use Rattle.generator_examples.proofs.Growing.{grown}
 use Rattle.generator_examples.proofs.Words.{is_call, gives}
 use Rattle.generator_examples.proofs.Counting.{Mappings, counted, counts}
-use Rattle.generator_examples.proofs.Evaluated.{levels_traced, spelling_traced, site_traced, packages_traced, missing_traced, clashing_traced}
+use Rattle.generator_examples.proofs.Evaluated.{levels_traced, spelling_traced, site_traced, paged_traced, packages_traced, missing_traced, clashing_traced}
 
 trees : Trees
 trees = record {
   of_levels = grown (drop 1 levels) refl;
   of_spelling = grown (drop 1 spelling) refl;
   of_site = grown (drop 1 site) refl;
+  of_paged = grown (drop 1 paged) refl;
   of_packages = grown (drop 1 packages) refl;
   of_missing = grown (drop 1 missing) refl;
   of_clashing = grown (drop 1 clashing) refl;
@@ -73,6 +75,14 @@ trace_examples = record { by_levels = levels_traced; two_spellings = spelling_tr
 app_gives : IsConfigOf (links "https://app.test/" ("./app.mjs" ∷ [])) Link (based "https://app.test/" ("./app.mjs" ∷ []))
 unfolding base_of parse_alone text_of url_on_literals
 app_gives = gives Link _ "https://app.test/" ("./app.mjs" ∷ []) refl refl refl refl (lit≤ tt)
+
+paged_gives : IsConfigOf (injects "https://app.test/" ("./app.mjs" ∷ [])) Inject (based "https://app.test/" ("./app.mjs" ∷ []))
+unfolding base_of parse_alone text_of url_on_literals
+paged_gives = gives Inject _ "https://app.test/" ("./app.mjs" ∷ []) refl refl refl refl (lit≤ tt)
+
+no_page_gives : IsConfigOf (injects "https://app.test/" ("./a.mjs" ∷ "./b.mjs" ∷ [])) Inject (based "https://app.test/" ("./a.mjs" ∷ "./b.mjs" ∷ []))
+unfolding base_of parse_alone text_of url_on_literals
+no_page_gives = gives Inject _ "https://app.test/" ("./a.mjs" ∷ "./b.mjs" ∷ []) refl refl refl refl (lit≤ tt)
 
 missing_gives : IsConfigOf (links "https://app.test/" ("./a.mjs" ∷ "./b.mjs" ∷ [])) Link (based "https://app.test/" ("./a.mjs" ∷ "./b.mjs" ∷ []))
 unfolding base_of parse_alone text_of url_on_literals
@@ -104,6 +114,9 @@ spelling_generates = generated _ Link spelling _ spelling_all spelling_map app_g
 
 abbrev site_generates : Generates (tree_of site) (based "https://app.test/" ("./app.mjs" ∷ [])) site_map
 site_generates = generated _ Link site _ site_all site_map app_gives site_traced refl
+
+abbrev paged_generates : Generates (tree_of paged) (based "https://app.test/" ("./app.mjs" ∷ [])) spelling_map
+paged_generates = generated _ Inject paged _ spelling_all spelling_map paged_gives paged_traced refl
 
 packages_give : IsConfigOf (links "https://app.test/" ("./app.js" ∷ [])) Link (based "https://app.test/" ("./app.js" ∷ []))
 unfolding base_of parse_alone text_of url_on_literals
