@@ -63,7 +63,7 @@ pub record EndExamples : Type 0 where
       Ends spelling (links "https://app.test/" ("./app.mjs" ∷ [])) 0 "ok: 2 modules, 2 requests, 1 mappings\n"
       (with_map spelling spelling_map)
   pub of_site :
-      Ends site (links "https://app.test/" ("./app.mjs" ∷ [])) 0 "ok: 5 modules, 8 requests, 2 mappings\n"
+      Ends site (links "https://app.test/" ("./app.mjs" ∷ [])) 0 "ok: 5 modules, 8 requests, 1 mappings\n"
       (with_map site site_map)
   pub in_page :
       Ends paged (injects "https://app.test/" ("./app.mjs" ∷ [])) 0 "ok: 2 modules, 2 requests, 1 mappings\n"

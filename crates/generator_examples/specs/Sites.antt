@@ -127,11 +127,8 @@ abbrev pub spelling_map : List ℕ
 spelling_map =
     lines
     ("{"
-    ∷ "  \"imports\": {},"
-    ∷ "  \"scopes\": {"
-    ∷ "    \"https://app.test/app.mjs\": {"
-    ∷ "      \"https://app.test/a%62.mjs\": \"https://app.test/ab.mjs\""
-    ∷ "    }"
+    ∷ "  \"imports\": {"
+    ∷ "    \"https://app.test/a%62.mjs\": \"https://app.test/ab.mjs\""
     ∷ "  }"
     ∷ "}"
     ∷ [])
@@ -149,11 +146,8 @@ paged_after =
     paged_with
     (lines
     ("<head><script type=\"importmap\">{"
-    ∷ "  \"imports\": {},"
-    ∷ "  \"scopes\": {"
-    ∷ "    \"https://app.test/app.mjs\": {"
-    ∷ "      \"https://app.test/a%62.mjs\": \"https://app.test/ab.mjs\""
-    ∷ "    }"
+    ∷ "  \"imports\": {"
+    ∷ "    \"https://app.test/a%62.mjs\": \"https://app.test/ab.mjs\""
     ∷ "  }"
     ∷ "}"
     ∷ "</script>"
@@ -248,14 +242,8 @@ abbrev pub site_map : List ℕ
 site_map =
     lines
     ("{"
-    ∷ "  \"imports\": {},"
-    ∷ "  \"scopes\": {"
-    ∷ "    \"https://app.test/app.mjs\": {"
-    ∷ "      \"https://app.test/pages/[id].mjs\": \"https://app.test/pages/%5Bid%5D.mjs\""
-    ∷ "    },"
-    ∷ "    \"https://app.test/pages/home.mjs\": {"
-    ∷ "      \"https://app.test/pages/[id].mjs\": \"https://app.test/pages/%5Bid%5D.mjs\""
-    ∷ "    }"
+    ∷ "  \"imports\": {"
+    ∷ "    \"https://app.test/pages/[id].mjs\": \"https://app.test/pages/%5Bid%5D.mjs\""
     ∷ "  }"
     ∷ "}"
     ∷ [])
