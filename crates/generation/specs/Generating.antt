@@ -1,26 +1,58 @@
 -- What the call that generates gives.
+--     StopsAs fault stop      a command ends so that has no trace
+--     IfRefused P stop      of a refusal, this
 --     IsMapOf all generated      the map's text and its counts are those of these tables
+--     HasLargeMap all      the text of the map of these tables is too large
 --     Generating config before result after      what it gives for a folder, and what it leaves
-use Rattle.std.specs.Prelude.{◌≡◌, ◌≢◌, ℕ, length, Some, Result, Ok, Err, IfOk, IfErr, IfSome}
+use Rattle.std.specs.Prelude.{◌≡◌, ◌≢◌, ◌≤◌, ◌<◌, ◌++◌, ⊤, ℕ, List, length, bytes_eq, Some, Result, Ok, Err, IfOk, IfErr, IfSome}
 use Rattle.std.specs.FinMap.{get}
+use Rattle.std.specs.List.{IsDistinct}
+use Rattle.tree_spec.specs.declared.LimitName.TheVariants.{Map}
+use Rattle.tree_spec.specs.Limits.{limit_number}
 use Rattle.tree_spec.specs.Trees.{Tree}
 use Rattle.tree_spec.specs.States.{FolderState, OnlyLooks}
+use Rattle.import_map_spec.specs.ParsedMap.{ParsedMap}
+use Rattle.layout_spec.specs.AgreedLayout.{IsAgreedLayout}
 use Rattle.layout_spec.specs.PrintedMap.{map_text}
 use Rattle.layout_spec.specs.Counting.{mapping_count}
-use Rattle.layout_spec.specs.Layout.{layout}
 use Rattle.trace_spec.specs.declared.TraceFault.{TraceFault}
-use Rattle.trace_spec.specs.declared.TraceFault.TheVariants.{ReadFault, Memory}
-use Rattle.trace_spec.specs.Kinds.{IsOfTrace}
+use Rattle.trace_spec.specs.declared.TraceFault.TheVariants as fault
 use Rattle.trace_spec.specs.Modules.{Config}
 use Rattle.trace_spec.specs.Checks.{Gathered}
 use Rattle.trace_spec.specs.Traces.{traced}
+use Rattle.generator_spec.specs.declared.Command.{Command}
+use Rattle.generator_spec.specs.declared.Refusal.{Refusal}
+use Rattle.generator_spec.specs.declared.Refusal.TheVariants.{Trace}
+use Rattle.generator_spec.specs.Commands.{Opens, Refuses, IsRefusalOf}
 use Rattle.generation.specs.declared.generated.Generated.{Generated}
+use Rattle.generation.specs.declared.stop.Stop.{Stop}
+use Rattle.generation.specs.declared.stop.Stop.TheVariants.{Refused, ReadFault, Memory}
 
+-- a failed look and want of memory are no refusals
+pub data StopsAs (why : TraceFault) : Stop → Type 0 where
+  failed_look : why ≡ fault.ReadFault → StopsAs why ReadFault
+  memory : why ≡ fault.Memory → StopsAs why Memory
+  refused : why ≢ fault.ReadFault → why ≢ fault.Memory → StopsAs why (Refused (Trace why))
+
+abbrev pub IfRefused : (Refusal → Type 0) → Stop → Type 0
+IfRefused P (Refused why) = P why
+IfRefused P ReadFault = ⊤
+IfRefused P Memory = ⊤
+
+-- the text of the agreed layout, with what is told of it
 pub record IsMapOf (all : Gathered) (generated : Generated) : Type 0 where
-  pub map : generated.map.items ≡ map_text (layout all.needs)
+  pub layout : ParsedMap
+  pub agreed : IsAgreedLayout all.needs layout
+  pub map : generated.map.items ≡ map_text layout
+  pub within : length generated.map.items ≤ limit_number Map
   pub modules : generated.modules ≡ length all.modules
   pub requests : generated.requests ≡ all.requests
-  pub mappings : generated.mappings ≡ mapping_count (layout all.needs)
+  pub mappings : generated.mappings ≡ mapping_count layout
+
+pub record HasLargeMap (all : Gathered) : Type 0 where
+  pub layout : ParsedMap
+  pub agreed : IsAgreedLayout all.needs layout
+  pub large : limit_number Map < length (map_text layout)
 
 -- own: the map of the tree's trace
 pub record IsGenerated (tree : Tree) (config : Config) (generated : Generated) : Type 0 where
@@ -28,13 +60,20 @@ pub record IsGenerated (tree : Tree) (config : Config) (generated : Generated) :
   pub is_traced : traced (get tree) config ≡ Ok all
   pub is_map : IsMapOf all generated
 
--- own: a told tree has the trace whose map this is, or the refusal; what isn't refused so is a look that failed and
--- was counted, or want of memory
-pub record Generating (config : Config) (before : FolderState) (result : Result Generated TraceFault)
+-- own: the folder was asked for further paths, for none of them twice
+pub record AsksNoPathTwice (old : List (List ℕ)) (after : FolderState) : Type 0 where
+  pub more : List (List ℕ)
+  pub asked : after.asked ≡ Some (old ++ more)
+  pub once : IsDistinct bytes_eq more
+
+-- own: a told tree has the trace whose map this is, or refuses each command that is opened so; and whatever is told,
+-- each can be refused so. What isn't refused is a look that failed and was counted, or want of memory
+pub record Generating (config : Config) (before : FolderState) (result : Result Generated Stop)
     (after : FolderState) : Type 0 where
   pub generated : IfOk result (λ found. IfSome before.holds (λ tree. IsGenerated tree config found))
   pub refused :
-      IfErr result (λ fault. fault ≢ ReadFault → fault ≢ Memory
-      → IfSome before.holds (λ tree. traced (get tree) config ≡ Err fault))
-  pub kind : IfErr result (λ fault. fault ≢ ReadFault → fault ≢ Memory → IsOfTrace config fault)
+      IfErr result (IfRefused (λ why. IfSome before.holds (λ tree. (command : Command) → Opens tree config command
+      → Refuses tree config command why)))
+  pub kind : IfErr result (IfRefused (λ why. (command : Command) → IsRefusalOf config command why))
+  pub asked : IfSome before.asked (λ old. AsksNoPathTwice old after)
   pub looks : OnlyLooks before after (result ≡ Err ReadFault)

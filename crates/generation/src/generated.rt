@@ -1,13 +1,17 @@
-ghost use Rattle.std.specs.Prelude.{IfOk};
-ghost use Rattle.generation.specs.Generating.{Generating, IsMapOf};
+ghost use Rattle.std.specs.Prelude.{◌≡◌, ◌≤◌, ◌+◌, Err, IfOk};
+ghost use Rattle.tree_spec.specs.declared.LimitName.TheVariants.{Modules, Requests};
+ghost use Rattle.tree_spec.specs.Limits.{limit_number};
+ghost use Rattle.generation.specs.Generating.{Generating, IsMapOf, HasLargeMap};
 
-use map_flatten::{layout, mappings};
+use crate::stop::{Stop, stop_of, too_large};
+use map_flatten::{agreed, mappings};
 use map_print::{PrintFault, print_map};
-use primitives::Memory;
+use package_lookup::Known;
+use primitives::Steps;
 use request_trace::{Config, Trace, trace};
 use scope_builder::Mappings;
-use std::alloc::{AllocError, Global};
-use trace_spec::TraceFault;
+use std::alloc::Global;
+use std::sync::ledger::Ledger;
 use tree_model::Folder;
 
 /// A map's text, and the counts that are told of it: the modules of its trace without the page, its requests, and the
@@ -20,29 +24,39 @@ pub struct Generated {
     pub mappings: usize,
 }
 
-/// The map of what stands in the folder, for the config. Nothing is written.
-pub fn generate<F: Folder>(
+/// The map of what stands in the folder, for the config. Nothing is written, and no path is looked at twice. A map takes
+/// at most one step for each module and for each request.
+pub fn generate<F: Folder, L: Ledger>(
     alloc: Global,
     folder: &mut F,
     config: &Config,
-) -> Result<Generated, TraceFault>
-    ensures { Generating config.now (F.state folder.old) result (F.state folder.new) }
+    steps: &mut Steps<L>,
+) -> Result<Generated, Stop>
+    ensures generates { Generating config.now (F.state folder.old) result (F.state folder.new) }
+    ensures steps { IfOk result (λ found. steps.new ≤ steps.old + (found.modules + found.requests)) }
+    ensures bounded { steps.new ≤ steps.old + (limit_number Modules + limit_number Requests) }
 {
-    let trace = trace(alloc, folder, config)?;
-    Ok(map_of(alloc, &trace)?)
+    let mut known = Known::new(alloc);
+    match trace(alloc, folder, &mut known, config, steps) {
+        Err(fault) => Err(stop_of(fault)),
+        Ok(trace) => match map_of(alloc, &trace) {
+            Ok(generated) => Ok(generated),
+            Err(PrintFault::MapTooLarge) => Err(too_large()),
+            Err(PrintFault::Memory) => Err(Stop::Memory),
+        },
+    }
 }
 
 // The map of a trace, with its counts.
-fn map_of(alloc: Global, trace: &Trace) -> Result<Generated, Memory>
-    ensures { IfOk result (IsMapOf trace.now) }
+fn map_of(alloc: Global, trace: &Trace) -> Result<Generated, PrintFault>
+    ensures map { IfOk result (IsMapOf trace.now) }
+    ensures too_large { result ≡ Err PrintFault.MapTooLarge → HasLargeMap trace.now }
 {
-    let layout = layout(alloc, trace.needs())?;
-    let map = match print_map(alloc, &layout, &Mappings::new(alloc)) {
-        Ok(map) => map,
-        // A text above the limit counts as want of memory.
-        Err(PrintFault::MapTooLarge | PrintFault::Memory) => return Err(AllocError),
+    let layout = agreed(alloc, trace.needs())?;
+    let map = print_map(alloc, &layout, &Mappings::new(alloc))?;
+    let Some(mappings) = mappings(&layout) else {
+        return Err(PrintFault::Memory);
     };
-    let mappings = mappings(&layout).ok_or(AllocError)?;
     Ok(Generated {
         map,
         modules: trace.len(),

@@ -3,5 +3,7 @@
 #![tactic(auto)]
 
 mod generated;
+mod stop;
 
 pub use generated::{Generated, generate};
+pub use stop::Stop;

@@ -1,12 +1,12 @@
 -- How a run ends.
 use Rattle.std.proofs.Common.{◌≡◌, ◌≢◌, ◌≤◌, ◌⊎◌, ⊎_elim, ℕ, List, [], ◌++◌, length, take, Option, Some, None, Ok, Err, IfSome, Result, inl, inr, refl, sym, ap, ◌∙◌, subst, arith}
+use Rattle.std.specs.Prelude.{option_map}
 use Rattle.std.specs.FinMap.{get}
 use Rattle.tree_spec.specs.declared.Entry.TheVariants.{Stored}
 use Rattle.tree_spec.specs.Counts.{Rose}
 use Rattle.tree_spec.specs.States.{FolderState, SinkState}
 use Rattle.tree_spec.specs.Trees.{Tree, Places}
 use Rattle.page_spec.specs.declared.kinds.InjectFault.TheVariants as inject
-use Rattle.layout_spec.specs.Layout.{layout}
 use Rattle.layout_spec.specs.PrintedMap.{map_text}
 use Rattle.trace_spec.specs.declared.TraceFault.{TraceFault}
 use Rattle.trace_spec.specs.declared.TraceFault.TheVariants as fault
@@ -27,11 +27,11 @@ use Rattle.generator_spec.specs.Outcome.Outcome.{words_refused, refused, done}
 use Rattle.generator_spec.specs.Ending.{IsFileWritten, IsGenerated, IsCarried, Linked, IsCounted, Shaped, Says, Ends, EndsAs, TellsRefusal}
 use Rattle.generator_spec.specs.Ending.{Shaped as shaped, Says as says, Ends as ends}
 use Rattle.soundness.proofs.Sound.{sound, one_map_in_page}
+use Rattle.generation.specs.declared.stop.Stop.{Stop}
+use Rattle.generation.specs.declared.stop.Stop.TheVariants as stops
 use Rattle.generator_core.specs.declared.prepared.Prepared.{Prepared}
-use Rattle.generator_core.specs.declared.prepared.Stop.{Stop}
-use Rattle.generator_core.specs.declared.prepared.Stop.TheVariants as stops
 use Rattle.generator_core.specs.Preparing.{EndsBefore, IsPrepared, IsReady}
-use Rattle.generator_core.specs.Writing.{SaysWrite, TellsStop, Finishes}
+use Rattle.generator_core.specs.Writing.{SaysWrite, TellsStop, Finishes, SpendsFew}
 use Rattle.generator_core.specs.Writing.{SaysWrite as writes}
 use Rattle.generator_core.proofs.Preparings.{if_some, if_two}
 
@@ -47,8 +47,8 @@ written_is tree path bytes slice told written s = record {
 trace_is_not_zero : (why : TraceFault) → status_of (refusal.Trace why) ≢ 0
 trace_is_not_zero (fault.Unservable path url) = λ e. omega arith
 trace_is_not_zero (fault.Refused referrer specifier why) = λ e. omega arith
-trace_is_not_zero (fault.RequestNotBuilt referrer specifier) = λ e. omega arith
-trace_is_not_zero (fault.ModuleNotBuilt m) = λ e. omega arith
+trace_is_not_zero (fault.Clash referrer first first_to second second_to) = λ e. omega arith
+trace_is_not_zero (fault.NotModule path why) = λ e. omega arith
 trace_is_not_zero (fault.Limit which) = λ e. omega arith
 trace_is_not_zero fault.ReadFault = λ e. omega arith
 trace_is_not_zero fault.Memory = λ e. omega arith
@@ -64,10 +64,9 @@ page_is_not_zero (KeepsMapsOut inject.Memory) = λ e. omega arith
 refusal_is_not_zero : (why : Refusal) → status_of why ≢ 0
 refusal_is_not_zero refusal.Words = λ e. omega arith
 refusal_is_not_zero (refusal.BadBase text) = λ e. omega arith
+refusal_is_not_zero (refusal.Limit which) = λ e. omega arith
 refusal_is_not_zero (refusal.Page why) = page_is_not_zero why
 refusal_is_not_zero (refusal.Trace why) = trace_is_not_zero why
-
--- ---- what was generated and written serves
 
 -- ---- what was generated and written serves
 
@@ -121,6 +120,37 @@ ends_as words before after out out_after result status line untold says_so ends_
   looks_later = looks;
   writes_later = writes;
   output_later = output;
+}
+
+-- ---- steps
+
+refusal_not_done : (why : Refusal) (out out_after : SinkState) (result : ℕ) → TellsRefusal why out out_after result → result ≢ 0
+refusal_not_done why out out_after result (inl told) zero = refusal_is_not_zero why (status_done (status_of why) (line_of why) out out_after result told zero)
+refusal_not_done why out out_after result (inr memory) zero = let e = status_done 8 memory_line out out_after result memory zero in absurd (omega (arith, e))
+
+-- a stop isn't answered by 0
+pub stop_not_done : (stop : Stop) (out out_after : SinkState) (result : ℕ) → TellsStop stop out out_after result → result ≢ 0
+stop_not_done (stops.Refused why) out out_after result told zero = refusal_not_done why out out_after result told zero
+stop_not_done stops.ReadFault out out_after result told zero = let e = status_done 4 read_fault_line out out_after result told zero in absurd (omega (arith, e))
+stop_not_done stops.Memory out out_after result told zero = let e = status_done 8 memory_line out out_after result told zero in absurd (omega (arith, e))
+
+-- where 0 is answered, the line of a map went out
+said_done : (prepared : Prepared) (before after : FolderState) (out out_after : SinkState) (result : ℕ) → Finishes prepared before after out out_after result → result ≡ 0 → out_after.got ≡ option_map (λ front. front ++ counts_line prepared.modules prepared.requests prepared.mappings) out.got
+said_done prepared before after out out_after result wrote zero = by wrote.says wrote.ends
+  where
+    by : SaysWrite before after prepared.path prepared.file.items (counts_line prepared.modules prepared.requests prepared.mappings) wrote.status wrote.line → Ends wrote.status wrote.line out out_after result → out_after.got ≡ option_map (λ front. front ++ counts_line prepared.modules prepared.requests prepared.mappings) out.got
+    by (writes.written s l placed w) (ends.said is given quiet) = given ∙ ap (λ line. option_map (λ front. front ++ line) out.got) l
+    by (writes.write_fault s l h rose) (ends.said is given quiet) = let e = sym s ∙ (sym is ∙ zero) in absurd (omega (arith, e))
+    by (writes.memory s l h w) (ends.said is given quiet) = let e = sym s ∙ (sym is ∙ zero) in absurd (omega (arith, e))
+    by says_so (ends.output_fault is gives rose) = let e = sym is ∙ zero in absurd (omega (arith, e))
+
+pub spends_few : (prepared : Prepared) (before after : FolderState) (out out_after : SinkState) (result steps later : ℕ) → Finishes prepared before after out out_after result → later ≤ steps + (prepared.modules + prepared.requests) → result ≡ 0 → SpendsFew out out_after steps later
+spends_few prepared before after out out_after result steps later wrote few zero = record {
+  modules = prepared.modules;
+  requests = prepared.requests;
+  mappings = prepared.mappings;
+  said = said_done prepared before after out out_after result wrote zero;
+  few = few;
 }
 
 -- ---- words that are refused
@@ -188,20 +218,20 @@ module _ (words : List (List ℕ)) (command : Command) (config : Config) (is_con
   counted : IsCounted words done_here
   counted = record { command = command; config = config; is_config = is_config; modules = prepared.modules; requests = prepared.requests; mappings = prepared.mappings; says = refl }
 
-  generated_of : (tree : Tree) → (ready : IsPrepared command config tree prepared) → IsGenerated words tree (map_text (layout ready.all.needs)) done_here
+  generated_of : (tree : Tree) → (ready : IsPrepared command config tree prepared) → IsGenerated words tree (map_text ready.layout) done_here
   generated_of tree ready = record {
     command = command;
     config = config;
     is_config = is_config;
-    opens = written_is_opened tree config (map_text (layout ready.all.needs)) prepared.path prepared.file.items command ready.writes;
-    generates = record { page_is_file = page_of_words_is_file words command config is_config; all = ready.all; is_traced = ready.is_traced; text = refl };
+    opens = written_is_opened tree config (map_text ready.layout) prepared.path prepared.file.items command ready.writes;
+    generates = record { page_is_file = page_of_words_is_file words command config is_config; all = ready.all; is_traced = ready.is_traced; map = ready.layout; agreed = ready.agreed; text = refl; within = ready.within };
     says = λ i. counts_line (ready.modules i) (ready.requests i) (ready.mappings i);
   }
 
   -- the map of a told tree
   abbrev map_of : (held : Option Tree) → IfSome held (λ tree. IsPrepared command config tree prepared) → List ℕ
   map_of None ready = []
-  map_of (Some tree) ready = map_text (layout ready.all.needs)
+  map_of (Some tree) ready = map_text ready.layout
 
   generated_told : (held : Option Tree) (ready : IfSome held (λ tree. IsPrepared command config tree prepared)) → IfSome held (λ tree. IsGenerated words tree (map_of held ready) done_here)
   generated_told None ready = tt
@@ -213,7 +243,7 @@ module _ (words : List (List ℕ)) (command : Command) (config : Config) (is_con
   written_told held told ready written =
       if_two held (λ tree is_ready wrote_so.
       let so = generated_of tree is_ready in
-      (wrote_so.after, done command config (map_text (layout is_ready.all.needs)) prepared.path prepared.file.items is_config so.generates is_ready.writes refl so.says wrote_so.placed, wrote_so.is_told)) ready written
+      (wrote_so.after, done command config (map_text is_ready.layout) prepared.path prepared.file.items is_config so.generates is_ready.writes refl so.says wrote_so.placed, wrote_so.is_told)) ready written
 
   write_says : (status : ℕ) (line : List ℕ) → SaysWrite middle after prepared.path prepared.file.items done_here status line → Says words before after status line
   write_says status line (writes.written s l placed w) =

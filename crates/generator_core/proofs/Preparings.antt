@@ -1,12 +1,11 @@
 -- How a command comes to its file, step by step.
-use Rattle.std.proofs.Common.{◌≡◌, ◌≢◌, ◌≤◌, ◌⊎◌, ℕ, List, [], length, Option, Some, None, Ok, Err, IfSome, Result, inl, inr, refl, sym, ap, ◌∙◌, subst, arith}
-use Rattle.std.specs.Prelude.{IfOk, IfErr, ⊤}
+use Rattle.std.proofs.Common.{◌≡◌, ◌≤◌, ℕ, List, [], length, Option, Some, None, Ok, Err, IfSome, Result, refl, sym, ap, ◌∙◌, subst, arith}
 use Rattle.std.specs.FinMap.{get}
 use Rattle.tree_spec.specs.declared.Look.{Look}
 use Rattle.tree_spec.specs.declared.Look.TheVariants as look
 use Rattle.tree_spec.specs.declared.LookFault.{LookFault}
 use Rattle.tree_spec.specs.declared.LookFault.TheVariants as look_fault
-use Rattle.tree_spec.specs.declared.LimitName.TheVariants.{File}
+use Rattle.tree_spec.specs.declared.LimitName.TheVariants.{File, Map}
 use Rattle.tree_spec.specs.Counts.{Rose}
 use Rattle.tree_spec.specs.Limits.{limit_number}
 use Rattle.tree_spec.specs.States.{FolderState, OnlyLooks, IsLooked}
@@ -14,29 +13,21 @@ use Rattle.tree_spec.specs.Trees.{Tree}
 use Rattle.page_spec.specs.declared.kinds.InjectFault.{InjectFault}
 use Rattle.page_spec.specs.declared.kinds.InjectFault.TheVariants as inject
 use Rattle.page_spec.specs.Injection as injection
-use Rattle.page_spec.specs.Injection.{Injection, TakesMaps}
+use Rattle.page_spec.specs.Injection.{TakesMaps}
 use Rattle.page_spec.proofs.KeptOut.{takes_or_keeps_out}
-use Rattle.html_inject.specs.Search.{IsSiteOf}
-use Rattle.layout_spec.specs.Layout.{layout}
-use Rattle.layout_spec.specs.PrintedMap.{map_text}
-use Rattle.trace_spec.specs.declared.TraceFault.{TraceFault}
-use Rattle.trace_spec.specs.declared.TraceFault.TheVariants as fault
 use Rattle.trace_spec.specs.Modules.{Config}
 use Rattle.generator_spec.specs.declared.Command.{Command}
 use Rattle.generator_spec.specs.declared.Command.TheVariants.{Link, Inject}
 use Rattle.generator_spec.specs.declared.PageFault.{PageFault}
 use Rattle.generator_spec.specs.declared.PageFault.TheVariants.{Absent, TooLarge, KeepsMapsOut}
-use Rattle.generator_spec.specs.declared.Refusal.{Refusal}
-use Rattle.generator_spec.specs.declared.Refusal.TheVariants.{Page, Trace}
+use Rattle.generator_spec.specs.declared.Refusal.TheVariants.{Page}
 use Rattle.generator_spec.specs.Commands.{IsPage, RefusesPage, RefusesPage as refuses_page, Opens, Opens as opens, Refuses, Refuses as refuses, IsOfPage, IsRefusalOf, IsRefusalOf as kind, map_path, Writes, Writes as writes}
 use Rattle.generation.specs.declared.generated.Generated.{Generated}
+use Rattle.generation.specs.declared.stop.Stop.{Stop}
+use Rattle.generation.specs.declared.stop.Stop.TheVariants.{Refused, ReadFault, Memory}
 use Rattle.generation.specs.Generating.{Generating, IsGenerated}
-use Rattle.generator_core.specs.declared.prepared.OpenPage.{OpenPage}
 use Rattle.generator_core.specs.declared.prepared.Prepared.{Prepared}
-use Rattle.generator_core.specs.declared.prepared.Stop.{Stop}
-use Rattle.generator_core.specs.declared.prepared.Stop.TheVariants.{Refused, ReadFault, Memory}
-use Rattle.generator_core.specs.Preparing.{StopsAs, EndsBefore, IsOpenPage, OpensPage, HasCounts, IsMapFile, IsPageFile, IsPrepared, IsReady, Prepares}
-use Rattle.generator_core.specs.Preparing.StopsAs.{failed_look, memory, refused}
+use Rattle.generator_core.specs.Preparing.{EndsBefore, IsPageFound, FindsPage, HasCounts, IsMapFile, IsPageFile, IsPrepared, IsReady, Prepares}
 
 pub if_some : {A : Type 0} {P Q : A → Type 0} (told : Option A) → ((x : A) → P x → Q x) → IfSome told P → IfSome told Q
 if_some None f h = h
@@ -75,9 +66,6 @@ looks_as before after back on looks = record {
 
 -- ---- generation
 
-abbrev as_err : TraceFault → Result Generated TraceFault
-as_err why = Err why
-
 module _ (config : Config) (before after : FolderState) where
   generated_looks : (generated : Generated) → Generating config before (Ok generated) after → OnlyLooks before after ⊥
   generated_looks generated is = looks_as before after (λ e. absurd e) (λ e. absurd (cc)) is.looks
@@ -86,17 +74,17 @@ module _ (config : Config) (before after : FolderState) where
   lacks_memory command looks = record { refused = tt; kind = tt; looks = looks_as before after (λ e. absurd (cc)) (λ e. absurd e) looks }
 
   module _ (command : Command) (opened : IfSome before.holds (λ tree. Opens tree config command)) where
-    stopped_as : (why : TraceFault) (stop : Stop) → Generating config before (Err why) after → StopsAs why stop → EndsBefore command config before after stop
-    stopped_as why stop is (failed_look same) = record { refused = tt; kind = tt; looks = looks_as before after (λ e. ap as_err same) (λ e. refl) is.looks }
-    stopped_as why stop is (memory same) = record { refused = tt; kind = tt; looks = looks_as before after (λ e. absurd (cc)) (λ e. absurd (cc)) is.looks }
-    stopped_as why stop is (refused no_look no_memory) = record {
-      refused = if_two before.holds (λ tree opened_so traced_so. refuses.trace command why opened_so traced_so) opened (is.refused no_look no_memory);
-      kind = kind.trace command why (is.kind no_look no_memory);
-      looks = looks_as before after (λ e. absurd (cc)) (λ e. absurd (no_look (cc))) is.looks;
+    stopped_as : (stop : Stop) → Generating config before (Err stop) after → EndsBefore command config before after stop
+    stopped_as (Refused why) is = record {
+      refused = if_two before.holds (λ tree opened_so refuses_so. refuses_so command opened_so) opened is.refused;
+      kind = is.kind command;
+      looks = looks_as before after (λ e. absurd (cc)) (λ e. absurd (cc)) is.looks;
     }
+    stopped_as ReadFault is = record { refused = tt; kind = tt; looks = looks_as before after (λ e. refl) (λ e. refl) is.looks }
+    stopped_as Memory is = record { refused = tt; kind = tt; looks = looks_as before after (λ e. absurd (cc)) (λ e. absurd (cc)) is.looks }
 
-    pub stopped : (why : TraceFault) (stop : Stop) → Generating config before (Err why) after → StopsAs why stop → Prepares command config before (Err stop) after
-    stopped why stop is by_fault = record { ready = tt; stopped = stopped_as why stop is by_fault }
+    pub stopped : (stop : Stop) → Generating config before (Err stop) after → Prepares command config before (Err stop) after
+    stopped stop is = record { ready = tt; stopped = stopped_as stop is }
 
   pub lacks : (command : Command) (generated : Generated) → Generating config before (Ok generated) after → Prepares command config before (Err Memory) after
   lacks command generated is = record { ready = tt; stopped = lacks_memory command (generated_looks generated is) }
@@ -105,6 +93,9 @@ module _ (config : Config) (before after : FolderState) where
   prepared_of command tree generated prepared counts wrote is = record {
     all = is.all;
     is_traced = is.is_traced;
+    layout = is.is_map.layout;
+    agreed = is.is_map.agreed;
+    within = subst (λ text. length text ≤ limit_number Map) is.is_map.map is.is_map.within;
     modules = counts.modules ∙ is.is_map.modules;
     requests = counts.requests ∙ is.is_map.requests;
     mappings = counts.mappings ∙ is.is_map.mappings;
@@ -131,17 +122,25 @@ module _ (config : Config) (before after : FolderState) where
   pub map_ready : (generated : Generated) (prepared : Prepared) → Generating config before (Ok generated) after → IsMapFile generated prepared → Prepares Link config before (Ok prepared) after
   map_ready generated prepared is file = ready Link generated prepared is file.counts (if_all before.holds (λ tree. map_writes tree generated.map.items prepared.path prepared.file.items file.path file.file))
 
--- ---- the page
+  -- ---- the page with the map
+
+  module _ (page : List ℕ) (takes : TakesMaps page) (stands : IfSome before.holds (λ tree. IsPage tree config page)) where
+    page_opens : IfSome before.holds (λ tree. Opens tree config Inject)
+    page_opens = if_some before.holds (λ tree is. opens.page page is takes) stands
+
+    page_writes : (generated : Generated) (prepared : Prepared) → IsPageFile config page generated prepared → IfSome before.holds (λ tree. Writes tree config generated.map.items Inject prepared.path prepared.file.items)
+    page_writes generated prepared file =
+        if_some before.holds (λ tree is. subst (λ p. Writes tree config generated.map.items Inject p prepared.file.items) (sym file.path) (writes.in_page page prepared.file.items is file.injected)) stands
+
+    pub page_stopped : (stop : Stop) → Generating config before (Err stop) after → Prepares Inject config before (Err stop) after
+    page_stopped stop is = stopped Inject page_opens stop is
+
+    pub page_ready : (generated : Generated) (prepared : Prepared) → Generating config before (Ok generated) after → IsPageFile config page generated prepared → Prepares Inject config before (Ok prepared) after
+    page_ready generated prepared is file = ready Inject generated prepared is file.counts (page_writes generated prepared file)
+
+-- ---- behind the look at the page
 
 module _ (config : Config) (before middle after : FolderState) where
-  page_opens : (page : OpenPage) → IsOpenPage config before middle page → IfSome middle.holds (λ tree. Opens tree config Inject)
-  page_opens page is = subst (λ held. IfSome held (λ tree. Opens tree config Inject)) (sym is.looks.tree) (if_some before.holds (λ tree stands. opens.page page.bytes stands is.takes) is.is_page)
-
-  page_writes : (page : OpenPage) (generated : Generated) (prepared : Prepared) → IsOpenPage config before middle page → IsPageFile config page.bytes generated prepared → IfSome middle.holds (λ tree. Writes tree config generated.map.items Inject prepared.path prepared.file.items)
-  page_writes page generated prepared is file =
-      subst (λ held. IfSome held (λ tree. Writes tree config generated.map.items Inject prepared.path prepared.file.items)) (sym is.looks.tree)
-      (if_some before.holds (λ tree stands. subst (λ p. Writes tree config generated.map.items Inject p prepared.file.items) (sym file.path) (writes.in_page page.bytes prepared.file.items stands file.injected)) is.is_page)
-
   earlier_end : (command : Command) (stop : Stop) → OnlyLooks before middle ⊥ → EndsBefore command config middle after stop → EndsBefore command config before after stop
   earlier_end command (Refused why) looks is = record { refused = subst (λ held. IfSome held (λ tree. Refuses tree config command why)) looks.tree is.refused; kind = is.kind; looks = then_looks before middle after looks is.looks }
   earlier_end command ReadFault looks is = record { refused = tt; kind = tt; looks = then_looks before middle after looks is.looks }
@@ -150,62 +149,69 @@ module _ (config : Config) (before middle after : FolderState) where
   earlier_ready : (command : Command) (prepared : Prepared) → OnlyLooks before middle ⊥ → IsReady command config middle after prepared → IsReady command config before after prepared
   earlier_ready command prepared looks is = record { is_prepared = subst (λ held. IfSome held (λ tree. IsPrepared command config tree prepared)) looks.tree is.is_prepared; looks = then_looks before middle after looks is.looks }
 
-  pub page_refused : (stop : Stop) → OpensPage config before (Err stop) after → Prepares Inject config before (Err stop) after
-  page_refused stop is = record { ready = tt; stopped = is.stopped }
+  earlier : (command : Command) (result : Result Prepared Stop) → OnlyLooks before middle ⊥ → Prepares command config middle result after → Prepares command config before result after
+  earlier command (Ok prepared) looks is = record { ready = earlier_ready command prepared looks is.ready; stopped = tt }
+  earlier command (Err stop) looks is = record { ready = tt; stopped = earlier_end command stop looks is.stopped }
 
-  pub page_stopped : (page : OpenPage) (why : TraceFault) (stop : Stop) → IsOpenPage config before middle page → Generating config middle (Err why) after → StopsAs why stop → Prepares Inject config before (Err stop) after
-  page_stopped page why stop opened is by_fault = record { ready = tt; stopped = earlier_end Inject stop opened.looks (stopped config middle after Inject (page_opens page opened) why stop is by_fault).stopped }
+  -- the page is where it was
+  page_still : (page : List ℕ) → IsPageFound config before middle page → IfSome middle.holds (λ tree. IsPage tree config page)
+  page_still page is = subst (λ held. IfSome held (λ tree. IsPage tree config page)) (sym is.looks.tree) is.is_page
 
-  pub page_lacks : (page : OpenPage) (generated : Generated) → IsOpenPage config before middle page → Generating config middle (Ok generated) after → Prepares Inject config before (Err Memory) after
-  page_lacks page generated opened is = record { ready = tt; stopped = earlier_end Inject Memory opened.looks (lacks config middle after Inject generated is).stopped }
-
-  pub page_ready : (page : OpenPage) (generated : Generated) (prepared : Prepared) → IsOpenPage config before middle page → Generating config middle (Ok generated) after → IsPageFile config page.bytes generated prepared → Prepares Inject config before (Ok prepared) after
-  page_ready page generated prepared opened is file = record { ready = earlier_ready Inject prepared opened.looks (ready config middle after Inject generated prepared is file.counts (page_writes page generated prepared opened file)).ready; stopped = tt }
+  pub page_prepared : (page : List ℕ) (result : Result Prepared Stop) → IsPageFound config before middle page → (IfSome middle.holds (λ tree. IsPage tree config page) → Prepares Inject config middle result after) → Prepares Inject config before result after
+  page_prepared page result is prepares = earlier Inject result is.looks (prepares (page_still page is))
 
 -- ---- the look at the page
+
+no_memory : (bytes : List ℕ) (why : InjectFault) → injection.KeepsMapsOut bytes why → IsOfPage (KeepsMapsOut why)
+no_memory bytes (inject.PageUnclear at) keeps = tt
+no_memory bytes (inject.TwoMaps at) keeps = tt
+no_memory bytes inject.NoPlace keeps = tt
+no_memory bytes inject.Memory keeps = takes_or_keeps_out.no_memory [] bytes (keeps [])
+
+module _ (config : Config) (before after : FolderState) where
+  pub page_refused : (stop : Stop) → FindsPage config before (Err stop) after → Prepares Inject config before (Err stop) after
+  page_refused stop is = record { ready = tt; stopped = is.stopped }
+
+  page_ends : (why : PageFault) → OnlyLooks before after ⊥ → IfSome before.holds (λ tree. RefusesPage tree config why) → IsOfPage why → EndsBefore Inject config before after (Refused (Page why))
+  page_ends why looks why_not of = record {
+    refused = if_some before.holds (λ tree so. refuses.page why so) why_not;
+    kind = kind.page why of;
+    looks = looks_as before after (λ e. absurd (cc)) (λ e. absurd e) looks;
+  }
+
+  pub page_keeps_out : (page : List ℕ) (why : InjectFault) (stop : Stop) → IsPageFound config before after page → injection.KeepsMapsOut page why → stop ≡ Refused (Page (KeepsMapsOut why)) → Prepares Inject config before (Err stop) after
+  page_keeps_out page why stop is keeps same =
+      subst (λ s. Prepares Inject config before (Err s) after) (sym same)
+      (record {
+        ready = tt;
+        stopped = page_ends (KeepsMapsOut why) is.looks (if_some before.holds (λ tree stands. refuses_page.keeps_out page why stands keeps) is.is_page) (no_memory page why keeps);
+      })
 
 module _ (config : Config) (path : List ℕ) (is_page : path ≡ config.page) (before after : FolderState) where
   looked : (found : Look) → IsLooked before path (limit_number File) (Ok found) after → OnlyLooks before after ⊥
   looked found is = record { tree = is.tree; writes = is.writes; later = is.later; cause = λ e. absurd e; quiet = λ e. is.quiet (λ same. cc) }
 
-  no_page : (found : Look) (why : PageFault) → IsLooked before path (limit_number File) (Ok found) after → IfSome before.holds (λ tree. RefusesPage tree config why) → IsOfPage why → OpensPage config before (Err (Refused (Page why))) after
-  no_page found why is why_not of = record {
-    opened = tt;
-    stopped = record {
-      refused = if_some before.holds (λ tree so. refuses.page why so) why_not;
-      kind = kind.page why of;
-      looks = looks_as before after (λ e. absurd (cc)) (λ e. absurd e) (looked found is);
-    };
-  }
+  no_page : (found : Look) (why : PageFault) → IsLooked before path (limit_number File) (Ok found) after → IfSome before.holds (λ tree. RefusesPage tree config why) → IsOfPage why → FindsPage config before (Err (Refused (Page why))) after
+  no_page found why is why_not of = record { found = tt; stopped = page_ends config before after why (looked found is) why_not of }
 
-  pub page_absent : IsLooked before path (limit_number File) (Ok look.Absent) after → OpensPage config before (Err (Refused (Page Absent))) after
+  pub page_absent : IsLooked before path (limit_number File) (Ok look.Absent) after → FindsPage config before (Err (Refused (Page Absent))) after
   page_absent is = no_page look.Absent Absent is (if_some before.holds (λ tree e. refuses_page.absent (ap (get tree) (sym is_page) ∙ e)) is.entry) tt
 
-  pub page_folder : IsLooked before path (limit_number File) (Ok look.Folder) after → OpensPage config before (Err (Refused (Page Absent))) after
+  pub page_folder : IsLooked before path (limit_number File) (Ok look.Folder) after → FindsPage config before (Err (Refused (Page Absent))) after
   page_folder is = no_page look.Folder Absent is (if_some before.holds (λ tree e. refuses_page.folder (ap (get tree) (sym is_page) ∙ e)) is.entry) tt
 
-  pub page_too_large : IsLooked before path (limit_number File) (Ok look.TooLarge) after → OpensPage config before (Err (Refused (Page TooLarge))) after
+  pub page_too_large : IsLooked before path (limit_number File) (Ok look.TooLarge) after → FindsPage config before (Err (Refused (Page TooLarge))) after
   page_too_large is = no_page look.TooLarge TooLarge is (if_some before.holds (λ tree e. refuses_page.too_large e.0 (ap (get tree) (sym is_page) ∙ e.1) e.2) is.entry) tt
 
   page_stands : (bytes : List ℕ) → IsLooked before path (limit_number File) (Ok (look.File bytes)) after → IfSome before.holds (λ tree. IsPage tree config bytes)
   page_stands bytes is = if_some before.holds (λ tree e. record { stands = ap (get tree) (sym is_page) ∙ e.0; small = e.1 }) is.entry
 
-  no_memory : (bytes : List ℕ) (why : InjectFault) → injection.KeepsMapsOut bytes why → IsOfPage (KeepsMapsOut why)
-  no_memory bytes (inject.PageUnclear at) keeps = tt
-  no_memory bytes (inject.TwoMaps at) keeps = tt
-  no_memory bytes inject.NoPlace keeps = tt
-  no_memory bytes inject.Memory keeps = takes_or_keeps_out.no_memory [] bytes (keeps [])
+  pub page_found : (bytes : List ℕ) → IsLooked before path (limit_number File) (Ok (look.File bytes)) after → FindsPage config before (Ok bytes) after
+  page_found bytes is = record { found = record { is_page = page_stands bytes is; looks = looked (look.File bytes) is }; stopped = tt }
 
-  pub page_keeps_out : (bytes : List ℕ) (why : InjectFault) → IsLooked before path (limit_number File) (Ok (look.File bytes)) after → injection.KeepsMapsOut bytes why → OpensPage config before (Err (Refused (Page (KeepsMapsOut why)))) after
-  page_keeps_out bytes why is keeps =
-      no_page (look.File bytes) (KeepsMapsOut why) is (if_some before.holds (λ tree stands. refuses_page.keeps_out bytes why stands keeps) (page_stands bytes is)) (no_memory bytes why keeps)
-
-  pub page_opened : (page : OpenPage) → IsLooked before path (limit_number File) (Ok (look.File page.bytes)) after → IsSiteOf page.bytes page.site → TakesMaps page.bytes → OpensPage config before (Ok page) after
-  page_opened page is site takes = record { opened = record { site = site; takes = takes; is_page = page_stands page.bytes is; looks = looked (look.File page.bytes) is }; stopped = tt }
-
-  pub page_fault : IsLooked before path (limit_number File) (Err look_fault.Failed) after → OpensPage config before (Err ReadFault) after
+  pub page_fault : IsLooked before path (limit_number File) (Err look_fault.Failed) after → FindsPage config before (Err ReadFault) after
   page_fault is = record {
-    opened = tt;
+    found = tt;
     stopped = record {
       refused = tt;
       kind = tt;
@@ -213,9 +219,9 @@ module _ (config : Config) (path : List ℕ) (is_page : path ≡ config.page) (b
     };
   }
 
-  pub page_memory : IsLooked before path (limit_number File) (Err look_fault.Memory) after → OpensPage config before (Err Memory) after
+  pub page_memory : IsLooked before path (limit_number File) (Err look_fault.Memory) after → FindsPage config before (Err Memory) after
   page_memory is = record {
-    opened = tt;
+    found = tt;
     stopped = record {
       refused = tt;
       kind = tt;
@@ -225,19 +231,14 @@ module _ (config : Config) (path : List ℕ) (is_page : path ≡ config.page) (b
 
   -- ---- the same, as the look tells it
 
-  told_by : (found : Look) (stop other : Stop) (exact : Look) → found ≡ exact → stop ≡ other → (IsLooked before path (limit_number File) (Ok exact) after → OpensPage config before (Err other) after) → IsLooked before path (limit_number File) (Ok found) after → OpensPage config before (Err stop) after
-  told_by found stop other exact f s ends is = subst (λ t. OpensPage config before (Err t) after) (sym s) (ends (subst (λ l. IsLooked before path (limit_number File) (Ok l) after) f is))
+  told_by : (found : Look) (stop other : Stop) (exact : Look) → found ≡ exact → stop ≡ other → (IsLooked before path (limit_number File) (Ok exact) after → FindsPage config before (Err other) after) → IsLooked before path (limit_number File) (Ok found) after → FindsPage config before (Err stop) after
+  told_by found stop other exact f s ends is = subst (λ t. FindsPage config before (Err t) after) (sym s) (ends (subst (λ l. IsLooked before path (limit_number File) (Ok l) after) f is))
 
-  pub absent_end : (found : Look) (stop : Stop) → found ≡ look.Absent → stop ≡ Refused (Page Absent) → IsLooked before path (limit_number File) (Ok found) after → OpensPage config before (Err stop) after
+  pub absent_end : (found : Look) (stop : Stop) → found ≡ look.Absent → stop ≡ Refused (Page Absent) → IsLooked before path (limit_number File) (Ok found) after → FindsPage config before (Err stop) after
   absent_end found stop f s is = told_by found stop (Refused (Page Absent)) look.Absent f s page_absent is
 
-  pub folder_end : (found : Look) (stop : Stop) → found ≡ look.Folder → stop ≡ Refused (Page Absent) → IsLooked before path (limit_number File) (Ok found) after → OpensPage config before (Err stop) after
+  pub folder_end : (found : Look) (stop : Stop) → found ≡ look.Folder → stop ≡ Refused (Page Absent) → IsLooked before path (limit_number File) (Ok found) after → FindsPage config before (Err stop) after
   folder_end found stop f s is = told_by found stop (Refused (Page Absent)) look.Folder f s page_folder is
 
-  pub too_large_end : (found : Look) (stop : Stop) → found ≡ look.TooLarge → stop ≡ Refused (Page TooLarge) → IsLooked before path (limit_number File) (Ok found) after → OpensPage config before (Err stop) after
+  pub too_large_end : (found : Look) (stop : Stop) → found ≡ look.TooLarge → stop ≡ Refused (Page TooLarge) → IsLooked before path (limit_number File) (Ok found) after → FindsPage config before (Err stop) after
   too_large_end found stop f s is = told_by found stop (Refused (Page TooLarge)) look.TooLarge f s page_too_large is
-
-  pub keeps_out_end : (found : Look) (stop : Stop) (bytes slice : List ℕ) (why : InjectFault) → found ≡ look.File bytes → stop ≡ Refused (Page (KeepsMapsOut why)) → slice ≡ bytes → injection.KeepsMapsOut slice why → IsLooked before path (limit_number File) (Ok found) after → OpensPage config before (Err stop) after
-  keeps_out_end found stop bytes slice why f s same keeps is =
-      told_by found stop (Refused (Page (KeepsMapsOut why))) (look.File bytes) f s
-      (λ looked_so. page_keeps_out bytes why looked_so (subst (λ b. injection.KeepsMapsOut b why) same keeps)) is

@@ -1,44 +1,30 @@
 -- How a command comes to what it writes.
---     StopsAs fault stop                a command ends so that has no trace
---     OpensPage config before result after      the page is read, or it is told why not
+--     FindsPage config before result after      the page is read, or it is told why not
 --     IsMapFile generated prepared      the file is the map that was generated
 --     IsPageFile config page generated prepared      the file is the page with that map
 --     Prepares command config before result after      the command has its file, or it is told why not
-use Rattle.std.specs.Prelude.{◌≡◌, ◌≢◌, ⊤, ℕ, List, length, Result, Ok, Err, IfOk, IfErr, IfSome}
+use Rattle.std.specs.Prelude.{◌≡◌, ◌≤◌, ℕ, List, length, Result, Ok, IfOk, IfErr, IfSome}
 use Rattle.std.specs.FinMap.{get}
+use Rattle.tree_spec.specs.declared.LimitName.TheVariants.{Map}
+use Rattle.tree_spec.specs.Limits.{limit_number}
 use Rattle.tree_spec.specs.States.{FolderState, OnlyLooks}
 use Rattle.tree_spec.specs.Trees.{Tree}
-use Rattle.page_spec.specs.Injection.{Injection, TakesMaps}
-use Rattle.html_inject.specs.Search.{IsSiteOf}
+use Rattle.page_spec.specs.Injection.{Injection}
+use Rattle.import_map_spec.specs.ParsedMap.{ParsedMap}
+use Rattle.layout_spec.specs.AgreedLayout.{IsAgreedLayout}
 use Rattle.layout_spec.specs.Counting.{mapping_count}
-use Rattle.layout_spec.specs.Layout.{layout}
 use Rattle.layout_spec.specs.PrintedMap.{map_text}
-use Rattle.trace_spec.specs.declared.TraceFault.{TraceFault}
-use Rattle.trace_spec.specs.declared.TraceFault.TheVariants as fault
 use Rattle.trace_spec.specs.Checks.{Gathered}
 use Rattle.trace_spec.specs.Modules.{Config}
 use Rattle.trace_spec.specs.Traces.{traced}
 use Rattle.generator_spec.specs.declared.Command.{Command}
 use Rattle.generator_spec.specs.declared.Command.TheVariants.{Inject}
-use Rattle.generator_spec.specs.declared.Refusal.{Refusal}
-use Rattle.generator_spec.specs.declared.Refusal.TheVariants.{Trace}
 use Rattle.generator_spec.specs.Commands.{IsPage, Refuses, IsRefusalOf, map_path, Writes}
 use Rattle.generation.specs.declared.generated.Generated.{Generated}
-use Rattle.generator_core.specs.declared.prepared.OpenPage.{OpenPage}
+use Rattle.generation.specs.declared.stop.Stop.{Stop}
+use Rattle.generation.specs.declared.stop.Stop.TheVariants.{ReadFault}
+use Rattle.generation.specs.Generating.{IfRefused}
 use Rattle.generator_core.specs.declared.prepared.Prepared.{Prepared}
-use Rattle.generator_core.specs.declared.prepared.Stop.{Stop}
-use Rattle.generator_core.specs.declared.prepared.Stop.TheVariants.{Refused, ReadFault, Memory}
-
--- a failed look and want of memory are no refusals
-pub data StopsAs (why : TraceFault) : Stop → Type 0 where
-  failed_look : why ≡ fault.ReadFault → StopsAs why ReadFault
-  memory : why ≡ fault.Memory → StopsAs why Memory
-  refused : why ≢ fault.ReadFault → why ≢ fault.Memory → StopsAs why (Refused (Trace why))
-
-abbrev pub IfRefused : (Refusal → Type 0) → Stop → Type 0
-IfRefused P (Refused why) = P why
-IfRefused P ReadFault = ⊤
-IfRefused P Memory = ⊤
 
 -- a told tree refuses the command so; and whatever is told, the command can be refused so. A failed look was counted
 pub record EndsBefore (command : Command) (config : Config) (before after : FolderState) (stop : Stop) : Type 0 where
@@ -48,15 +34,13 @@ pub record EndsBefore (command : Command) (config : Config) (before after : Fold
 
 -- ---- the page
 
-pub record IsOpenPage (config : Config) (before after : FolderState) (page : OpenPage) : Type 0 where
-  pub site : IsSiteOf page.bytes page.site
-  pub takes : TakesMaps page.bytes
-  pub is_page : IfSome before.holds (λ tree. IsPage tree config page.bytes)
+pub record IsPageFound (config : Config) (before after : FolderState) (page : List ℕ) : Type 0 where
+  pub is_page : IfSome before.holds (λ tree. IsPage tree config page)
   pub looks : OnlyLooks before after ⊥
 
-pub record OpensPage (config : Config) (before : FolderState) (result : Result OpenPage Stop)
+pub record FindsPage (config : Config) (before : FolderState) (result : Result (List ℕ) Stop)
     (after : FolderState) : Type 0 where
-  pub opened : IfOk result (λ page. IsOpenPage config before after page)
+  pub found : IfOk result (λ page. IsPageFound config before after page)
   pub stopped : IfErr result (λ stop. EndsBefore Inject config before after stop)
 
 -- ---- the file
@@ -76,14 +60,17 @@ pub record IsPageFile (config : Config) (page : List ℕ) (generated : Generated
   pub injected : Injection generated.map.items page (Ok prepared.file.items)
   pub counts : HasCounts generated prepared
 
--- the counts are those of the tree's trace, and the file carries its map
+-- the counts are those of the tree's trace and of its map, and the file carries the map
 pub record IsPrepared (command : Command) (config : Config) (tree : Tree) (prepared : Prepared) : Type 0 where
   pub all : Gathered
   pub is_traced : traced (get tree) config ≡ Ok all
+  pub layout : ParsedMap
+  pub agreed : IsAgreedLayout all.needs layout
+  pub within : length (map_text layout) ≤ limit_number Map
   pub modules : prepared.modules ≡ length all.modules
   pub requests : prepared.requests ≡ all.requests
-  pub mappings : prepared.mappings ≡ mapping_count (layout all.needs)
-  pub writes : Writes tree config (map_text (layout all.needs)) command prepared.path prepared.file.items
+  pub mappings : prepared.mappings ≡ mapping_count layout
+  pub writes : Writes tree config (map_text layout) command prepared.path prepared.file.items
 
 pub record IsReady (command : Command) (config : Config) (before after : FolderState) (prepared : Prepared) : Type 0 where
   pub is_prepared : IfSome before.holds (λ tree. IsPrepared command config tree prepared)

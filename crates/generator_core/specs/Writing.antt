@@ -1,16 +1,18 @@
 -- What the end of a command does.
 --     SaysWrite before after path file done status line      what is said of the write of the file
 --     TellsStop stop out out_after result      it is told why nothing is written
+--     SpendsFew out out_after before after      the line of a map went out, with so many modules and requests that they
+--                                               are no fewer than the steps
 --     Finishes prepared before after out out_after result      the file is written or not, and what is said went out
-use Rattle.std.specs.Prelude.{◌≡◌, ◌≤◌, ℕ, List, None, IfSome}
+use Rattle.std.specs.Prelude.{◌≡◌, ◌≤◌, ◌+◌, ◌++◌, ℕ, List, None, IfSome, option_map}
 use Rattle.tree_spec.specs.Counts.{Rose}
 use Rattle.tree_spec.specs.States.{FolderState, SinkState}
 use Rattle.generator_spec.specs.Statuses.{done_status, read_fault_status, write_fault_status, memory_status}
 use Rattle.generator_spec.specs.Lines.{counts_line, memory_line, read_fault_line, write_fault_line}
 use Rattle.generator_spec.specs.Ending.{IsFileWritten, Ends, TellsRefusal}
+use Rattle.generation.specs.declared.stop.Stop.{Stop}
+use Rattle.generation.specs.declared.stop.Stop.TheVariants.{Refused, ReadFault, Memory}
 use Rattle.generator_core.specs.declared.prepared.Prepared.{Prepared}
-use Rattle.generator_core.specs.declared.prepared.Stop.{Stop}
-use Rattle.generator_core.specs.declared.prepared.Stop.TheVariants.{Refused, ReadFault, Memory}
 
 pub data SaysWrite (before after : FolderState) (path file done : List ℕ) (status : ℕ)
     (line : List ℕ) : Type 0 where
@@ -42,3 +44,11 @@ pub record Finishes (prepared : Prepared) (before after : FolderState) (out out_
   pub looks : after.look_faults ≡ before.look_faults
   pub writes : before.write_faults ≤ after.write_faults
   pub output : out.faults ≤ out_after.faults
+
+-- own: a step for each module and for each request that the line tells, at most
+pub record SpendsFew (out out_after : SinkState) (before after : ℕ) : Type 0 where
+  pub modules : ℕ
+  pub requests : ℕ
+  pub mappings : ℕ
+  pub said : out_after.got ≡ option_map (λ front. front ++ counts_line modules requests mappings) out.got
+  pub few : after ≤ before + (modules + requests)

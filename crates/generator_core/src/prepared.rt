@@ -1,40 +1,25 @@
 //! What a command has at hand for its write, or why it ends before.
 
-ghost use Rattle.std.specs.Prelude.{◌≡◌, IfOk};
+ghost use Rattle.std.specs.Prelude.{◌≡◌, ◌≤◌, ◌+◌, IfOk, IfSome};
+ghost use Rattle.tree_spec.specs.declared.LimitName.TheVariants.{Modules, Requests};
+ghost use Rattle.tree_spec.specs.Limits.{limit_number};
+ghost use Rattle.page_spec.specs.Injection.{TakesMaps};
 ghost use Rattle.generator_spec.specs.declared.Command.TheVariants.{Link, Inject};
-ghost use Rattle.html_inject.specs.Search.{IsSiteOf};
-ghost use Rattle.generator_core.specs.Preparing.{StopsAs, OpensPage, IsMapFile, IsPageFile, Prepares};
+ghost use Rattle.generator_spec.specs.Commands.{IsPage};
+ghost use Rattle.generator_core.specs.Preparing.{FindsPage, IsMapFile, IsPageFile, Prepares};
 
-use generation::{Generated, generate};
+use generation::{Generated, Stop, generate};
 use generator_spec::{PageFault, Refusal};
-use html_inject::{Site, inject_at, site_of};
-use primitives::{Bytes, Memory};
+use html_inject::{PageSite, inject_at, site_of};
+use primitives::{Bytes, Memory, Steps};
 use request_trace::Config;
 use std::alloc::{AllocError, Global};
-use trace_spec::TraceFault;
+use std::sync::ledger::Ledger;
 use tree_model::{Folder, Look, LookFault, Path, PathFault};
 use tree_spec::MOST_FILE_BYTES;
 
 /// Where the map is written.
 const MAP_PATH: &str = "/importmap.json";
-
-/// Why a command ends before its write.
-#[derive(Debug, Drop)]
-pub enum Stop {
-    /// It is refused.
-    Refused { why: Refusal },
-    /// A look failed.
-    ReadFault,
-    /// Want of memory.
-    Memory,
-}
-
-/// A page that takes maps, and where a map goes in it.
-#[derive(Drop)]
-pub struct OpenPage {
-    pub bytes: Bytes,
-    pub site: Site,
-}
 
 /// A file with the map, where it is to be written, and the counts that are told of the map.
 #[derive(Drop)]
@@ -46,28 +31,19 @@ pub struct Prepared {
     pub mappings: usize,
 }
 
-fn stop_of(fault: TraceFault) -> Stop
-    ensures { StopsAs fault result }
-{
-    match fault {
-        TraceFault::ReadFault => Stop::ReadFault,
-        TraceFault::Memory => Stop::Memory,
-        refused => Stop::Refused {
-            why: Refusal::Trace { fault: refused },
-        },
-    }
-}
-
 /// `link` writes the map alone.
-pub fn prepare_map<F: Folder>(
+pub fn prepare_map<F: Folder, L: Ledger>(
     alloc: Global,
     folder: &mut F,
     config: &Config,
+    steps: &mut Steps<L>,
 ) -> Result<Prepared, Stop>
-    ensures { Prepares Link config.now (F.state folder.old) result (F.state folder.new) }
+    ensures prepares { Prepares Link config.now (F.state folder.old) result (F.state folder.new) }
+    ensures steps { IfOk result (λ prepared. steps.new ≤ steps.old + (prepared.modules + prepared.requests)) }
+    ensures bounded { steps.new ≤ steps.old + (limit_number Modules + limit_number Requests) }
 {
-    match generate(alloc, folder, config) {
-        Err(fault) => Err(stop_of(fault)),
+    match generate(alloc, folder, config, steps) {
+        Err(stop) => Err(stop),
         Ok(generated) => match map_file(alloc, generated) {
             Err(_) => Err(Stop::Memory),
             Ok(prepared) => Ok(prepared),
@@ -99,37 +75,34 @@ fn map_file(alloc: Global, generated: Generated) -> Result<Prepared, Memory>
 }
 
 /// `inject` reads the page before anything else, and writes it with the map.
-pub fn prepare_page<F: Folder>(
+pub fn prepare_page<F: Folder, L: Ledger>(
     alloc: Global,
     folder: &mut F,
     config: &Config,
+    steps: &mut Steps<L>,
 ) -> Result<Prepared, Stop>
-    ensures { Prepares Inject config.now (F.state folder.old) result (F.state folder.new) }
+    ensures prepares { Prepares Inject config.now (F.state folder.old) result (F.state folder.new) }
+    ensures steps { IfOk result (λ prepared. steps.new ≤ steps.old + (prepared.modules + prepared.requests)) }
+    ensures bounded { steps.new ≤ steps.old + (limit_number Modules + limit_number Requests) }
 {
-    match open_page(alloc, folder, config) {
+    match page_of(alloc, folder, config) {
         Err(stop) => Err(stop),
-        Ok(page) => match generate(alloc, folder, config) {
-            Err(fault) => Err(stop_of(fault)),
-            Ok(generated) => match page_file(alloc, config, &page, &generated) {
-                Err(_) => Err(Stop::Memory),
-                Ok(prepared) => Ok(prepared),
-            },
+        Ok(page) => match site_of(page.as_slice()) {
+            Err(fault) => Err(without_page(PageFault::KeepsMapsOut { fault })),
+            Ok(site) => prepare_at(alloc, folder, config, &site, steps),
         },
     }
 }
 
 // Looks at the page, once.
-fn open_page<F: Folder>(alloc: Global, folder: &mut F, config: &Config) -> Result<OpenPage, Stop>
-    ensures { OpensPage config.now (F.state folder.old) result (F.state folder.new) }
+fn page_of<F: Folder>(alloc: Global, folder: &mut F, config: &Config) -> Result<Bytes, Stop>
+    ensures { FindsPage config.now (F.state folder.old) result (F.state folder.new) }
 {
     match folder.look(alloc, config.page(), MOST_FILE_BYTES) {
         Ok(Look::Absent) => Err(without_page(PageFault::Absent)),
         Ok(Look::Folder) => Err(without_page(PageFault::Absent)),
         Ok(Look::TooLarge) => Err(without_page(PageFault::TooLarge)),
-        Ok(Look::File(bytes)) => match site_of(bytes.as_slice()) {
-            Err(fault) => Err(without_page(PageFault::KeepsMapsOut { fault })),
-            Ok(site) => Ok(OpenPage { bytes, site }),
-        },
+        Ok(Look::File(bytes)) => Ok(bytes),
         Err(LookFault::Failed) => Err(Stop::ReadFault),
         Err(LookFault::Memory) => Err(Stop::Memory),
     }
@@ -143,22 +116,39 @@ fn without_page(fault: PageFault) -> Stop
     }
 }
 
+// Generates, where the page takes maps.
+fn prepare_at<F: Folder, L: Ledger>(
+    alloc: Global,
+    folder: &mut F,
+    config: &Config,
+    site: &PageSite<'_>,
+    steps: &mut Steps<L>,
+) -> Result<Prepared, Stop>
+    ensures prepares { TakesMaps site.now
+        → IfSome (F.state folder.old).holds (λ tree. IsPage tree config.now site.now)
+        → Prepares Inject config.now (F.state folder.old) result (F.state folder.new) }
+    ensures steps { IfOk result (λ prepared. steps.new ≤ steps.old + (prepared.modules + prepared.requests)) }
+    ensures bounded { steps.new ≤ steps.old + (limit_number Modules + limit_number Requests) }
+{
+    match generate(alloc, folder, config, steps) {
+        Err(stop) => Err(stop),
+        Ok(generated) => match page_file(alloc, config, site, &generated) {
+            Err(_) => Err(Stop::Memory),
+            Ok(prepared) => Ok(prepared),
+        },
+    }
+}
+
 fn page_file(
     alloc: Global,
     config: &Config,
-    page: &OpenPage,
+    site: &PageSite<'_>,
     generated: &Generated,
 ) -> Result<Prepared, Memory>
-    requires { IsSiteOf page.now.bytes page.now.site }
-    ensures { IfOk result (IsPageFile config.now page.now.bytes generated.now) }
+    ensures { IfOk result (IsPageFile config.now site.now generated.now) }
 {
     let path = config.page().copy(alloc)?;
-    let file = inject_at(
-        alloc,
-        page.bytes.as_slice(),
-        page.site,
-        generated.map.as_slice(),
-    )?;
+    let file = inject_at(alloc, site, generated.map.as_slice())?;
     Ok(Prepared {
         path,
         file,

@@ -1,13 +1,17 @@
-ghost use Rattle.std.specs.Prelude.{◌≡◌, ◌≤◌, List, ℕ};
+ghost use Rattle.std.specs.Prelude.{◌≡◌, ◌≤◌, ◌+◌, List, ℕ};
+ghost use Rattle.tree_spec.specs.declared.LimitName.TheVariants.{Modules, Requests};
+ghost use Rattle.tree_spec.specs.Limits.{limit_number};
 ghost use Rattle.generator_spec.specs.declared.Command.TheVariants.{Link, Inject};
 ghost use Rattle.generator_spec.specs.declared.Refusal.{Refusal};
+ghost use Rattle.generator_spec.specs.Statuses.{done_status};
 ghost use Rattle.generator_spec.specs.Words.{IsConfigOf, RefusesWords};
 ghost use Rattle.generator_spec.specs.Ending.{Ends, EndsAs, TellsRefusal};
 ghost use Rattle.command_words.specs.Splitting.{texts};
-ghost use Rattle.generator_core.specs.Writing.{TellsStop, Finishes};
+ghost use Rattle.generator_core.specs.Writing.{TellsStop, Finishes, SpendsFew};
 
-use crate::prepared::{Prepared, Stop, prepare_map, prepare_page};
+use crate::prepared::{Prepared, prepare_map, prepare_page};
 use command_words::{WordsFault, config_of};
+use generation::Stop;
 use generator_spec::{Command, Refusal};
 use primitives::Steps;
 use request_trace::Config;
@@ -27,39 +31,57 @@ pub fn run<F: Folder, I: Source, O: Sink, L: Ledger>(
     folder: &mut F,
     _input: &mut I,
     out: &mut O,
-    _steps: &mut Steps<L>,
+    steps: &mut Steps<L>,
 ) -> u8
     ensures end { EndsAs (texts words.now) (F.state folder.old) (F.state folder.new) (O.state out.old)
         (O.state out.new) result }
     ensures words { (why : Refusal) → RefusesWords (texts words.now) why → folder.new ≡ folder.old }
     ensures input { _input.new ≡ _input.old }
-    ensures steps { _steps.new ≡ _steps.old }
+    ensures steps { result ≡ done_status → SpendsFew (O.state out.old) (O.state out.new) steps.old steps.new }
+    ensures bounded { steps.new ≤ steps.old + (limit_number Modules + limit_number Requests) }
+    ensures unspent { (why : Refusal) → RefusesWords (texts words.now) why → steps.new ≡ steps.old }
 {
     match config_of(alloc, words) {
-        Ok((Command::Link, config)) => link(alloc, folder, &config, out),
-        Ok((Command::Inject, config)) => inject(alloc, folder, &config, out),
+        Ok((Command::Link, config)) => link(alloc, folder, &config, out, steps),
+        Ok((Command::Inject, config)) => inject(alloc, folder, &config, out, steps),
         Err(WordsFault::Refused { why }) => refuse(alloc, &why, out),
         Err(WordsFault::Memory) => tell(out, memory_line(), MEMORY),
     }
 }
 
 // `link`: generates, writes the map and says so.
-fn link<F: Folder, O: Sink>(alloc: Global, folder: &mut F, config: &Config, out: &mut O) -> u8
-    ensures { (words : List (List ℕ)) → IsConfigOf words Link config.now
+fn link<F: Folder, O: Sink, L: Ledger>(
+    alloc: Global,
+    folder: &mut F,
+    config: &Config,
+    out: &mut O,
+    steps: &mut Steps<L>,
+) -> u8
+    ensures end { (words : List (List ℕ)) → IsConfigOf words Link config.now
         → EndsAs words (F.state folder.old) (F.state folder.new) (O.state out.old) (O.state out.new) result }
+    ensures steps { result ≡ done_status → SpendsFew (O.state out.old) (O.state out.new) steps.old steps.new }
+    ensures bounded { steps.new ≤ steps.old + (limit_number Modules + limit_number Requests) }
 {
-    match prepare_map(alloc, folder, config) {
+    match prepare_map(alloc, folder, config, steps) {
         Ok(prepared) => finish(alloc, folder, &prepared, out),
         Err(stop) => close(alloc, stop, out),
     }
 }
 
 // `inject`: reads the page, generates, writes the page with the map and says so.
-fn inject<F: Folder, O: Sink>(alloc: Global, folder: &mut F, config: &Config, out: &mut O) -> u8
-    ensures { (words : List (List ℕ)) → IsConfigOf words Inject config.now
+fn inject<F: Folder, O: Sink, L: Ledger>(
+    alloc: Global,
+    folder: &mut F,
+    config: &Config,
+    out: &mut O,
+    steps: &mut Steps<L>,
+) -> u8
+    ensures end { (words : List (List ℕ)) → IsConfigOf words Inject config.now
         → EndsAs words (F.state folder.old) (F.state folder.new) (O.state out.old) (O.state out.new) result }
+    ensures steps { result ≡ done_status → SpendsFew (O.state out.old) (O.state out.new) steps.old steps.new }
+    ensures bounded { steps.new ≤ steps.old + (limit_number Modules + limit_number Requests) }
 {
-    match prepare_page(alloc, folder, config) {
+    match prepare_page(alloc, folder, config, steps) {
         Ok(prepared) => finish(alloc, folder, &prepared, out),
         Err(stop) => close(alloc, stop, out),
     }

@@ -1,6 +1,6 @@
 -- How many mappings a map has that is written out as lists.
-use Rattle.std.proofs.Common.{◌≡◌, refl, ap, ◌∙◌, arith}
-use Rattle.std.specs.Prelude.{◌+◌, ℕ, List, [], ◌∷◌, Option, length, map}
+use Rattle.std.proofs.Common.{◌≡◌, refl, ap, ◌∙◌}
+use Rattle.std.specs.Prelude.{◌+◌, ℕ, List, [], ◌∷◌, length, map}
 use Rattle.std.specs.List.{sum_by}
 use Rattle.std.specs.FinMap.{insert, empty, len, entries, put, entries-insert, len-entries}
 use Rattle.std.specs.Cmp.Lexicographic.{slice_cmp, nat_list_cmp_total}
@@ -23,11 +23,8 @@ entries_of : {X : Type 0} (es : List (List ℕ × X)) → entries (map_of es) �
 entries_of {X} es = entries_onto es empty ∙ ap (λ done. put_onto done es) (no_entries X)
 
 -- how many keys
-pub counted : {X : Type 0} (es : List (List ℕ × X)) → len (map_of es) ≡ length (put_onto [] es)
+counted : {X : Type 0} (es : List (List ℕ × X)) → len (map_of es) ≡ length (put_onto [] es)
 counted es = len-entries (map_of es) ∙ ap length (entries_of es)
-
-abbrev pub Mappings : Type 0
-Mappings = List (List ℕ × Option (List ℕ))
 
 abbrev scope_count : List ℕ × Addresses → ℕ
 scope_count scope = len scope.1
@@ -40,12 +37,9 @@ totals : (scopes : List (List ℕ × Addresses)) → sum_by scope_count scopes �
 totals [] = refl
 totals (scope ∷ scopes) = sum_by-cons scope_count scope scopes ∙ ap (λ n. len scope.1 + n) (totals scopes)
 
-abbrev pub scopes_alone : List (List ℕ × Mappings) → Lists
-scopes_alone scopes = record { imports = []; scopes = scopes; integrity = [] }
-
--- how many mappings the scopes have, of which a later one replaces an earlier one
-pub counts : (scopes : List (List ℕ × Mappings)) → mapping_count (map_of_lists (scopes_alone scopes)) ≡ total (put_onto [] (map scope_of scopes))
-counts scopes =
-    let imports : len (map_of {X = Option (List ℕ)} []) ≡ 0 = counted {X = Option (List ℕ)} [] in
-    let scoped : sum_by scope_count (entries (map_of (map scope_of scopes))) ≡ total (put_onto [] (map scope_of scopes)) = ap (sum_by scope_count) (entries_of (map scope_of scopes)) ∙ totals _ in
-    omega arith
+-- how many mappings the lists have, of which a later one replaces an earlier one
+pub counts : (l : Lists) → mapping_count (map_of_lists l) ≡ length (put_onto [] l.imports) + total (put_onto [] (map scope_of l.scopes))
+counts l =
+    let imports : len (map_of l.imports) ≡ length (put_onto [] l.imports) = counted l.imports in
+    let scoped : sum_by scope_count (entries (map_of (map scope_of l.scopes))) ≡ total (put_onto [] (map scope_of l.scopes)) = ap (sum_by scope_count) (entries_of (map scope_of l.scopes)) ∙ totals _ in
+    λ i. imports i + scoped i

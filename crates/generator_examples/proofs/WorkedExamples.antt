@@ -1,10 +1,11 @@
 -- The worked examples.
 use Rattle.std.proofs.Common.{◌≡◌, ◌≢◌, ◌⊎◌, inl, inr, refl, sym, ap, ◌∙◌, lit≤, ◌++◌, Ok}
-use Rattle.std.specs.Prelude.{◌+◌, ℕ, List, [], ◌∷◌, drop, codes, Some, None}
-use Prim.Native.String.{String}
+use Rattle.std.specs.Prelude.{◌≤◌, ℕ, List, [], ◌∷◌, length, drop, codes, Some, None}
 use Rattle.std.specs.Fmt.{digits}
 use Rattle.url.proofs.OnLiterals.{url_on_literals}
 use Rattle.tree_spec.specs.declared.Entry.TheVariants.{Stored}
+use Rattle.tree_spec.specs.declared.LimitName.TheVariants.{Map}
+use Rattle.tree_spec.specs.Limits.{limit_number}
 use Rattle.tree_spec.specs.Trees.{Tree, IsTree, Places}
 use Rattle.tree_spec.specs.LookAskings.{Sights}
 use Rattle.tree_spec.specs.declared.Entry.{Entry}
@@ -13,19 +14,20 @@ use Rattle.tree_spec.proofs.Insertion.{same_tree, get_here, get_other}
 use Rattle.tree_spec.proofs.Placings.{in_root}
 use Rattle.std.specs.FinMap.{get, insert}
 use Rattle.import_map_spec.proofs.examples.WrittenMaps.{get_map_of}
+use Rattle.import_map_spec.specs.WrittenMaps.{map_of_lists}
 use Rattle.url_spec.specs.Bases.{base_of}
 use Rattle.url_spec.specs.Parsing.{text_of, parse_alone}
 use Rattle.layout_spec.proofs.examples.LaidLists.{listed_layout, layout_listed}
 use Rattle.layout_spec.proofs.examples.PrintedLists.{listed_text, lists_text}
 use Rattle.layout_spec.specs.Counting.{mapping_count}
-use Rattle.layout_spec.specs.Layout.{layout}
-use Rattle.layout_spec.specs.PrintedMap.{map_text}
+use Rattle.layout_spec.proofs.SomeAgreed.{is_among, disagrees, agreed, agreed_above, stands_at}
 use Rattle.trace_spec.specs.Modules.{Config}
 use Rattle.trace_spec.specs.Checks.{Gathered}
 use Rattle.generator_spec.specs.declared.Command.{Command}
-use Rattle.generator_spec.specs.declared.Command.TheVariants.{Link}
-use Rattle.generator_spec.specs.declared.Refusal.TheVariants.{BadBase, Trace}
-use Rattle.generator_spec.proofs.MapPaths.{map_in_root}
+use Rattle.generator_spec.specs.declared.Command.TheVariants.{Link, Inject}
+use Rattle.generator_spec.specs.declared.PageFault.TheVariants.{Absent}
+use Rattle.generator_spec.specs.declared.Refusal.TheVariants.{BadBase, Page, Trace}
+use Rattle.generator_spec.proofs.MapPaths.{map_in_root, page_in_root}
 use Rattle.generator_spec.proofs.PageNames.{page_of_words_is_file}
 use Rattle.generator_spec.specs.Generation.{Generates}
 use Rattle.generator_spec.specs.Lines.{counts_line}
@@ -52,14 +54,15 @@ use Rattle.generator_examples.specs.Examples.{IsTraced, IsMapped, with_map, Tree
 use Rattle.generator_examples.proofs.TracedExamples.{traced_examples}
 use Rattle.generator_examples.proofs.Growing.{grown}
 use Rattle.generator_examples.proofs.Words.{is_call, gives}
-use Rattle.generator_examples.proofs.Counting.{Mappings, counted, counts}
-use Rattle.generator_examples.proofs.Evaluated.{levels_traced, spelling_traced, site_traced, packages_traced, missing_traced, clashing_traced}
+use Rattle.generator_examples.proofs.Counting.{counts}
+use Rattle.generator_examples.proofs.Evaluated.{levels_traced, spelling_traced, site_traced, paged_traced, packages_traced, missing_traced, clashing_traced}
 
 trees : Trees
 trees = record {
   of_levels = grown (drop 1 levels) refl;
   of_spelling = grown (drop 1 spelling) refl;
   of_site = grown (drop 1 site) refl;
+  of_paged = grown (drop 1 paged) refl;
   of_packages = grown (drop 1 packages) refl;
   of_missing = grown (drop 1 missing) refl;
   of_clashing = grown (drop 1 clashing) refl;
@@ -73,6 +76,14 @@ trace_examples = record { by_levels = levels_traced; two_spellings = spelling_tr
 app_gives : IsConfigOf (links "https://app.test/" ("./app.mjs" ∷ [])) Link (based "https://app.test/" ("./app.mjs" ∷ []))
 unfolding base_of parse_alone text_of url_on_literals
 app_gives = gives Link _ "https://app.test/" ("./app.mjs" ∷ []) refl refl refl refl (lit≤ tt)
+
+paged_gives : IsConfigOf (injects "https://app.test/" ("./app.mjs" ∷ [])) Inject (based "https://app.test/" ("./app.mjs" ∷ []))
+unfolding base_of parse_alone text_of url_on_literals
+paged_gives = gives Inject _ "https://app.test/" ("./app.mjs" ∷ []) refl refl refl refl (lit≤ tt)
+
+no_page_gives : IsConfigOf (injects "https://app.test/" ("./a.mjs" ∷ "./b.mjs" ∷ [])) Inject (based "https://app.test/" ("./a.mjs" ∷ "./b.mjs" ∷ []))
+unfolding base_of parse_alone text_of url_on_literals
+no_page_gives = gives Inject _ "https://app.test/" ("./a.mjs" ∷ "./b.mjs" ∷ []) refl refl refl refl (lit≤ tt)
 
 missing_gives : IsConfigOf (links "https://app.test/" ("./a.mjs" ∷ "./b.mjs" ∷ [])) Link (based "https://app.test/" ("./a.mjs" ∷ "./b.mjs" ∷ []))
 unfolding base_of parse_alone text_of url_on_literals
@@ -88,48 +99,61 @@ ftp_is_none = refl
 
 -- ---- maps
 
-abbrev generated : (words : List (List ℕ)) (command : Command) (files : Files) (config : Config) (all : Gathered) (text : List ℕ) → IsConfigOf words command config → IsTraced files config all → listed_text (listed_layout all.needs) ≡ text → Generates (tree_of files) config text
-generated words command files config all text is is_traced e = record {
+abbrev generated : (words : List (List ℕ)) (command : Command) (files : Files) (config : Config) (all : Gathered) (text : List ℕ) → IsConfigOf words command config → IsTraced files config all → listed_text (listed_layout all.needs) ≡ text → length text ≤ limit_number Map → Generates (tree_of files) config text
+generated words command files config all text is is_traced e small = record {
   page_is_file = page_of_words_is_file words command config is;
   all = all;
   is_traced = is_traced;
-  text = sym (ap map_text (layout_listed all.needs) ∙ (lists_text (listed_layout all.needs) ∙ e));
+  map = map_of_lists (listed_layout all.needs);
+  agreed = layout_listed all.needs;
+  text = sym (lists_text (listed_layout all.needs) ∙ e);
+  within = small;
 }
+
+spelling_text : listed_text (listed_layout spelling_all.needs) ≡ spelling_map
+unfolding parse_alone text_of url_on_literals is_among disagrees agreed agreed_above stands_at
+spelling_text = refl
+
+site_text : listed_text (listed_layout site_all.needs) ≡ site_map
+unfolding parse_alone text_of url_on_literals is_among disagrees agreed agreed_above stands_at
+site_text = refl
+
+packages_text : listed_text (listed_layout packages_all.needs) ≡ packages_map
+unfolding parse_alone text_of url_on_literals is_among disagrees agreed agreed_above stands_at
+packages_text = refl
 
 mapped : (files : Files) (config : Config) (text : List ℕ) → Generates (tree_of files) config text → IsMapped files config text
 mapped files config text is = record { generates = is; serves = sound (tree_of files) config text is }
 
 abbrev spelling_generates : Generates (tree_of spelling) (based "https://app.test/" ("./app.mjs" ∷ [])) spelling_map
-spelling_generates = generated _ Link spelling _ spelling_all spelling_map app_gives spelling_traced refl
+spelling_generates = generated _ Link spelling _ spelling_all spelling_map app_gives spelling_traced spelling_text (lit≤ tt)
 
 abbrev site_generates : Generates (tree_of site) (based "https://app.test/" ("./app.mjs" ∷ [])) site_map
-site_generates = generated _ Link site _ site_all site_map app_gives site_traced refl
+site_generates = generated _ Link site _ site_all site_map app_gives site_traced site_text (lit≤ tt)
+
+abbrev paged_generates : Generates (tree_of paged) (based "https://app.test/" ("./app.mjs" ∷ [])) spelling_map
+paged_generates = generated _ Inject paged _ spelling_all spelling_map paged_gives paged_traced spelling_text (lit≤ tt)
 
 packages_give : IsConfigOf (links "https://app.test/" ("./app.js" ∷ [])) Link (based "https://app.test/" ("./app.js" ∷ []))
 unfolding base_of parse_alone text_of url_on_literals
 packages_give = gives Link _ "https://app.test/" ("./app.js" ∷ []) refl refl refl refl (lit≤ tt)
 
 abbrev packages_generate : Generates (tree_of packages) (based "https://app.test/" ("./app.js" ∷ [])) packages_map
-packages_generate = generated _ Link packages _ packages_all packages_map packages_give packages_traced refl
+packages_generate = generated _ Link packages _ packages_all packages_map packages_give packages_traced packages_text (lit≤ tt)
 
 map_examples : MapExamples
 map_examples = record { two_spellings = mapped spelling _ spelling_map spelling_generates; of_site = mapped site _ site_map site_generates; of_packages = mapped packages _ packages_map packages_generate }
 
 -- ---- ends
 
-abbrev mapping : String → String → Mappings
-mapping asked target = (codes asked, Some (codes target)) ∷ []
+spelling_mappings : mapping_count (map_of_lists (listed_layout spelling_all.needs)) ≡ 1
+unfolding parse_alone text_of url_on_literals is_among disagrees agreed agreed_above stands_at
+spelling_mappings = counts (listed_layout spelling_all.needs) ∙ refl
 
-spelling_mappings : mapping_count (layout spelling_all.needs) ≡ 1
-spelling_mappings =
-    ap mapping_count (layout_listed spelling_all.needs)
-    ∙ (counts (listed_layout spelling_all.needs).scopes ∙ (λ i. counted (mapping "https://app.test/a%62.mjs" "https://app.test/ab.mjs") i + 0))
-
--- one mapping in each of two scopes
-site_mappings : mapping_count (layout site_all.needs) ≡ 2
-site_mappings =
-    let one : Mappings = mapping "https://app.test/pages/[id].mjs" "https://app.test/pages/%5Bid%5D.mjs" in
-    ap mapping_count (layout_listed site_all.needs) ∙ (counts (listed_layout site_all.needs).scopes ∙ (λ i. counted one i + (counted one i + 0)))
+-- of two needs for one specifier with one target
+site_mappings : mapping_count (map_of_lists (listed_layout site_all.needs)) ≡ 1
+unfolding parse_alone text_of url_on_literals is_among disagrees agreed agreed_above stands_at
+site_mappings = counts (listed_layout site_all.needs) ∙ refl
 
 -- the map stands in the root
 placed : (files : Files) (text : List ℕ) → IsTree (tree_of files) → insert (tree_of files) (codes "/importmap.json") (Stored text) ≡ tree_of (with_map files text) → Places (tree_of files) (codes "/importmap.json") (Stored text) (tree_of (with_map files text))

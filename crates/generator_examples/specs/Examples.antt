@@ -15,8 +15,8 @@ use Rattle.trace_spec.specs.Traces.{traced}
 use Rattle.generator_spec.specs.Generation.{Generates}
 use Rattle.generator_spec.specs.Serves.{Serves}
 use Rattle.generator_spec.specs.Outcome.{Outcome}
-use Rattle.generator_examples.specs.Sites.{Files, tree_of, file, based, links, levels, levels_all, spelling, spelling_all, spelling_map, site, site_all, site_map}
-use Rattle.generator_examples.specs.Sites.{missing, clashing}
+use Rattle.generator_examples.specs.Sites.{Files, tree_of, file, based, links, injects, levels, levels_all, spelling, spelling_all, spelling_map, site, site_all, site_map}
+use Rattle.generator_examples.specs.Sites.{paged, paged_after, missing, clashing}
 use Rattle.generator_examples.specs.Traced.{TracedExamples}
 use Rattle.generator_examples.specs.Packages.{packages, packages_all, packages_map}
 
@@ -38,6 +38,7 @@ pub record Trees : Type 0 where
   pub of_levels : IsTree (tree_of levels)
   pub of_spelling : IsTree (tree_of spelling)
   pub of_site : IsTree (tree_of site)
+  pub of_paged : IsTree (tree_of paged)
   pub of_packages : IsTree (tree_of packages)
   pub of_missing : IsTree (tree_of missing)
   pub of_clashing : IsTree (tree_of clashing)
@@ -62,8 +63,13 @@ pub record EndExamples : Type 0 where
       Ends spelling (links "https://app.test/" ("./app.mjs" ∷ [])) 0 "ok: 2 modules, 2 requests, 1 mappings\n"
       (with_map spelling spelling_map)
   pub of_site :
-      Ends site (links "https://app.test/" ("./app.mjs" ∷ [])) 0 "ok: 5 modules, 8 requests, 2 mappings\n"
+      Ends site (links "https://app.test/" ("./app.mjs" ∷ [])) 0 "ok: 5 modules, 8 requests, 1 mappings\n"
       (with_map site site_map)
+  pub in_page :
+      Ends paged (injects "https://app.test/" ("./app.mjs" ∷ [])) 0 "ok: 2 modules, 2 requests, 1 mappings\n"
+      paged_after
+  pub no_page :
+      Ends missing (injects "https://app.test/" ("./a.mjs" ∷ "./b.mjs" ∷ [])) 7 "bad file: page absent\n" missing
   pub second_entry :
       Ends missing (links "https://app.test/" ("./a.mjs" ∷ "./b.mjs" ∷ [])) 1
       "refused: NotFound from \"/b.mjs\" for \"./q.mjs\"\n" missing

@@ -3,13 +3,14 @@
 --     folder path, file path bytes      one of them
 --     lines written, texts written      a text of these lines; these texts
 --     based base asked          the config with this base and these entries, and the page `/index.html`
---     links base asked          the words of the command `link` with this base and these entries
+--     links base asked, injects base asked      the words of a command with this base and these entries
 --     module_at path            the module of a file
 --     spelled specifier path    a need's spelling, which leads to the module of a file
 --     source bytes asked        the source with these bytes, which asks for these specifiers
---     levels, spelling, site, missing, clashing      the sites
+--     levels, spelling, site, paged, missing, clashing      the sites
 --     levels_all, spelling_all, site_all      the tables of their traces
 --     spelling_map, site_map    the texts of their maps
+--     paged_after               the files of a site whose page has its map
 use Rattle.std.specs.Prelude.{ℕ, List, [], ◌∷◌, ◌++◌, map, codes}
 use Prim.Native.String.{String}
 use Rattle.tree_spec.specs.declared.Entry.{Entry}
@@ -52,6 +53,9 @@ based base asked = record {
 
 abbrev pub links : String → List String → List (List ℕ)
 links base asked = texts ("link" ∷ "--base" ∷ base ∷ asked)
+
+abbrev pub injects : String → List String → List (List ℕ)
+injects base asked = texts ("inject" ∷ "--base" ∷ base ∷ asked)
 
 abbrev pub module_at : String → Module
 module_at path = record { path = codes path; suffix = [] }
@@ -123,11 +127,8 @@ abbrev pub spelling_map : List ℕ
 spelling_map =
     lines
     ("{"
-    ∷ "  \"imports\": {},"
-    ∷ "  \"scopes\": {"
-    ∷ "    \"https://app.test/app.mjs\": {"
-    ∷ "      \"https://app.test/a%62.mjs\": \"https://app.test/ab.mjs\""
-    ∷ "    }"
+    ∷ "  \"imports\": {"
+    ∷ "    \"https://app.test/a%62.mjs\": \"https://app.test/ab.mjs\""
     ∷ "  }"
     ∷ "}"
     ∷ [])
@@ -145,11 +146,8 @@ paged_after =
     paged_with
     (lines
     ("<head><script type=\"importmap\">{"
-    ∷ "  \"imports\": {},"
-    ∷ "  \"scopes\": {"
-    ∷ "    \"https://app.test/app.mjs\": {"
-    ∷ "      \"https://app.test/a%62.mjs\": \"https://app.test/ab.mjs\""
-    ∷ "    }"
+    ∷ "  \"imports\": {"
+    ∷ "    \"https://app.test/a%62.mjs\": \"https://app.test/ab.mjs\""
     ∷ "  }"
     ∷ "}"
     ∷ "</script>"
@@ -244,14 +242,8 @@ abbrev pub site_map : List ℕ
 site_map =
     lines
     ("{"
-    ∷ "  \"imports\": {},"
-    ∷ "  \"scopes\": {"
-    ∷ "    \"https://app.test/app.mjs\": {"
-    ∷ "      \"https://app.test/pages/[id].mjs\": \"https://app.test/pages/%5Bid%5D.mjs\""
-    ∷ "    },"
-    ∷ "    \"https://app.test/pages/home.mjs\": {"
-    ∷ "      \"https://app.test/pages/[id].mjs\": \"https://app.test/pages/%5Bid%5D.mjs\""
-    ∷ "    }"
+    ∷ "  \"imports\": {"
+    ∷ "    \"https://app.test/pages/[id].mjs\": \"https://app.test/pages/%5Bid%5D.mjs\""
     ∷ "  }"
     ∷ "}"
     ∷ [])

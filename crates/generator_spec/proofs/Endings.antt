@@ -59,6 +59,7 @@ page_refusing (KeepsMapsOut page.Memory) is = absurd is
 refusing : (config : Config) (command : Command) (why : Refusal) → IsRefusalOf config command why → IsRefusing (status_of why)
 refusing config command why (kind.page fault is) = page_refusing fault is
 refusing config command why (kind.trace same fault is) = trace_refusing config fault is
+refusing config command why (kind.large_map same) = three refl
 
 shaped_status :
     (words : List (List ℕ)) (status : ℕ) (line : List ℕ) → Shaped words status line → (status ≡ 0) ⊎ IsRefusing status
@@ -102,6 +103,7 @@ trace_not_two fault.Memory e = omega (arith, e)
 refusal_not_two : (config : Config) (command : Command) (why : Refusal) → IsRefusalOf config command why → status_of why ≢ 2
 refusal_not_two config command why (kind.page fault is) = page_not_two fault
 refusal_not_two config command why (kind.trace same fault is) = trace_not_two fault
+refusal_not_two config command why (kind.large_map same) = λ e. omega (arith, e)
 
 -- status 2 is that of a bad base
 bad_base_of :

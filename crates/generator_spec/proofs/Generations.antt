@@ -1,16 +1,22 @@
--- One text is generated where there is a trace, and none where it is refused.
-use Rattle.std.proofs.Common.{◌≡◌, ℕ, List, Ok, Err, refl, sym, ap, ◌∙◌}
+-- One text is generated where there is a trace whose map isn't too large, and none elsewhere.
+use Rattle.std.proofs.Common.{◌≡◌, ◌≤◌, ◌<◌, ◌⊎◌, ℕ, List, length, Ok, Err, refl, sym, ap, ◌∙◌, subst, inl, inr, arith}
+use Rattle.std.proofs.lemmas.Bool.{cases_lt}
 use Rattle.std.specs.Prelude.{Result}
 use Rattle.std.specs.FinMap.{get}
+use Rattle.tree_spec.specs.declared.LimitName.TheVariants.{Map}
+use Rattle.tree_spec.specs.Limits.{limit_number}
 use Rattle.tree_spec.specs.Trees.{Tree}
-use Rattle.layout_spec.specs.Layout.{layout}
+use Rattle.import_map_spec.specs.ParsedMap.{ParsedMap}
+use Rattle.layout_spec.proofs.AgreedLaws.{one_agreed_layout}
+use Rattle.layout_spec.proofs.SomeAgreed.{some_agreed_layout}
+use Rattle.layout_spec.specs.AgreedLayout.{IsAgreedLayout}
 use Rattle.layout_spec.specs.PrintedMap.{map_text}
 use Rattle.trace_spec.specs.declared.TraceFault.{TraceFault}
 use Rattle.trace_spec.specs.Modules.{Config}
 use Rattle.trace_spec.specs.Checks.{Gathered}
 use Rattle.trace_spec.specs.Traces.{traced}
-use Rattle.generator_spec.specs.Generation.{Generates}
-use Rattle.generator_spec.specs.Laws.{OneGeneration, SomeGeneration, NothingRefused}
+use Rattle.generator_spec.specs.Generation.{PageIsFile, Generates, IsTooLarge}
+use Rattle.generator_spec.specs.Laws.{IsTextOf, OneGeneration, SomeGeneration, NothingRefused}
 
 same_trace : (found : Result Gathered TraceFault) (all other : Gathered) → found ≡ Ok all → found ≡ Ok other → all ≡ other
 same_trace found all other e f = cc
@@ -22,16 +28,64 @@ pub one_trace :
 one_trace tree config second bytes others same a b =
     same_trace (traced (get tree) config) a.all b.all a.is_traced (ap (traced (get tree)) same ∙ b.is_traced)
 
+-- equal needs have one agreed layout
+agreed_map : (all other : Gathered) (m n : ParsedMap) → all ≡ other → IsAgreedLayout all.needs m → IsAgreedLayout other.needs n → m ≡ n
+agreed_map all other m n same a b =
+    one_agreed_layout all.needs m n a (subst (λ (g : Gathered). IsAgreedLayout g.needs n) (sym same) b)
+
+-- and one map
+pub one_map :
+    (tree : Tree) (config second : Config) (bytes others : List ℕ) → config ≡ second
+    → (a : Generates tree config bytes) → (b : Generates tree second others) → a.map ≡ b.map
+one_map tree config second bytes others same a b =
+    agreed_map a.all b.all a.map b.map (one_trace tree config second bytes others same a b) a.agreed b.agreed
+
+-- and one text
+pub one_text :
+    (tree : Tree) (config second : Config) (bytes others : List ℕ) → config ≡ second
+    → Generates tree config bytes → Generates tree second others → bytes ≡ others
+one_text tree config second bytes others same a b =
+    a.text ∙ (ap map_text (one_map tree config second bytes others same a b) ∙ sym b.text)
+
 pub one_generation : OneGeneration
-one_generation tree config some other a b =
-    let traces = one_trace tree config config some other refl a b in
-    a.text ∙ (ap (λ (all : Gathered). map_text (layout all.needs)) traces ∙ sym b.text)
+one_generation tree config some other a b = one_text tree config config some other refl a b
+
+module _ (tree : Tree) (config : Config) (all : Gathered) (page : PageIsFile config) (traces : traced (get tree) config ≡ Ok all) (map : ParsedMap) (agreed : IsAgreedLayout all.needs map) where
+  generated : length (map_text map) ≤ limit_number Map → Generates tree config (map_text map)
+  generated small = record { page_is_file = page; all = all; is_traced = traces; map = map; agreed = agreed; text = refl; within = small }
+
+  too_large : limit_number Map < length (map_text map) → IsTooLarge tree config
+  too_large large = record { all = all; is_traced = traces; map = map; agreed = agreed; large = large }
+
+  generated_or_too_large : Generates tree config (map_text map) ⊎ IsTooLarge tree config
+  generated_or_too_large =
+      elim (cases_lt (limit_number Map) (length (map_text map))) [
+        | inl large ↦ inr (too_large large)
+        | inr small ↦ inl (generated small)
+      ]
 
 pub some_generation : SomeGeneration
-some_generation tree config all page traces = record { page_is_file = page; all = all; is_traced = traces; text = refl }
+some_generation tree config all page traces =
+    let found = some_agreed_layout all.needs in
+    let is_text : IsTextOf all (map_text found.0) = record { map = found.0; agreed = found.1; text = refl } in
+    (map_text found.0, is_text, generated_or_too_large tree config all page traces found.0 found.1)
+
+module _ (tree : Tree) (config : Config) (bytes : List ℕ) (generates : Generates tree config bytes) where
+  no_refusal : (fault : TraceFault) → traced (get tree) config ≡ Err fault → ⊥
+  no_refusal fault refused =
+      let traces : traced (get tree) config ≡ Ok generates.all = generates.is_traced in
+      let e : Ok generates.all ≡ Err fault = sym traces ∙ refused in
+      absurd (cc)
+
+  not_too_large : IsTooLarge tree config → ⊥
+  not_too_large is =
+      let traces = same_trace (traced (get tree) config) generates.all is.all generates.is_traced is.is_traced in
+      let maps = agreed_map generates.all is.all generates.map is.map traces generates.agreed is.agreed in
+      let n : length bytes ≡ length (map_text is.map) = ap length (generates.text ∙ ap map_text maps) in
+      let small = generates.within in
+      let large = is.large in
+      omega (arith, small, large, n)
 
 pub nothing_refused : NothingRefused
-nothing_refused tree config bytes fault generates refused =
-    let traces : traced (get tree) config ≡ Ok generates.all = generates.is_traced in
-    let e : Ok generates.all ≡ Err fault = sym traces ∙ refused in
-    absurd (cc)
+nothing_refused tree config bytes generates =
+    (no_refusal tree config bytes generates, not_too_large tree config bytes generates)

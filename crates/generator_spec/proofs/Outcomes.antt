@@ -2,27 +2,26 @@
 use Rattle.std.proofs.Common.{◌≡◌, ◌⊎◌, ℕ, List, Result, Ok, Err, codes, refl, sym, ap, ◌∙◌, subst, inl, inr}
 use Rattle.std.specs.FinMap.{get, insert}
 use Rattle.tree_spec.specs.declared.Entry.TheVariants.{Stored}
+use Rattle.tree_spec.specs.declared.LimitName.TheVariants.{Map}
 use Rattle.tree_spec.specs.Paths.{IsPath, IsParent}
 use Rattle.tree_spec.specs.Trees.{Tree, IsTree, Places}
 use Rattle.tree_spec.proofs.Placings.{one_placing, in_root}
-use Rattle.layout_spec.specs.Layout.{layout}
-use Rattle.layout_spec.specs.PrintedMap.{map_text}
 use Rattle.trace_spec.specs.declared.TraceFault.{TraceFault}
 use Rattle.trace_spec.specs.Modules.{Config}
 use Rattle.trace_spec.specs.Checks.{Gathered}
 use Rattle.trace_spec.specs.Traces.{traced}
 use Rattle.generator_spec.specs.declared.Command.{Command}
 use Rattle.generator_spec.specs.declared.Refusal.{Refusal}
-use Rattle.generator_spec.specs.declared.Refusal.TheVariants.{Page, Trace}
+use Rattle.generator_spec.specs.declared.Refusal.TheVariants.{Page, Trace, Limit}
 use Rattle.generator_spec.specs.Commands.{Opens, Opens as opens, Refuses, Refuses as refuses, Writes, Writes as writes}
-use Rattle.generator_spec.specs.Generation.{Generates}
+use Rattle.generator_spec.specs.Generation.{Generates, IsTooLarge}
 use Rattle.generator_spec.specs.Words.{IsConfigOf}
 use Rattle.generator_spec.specs.Lines.{status_of, line_of, done_line}
 use Rattle.generator_spec.specs.Outcome.{Outcome}
 use Rattle.generator_spec.specs.Outcome.Outcome.{words_refused, refused, done}
 use Rattle.generator_spec.specs.Laws.{SameConfig, SameOutcome, OneOutcome, HasOutcome, AreRefused, SomeOutcome}
 use Rattle.generator_spec.proofs.Configs.{one_config, one_words_refusal, refused_or_config, some_config}
-use Rattle.generator_spec.proofs.Generations.{one_trace, some_generation}
+use Rattle.generator_spec.proofs.Generations.{one_trace, one_map, one_text, some_generation}
 use Rattle.generator_spec.proofs.MapPaths.{map_is_path, page_is_path, map_in_root, page_in_root}
 use Rattle.generator_spec.proofs.PageNames.{page_of_words_is_file}
 use Rattle.generator_spec.proofs.Refusals.{one_refusal, refused_or_opened_and_generated, written_is_opened, Refused, opened_or_refused, SameWrite, one_write}
@@ -77,22 +76,22 @@ module _ (words : List (List ℕ)) (tree : Tree) (status other : ℕ) (line anot
   both_done :
       (command command_too : Command) (config second : Config) (map others path place file content : List ℕ)
       → IsConfigOf words command config → (generates : Generates tree config map)
-      → Writes tree config map command path file → status ≡ 0 → line ≡ done_line generates.all
+      → Writes tree config map command path file → status ≡ 0 → line ≡ done_line generates.all generates.map
       → Places tree path (Stored file) after → IsConfigOf words command_too second
       → (too : Generates tree second others) → Writes tree second others command_too place content → other ≡ 0
-      → another ≡ done_line too.all → Places tree place (Stored content) last
+      → another ≡ done_line too.all too.map → Places tree place (Stored content) last
       → SameOutcome status other line another after last
   both_done command command_too config second map others path place file content is generates wrote s l placed is_too too wrote_too t m placed_too =
       let same = one_config words command command_too config second is is_too in
       let traces = one_trace tree config second map others same.one_config generates too in
-      let maps : map ≡ others =
-      generates.text ∙ (ap (λ (all : Gathered). map_text (layout all.needs)) traces ∙ sym too.text) in
+      let maps = one_map tree config second map others same.one_config generates too in
+      let texts = one_text tree config second map others same.one_config generates too in
       let wrote_same : Writes tree config map command place content =
-      subst (λ m. Writes tree config m command place content) (sym maps) (same_writes tree others place content same wrote_too) in
+      subst (λ m. Writes tree config m command place content) (sym texts) (same_writes tree others place content same wrote_too) in
       let writes_same = one_write tree config map command path place file content wrote wrote_same in
       record {
         one_status = s ∙ sym t;
-        one_line = l ∙ (ap done_line traces ∙ sym m);
+        one_line = l ∙ ((λ i. done_line (traces i) (maps i)) ∙ sym m);
         one_tree = same_place tree status other line another after last path place file content (path_written words tree command config map path file is wrote) writes_same placed placed_too;
       }
 
@@ -162,20 +161,24 @@ module _ (words : List (List ℕ)) (tree : Tree) (is_tree : IsTree tree) where
       outcome = refused command config why is refused_so refl refl refl;
     }
 
-    by_trace : Opens tree config command → (found : Result Gathered TraceFault) → traced (get tree) config ≡ found → HasOutcome words tree
-    by_trace opened (Err fault) e = by_refusal (Trace fault) (refuses.trace command fault opened e)
-    by_trace opened (Ok all) e =
-        let map = map_text (layout all.needs) in
-        let generates = some_generation tree config all (page_of_words_is_file words command config is) e in
+    by_map : Opens tree config command → (map : List ℕ) → Generates tree config map ⊎ IsTooLarge tree config → HasOutcome words tree
+    by_map opened map (inr large) = by_refusal (Limit Map) (refuses.large_map command opened large)
+    by_map opened map (inl generates) =
         let can = can_write words tree command config map is opened in
         record {
           status = 0;
-          line = done_line generates.all;
+          line = done_line generates.all generates.map;
           after = insert tree can.path (Stored can.file);
           outcome =
               done command config map can.path can.file is generates can.writes refl refl
               ((in_root tree can.path (Stored can.file) _ is_tree can.in_root).1 refl);
         }
+
+    by_trace : Opens tree config command → (found : Result Gathered TraceFault) → traced (get tree) config ≡ found → HasOutcome words tree
+    by_trace opened (Err fault) e = by_refusal (Trace fault) (refuses.trace command fault opened e)
+    by_trace opened (Ok all) e =
+        let found = some_generation tree config all (page_of_words_is_file words command config is) e in
+        by_map opened found.0 found.2
 
     by_page : Refused tree config command → HasOutcome words tree
     by_page page = by_refusal (Page page.why) (subst (λ c. Refuses tree config c (Page page.why)) (sym page.is_command) (refuses.page page.why page.refuses))

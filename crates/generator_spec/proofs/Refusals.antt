@@ -16,6 +16,7 @@ use Rattle.page_spec.proofs.KeptOut.{takes_or_keeps_out}
 use Rattle.trace_spec.specs.declared.TraceFault.{TraceFault}
 use Rattle.trace_spec.specs.Modules.{Config}
 use Rattle.trace_spec.specs.Checks.{Gathered}
+use Rattle.trace_spec.specs.Traces.{traced}
 use Rattle.generator_spec.specs.declared.Command.{Command}
 use Rattle.generator_spec.specs.declared.Command.TheVariants.{Link, Inject}
 use Rattle.generator_spec.specs.declared.PageFault.{PageFault}
@@ -24,7 +25,7 @@ use Rattle.generator_spec.specs.declared.Refusal.{Refusal}
 use Rattle.generator_spec.specs.declared.Refusal.TheVariants.{Page}
 use Rattle.generator_spec.specs.Commands.{IsPage, RefusesPage, Opens, Refuses, Writes}
 use Rattle.generator_spec.specs.Commands.{RefusesPage as refuses_page, Opens as opens, Refuses as refuses, Writes as writes}
-use Rattle.generator_spec.specs.Generation.{Generates}
+use Rattle.generator_spec.specs.Generation.{Generates, IsTooLarge}
 use Rattle.generator_spec.proofs.Generations.{nothing_refused}
 
 -- ---- pages
@@ -91,6 +92,12 @@ module _ (tree : Tree) (config : Config) where
   refused_or_opened : (fault : PageFault) → RefusesPage tree config fault → Opens tree config Inject → ⊥
   refused_or_opened fault refused (opens.page page is takes) = let put = takes [] in refused_takes_none fault [] page put.new refused is put.injection
 
+  refused_or_traced : (fault : TraceFault) → IsTooLarge tree config → traced (get tree) config ≡ Err fault → ⊥
+  refused_or_traced fault large e =
+      let traces : traced (get tree) config ≡ Ok large.all = large.is_traced in
+      let both : Ok large.all ≡ Err fault = sym traces ∙ e in
+      absurd (cc)
+
   pub one_refusal : (command : Command) (why because : Refusal) → Refuses tree config command why → Refuses tree config command because → why ≡ because
   one_refusal command why because (refuses.page fault is) (refuses.page other too) = ap Page (one_page_fault fault other is too)
   one_refusal command why because (refuses.page fault is) (refuses.trace same other opened e) = absurd (refused_or_opened fault is opened)
@@ -98,11 +105,17 @@ module _ (tree : Tree) (config : Config) where
   one_refusal command why because (refuses.trace same fault opened e) (refuses.trace same_too other opened_too f) =
       let faults : ◌≡◌ {A = Result Gathered TraceFault} (Err fault) (Err other) = sym e ∙ f in
       cc
+  one_refusal command why because (refuses.page fault is) (refuses.large_map same opened large) = absurd (refused_or_opened fault is opened)
+  one_refusal command why because (refuses.large_map same opened large) (refuses.page other too) = absurd (refused_or_opened other too opened)
+  one_refusal command why because (refuses.trace same fault opened e) (refuses.large_map same_too opened_too large) = absurd (refused_or_traced fault large e)
+  one_refusal command why because (refuses.large_map same opened large) (refuses.trace same_too other opened_too f) = absurd (refused_or_traced other large f)
+  one_refusal command why because (refuses.large_map same opened large) (refuses.large_map same_too opened_too large_too) = refl
 
   -- what is refused isn't done
   pub refused_or_opened_and_generated : (command : Command) (why : Refusal) (map : List ℕ) → Refuses tree config command why → Opens tree config command → Generates tree config map → ⊥
   refused_or_opened_and_generated command why map (refuses.page fault is) opened generates = refused_or_opened fault is opened
-  refused_or_opened_and_generated command why map (refuses.trace same fault before e) opened generates = nothing_refused tree config map fault generates e
+  refused_or_opened_and_generated command why map (refuses.trace same fault before e) opened generates = (nothing_refused tree config map generates).0 fault e
+  refused_or_opened_and_generated command why map (refuses.large_map same before large) opened generates = (nothing_refused tree config map generates).1 large
 
   -- a command that writes was opened
   pub written_is_opened : (map path file : List ℕ) (command : Command) → Writes tree config map command path file → Opens tree config command

@@ -2,14 +2,15 @@
 --     IsPage tree config page             the page's file, which has no more bytes than a file may
 --     RefusesPage tree config fault       there is no page to put a map into
 --     Opens tree config command           what the command needs before its trace is there
---     Refuses tree config command why     the command is refused: before its trace, or by the first refusal of that
+--     Refuses tree config command why     the command is refused: before its trace, by the first refusal of that, or for
+--                                         the size of its map
 --     IsRefusalOf config command why      it can be refused so, whatever the tree holds
 --     map_path                            the path of the map's file
 --     Writes tree config map command path file      with the map the command writes this file there
 use Rattle.std.specs.Prelude.{◌≡◌, ◌≤◌, ◌<◌, ⊤, ℕ, List, length, Some, None, Ok, Err, codes}
 use Rattle.std.specs.FinMap.{get}
 use Rattle.tree_spec.specs.declared.Entry.TheVariants.{Stored, Directory}
-use Rattle.tree_spec.specs.declared.LimitName.TheVariants.{File}
+use Rattle.tree_spec.specs.declared.LimitName.TheVariants.{File, Map}
 use Rattle.tree_spec.specs.Limits.{limit_number}
 use Rattle.tree_spec.specs.Trees.{Tree}
 use Rattle.page_spec.specs.declared.kinds.InjectFault.{InjectFault}
@@ -25,7 +26,8 @@ use Rattle.generator_spec.specs.declared.Command.TheVariants.{Link, Inject}
 use Rattle.generator_spec.specs.declared.PageFault.{PageFault}
 use Rattle.generator_spec.specs.declared.PageFault.TheVariants.{Absent, TooLarge, KeepsMapsOut}
 use Rattle.generator_spec.specs.declared.Refusal.{Refusal}
-use Rattle.generator_spec.specs.declared.Refusal.TheVariants.{Page, Trace}
+use Rattle.generator_spec.specs.declared.Refusal.TheVariants.{Page, Trace, Limit}
+use Rattle.generator_spec.specs.Generation.{IsTooLarge}
 
 -- own: a file of at most 16,777,216 bytes
 pub record IsPage (tree : Tree) (config : Config) (page : List ℕ) : Type 0 where
@@ -48,12 +50,14 @@ pub data Opens (tree : Tree) (config : Config) : Command → Type 0 where
   nothing : Opens tree config Link
   page : (page : List ℕ) → IsPage tree config page → TakesMaps page → Opens tree config Inject
 
--- own: the page comes before the trace
+-- own: the page comes before the trace, and the size of the map behind it
 pub data Refuses (tree : Tree) (config : Config) : Command → Refusal → Type 0 where
   page : (fault : PageFault) → RefusesPage tree config fault → Refuses tree config Inject (Page fault)
   trace :
       (command : Command) (fault : TraceFault) → Opens tree config command → traced (get tree) config ≡ Err fault
       → Refuses tree config command (Trace fault)
+  large_map :
+      (command : Command) → Opens tree config command → IsTooLarge tree config → Refuses tree config command (Limit Map)
 
 -- ---- whatever the tree holds
 
@@ -70,6 +74,7 @@ pub data IsRefusalOf (config : Config) : Command → Refusal → Type 0 where
   page : (fault : PageFault) → IsOfPage fault → IsRefusalOf config Inject (Page fault)
   trace :
       (command : Command) (fault : TraceFault) → IsOfTrace config fault → IsRefusalOf config command (Trace fault)
+  large_map : (command : Command) → IsRefusalOf config command (Limit Map)
 
 -- ---- what is written
 

@@ -37,7 +37,7 @@ pub record IsGenerated (words : List (List ℕ)) (tree : Tree) (map line : List 
   pub is_config : IsConfigOf words command config
   pub opens : Opens tree config command
   pub generates : Generates tree config map
-  pub says : line ≡ done_line generates.all
+  pub says : line ≡ done_line generates.all generates.map
 
 -- own: where a browser finds the map: it is the file, or the raw text of the page's one import map element
 abbrev pub IsCarried : Command → List ℕ → List ℕ → Type 0

@@ -1,10 +1,14 @@
 -- Generation: the one map of a tree and a config.
 --     Generates tree config bytes      the bytes are the map's text for them
-use Rattle.std.specs.Prelude.{◌≡◌, ℕ, List, Some, Ok, false}
+--     IsTooLarge tree config      there would be a map for them, but its text is too large
+use Rattle.std.specs.Prelude.{◌≡◌, ◌≤◌, ◌<◌, ℕ, List, length, Some, Ok, false}
 use Rattle.std.specs.FinMap.{get}
+use Rattle.tree_spec.specs.declared.LimitName.TheVariants.{Map}
+use Rattle.tree_spec.specs.Limits.{limit_number}
 use Rattle.tree_spec.specs.Trees.{Tree}
 use Rattle.url_spec.specs.Specifiers.{ends_in_slash}
-use Rattle.layout_spec.specs.Layout.{layout}
+use Rattle.import_map_spec.specs.ParsedMap.{ParsedMap}
+use Rattle.layout_spec.specs.AgreedLayout.{IsAgreedLayout}
 use Rattle.layout_spec.specs.PrintedMap.{map_text}
 use Rattle.trace_spec.specs.Walking.{the_page}
 use Rattle.trace_spec.specs.Modules.{Config, web_name}
@@ -15,9 +19,20 @@ use Rattle.trace_spec.specs.Traces.{traced}
 abbrev pub PageIsFile : Config → Type 0
 PageIsFile config = (name : List ℕ) → web_name config the_page ≡ Some name → ends_in_slash name ≡ false
 
--- own: nothing is refused, and the bytes are the text of the layout of the trace's needs
+-- own: nothing is refused, and the bytes are the text of the agreed layout of the trace's needs: at most 67,108,864
 pub record Generates (tree : Tree) (config : Config) (bytes : List ℕ) : Type 0 where
   pub page_is_file : PageIsFile config
   pub all : Gathered
   pub is_traced : traced (get tree) config ≡ Ok all
-  pub text : bytes ≡ map_text (layout all.needs)
+  pub map : ParsedMap
+  pub agreed : IsAgreedLayout all.needs map
+  pub text : bytes ≡ map_text map
+  pub within : length bytes ≤ limit_number Map
+
+-- own: nothing of the trace is refused, and the text of the agreed layout of its needs has more bytes than that
+pub record IsTooLarge (tree : Tree) (config : Config) : Type 0 where
+  pub all : Gathered
+  pub is_traced : traced (get tree) config ≡ Ok all
+  pub map : ParsedMap
+  pub agreed : IsAgreedLayout all.needs map
+  pub large : limit_number Map < length (map_text map)

@@ -1,9 +1,12 @@
 -- The laws of words, generation, outcomes and ends. Each is the contract of a function of this crate.
-use Rattle.std.specs.Prelude.{◌≡◌, ◌⊎◌, ℕ, List, Ok, Err}
+use Rattle.std.specs.Prelude.{◌≡◌, ◌≤◌, ◌⊎◌, ℕ, List, length, Ok, Err}
 use Rattle.std.specs.FinMap.{get}
+use Rattle.tree_spec.specs.declared.LimitName.TheVariants.{Map}
+use Rattle.tree_spec.specs.Limits.{limit_number}
 use Rattle.tree_spec.specs.States.{FolderState, SinkState}
 use Rattle.tree_spec.specs.Trees.{Tree, IsTree}
-use Rattle.layout_spec.specs.Layout.{layout}
+use Rattle.import_map_spec.specs.ParsedMap.{ParsedMap}
+use Rattle.layout_spec.specs.AgreedLayout.{IsAgreedLayout}
 use Rattle.layout_spec.specs.PrintedMap.{map_text}
 use Rattle.trace_spec.specs.declared.TraceFault.{TraceFault}
 use Rattle.trace_spec.specs.Modules.{Config}
@@ -12,7 +15,7 @@ use Rattle.trace_spec.specs.Traces.{traced}
 use Rattle.generator_spec.specs.declared.Command.{Command}
 use Rattle.generator_spec.specs.declared.Refusal.{Refusal}
 use Rattle.generator_spec.specs.Words.{IsConfigOf, RefusesWords}
-use Rattle.generator_spec.specs.Generation.{PageIsFile, Generates}
+use Rattle.generator_spec.specs.Generation.{PageIsFile, Generates, IsTooLarge}
 use Rattle.generator_spec.specs.Outcome.{Outcome}
 use Rattle.generator_spec.specs.Ending.{EndsAs}
 use Rattle.generator_spec.specs.Promises.{Promises}
@@ -66,17 +69,23 @@ OneGeneration =
     (tree : Tree) (config : Config) (some other : List ℕ) → Generates tree config some → Generates tree config other
     → some ≡ other
 
--- where the page has no folder's web name, the text of each trace is generated
+-- the text of a trace's agreed layout
+pub record IsTextOf (all : Gathered) (bytes : List ℕ) : Type 0 where
+  pub map : ParsedMap
+  pub agreed : IsAgreedLayout all.needs map
+  pub text : bytes ≡ map_text map
+
+-- where the page has no folder's web name, each trace has a text, which is generated unless it is too large
 abbrev pub SomeGeneration : Type 0
 SomeGeneration =
     (tree : Tree) (config : Config) (all : Gathered) → PageIsFile config → traced (get tree) config ≡ Ok all
-    → Generates tree config (map_text (layout all.needs))
+    → (bytes : List ℕ) × IsTextOf all bytes × (Generates tree config bytes ⊎ IsTooLarge tree config)
 
--- where something is generated, nothing is refused
+-- where something is generated, nothing of the trace is refused, and its map isn't too large
 abbrev pub NothingRefused : Type 0
 NothingRefused =
-    (tree : Tree) (config : Config) (bytes : List ℕ) (fault : TraceFault) → Generates tree config bytes
-    → traced (get tree) config ≡ Err fault → ⊥
+    (tree : Tree) (config : Config) (bytes : List ℕ) → Generates tree config bytes
+    → ((fault : TraceFault) → traced (get tree) config ≡ Err fault → ⊥) × (IsTooLarge tree config → ⊥)
 
 -- ---- outcomes
 

@@ -1,7 +1,7 @@
 -- What a command says, and its exit status.
 --     status_of why, line_of why      those of a refusal
 --     counts_line modules requests mappings      the line of a map that is written
---     done_line all                   the same for the trace whose map it is
+--     done_line all map               the same for a trace and its map
 use Rattle.std.specs.Prelude.{ℕ, List, [], ◌∷◌, ◌++◌, length, codes, unwrap_or}
 use Rattle.std.specs.Fmt.{decimal}
 use Rattle.tree_spec.specs.declared.LimitName.{LimitName}
@@ -13,7 +13,7 @@ use Rattle.node_spec.specs.declared.Reason.TheVariants as reason
 use Rattle.page_spec.specs.declared.kinds.InjectFault.{InjectFault}
 use Rattle.page_spec.specs.declared.kinds.InjectFault.TheVariants.{PageUnclear, TwoMaps, NoPlace}
 use Rattle.page_spec.specs.declared.kinds.InjectFault.TheVariants as page
-use Rattle.layout_spec.specs.Layout.{layout}
+use Rattle.import_map_spec.specs.ParsedMap.{ParsedMap}
 use Rattle.layout_spec.specs.Counting.{mapping_count}
 use Rattle.trace_spec.specs.declared.AskCause.{AskCause}
 use Rattle.trace_spec.specs.declared.AskCause.TheVariants as cause
@@ -145,6 +145,6 @@ counts_line modules requests mappings =
     codes "ok: " ++ (decimal modules ++ (codes " modules, "
     ++ (decimal requests ++ (codes " requests, " ++ (decimal mappings ++ (codes " mappings" ++ end_of_line))))))
 
--- own: the modules of the trace without the page, its requests with the entries, and the mappings of its layout
-abbrev pub done_line : Gathered → List ℕ
-done_line all = counts_line (length all.modules) all.requests (mapping_count (layout all.needs))
+-- own: the modules of the trace without the page, its requests with the entries, and the mappings of the map
+abbrev pub done_line : Gathered → ParsedMap → List ℕ
+done_line all map = counts_line (length all.modules) all.requests (mapping_count map)

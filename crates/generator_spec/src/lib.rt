@@ -38,7 +38,7 @@ pub enum Refusal {
     Words,
     /// A text that gives no base.
     BadBase { text: Text },
-    /// A quantity of the words passes its limit.
+    /// A quantity of the words, or the map, passes its limit.
     Limit { which: LimitName },
     /// There is no page to put the map into.
     Page { fault: PageFault },
@@ -71,12 +71,12 @@ pub fn one_generation()
     ensures { OneGeneration }
 {}
 
-/// Where the page has no folder's web name, the text of each trace is generated.
+/// Where the page has no folder's web name, each trace has a text, which is generated unless it is too large.
 pub fn some_generation()
     ensures { SomeGeneration }
 {}
 
-/// Where something is generated, nothing is refused.
+/// Where something is generated, nothing of the trace is refused, and its map isn't too large.
 pub fn nothing_refused()
     ensures { NothingRefused }
 {}

@@ -7,13 +7,43 @@ use crate::search::{Site, site_in};
 use crate::written::{inserted, replaced};
 use page_spec::InjectFault;
 use std::alloc::{AllocError, Global};
+use std::marker::Model;
 
-/// Where a map goes in the page, or why none can be put into it. It takes no memory.
+/// A page that takes maps, and where a map goes in it. Only [`site_of`] makes one.
+#[derive(Drop)]
+pub struct PageSite<'a> {
+    page: &'a [u8],
+    site: Site,
+}
+
+impl<'a> Model for PageSite<'a> {
+    ghost use Rattle.std.specs.Prelude.{List, ℕ};
+    ghost use Rattle.html_inject.specs.Search.{IsSiteOf};
+
+    ghost Value = { List ℕ };
+
+    ghost view = { λ s. s.page.now };
+
+    ghost invariant = { λ s. IsSiteOf s.page.now s.site };
+}
+
+/// The page, with where a map goes in it, or why none can be put into it. It takes no memory.
 ///
 /// The first fault in order of place decides: [`InjectFault::PageUnclear`] at the first byte that isn't UTF-8, before
 /// all others; then what page_spec's faults say; [`InjectFault::NoPlace`] where there is no fault and nowhere to put
 /// a map.
-pub fn site_of(page: &[u8]) -> Result<Site, InjectFault>
+pub fn site_of(page: &[u8]) -> Result<PageSite<'_>, InjectFault>
+    ensures page { IfOk result (λ site. site ≡ page.now) }
+    ensures takes { IfOk result (λ _. TakesMaps page.now) }
+    ensures fault { IfErr result (λ fault. KeepsMapsOut page.now fault) }
+{
+    match place_in(page) {
+        Err(fault) => Err(fault),
+        Ok(site) => Ok(PageSite { page, site }),
+    }
+}
+
+fn place_in(page: &[u8]) -> Result<Site, InjectFault>
     ensures site { IfOk result (λ site. IsSiteOf page.now site) }
     ensures takes { IfOk result (λ _. TakesMaps page.now) }
     ensures fault { IfErr result (λ fault. KeepsMapsOut page.now fault) }
@@ -27,7 +57,13 @@ pub fn site_of(page: &[u8]) -> Result<Site, InjectFault>
 }
 
 /// The page with the map at its site. No tag of the page is read in a map that is UTF-8 and holds no `<`.
-pub fn inject_at(alloc: Global, page: &[u8], site: Site, map: &[u8]) -> Result<Vec<u8>, AllocError>
+pub fn inject_at(alloc: Global, site: &PageSite<'_>, map: &[u8]) -> Result<Vec<u8>, AllocError>
+    ensures { IfOk result (λ new. Injection map.now site.now (Ok new.items)) }
+{
+    put_at(alloc, site.page, site.site, map)
+}
+
+fn put_at(alloc: Global, page: &[u8], site: Site, map: &[u8]) -> Result<Vec<u8>, AllocError>
     requires { IsSiteOf page.now site }
     ensures { IfOk result (λ new. Injection map.now page.now (Ok new.items)) }
 {
@@ -44,7 +80,7 @@ pub fn inject(alloc: Global, page: &[u8], map: &[u8]) -> Result<Vec<u8>, InjectF
 {
     match site_of(page) {
         Err(fault) => Err(fault),
-        Ok(site) => match inject_at(alloc, page, site, map) {
+        Ok(site) => match inject_at(alloc, &site, map) {
             Ok(new) => Ok(new),
             Err(_) => Err(InjectFault::Memory),
         },

@@ -12,6 +12,5 @@ mod search;
 mod tests;
 mod written;
 
-pub use injection::{inject, inject_at, site_of};
+pub use injection::{PageSite, inject, inject_at, site_of};
 pub use page_spec::InjectFault;
-pub use search::Site;

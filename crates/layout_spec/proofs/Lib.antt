@@ -1,9 +1,6 @@
 pub mod Contained
 pub mod CountedNeeds
 pub mod PlaceLemmas
-pub mod Lays
-pub mod LayoutServes
-pub mod OneLayout
 pub mod NestedPlaces
 pub mod Laying
 pub mod OneMap

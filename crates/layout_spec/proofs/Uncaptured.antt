@@ -13,7 +13,6 @@ use Rattle.import_map_spec.specs.LookUps.{first_answer}
 use Rattle.import_map_spec.specs.ParsedMap.{ParsedMap}
 use Rattle.layout_spec.proofs.AgreedLaws.{held_is}
 use Rattle.layout_spec.proofs.Contained.{contains_here, contains_there, contains_cases, contains_none}
-use Rattle.layout_spec.proofs.LayoutServes.{first_of_none}
 use Rattle.layout_spec.proofs.NestedPlaces.{Nested, nested_above, higher_place}
 use Rattle.layout_spec.proofs.PlaceLemmas.{above_is}
 use Rattle.layout_spec.proofs.SomeAgreed.{agreed, agreed_is, agreed_from}
@@ -35,6 +34,11 @@ first_of_one answer a (place ∷ more) at each c e =
         | inr later ↦ first_of_one answer a more at (λ other d. each other (contains_there other place more d)) later e
       ]
     ]
+
+-- where no place has an answer, there is none
+first_of_none : {A : Type 0} (answer : List ℕ → Option A) (places : List (List ℕ)) → ((place : List ℕ) → Contains places place → answer place ≡ None) → first_of answer places ≡ None
+first_of_none answer [] each = refl
+first_of_none answer (place ∷ more) each = ap (λ o. first_answer o (first_of answer more)) (each place (contains_here place more)) ∙ first_of_none answer more (λ other c. each other (contains_there other place more c))
 
 -- a file's URL is a place of its own referrer alone
 own_place : (referrer file : List ℕ) → IsUrl file → ends_in_slash file ≡ false → Contains (places referrer) file → referrer ≡ file

@@ -3,8 +3,7 @@ use Rattle.std.specs.Prelude.{◌↔◌, List, ◌∷◌, ◌++◌, Contains, �
 use Rattle.import_map_spec.specs.ParsedMap.{ParsedMap}
 use Rattle.import_map_spec.specs.Parsing.{ParsesMap}
 use Rattle.layout_spec.specs.AgreedLayout.{IsAgreedLayout}
-use Rattle.layout_spec.specs.Layout.{layout, Lays}
-use Rattle.layout_spec.specs.Needs.{counted, AreDistinct, NoClash, IsAskedByFile, NamesFiles}
+use Rattle.layout_spec.specs.Needs.{counted, AreDistinct, NoClash, IsAskedByFile}
 use Rattle.layout_spec.specs.Places.{places, above, IsPlace, AreShrinking}
 use Rattle.layout_spec.specs.PrintedMap.{map_text, IsKept}
 use Rattle.layout_spec.specs.Serving.{held, NoCapture, OfNeeds}
@@ -63,20 +62,6 @@ abbrev pub AgreedLayoutCapturesNothing : Type 0
 AgreedLayoutCapturesNothing =
     (needs : List Need) (m : ParsedMap) → NoClash needs → ((need : Need) → Contains needs need → IsAskedByFile need)
     → IsAgreedLayout needs m → NoCapture needs m
-
--- own law: the layout of needs without a clash has their mappings and no other
-abbrev pub LayoutLays : Type 0
-LayoutLays = (needs : List Need) → NoClash needs → Lays needs (layout needs)
-
--- own law: the layout of needs without a clash that name files captures none of them, and has no mappings but theirs
-abbrev pub LayoutServes : Type 0
-LayoutServes =
-    (needs : List Need) → NoClash needs → ((need : Need) → Contains needs need → NamesFiles need)
-    → NoCapture needs (layout needs) × OfNeeds needs (layout needs)
-
--- own law: two maps that have the mappings that the needs want, and nothing else, are one
-abbrev pub OneLayout : Type 0
-OneLayout = (needs : List Need) (m n : ParsedMap) → Lays needs m → Lays needs n → m ≡ n
 
 -- own law: the text of a map is read as that map
 abbrev pub TextsReadBack : Type 0

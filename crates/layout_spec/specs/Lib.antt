@@ -1,6 +1,5 @@
 pub mod Needs
 pub mod Places
-pub mod Layout
 pub mod Serving
 pub mod AgreedLayout
 pub mod Counting

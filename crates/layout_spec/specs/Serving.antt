@@ -1,16 +1,20 @@
 -- What a map owes to needs, wherever its mappings stand.
+--     scope_of scopes key      the mappings of a scope
 --     held map asked place      the address that the place holds for a normalized specifier
 --     first_of answer places      the answer of the first place that has one
 --     NoCapture needs map      each need is served by the longest place that holds its specifier, or by none
 --     OfNeeds needs map      the map has no mappings but those of needs
 --     IsTidy map      no scope is that of the top level, and none is empty
-use Rattle.std.specs.FinMap.{get}
+use Rattle.std.specs.FinMap.{get, empty}
 use Rattle.std.specs.Prelude.{◌≡◌, ℕ, List, [], ◌∷◌, Option, Some, None, unwrap_or, Contains}
 use Rattle.import_map_spec.specs.LookUps.{first_answer}
-use Rattle.import_map_spec.specs.ParsedMap.{Addresses, ParsedMap}
-use Rattle.layout_spec.specs.Layout.{scope_of}
+use Rattle.import_map_spec.specs.ParsedMap.{Texts, Addresses, ParsedMap}
 use Rattle.layout_spec.specs.Places.{places}
 use Rattle.layout_spec.specs.declared.Need.{Need}
+
+-- the mappings of a scope, none where there is no such scope
+abbrev pub scope_of : Texts Addresses → List ℕ → Addresses
+scope_of scopes key = unwrap_or (get scopes key) empty
 
 -- the mappings at a place: the imports at the top level, elsewhere those of the scope
 abbrev pub addresses_at : ParsedMap → List ℕ → Addresses

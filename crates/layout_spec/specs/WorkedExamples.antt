@@ -3,12 +3,11 @@
 --     LayoutExamples, CountExamples, ClashExamples      layouts and their texts, needs counted once, needs that clash
 --     ServingExamples      maps that serve needs, and maps that capture them
 --     TextExamples      maps and their texts
-use Rattle.std.specs.FinMap.{empty}
 use Rattle.std.specs.Prelude.{codes, ◌≡◌, List, [], ◌∷◌, map}
 use Rattle.import_map_spec.specs.ParsedMap.{ParsedMap}
 use Rattle.import_map_spec.specs.WorkedExamples.{pair, to_url, to_null, scope}
 use Rattle.import_map_spec.specs.WrittenMaps.{Lists, map_of_lists}
-use Rattle.layout_spec.specs.Layout.{layout}
+use Rattle.layout_spec.specs.AgreedLayout.{IsAgreedLayout}
 use Rattle.layout_spec.specs.Needs.{counted, NoClash}
 use Rattle.layout_spec.specs.Places.{places}
 use Rattle.layout_spec.specs.PrintedMap.{map_text}
@@ -44,6 +43,10 @@ below_app = need "https://app.test/app/m.mjs" "https://app.test/app/x.mjs" "http
 abbrev pub beside : Need
 beside = need "https://app.test/app/m.mjs" "https://app.test/app/x.mjs" "https://app.test/app/x.mjs"
 
+-- a need of another file in that folder, which wants no mapping
+abbrev pub neighbor : Need
+neighbor = need "https://app.test/app/n.mjs" "https://app.test/app/x.mjs" "https://app.test/app/x.mjs"
+
 abbrev pub HasPlaces : String → List String → Type 0
 HasPlaces referrer wanted = places (codes referrer) ≡ map codes wanted
 
@@ -63,30 +66,44 @@ pub record PlaceExamples : Type 0 where
   pub of_file : HasPlaces "file:///a/m.mjs" ("file:///a/m.mjs" ∷ "file:///a/" ∷ "file:///" ∷ "" ∷ [])
   pub of_none : HasPlaces "" ("" ∷ [])
 
-abbrev pub no_mappings : ParsedMap
-no_mappings = record { imports = empty; scopes = empty; integrity = empty }
+-- two folders with modules of their own, which ask for the same
+abbrev pub of_folder : String → String → Need
+of_folder referrer target = need referrer "c" target
 
-abbrev pub PrintsAs : List Need → String → Type 0
-PrintsAs needs text = map_text (layout needs) ≡ codes text
+-- the agreed layout of the needs has this text
+pub record PrintsAs (needs : List Need) (text : String) : Type 0 where
+  pub map : ParsedMap
+  pub agreed : IsAgreedLayout needs map
+  pub text_is : map_text map ≡ codes text
 
 pub record LayoutExamples : Type 0 where
-  pub no_needs : layout [] ≡ no_mappings
+  pub no_needs : PrintsAs [] "{\n  \"imports\": {}\n}\n"
   -- a need that its target's URL itself serves
-  pub itself : layout (page_app ∷ []) ≡ no_mappings
   pub no_mapping : PrintsAs (page_app ∷ app_home ∷ []) "{\n  \"imports\": {}\n}\n"
-  -- any other has a mapping in the scope of its referrer
+  -- any other has a mapping, at the top level where no need for its specifier has another target
   pub one_mapping :
       PrintsAs (page_app ∷ app_ab ∷ [])
-      "{\n  \"imports\": {},\n  \"scopes\": {\n    \"https://app.test/app.mjs\": {\n      \"https://app.test/a%62.mjs\": \"https://app.test/ab.mjs\"\n    }\n  }\n}\n"
+      "{\n  \"imports\": {\n    \"https://app.test/a%62.mjs\": \"https://app.test/ab.mjs\"\n  }\n}\n"
   pub two_referrers :
-      PrintsAs (page_app ∷ app_home ∷ app_id ∷ home_id ∷ [])
-      "{\n  \"imports\": {},\n  \"scopes\": {\n    \"https://app.test/app.mjs\": {\n      \"https://app.test/pages/[id].mjs\": \"https://app.test/pages/%5Bid%5D.mjs\"\n    },\n    \"https://app.test/pages/home.mjs\": {\n      \"https://app.test/pages/[id].mjs\": \"https://app.test/pages/%5Bid%5D.mjs\"\n    }\n  }\n}\n"
-  -- the keys of a scope stand in the order of their bytes, whatever the order of the needs
+      PrintsAs (app_id ∷ home_id ∷ [])
+      "{\n  \"imports\": {\n    \"https://app.test/pages/[id].mjs\": \"https://app.test/pages/%5Bid%5D.mjs\"\n  }\n}\n"
+  -- the keys stand in the order of their bytes, whatever the order of the needs
   pub two_mappings :
-      PrintsAs (app_id ∷ home_id ∷ app_ab ∷ [])
-      "{\n  \"imports\": {},\n  \"scopes\": {\n    \"https://app.test/app.mjs\": {\n      \"https://app.test/a%62.mjs\": \"https://app.test/ab.mjs\",\n      \"https://app.test/pages/[id].mjs\": \"https://app.test/pages/%5Bid%5D.mjs\"\n    },\n    \"https://app.test/pages/home.mjs\": {\n      \"https://app.test/pages/[id].mjs\": \"https://app.test/pages/%5Bid%5D.mjs\"\n    }\n  }\n}\n"
+      PrintsAs (app_id ∷ app_ab ∷ [])
+      "{\n  \"imports\": {\n    \"https://app.test/a%62.mjs\": \"https://app.test/ab.mjs\",\n    \"https://app.test/pages/[id].mjs\": \"https://app.test/pages/%5Bid%5D.mjs\"\n  }\n}\n"
+  -- a need with another target keeps it below their common places, also one that wants no mapping
+  pub two_targets :
+      PrintsAs (below_app ∷ neighbor ∷ [])
+      "{\n  \"imports\": {},\n  \"scopes\": {\n    \"https://app.test/app/m.mjs\": {\n      \"https://app.test/app/x.mjs\": \"https://app.test/app/app/x.mjs\"\n    }\n  }\n}\n"
+  pub two_folders :
+      PrintsAs
+      (of_folder "https://app.test/b/m.mjs" "https://app.test/b/c.mjs"
+      ∷ of_folder "https://app.test/a/m.mjs" "https://app.test/a/c.mjs" ∷ [])
+      "{\n  \"imports\": {},\n  \"scopes\": {\n    \"https://app.test/a/\": {\n      \"c\": \"https://app.test/a/c.mjs\"\n    },\n    \"https://app.test/b/\": {\n      \"c\": \"https://app.test/b/c.mjs\"\n    }\n  }\n}\n"
   -- of two needs with one key and one address there is one mapping
-  pub same_mapping : layout (app_ab ∷ app_ab ∷ []) ≡ layout (app_ab ∷ [])
+  pub same_mapping :
+      PrintsAs (app_ab ∷ app_ab ∷ [])
+      "{\n  \"imports\": {\n    \"https://app.test/a%62.mjs\": \"https://app.test/ab.mjs\"\n  }\n}\n"
 
 pub record CountExamples : Type 0 where
   pub once : counted (app_id ∷ home_id ∷ app_id ∷ app_ab ∷ home_id ∷ []) ≡ app_id ∷ home_id ∷ app_ab ∷ []
@@ -96,10 +113,6 @@ pub record ClashExamples : Type 0 where
   pub two_targets : NoClash (below_app ∷ beside ∷ []) → ⊥
   -- a module may be asked for by two referrers, and by one under two spellings
   pub none : NoClash (page_app ∷ app_home ∷ app_id ∷ home_id ∷ app_ab ∷ [])
-
--- a need of another file in that folder, which wants no mapping
-abbrev pub neighbor : Need
-neighbor = need "https://app.test/app/n.mjs" "https://app.test/app/x.mjs" "https://app.test/app/x.mjs"
 
 -- a map in whose imports or scope of `https://app.test/app/` the specifier has these addresses
 abbrev pub with_addresses : List String → List String → Lists

@@ -3,9 +3,8 @@
 #![tactic(auto)]
 
 ghost use Rattle.layout_spec.specs.Laws.{AgreedInAnyOrder, AgreedLayoutCapturesNothing, AgreedOfNeeds, AgreedOnce};
-ghost use Rattle.layout_spec.specs.Laws.{CountedKeeps, CountedOnce, LayoutLays, LayoutServes, OneAgreedLayout, OneLayout};
-ghost use Rattle.layout_spec.specs.Laws.{PlacesByCases, PlacesNest, PlacesShrink, SomeAgreedLayout, TextsArePlain};
-ghost use Rattle.layout_spec.specs.Laws.{TextsReadBack};
+ghost use Rattle.layout_spec.specs.Laws.{CountedKeeps, CountedOnce, OneAgreedLayout, PlacesByCases, PlacesNest};
+ghost use Rattle.layout_spec.specs.Laws.{PlacesShrink, SomeAgreedLayout, TextsArePlain, TextsReadBack};
 ghost use Rattle.layout_spec.specs.WorkedExamples.{WorkedExamples};
 
 use primitives::Text;
@@ -76,24 +75,6 @@ pub fn agreed_of_needs()
 /// specifier with another target, unless a nearer place holds that target.
 pub fn agreed_layout_captures_nothing()
     ensures { AgreedLayoutCapturesNothing }
-{}
-
-/// The layout of needs of which no two clash has the mappings that they want, each in the scope of its referrer, and
-/// nothing else.
-#[tactic(auto, using(crate::proofs::Lays::layout_lays))]
-pub fn layout_lays()
-    ensures { LayoutLays }
-{}
-
-/// The layout of needs that name files, and of which no two clash, captures none of them, and has no mapping that isn't
-/// one of theirs.
-pub fn layout_serves()
-    ensures { LayoutServes }
-{}
-
-/// At most one map has the mappings that needs want, and nothing else.
-pub fn one_layout()
-    ensures { OneLayout }
 {}
 
 /// The text of a map is read as that map, where its keys and addresses stand as parsing leaves them.

@@ -1,19 +1,16 @@
 -- Lists in key order are the entries of their finite map.
-use Rattle.import_map_spec.proofs.Entries.{no_entries}
-use Rattle.std.proofs.Common.{◌≡◌, ℕ, List, [], ◌∷◌, ◌++◌, Option, Some, refl, sym, ap, subst, ◌∙◌, append_assoc}
+use Rattle.std.proofs.Common.{◌≡◌, ℕ, List, [], ◌∷◌, ◌++◌, Some, refl, sym, ap, subst, ◌∙◌, append_assoc}
 use Rattle.std.specs.Prelude.{T, map, All}
 use Rattle.std.specs.List.{AllByRecursion}
 use Rattle.std.specs.List.Sorted.{IsStrictlySortedBy}
 use Rattle.std.specs.Ordering.{nat_cmp}
 use Rattle.std.specs.Cmp.Lexicographic.{slice_cmp, nat_list_cmp_total}
-use Rattle.std.specs.FinMap.{entries, empty, from_entries, from_sorted, get-from_entries, get-from_sorted, same_map, slice_cmp-IsAntisymmetric, nat_cmp-IsAntisymmetric}
+use Rattle.std.specs.FinMap.{entries, from_entries, from_sorted, get-from_entries, get-from_sorted, same_map, slice_cmp-IsAntisymmetric, nat_cmp-IsAntisymmetric}
 use Rattle.std.proofs.lemmas.List.{map-append}
 use Rattle.std.proofs.lemmas.List.Elements.{All-head, All-tail}
-use Rattle.layout_spec.specs.declared.Need.{Need}
-use Rattle.layout_spec.specs.Layout.{scopes_onto, layout}
 use Rattle.scope_builder.specs.Keys.{InKeyOrder}
 use Rattle.scope_builder.proofs.KeyOrder.{sorted, entries_of, same_keys}
-use Rattle.scope_builder.specs.Lists.{address_entry, scope_entries, scope_entry, Lists}
+use Rattle.scope_builder.specs.Lists.{scope_entries, scope_entry}
 use Rattle.map_flatten.specs.Grouped.{Scope, addresses_of, scope_of, listed_scope}
 use Rattle.map_flatten.proofs.Updates.{mapped}
 
@@ -31,17 +28,6 @@ scopes_listed (e ∷ es) each =
     let here : InKeyOrder e.1.entries = All-head (λ (scope : List ℕ × List (List ℕ × List ℕ)). InKeyOrder scope.1) (listed_scope e) (map listed_scope es) each in
     let later = All-tail (λ (scope : List ℕ × List (List ℕ × List ℕ)). InKeyOrder scope.1) (listed_scope e) (map listed_scope es) each in
     λ i. (e.0, entries_mapped Some e.1.entries here i) ∷ scopes_listed es later i
-
-pub lists : (grouped : List (List ℕ × Scope)) (imports : List (List ℕ × List ℕ)) (scopes : List (List ℕ × List (List ℕ × List ℕ))) (needs : List Need) → imports ≡ [] → from_entries (map scope_of grouped) ≡ scopes_onto empty needs → scopes ≡ map listed_scope grouped → InKeyOrder scopes → All (λ scope. InKeyOrder scope.1) scopes → Lists (record { imports = imports; scopes = scopes }) [] (layout needs)
-lists grouped imports scopes needs none wanted are in_order each =
-    let keys : InKeyOrder grouped = subst (IsStrictlySortedBy (slice_cmp nat_cmp)) (same_keys listed_scope (λ e. refl) grouped) (subst InKeyOrder are in_order) in
-    record {
-      imports = no_entries (Option (List ℕ)) ∙ ap (map address_entry) (sym none);
-      scopes = ap (λ m. map scope_entries (entries m)) (sym wanted)
-          ∙ (ap (map scope_entries) (entries_mapped (λ (scope : Scope). addresses_of scope.entries) grouped keys)
-          ∙ (scopes_listed grouped (subst (All (λ scope. InKeyOrder scope.1)) are each) ∙ ap (map scope_entry) (sym are)));
-      integrity_texts = no_entries (List ℕ);
-    }
 
 front_below : (P : List ℕ → Type 0) (ks ls : List (List ℕ)) → AllByRecursion P (ks ++ ls) → AllByRecursion P ks
 front_below P [] ls h = tt

@@ -11,7 +11,7 @@ use Rattle.std.specs.List.Sorted.{IsStrictlySortedBy}
 use Rattle.import_map_spec.proofs.Entries.{no_entries}
 use Rattle.import_map_spec.specs.ParsedMap.{Addresses, ParsedMap}
 use Rattle.layout_spec.proofs.Laying.{nothing_mapped, with_address}
-use Rattle.layout_spec.specs.Layout.{scope_of}
+use Rattle.layout_spec.specs.Serving.{scope_of}
 use Rattle.scope_builder.proofs.KeyOrder.{same_keys}
 use Rattle.scope_builder.specs.Keys.{InKeyOrder}
 use Rattle.scope_builder.specs.Lists.{address_entry, scope_entries, scope_entry, Lists}

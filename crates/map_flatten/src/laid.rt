@@ -1,16 +1,19 @@
-ghost use Rattle.std.specs.Prelude.{◌≡◌, [], Some, IfOk, OnOk};
+ghost use Rattle.std.specs.Prelude.{◌≡◌, [], Some, map, IfOk, OnOk, All};
 ghost use Rattle.std.specs.FinMap.{insert};
-ghost use Rattle.layout_spec.specs.Layout.{scope_of};
+ghost use Rattle.layout_spec.specs.Serving.{scope_of};
 ghost use Rattle.layout_spec.proofs.Laying.{nothing_mapped, with_address};
+ghost use Rattle.scope_builder.specs.Keys.{InKeyOrder};
 ghost use Rattle.scope_builder.specs.Lists.{Lists};
-ghost use Rattle.map_flatten.specs.Grouped.{scopes_of};
+ghost use Rattle.map_flatten.specs.Grouped.{scopes_of, listed_scope};
 ghost use Rattle.map_flatten.specs.Laid.{laid_map};
 
-use crate::flatten::{Scope, listed};
 use primitives::{Memory, Text};
-use scope_builder::{Layout, Mappings};
+use scope_builder::{Layout, Mappings, Scopes};
 use std::alloc::Global;
 use std::collections::BTreeMap;
+
+/// Specifiers and the URLs to which they are mapped.
+type Scope = BTreeMap<Text, Text>;
 
 /// Mappings that are laid, by their places.
 #[derive(Drop)]
@@ -82,4 +85,15 @@ fn put_in_scope(
         }
     }
     Ok(())
+}
+
+fn listed(alloc: Global, grouped: BTreeMap<Text, Scope>) -> Result<Scopes, Memory>
+    ensures scopes { IfOk result (λ scopes. scopes ≡ map listed_scope grouped.entries) }
+    ensures in_order { IfOk result (λ scopes. InKeyOrder scopes × All (λ scope. InKeyOrder scope.1) scopes) }
+{
+    let mut scopes = Scopes::new(alloc);
+    for (place, scope) in grouped {
+        scopes.push(place, Mappings::from_map(alloc, scope)?)?;
+    }
+    Ok(scopes)
 }

@@ -1,4 +1,4 @@
-use crate::{agreed, layout, mappings};
+use crate::{agreed, mappings};
 use layout_spec::Need;
 use need_table::Needs;
 use primitives::Text;
@@ -9,8 +9,8 @@ use std::test::Fail;
 /// Three texts: a referrer, a normalized specifier and a target; or a place, a specifier and its address.
 type Three = (&'static str, &'static str, &'static str);
 
-/// The second needs no mapping.
-static NEEDS: [Three; 2] = [
+/// The second needs no mapping; the last two have one each, in the scopes of their folders.
+static NEEDS: [Three; 4] = [
     (
         "https://app.test/app.mjs",
         "https://app.test/a%62.mjs",
@@ -20,6 +20,16 @@ static NEEDS: [Three; 2] = [
         "https://app.test/ab.mjs",
         "https://app.test/c.mjs",
         "https://app.test/c.mjs",
+    ),
+    (
+        "https://app.test/x/m.mjs",
+        "c",
+        "https://app.test/x/c.mjs",
+    ),
+    (
+        "https://app.test/y/m.mjs",
+        "c",
+        "https://app.test/y/c.mjs",
     ),
 ];
 
@@ -36,17 +46,12 @@ fn needs_of(alloc: Global, rows: &[Three]) -> Result<Needs, Fail> {
 }
 
 #[test]
-fn a_target_that_is_asked_for_needs_no_mapping(rt: HostRuntime) -> Result<(), Fail> {
+fn mappings_of_the_top_level_and_of_scopes_are_counted(rt: HostRuntime) -> Result<(), Fail> {
     let alloc = rt.alloc();
-    let layout = layout(alloc, &needs_of(alloc, NEEDS.as_slice())?)?;
-    assert_eq!(rt; mappings(&layout), Some(1));
-    assert!(rt; layout.imports.is_empty());
-    assert_eq!(rt; layout.scopes.len(), 1);
-    let (referrer, scope) = layout.scopes.at(0).ok_or("no scope")?;
-    let (asked, target) = scope.at(0).ok_or("no mapping")?;
-    assert_eq!(rt; referrer.as_str(), "https://app.test/app.mjs");
-    assert_eq!(rt; asked.as_str(), "https://app.test/a%62.mjs");
-    assert_eq!(rt; target.as_str(), "https://app.test/ab.mjs");
+    let layout = agreed(alloc, &needs_of(alloc, NEEDS.as_slice())?)?;
+    assert_eq!(rt; layout.imports.len(), 1);
+    assert_eq!(rt; layout.scopes.len(), 2);
+    assert_eq!(rt; mappings(&layout), Some(3));
     Ok(())
 }
 

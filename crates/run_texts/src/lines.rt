@@ -5,12 +5,12 @@ ghost use Rattle.generator_spec.specs.Lines as spec;
 ghost use Rattle.generator_spec.specs.Lines.{end_of_line};
 
 use generator_spec::{PageFault, Refusal};
-use node_spec::Cause;
+use node_spec::Reason;
 use ordered_json::print_text;
 use page_spec::InjectFault;
 use primitives::{Memory, Text};
 use std::alloc::Global;
-use trace_spec::TraceFault;
+use trace_spec::{AskCause, TraceFault};
 use tree_spec::LimitName;
 
 /// The line of a command that lacks memory, also for its own line.
@@ -56,6 +56,7 @@ pub fn line_of(alloc: Global, refusal: &Refusal) -> Result<Vec<u8>, Memory>
     match refusal {
         Refusal::Words => Vec::from_slice(alloc, b"not built: words\n".as_slice()),
         Refusal::BadBase { text } => named_line(alloc, "words: BadBase ", text.as_str()),
+        Refusal::Limit { which } => limit_line(alloc, *which),
         Refusal::Page { fault } => page_line(alloc, *fault),
         Refusal::Trace { fault } => trace_line(alloc, fault),
     }
@@ -100,11 +101,14 @@ fn trace_line(alloc: Global, fault: &TraceFault) -> Result<Vec<u8>, Memory>
             specifier,
             cause,
         } => refused_line(alloc, referrer, specifier, *cause),
-        TraceFault::RequestNotBuilt {
+        TraceFault::Clash {
             referrer,
-            specifier,
-        } => request_line(alloc, referrer, specifier),
-        TraceFault::ModuleNotBuilt { module } => named_line(alloc, "not built: ", module.as_str()),
+            first,
+            first_to,
+            second,
+            second_to,
+        } => clash_line(alloc, referrer, first, first_to, second, second_to),
+        TraceFault::NotModule { path, reason } => module_line(alloc, path, *reason),
         TraceFault::Limit { which } => limit_line(alloc, *which),
         TraceFault::ReadFault => Vec::from_slice(alloc, read_fault_line()),
         TraceFault::Memory => Vec::from_slice(alloc, memory_line()),
@@ -127,7 +131,7 @@ fn refused_line(
     alloc: Global,
     referrer: &Text,
     specifier: &Text,
-    cause: Cause,
+    cause: AskCause,
 ) -> Result<Vec<u8>, Memory>
     ensures { IfOk result (λ line. line.items ≡ spec.trace_line (fault.Refused referrer.now specifier.now cause)) }
 {
@@ -138,12 +142,53 @@ fn refused_line(
     Ok(line)
 }
 
-fn request_line(alloc: Global, referrer: &Text, specifier: &Text) -> Result<Vec<u8>, Memory>
-    ensures { IfOk result (λ line. line.items ≡ spec.trace_line (fault.RequestNotBuilt referrer.now specifier.now)) }
+// Two requests of one referrer, with what each leads to.
+fn clash_line(
+    alloc: Global,
+    referrer: &Text,
+    first: &Text,
+    first_to: &Text,
+    second: &Text,
+    second_to: &Text,
+) -> Result<Vec<u8>, Memory>
+    ensures { IfOk result (λ line. line.items ≡ spec.clash_line referrer.now first.now first_to.now second.now second_to.now) }
 {
-    let mut line = Vec::from_slice(alloc, b"not built: from ".as_slice())?;
-    push_pair(&mut line, referrer.as_str(), " for ", specifier.as_str())?;
+    let mut line = Vec::from_slice(alloc, b"refused: Clash from ".as_slice())?;
+    print_text(&mut line, referrer.as_str())?;
+    line.extend_from_slice(b" for ".as_slice())?;
+    print_text(&mut line, first.as_str())?;
+    line.extend_from_slice(b" to ".as_slice())?;
+    print_text(&mut line, first_to.as_str())?;
+    line.extend_from_slice(b" and ".as_slice())?;
+    push_pair(&mut line, second.as_str(), " to ", second_to.as_str())?;
     Ok(line)
+}
+
+fn module_line(alloc: Global, path: &Text, reason: Reason) -> Result<Vec<u8>, Memory>
+    ensures { IfOk result (λ line. line.items ≡ spec.trace_line (fault.NotModule path.now reason)) }
+{
+    let mut line = Vec::from_slice(alloc, b"refused: NotModule ".as_slice())?;
+    print_text(&mut line, path.as_str())?;
+    line.extend_from_slice(b" ".as_slice())?;
+    push_reason(alloc, &mut line, reason)?;
+    line.push(b'\n')?;
+    Ok(line)
+}
+
+fn push_reason(alloc: Global, line: &mut Vec<u8>, reason: Reason) -> Result<(), Memory>
+    ensures { OnOk result (line.new.items ≡ line.old.items ++ spec.reason_text reason) }
+{
+    match reason {
+        Reason::CommonJs => line.extend_from_slice(b"CommonJs".as_slice()),
+        Reason::Json => line.extend_from_slice(b"Json".as_slice()),
+        Reason::Addon => line.extend_from_slice(b"Addon".as_slice()),
+        Reason::Other => line.extend_from_slice(b"Other".as_slice()),
+        Reason::Config => line.extend_from_slice(b"Config".as_slice()),
+        Reason::Unreadable { at } => {
+            let text = format!(in alloc; "Unreadable at {at}")?;
+            line.extend_from_slice(text.as_bytes())
+        }
+    }
 }
 
 fn limit_line(alloc: Global, which: LimitName) -> Result<Vec<u8>, Memory>
@@ -176,18 +221,20 @@ fn push_pair(line: &mut Vec<u8>, first: &str, between: &str, second: &str) -> Re
     Ok(())
 }
 
-fn cause_name(cause: Cause) -> &'static str
+fn cause_name(cause: AskCause) -> &'static str
     ensures { result.now ≡ spec.cause_name cause }
 {
     match cause {
-        Cause::Builtin => "Builtin",
-        Cause::ExternalUrl => "ExternalUrl",
-        Cause::InvalidSpecifier => "InvalidSpecifier",
-        Cause::InvalidConfig => "InvalidConfig",
-        Cause::InvalidTarget => "InvalidTarget",
-        Cause::NotExported => "NotExported",
-        Cause::ImportNotDefined => "ImportNotDefined",
-        Cause::NotFound => "NotFound",
-        Cause::DirectoryImport => "DirectoryImport",
+        AskCause::Builtin => "Builtin",
+        AskCause::ExternalUrl => "ExternalUrl",
+        AskCause::InvalidSpecifier => "InvalidSpecifier",
+        AskCause::InvalidConfig => "InvalidConfig",
+        AskCause::InvalidTarget => "InvalidTarget",
+        AskCause::NotExported => "NotExported",
+        AskCause::ImportNotDefined => "ImportNotDefined",
+        AskCause::NotFound => "NotFound",
+        AskCause::DirectoryImport => "DirectoryImport",
+        AskCause::Unaskable => "Unaskable",
+        AskCause::TrailingSlash => "TrailingSlash",
     }
 }

@@ -14,7 +14,7 @@ pub const WRITE_FAULT: u8 = 5;
 /// Want of memory.
 pub const MEMORY: u8 = 8;
 
-/// A request or the page is refused.
+/// A request, a module or the page is refused.
 const REFUSED: u8 = 1;
 /// The words are wrong.
 const BAD_WORDS: u8 = 2;
@@ -32,6 +32,7 @@ pub fn status_of(refusal: &Refusal) -> u8
     match refusal {
         Refusal::Words => NOT_BUILT,
         Refusal::BadBase { text: _ } => BAD_WORDS,
+        Refusal::Limit { which: _ } => LIMIT,
         Refusal::Page { fault } => page_status(*fault),
         Refusal::Trace { fault } => trace_status(fault),
     }
@@ -68,11 +69,14 @@ fn trace_status(fault: &TraceFault) -> u8
             specifier: _,
             cause: _,
         } => REFUSED,
-        TraceFault::RequestNotBuilt {
+        TraceFault::Clash {
             referrer: _,
-            specifier: _,
-        } => NOT_BUILT,
-        TraceFault::ModuleNotBuilt { module: _ } => NOT_BUILT,
+            first: _,
+            first_to: _,
+            second: _,
+            second_to: _,
+        } => REFUSED,
+        TraceFault::NotModule { path: _, reason: _ } => REFUSED,
         TraceFault::Limit { which: _ } => LIMIT,
         TraceFault::ReadFault => READ_FAULT,
         TraceFault::Memory => MEMORY,

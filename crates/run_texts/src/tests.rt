@@ -1,42 +1,330 @@
-use crate::{done_line, line_of};
+use crate::{done_line, line_of, memory_line, read_fault_line, status_of, write_fault_line};
 use generator_spec::{PageFault, Refusal};
-use node_spec::Cause;
+use node_spec::Reason;
 use page_spec::InjectFault;
-use primitives::Text;
+use primitives::{Memory, Text};
+use std::alloc::Global;
 use std::test::Fail;
-use trace_spec::TraceFault;
+use trace_spec::{AskCause, TraceFault};
 use tree_spec::LimitName;
 
-#[test]
-fn lines(rt: HostRuntime) -> Result<(), Fail> {
-    let alloc = rt.alloc();
-    let refused = Refusal::Trace {
+fn says(alloc: Global, refusal: &Refusal, status: u8, line: &str) -> Result<bool, Memory> {
+    Ok(status_of(refusal) == status && line_of(alloc, refusal)?.as_slice() == line.as_bytes())
+}
+
+fn refused(
+    alloc: Global,
+    referrer: &str,
+    specifier: &str,
+    cause: AskCause,
+) -> Result<Refusal, Memory> {
+    Ok(Refusal::Trace {
         fault: TraceFault::Refused {
-            referrer: Text::of(alloc, "/app.mjs")?,
-            specifier: Text::of(alloc, "p/priv/x")?,
-            cause: Cause::NotExported,
+            referrer: Text::of(alloc, referrer)?,
+            specifier: Text::of(alloc, specifier)?,
+            cause,
         },
-    };
-    let passed = Refusal::Trace {
-        fault: TraceFault::Limit {
-            which: LimitName::File,
+    })
+}
+
+fn no_module(alloc: Global, path: &str, reason: Reason) -> Result<Refusal, Memory> {
+    Ok(Refusal::Trace {
+        fault: TraceFault::NotModule {
+            path: Text::of(alloc, path)?,
+            reason,
         },
+    })
+}
+
+fn clash(
+    alloc: Global,
+    referrer: &str,
+    first: (&str, &str),
+    second: (&str, &str),
+) -> Result<Refusal, Memory> {
+    Ok(Refusal::Trace {
+        fault: TraceFault::Clash {
+            referrer: Text::of(alloc, referrer)?,
+            first: Text::of(alloc, first.0)?,
+            first_to: Text::of(alloc, first.1)?,
+            second: Text::of(alloc, second.0)?,
+            second_to: Text::of(alloc, second.1)?,
+        },
+    })
+}
+
+fn unservable(alloc: Global, path: &str, url: Option<&str>) -> Result<Refusal, Memory> {
+    let url = match url {
+        None => None,
+        Some(url) => Some(Text::of(alloc, url)?),
     };
-    let line = line_of(alloc, &refused)?;
-    assert_eq!(rt;
-        line.as_slice(),
-        b"refused: NotExported from \"/app.mjs\" for \"p/priv/x\"\n".as_slice()
-    );
-    let line = line_of(alloc, &passed)?;
-    assert_eq!(rt; line.as_slice(), b"limit: file above 16777216\n".as_slice());
-    let unclear = Refusal::Page {
-        fault: PageFault::KeepsMapsOut {
+    Ok(Refusal::Trace {
+        fault: TraceFault::Unservable {
+            path: Text::of(alloc, path)?,
+            url,
+        },
+    })
+}
+
+/// Each cause, a specifier, and the line of a request of it in `/app.mjs`.
+static CAUSES: [(AskCause, &str, &str); 11] = [
+    (
+        AskCause::Builtin,
+        "node:fs",
+        "refused: Builtin from \"/app.mjs\" for \"node:fs\"\n",
+    ),
+    (
+        AskCause::ExternalUrl,
+        "https://cdn.test/x.js",
+        "refused: ExternalUrl from \"/app.mjs\" for \"https://cdn.test/x.js\"\n",
+    ),
+    (
+        AskCause::InvalidSpecifier,
+        "",
+        "refused: InvalidSpecifier from \"/app.mjs\" for \"\"\n",
+    ),
+    (
+        AskCause::InvalidConfig,
+        "p",
+        "refused: InvalidConfig from \"/app.mjs\" for \"p\"\n",
+    ),
+    (
+        AskCause::InvalidTarget,
+        "p/\"a\"",
+        "refused: InvalidTarget from \"/app.mjs\" for \"p/\\\"a\\\"\"\n",
+    ),
+    (
+        AskCause::NotExported,
+        "p/priv/x",
+        "refused: NotExported from \"/app.mjs\" for \"p/priv/x\"\n",
+    ),
+    (
+        AskCause::ImportNotDefined,
+        "#</q>",
+        "refused: ImportNotDefined from \"/app.mjs\" for \"#\\u003c/q>\"\n",
+    ),
+    (
+        AskCause::NotFound,
+        "./q\\.mjs",
+        "refused: NotFound from \"/app.mjs\" for \"./q\\\\.mjs\"\n",
+    ),
+    (
+        AskCause::DirectoryImport,
+        "./d",
+        "refused: DirectoryImport from \"/app.mjs\" for \"./d\"\n",
+    ),
+    (
+        AskCause::Unaskable,
+        "//[\t",
+        "refused: Unaskable from \"/app.mjs\" for \"//[\\u0009\"\n",
+    ),
+    (
+        AskCause::TrailingSlash,
+        "./d/",
+        "refused: TrailingSlash from \"/app.mjs\" for \"./d/\"\n",
+    ),
+];
+
+#[test]
+fn causes(rt: HostRuntime) -> Result<(), Fail> {
+    let alloc = rt.alloc();
+    for (cause, specifier, line) in &CAUSES {
+        let refusal = refused(alloc, "/app.mjs", specifier, *cause)?;
+        assert!(rt; says(alloc, &refusal, 1, line)?, "{line}");
+    }
+    Ok(())
+}
+
+/// Each reason, a module, and the line of that module.
+static REASONS: [(Reason, &str, &str); 7] = [
+    (
+        Reason::CommonJs,
+        "/x.js",
+        "refused: NotModule \"/x.js\" CommonJs\n",
+    ),
+    (
+        Reason::Json,
+        "/x.json",
+        "refused: NotModule \"/x.json\" Json\n",
+    ),
+    (
+        Reason::Addon,
+        "/x.node",
+        "refused: NotModule \"/x.node\" Addon\n",
+    ),
+    (
+        Reason::Other,
+        "/x.css?a",
+        "refused: NotModule \"/x.css?a\" Other\n",
+    ),
+    (
+        Reason::Config,
+        "/x.js#b",
+        "refused: NotModule \"/x.js#b\" Config\n",
+    ),
+    (
+        Reason::Unreadable { at: 0 },
+        "/a \"b\".mjs",
+        "refused: NotModule \"/a \\\"b\\\".mjs\" Unreadable at 0\n",
+    ),
+    (
+        Reason::Unreadable { at: 16_777_215 },
+        "/app.mjs",
+        "refused: NotModule \"/app.mjs\" Unreadable at 16777215\n",
+    ),
+];
+
+#[test]
+fn reasons(rt: HostRuntime) -> Result<(), Fail> {
+    let alloc = rt.alloc();
+    for (reason, path, line) in &REASONS {
+        let refusal = no_module(alloc, path, *reason)?;
+        assert!(rt; says(alloc, &refusal, 1, line)?, "{line}");
+    }
+    Ok(())
+}
+
+/// The limits, each with its line.
+static LIMITS: [(LimitName, &str); 13] = [
+    (LimitName::File, "limit: file above 16777216\n"),
+    (LimitName::Bytes, "limit: bytes above 268435456\n"),
+    (LimitName::Looks, "limit: looks above 400000\n"),
+    (LimitName::Modules, "limit: modules above 20000\n"),
+    (
+        LimitName::ModuleRequests,
+        "limit: module-requests above 4096\n",
+    ),
+    (LimitName::Requests, "limit: requests above 200000\n"),
+    (LimitName::Specifier, "limit: specifier above 4096\n"),
+    (LimitName::Entries, "limit: entries above 1024\n"),
+    (LimitName::Brackets, "limit: brackets above 4096\n"),
+    (LimitName::Depth, "limit: depth above 128\n"),
+    (LimitName::Session, "limit: session above 268435456\n"),
+    (LimitName::Map, "limit: map above 67108864\n"),
+    (LimitName::Choices, "limit: choices above 16777216\n"),
+];
+
+#[test]
+fn limits(rt: HostRuntime) -> Result<(), Fail> {
+    let alloc = rt.alloc();
+    for (which, line) in &LIMITS {
+        let of_trace = Refusal::Trace {
+            fault: TraceFault::Limit { which: *which },
+        };
+        assert!(rt; says(alloc, &of_trace, 3, line)?, "{line}");
+        let of_words = Refusal::Limit { which: *which };
+        assert!(rt; says(alloc, &of_words, 3, line)?, "{line}");
+    }
+    Ok(())
+}
+
+#[test]
+fn clashes(rt: HostRuntime) -> Result<(), Fail> {
+    let alloc = rt.alloc();
+    let refusal = clash(
+        alloc,
+        "/m.mjs",
+        ("../app/x.mjs", "/app/x.mjs"),
+        ("./x.mjs", "/x.mjs"),
+    )?;
+    let line =
+        "refused: Clash from \"/m.mjs\" for \"../app/x.mjs\" to \"/app/x.mjs\" and \"./x.mjs\" to \"/x.mjs\"\n";
+    assert!(rt; says(alloc, &refusal, 1, line)?, "{line}");
+    let refusal = clash(alloc, "/index.html", ("a", "/a?<"), ("b", "/b#\\"))?;
+    let line =
+        "refused: Clash from \"/index.html\" for \"a\" to \"/a?\\u003c\" and \"b\" to \"/b#\\\\\"\n";
+    assert!(rt; says(alloc, &refusal, 1, line)?, "{line}");
+    Ok(())
+}
+
+#[test]
+fn unservables(rt: HostRuntime) -> Result<(), Fail> {
+    let alloc = rt.alloc();
+    let refusal = unservable(alloc, "/a/b.mjs", Some("https://app.test/c.mjs"))?;
+    let line = "refused: Unservable \"/a/b.mjs\" as \"https://app.test/c.mjs\"\n";
+    assert!(rt; says(alloc, &refusal, 1, line)?, "{line}");
+    let refusal = unservable(alloc, "/a/b.mjs?q", None)?;
+    let line = "refused: Unservable \"/a/b.mjs?q\" as \"\"\n";
+    assert!(rt; says(alloc, &refusal, 1, line)?, "{line}");
+    Ok(())
+}
+
+#[test]
+fn words(rt: HostRuntime) -> Result<(), Fail> {
+    let alloc = rt.alloc();
+    assert!(rt; says(alloc, &Refusal::Words, 9, "not built: words\n")?);
+    let refusal = Refusal::BadBase {
+        text: Text::of(alloc, "ftp://h/")?,
+    };
+    let line = "words: BadBase \"ftp://h/\"\n";
+    assert!(rt; says(alloc, &refusal, 2, line)?, "{line}");
+    Ok(())
+}
+
+/// What is wrong with a page, its status and its line.
+static PAGES: [(PageFault, u8, &str); 6] = [
+    (PageFault::Absent, 7, "bad file: page absent\n"),
+    (PageFault::TooLarge, 3, "limit: file above 16777216\n"),
+    (
+        PageFault::KeepsMapsOut {
             fault: InjectFault::PageUnclear { at: 0 },
         },
+        1,
+        "refused: PageUnclear at 0\n",
+    ),
+    (
+        PageFault::KeepsMapsOut {
+            fault: InjectFault::TwoMaps { at: 120 },
+        },
+        1,
+        "refused: TwoMaps at 120\n",
+    ),
+    (
+        PageFault::KeepsMapsOut {
+            fault: InjectFault::NoPlace,
+        },
+        1,
+        "refused: NoPlace\n",
+    ),
+    (
+        PageFault::KeepsMapsOut {
+            fault: InjectFault::Memory,
+        },
+        8,
+        "memory\n",
+    ),
+];
+
+#[test]
+fn pages(rt: HostRuntime) -> Result<(), Fail> {
+    let alloc = rt.alloc();
+    for (fault, status, line) in &PAGES {
+        let refusal = Refusal::Page { fault: *fault };
+        assert!(rt; says(alloc, &refusal, *status, line)?, "{line}");
+    }
+    Ok(())
+}
+
+#[test]
+fn faults(rt: HostRuntime) -> Result<(), Fail> {
+    let alloc = rt.alloc();
+    let read = Refusal::Trace {
+        fault: TraceFault::ReadFault,
     };
-    let line = line_of(alloc, &unclear)?;
-    assert_eq!(rt; line.as_slice(), b"refused: PageUnclear at 0\n".as_slice());
-    let line = done_line(alloc, 50, 200_000, 0)?;
+    assert!(rt; says(alloc, &read, 4, "fault: read\n")?);
+    let memory = Refusal::Trace {
+        fault: TraceFault::Memory,
+    };
+    assert!(rt; says(alloc, &memory, 8, "memory\n")?);
+    assert_eq!(rt; read_fault_line(), b"fault: read\n".as_slice());
+    assert_eq!(rt; write_fault_line(), b"fault: write\n".as_slice());
+    assert_eq!(rt; memory_line(), b"memory\n".as_slice());
+    Ok(())
+}
+
+#[test]
+fn counts(rt: HostRuntime) -> Result<(), Fail> {
+    let line = done_line(rt.alloc(), 50, 200_000, 0)?;
     assert_eq!(rt;
         line.as_slice(),
         b"ok: 50 modules, 200000 requests, 0 mappings\n".as_slice()

@@ -10,10 +10,9 @@ use Rattle.import_map_spec.specs.ParsedMap.{ParsedMap}
 use Rattle.import_map_spec.specs.Parsing.{ParsesMap}
 use Rattle.import_map_spec.specs.Resolving as html
 use Rattle.layout_spec.proofs.AgreedLaws.{agreed_of_needs}
-use Rattle.layout_spec.proofs.LayoutServes.{layout_serves}
 use Rattle.layout_spec.proofs.TextBack.{texts_read_back, texts_are_plain}
 use Rattle.layout_spec.proofs.Uncaptured.{agreed_layout_captures_nothing}
-use Rattle.layout_spec.specs.Layout.{layout}
+use Rattle.layout_spec.specs.AgreedLayout.{IsAgreedLayout}
 use Rattle.layout_spec.specs.Needs.{IsAskedByFile, NamesFiles}
 use Rattle.layout_spec.specs.PrintedMap.{map_text}
 use Rattle.layout_spec.specs.Serving.{NoCapture, OfNeeds}
@@ -93,22 +92,31 @@ maps_serve tree config all m traces page_is_file no_capture of_needs no_digests 
 by_file : (need : Need) → NamesFiles need → IsAskedByFile need
 by_file need names = record { referrer = names.referrer; is_file = names.referrer_is_file }
 
+module _ (tree : Tree) (config : Config) (all : Gathered) (traces : traced (get tree) config ≡ Ok all) (page_is_file : PageIsFile config) (m : ParsedMap) (agreed : IsAgreedLayout all.needs m) where
+  captures_none : NoCapture all.needs m
+  captures_none =
+      agreed_layout_captures_nothing all.needs m (needs_are_requests (get tree) config all traces).no_clash
+      (λ need c. by_file need (needs_name tree config all traces page_is_file need c)) agreed
+
+  agreed_text_serves : (bytes : List ℕ) → bytes ≡ map_text m → Serves tree config bytes
+  agreed_text_serves bytes text =
+      text_serves tree config all traces page_is_file m captures_none (agreed_of_needs all.needs m agreed) agreed.no_digests bytes text
+
+  agreed_text_is_plain : (bytes : List ℕ) → bytes ≡ map_text m → IsPlainMap bytes
+  agreed_text_is_plain bytes text =
+      text_is_plain tree config all traces page_is_file m captures_none (agreed_of_needs all.needs m agreed) agreed.no_digests bytes text
+
 pub agreed_maps_serve : AgreedMapsServe
 agreed_maps_serve tree config all m traces page_is_file agreed =
-    maps_serve tree config all m traces page_is_file
-    (agreed_layout_captures_nothing all.needs m (needs_are_requests (get tree) config all traces).no_clash
-    (λ need c. by_file need (needs_name tree config all traces page_is_file need c)) agreed)
-    (agreed_of_needs all.needs m agreed) agreed.no_digests
+    agreed_text_serves tree config all traces page_is_file m agreed (map_text m) refl
 
 pub sound : Soundness
 sound tree config bytes is =
-    let laid = layout_serves is.all.needs (needs_are_requests (get tree) config is.all is.is_traced).no_clash (needs_name tree config is.all is.is_traced is.page_is_file) in
-    text_serves tree config is.all is.is_traced is.page_is_file (layout is.all.needs) laid.0 laid.1 refl bytes is.text
+    agreed_text_serves tree config is.all is.is_traced is.page_is_file is.map is.agreed bytes is.text
 
 pub maps_are_plain : MapsArePlain
 maps_are_plain tree config map is =
-    let laid = layout_serves is.all.needs (needs_are_requests (get tree) config is.all is.is_traced).no_clash (needs_name tree config is.all is.is_traced is.page_is_file) in
-    text_is_plain tree config is.all is.is_traced is.page_is_file (layout is.all.needs) laid.0 laid.1 refl map is.text
+    agreed_text_is_plain tree config is.all is.is_traced is.page_is_file is.map is.agreed map is.text
 
 pub one_map_in_page : OneMapInPage
 one_map_in_page tree config map page new is i = one_map_after map page new (maps_are_plain tree config map is) i

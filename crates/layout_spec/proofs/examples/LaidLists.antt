@@ -1,32 +1,39 @@
--- The layout of needs that are written out, as lists.
-use Rattle.std.proofs.Common.{refl, ap, ◌∙◌, sym}
+-- The agreed layout of needs that are written out, as lists.
+use Rattle.std.proofs.Common.{refl, ap, ◌∙◌, sym, subst}
 use Rattle.std.specs.FinMap.{insert, empty, get}
-use Rattle.std.specs.Prelude.{ℕ, List, Option, [], ◌∷◌, ◌++◌, bytes_eq, if◌then◌else◌, Some, unwrap_or, ◌≡◌, map, Bool, true, false, option_map, None}
+use Rattle.std.specs.Prelude.{ℕ, List, Option, [], ◌∷◌, ◌++◌, if◌then◌else◌, Some, unwrap_or, ◌≡◌, map, Bool, true, false, option_map, None}
 use Rattle.import_map_spec.proofs.Entries.{same_key}
 use Rattle.import_map_spec.proofs.examples.WrittenMaps.{looked, looked_onto, nowhere, get_map_of}
 use Rattle.import_map_spec.specs.LookUps.{Lookup}
 use Rattle.import_map_spec.specs.ParsedMap.{Texts, Addresses}
 use Rattle.import_map_spec.specs.WrittenMaps.{Lists, insert_all, scope_of, map_of, map_of_lists}
-use Rattle.layout_spec.specs.Layout.{with_need, scopes_onto, layout}
+use Rattle.layout_spec.proofs.Laying.{Mapping, with_address, laid_onto}
+use Rattle.layout_spec.proofs.SomeAgreed.{mappings, laid_agreed, mappings_stand, mappings_are_all}
+use Rattle.layout_spec.specs.AgreedLayout.{IsAgreedLayout}
 use Rattle.layout_spec.specs.declared.Need.{Need}
 
 abbrev Mappings : Type 0
 Mappings = List (List ℕ × Option (List ℕ))
 
--- a referrer and its mappings
+-- a place and its mappings
 abbrev Scope : Type 0
 Scope = List ℕ × Mappings
 
 -- a scope that has one mapping more stands behind the others, and replaces the one that it grew from
-abbrev pub with_listed : Need → List Scope → List Scope
-with_listed need scopes = if bytes_eq need.asked need.target then scopes else scopes ++ (need.referrer, unwrap_or (looked scopes need.referrer) [] ++ (need.asked, Some need.target) ∷ []) ∷ []
+abbrev pub with_listed : List ℕ → List ℕ → List ℕ → Lists → Lists
+with_listed [] asked target l = record { imports = l.imports ++ (asked, Some target) ∷ []; scopes = l.scopes; integrity = l.integrity }
+with_listed (b ∷ rest) asked target l = record { imports = l.imports; scopes = l.scopes ++ (b ∷ rest, unwrap_or (looked l.scopes (b ∷ rest)) [] ++ (asked, Some target) ∷ []) ∷ []; integrity = l.integrity }
 
-abbrev pub listed_onto : List Scope → List Need → List Scope
-listed_onto scopes [] = scopes
-listed_onto scopes (need ∷ more) = listed_onto (with_listed need scopes) more
+abbrev pub listed_onto : Lists → List Mapping → Lists
+listed_onto l [] = l
+listed_onto l (mapping ∷ more) = listed_onto (with_listed mapping.place mapping.asked mapping.target l) more
 
+abbrev no_lists : Lists
+no_lists = record { imports = []; scopes = []; integrity = [] }
+
+-- the lists of the agreed layout
 abbrev pub listed_layout : List Need → Lists
-listed_layout needs = record { imports = []; scopes = listed_onto [] needs; integrity = [] }
+listed_layout needs = listed_onto no_lists (mappings needs)
 
 inserted_last : {X : Type 0} (es : List (List ℕ × X)) (m : Texts X) (key : List ℕ) (x : X) → insert_all m (es ++ (key, x) ∷ []) ≡ insert (insert_all m es) key x
 inserted_last [] m key x = refl
@@ -48,30 +55,28 @@ or_empty : (found : Option Mappings) → unwrap_or (option_map map_of found) emp
 or_empty None = refl
 or_empty (Some mappings) = refl
 
-scope_listed : (scopes : List Scope) (referrer : List ℕ) → unwrap_or (get (map_of (map scope_of scopes)) referrer) empty ≡ map_of (unwrap_or (looked scopes referrer) [])
-scope_listed scopes referrer =
-    ap (λ (f : Lookup Addresses). unwrap_or (f referrer) empty) (get_map_of (map scope_of scopes))
-    ∙ (ap (λ found. unwrap_or found empty) (mappings_looked scopes nowhere nowhere (λ q. refl) referrer) ∙ or_empty (looked scopes referrer))
+scope_listed : (scopes : List Scope) (place : List ℕ) → unwrap_or (get (map_of (map scope_of scopes)) place) empty ≡ map_of (unwrap_or (looked scopes place) [])
+scope_listed scopes place =
+    ap (λ (f : Lookup Addresses). unwrap_or (f place) empty) (get_map_of (map scope_of scopes))
+    ∙ (ap (λ found. unwrap_or found empty) (mappings_looked scopes nowhere nowhere (λ q. refl) place) ∙ or_empty (looked scopes place))
 
-mapping_listed : (need : Need) (scopes : List Scope) → insert (map_of (map scope_of scopes)) need.referrer (insert (unwrap_or (get (map_of (map scope_of scopes)) need.referrer) empty) need.asked (Some need.target)) ≡ map_of (map scope_of (scopes ++ (need.referrer, unwrap_or (looked scopes need.referrer) [] ++ (need.asked, Some need.target) ∷ []) ∷ []))
-mapping_listed need scopes =
-    let mappings : Mappings = unwrap_or (looked scopes need.referrer) [] in
-    let grown : Scope = (need.referrer, mappings ++ (need.asked, Some need.target) ∷ []) in
-    ap (λ (scope : Addresses). insert (map_of (map scope_of scopes)) need.referrer (insert scope need.asked (Some need.target))) (scope_listed scopes need.referrer)
-    ∙ (ap (insert (map_of (map scope_of scopes)) need.referrer) (sym (inserted_last mappings empty need.asked (Some need.target)))
-    ∙ (sym (inserted_last (map scope_of scopes) empty need.referrer (map_of grown.1)) ∙ ap map_of (sym (map_last scopes grown))))
+mapping_listed : (place asked target : List ℕ) (scopes : List Scope) → insert (map_of (map scope_of scopes)) place (insert (unwrap_or (get (map_of (map scope_of scopes)) place) empty) asked (Some target)) ≡ map_of (map scope_of (scopes ++ (place, unwrap_or (looked scopes place) [] ++ (asked, Some target) ∷ []) ∷ []))
+mapping_listed place asked target scopes =
+    let mappings : Mappings = unwrap_or (looked scopes place) [] in
+    let grown : Scope = (place, mappings ++ (asked, Some target) ∷ []) in
+    ap (λ (scope : Addresses). insert (map_of (map scope_of scopes)) place (insert scope asked (Some target))) (scope_listed scopes place)
+    ∙ (ap (insert (map_of (map scope_of scopes)) place) (sym (inserted_last mappings empty asked (Some target)))
+    ∙ (sym (inserted_last (map scope_of scopes) empty place (map_of grown.1)) ∙ ap map_of (sym (map_last scopes grown))))
 
-with_need_listed : (need : Need) (scopes : List Scope) → with_need need (map_of (map scope_of scopes)) ≡ map_of (map scope_of (with_listed need scopes))
-with_need_listed need scopes = either (bytes_eq need.asked need.target)
-  where
-    either : (b : Bool) → (if b then map_of (map scope_of scopes) else insert (map_of (map scope_of scopes)) need.referrer (insert (unwrap_or (get (map_of (map scope_of scopes)) need.referrer) empty) need.asked (Some need.target))) ≡ map_of (map scope_of (if b then scopes else scopes ++ (need.referrer, unwrap_or (looked scopes need.referrer) [] ++ (need.asked, Some need.target) ∷ []) ∷ []))
-    either true = refl
-    either false = mapping_listed need scopes
+address_listed : (place asked target : List ℕ) (l : Lists) → with_address place asked target (map_of_lists l) ≡ map_of_lists (with_listed place asked target l)
+address_listed [] asked target l = λ i. record { imports = sym (inserted_last l.imports empty asked (Some target)) i; scopes = map_of (map scope_of l.scopes); integrity = map_of l.integrity }
+address_listed (b ∷ rest) asked target l = λ i. record { imports = map_of l.imports; scopes = mapping_listed (b ∷ rest) asked target l.scopes i; integrity = map_of l.integrity }
 
-onto_listed : (needs : List Need) (scopes : List Scope) → scopes_onto (map_of (map scope_of scopes)) needs ≡ map_of (map scope_of (listed_onto scopes needs))
-onto_listed [] scopes = refl
-onto_listed (need ∷ needs) scopes = ap (λ s. scopes_onto s needs) (with_need_listed need scopes) ∙ onto_listed needs (with_listed need scopes)
+onto_listed : (more : List Mapping) (l : Lists) → laid_onto (map_of_lists l) more ≡ map_of_lists (listed_onto l more)
+onto_listed [] l = refl
+onto_listed (mapping ∷ more) l =
+    ap (λ m. laid_onto m more) (address_listed mapping.place mapping.asked mapping.target l) ∙ onto_listed more (with_listed mapping.place mapping.asked mapping.target l)
 
--- the layout of needs is the map of these lists
-pub layout_listed : (needs : List Need) → layout needs ≡ map_of_lists (listed_layout needs)
-layout_listed needs = λ i. record { imports = empty; scopes = onto_listed needs [] i; integrity = empty }
+-- the map of these lists is the agreed layout of the needs
+pub layout_listed : (needs : List Need) → IsAgreedLayout needs (map_of_lists (listed_layout needs))
+layout_listed needs = subst (IsAgreedLayout needs) (onto_listed (mappings needs) no_lists) (laid_agreed needs (mappings needs) (mappings_stand needs) (mappings_are_all needs))

@@ -1,11 +1,17 @@
 use Rattle.std.proofs.Common.{subst}
 use Rattle.generator_spec.specs.declared.Command.TheVariants.{Link}
 use Rattle.generator_core.specs.Preparing.{Prepares}
-use Rattle.generator_core.proofs.Endings.{stop_end, write_end}
+use Rattle.generator_core.proofs.Endings.{stop_end, write_end, stop_not_done, spends_few}
 use Rattle.generator_core.proofs.running.link.Goals as goal
 
-pub returns-in-Ok : goal.returns-in-Ok
-returns-in-Ok g c = λ words is_config. write_end words Link c.args.config.now is_config _ _ _ _ _ _ c.in-Ok.prepared (subst (λ r. Prepares Link c.args.config.now (g.F.Folder.state c.args.folder.now) r (g.F.Folder.state c.prepare_map.new.folder)) c.in-Ok.is c.prepare_map.ensures).ready c.finish.ensures
+pub returns-in-Ok-clause-end : goal.returns-in-Ok-clause-end
+returns-in-Ok-clause-end g c = λ words is_config. write_end words Link c.args.config.now is_config _ _ _ _ _ _ c.in-Ok.prepared (subst (λ r. Prepares Link c.args.config.now (g.F.Folder.state c.args.folder.now) r (g.F.Folder.state c.prepare_map.new.folder)) c.in-Ok.is c.prepare_map.ensures.prepares).ready c.finish.ensures
 
-pub returns-in-Err : goal.returns-in-Err
-returns-in-Err g c = λ words is_config. stop_end words Link c.args.config.now is_config _ _ _ _ _ c.in-Err.stop (subst (λ r. Prepares Link c.args.config.now (g.F.Folder.state c.args.folder.now) r (g.F.Folder.state c.prepare_map.new.folder)) c.in-Err.is c.prepare_map.ensures).stopped c.close.ensures.tells c.close.ensures.later
+pub returns-in-Ok-clause-steps : goal.returns-in-Ok-clause-steps
+returns-in-Ok-clause-steps g c = spends_few c.in-Ok.prepared _ _ _ _ _ _ _ c.finish.ensures c.in-Ok.ensures.steps
+
+pub returns-in-Err-clause-end : goal.returns-in-Err-clause-end
+returns-in-Err-clause-end g c = λ words is_config. stop_end words Link c.args.config.now is_config _ _ _ _ _ c.in-Err.stop (subst (λ r. Prepares Link c.args.config.now (g.F.Folder.state c.args.folder.now) r (g.F.Folder.state c.prepare_map.new.folder)) c.in-Err.is c.prepare_map.ensures.prepares).stopped c.close.ensures.tells c.close.ensures.later
+
+pub returns-in-Err-clause-steps : goal.returns-in-Err-clause-steps
+returns-in-Err-clause-steps g c = λ zero. absurd (stop_not_done c.in-Err.stop _ _ _ c.close.ensures.tells zero)

@@ -1,6 +1,6 @@
 use Rattle.std.proofs.Common.{subst}
 use Rattle.html_inject.proofs.Outcomes.{Fits, fits, if_ok, map_comes, element_comes}
-use Rattle.html_inject.proofs.injection.inject_at.Goals as goal
+use Rattle.html_inject.proofs.injection.put_at.Goals as goal
 
 pub replaced-requires-clause-from : goal.replaced-requires-clause-from
 replaced-requires-clause-from c = (subst (Fits c.args.page.now) c.in-Map.is (fits c.args.page.now c.args.site c.requires)).from

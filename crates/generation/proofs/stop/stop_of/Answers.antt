@@ -1,5 +1,5 @@
-use Rattle.generator_core.specs.Preparing.StopsAs.{failed_look, memory, refused}
-use Rattle.generator_core.proofs.prepared.stop_of.Goals as goal
+use Rattle.generation.specs.Generating.StopsAs.{failed_look, memory, refused}
+use Rattle.generation.proofs.stop.stop_of.Goals as goal
 
 pub returns-in-ReadFault : goal.returns-in-ReadFault
 returns-in-ReadFault c = failed_look c.in-ReadFault.is
