@@ -6,82 +6,138 @@ use std::test::Fail;
 use tree_model::{Look, MemFolder, Path};
 use tree_spec::{LimitName, MOST_FILE_BYTES};
 
-static FILES: [(&str, &str); 9] = [
-    ("/package.json", "{\"type\":\"module\"}"),
-    ("/lib/package.json", "{\"type\":\"commonjs\"}"),
-    ("/lib/deep/a.js", ""),
-    ("/odd/package.json", "[]"),
-    ("/odd/in/a.js", ""),
-    ("/node_modules/p/index.js", ""),
-    ("/node_modules/p/package.json/x", ""),
-    ("/node_modules/q/package.json", "{}"),
-    ("/lib/node_modules/q/index.js", ""),
-];
+/// Paths with texts.
+static FILES: &str = r#"
+/package.json {"type":"module"}
+/lib/package.json {"type":"commonjs"}
+/lib/deep/a.js
+/odd/package.json []
+/odd/in/a.js
+/node_modules/p/index.js
+/node_modules/p/package.json/x
+/node_modules/q/package.json {}
+/lib/node_modules/q/index.js
+"#;
 
-/// A file, and what is known of its format before it is read.
-static FORMATS: [(&str, Format); 12] = [
-    ("/a.js", Format::Module),
-    ("/other/a.js", Format::Module),
-    ("/lib/deep/a.js", Format::Not(Reason::CommonJs)),
-    ("/odd/in/a.js", Format::Not(Reason::Config)),
-    // A folder package.json is passed over, and `node_modules` ends the search.
-    ("/node_modules/p/index.js", Format::Detect),
-    ("/node_modules/q/index.js", Format::Detect),
-    ("/lib/a.mjs", Format::Module),
-    ("/a.cjs", Format::Not(Reason::CommonJs)),
-    ("/a.json", Format::Not(Reason::Json)),
-    ("/a.node", Format::Not(Reason::Addon)),
-    ("/a.ts", Format::Not(Reason::Other)),
-    ("/js", Format::Not(Reason::Other)),
-];
+/// Files, each with what is known of its format before it is read. A folder package.json is passed over, and
+/// `node_modules` ends the search.
+static FORMATS: &str = "
+/a.js Module
+/other/a.js Module
+/lib/deep/a.js CommonJs
+/odd/in/a.js Config
+/node_modules/p/index.js Detect
+/node_modules/q/index.js Detect
+/lib/a.mjs Module
+/a.cjs CommonJs
+/a.json Json
+/a.node Addon
+/a.ts Other
+/js Other
+";
 
-/// A folder, a package's name, and the package's folder.
-static PACKAGES: [(&str, &str, Option<&str>); 6] = [
-    ("/lib/deep", "p", Some("/node_modules/p")),
-    ("/lib/deep", "q", Some("/lib/node_modules/q")),
-    ("/", "q", Some("/node_modules/q")),
-    ("/odd", "r", None),
-    ("/odd", "p/index.js", None),
-    ("/odd", "..", None),
-];
+/// Folders, each with a package's name, and with the package's folder or `-`.
+static PACKAGES: &str = "
+/lib/deep p /node_modules/p
+/lib/deep q /lib/node_modules/q
+/ q /node_modules/q
+/odd r -
+/odd p/index.js -
+/odd .. -
+";
 
-fn folder(alloc: Global, failing: &[u64]) -> Result<MemFolder, Fail> {
-    let mut folder = MemFolder::new(alloc, failing, &[])?;
-    for (path, text) in FILES {
+fn put_files(alloc: Global, folder: &mut MemFolder, lines: &str) -> Result<(), Fail> {
+    for line in lines.lines().skip(1) {
+        let (path, text) = line.split_once(' ').unwrap_or((line, ""));
         folder.put(&Path::parse(alloc, path)?, Some(text.as_bytes()))?;
-    }
-    Ok(folder)
-}
-
-#[test]
-fn formats(rt: HostRuntime) -> Result<(), Fail> {
-    let alloc = rt.alloc();
-    let mut folder = folder(alloc, &[])?;
-    let mut known = Known::new(alloc);
-    let mut trail = Trail::new(alloc);
-    for (path, expected) in FORMATS {
-        let path = Path::parse(alloc, path)?;
-        let found = format_of(alloc, &mut known, &mut folder, &mut trail, &path)?;
-        assert_eq!(rt; found, expected, "{path:?}");
     }
     Ok(())
 }
 
+fn folder(alloc: Global, failing: &[u64]) -> Result<MemFolder, Fail> {
+    let mut folder = MemFolder::new(alloc, failing, &[])?;
+    put_files(alloc, &mut folder, FILES)?;
+    Ok(folder)
+}
+
+fn format_name(format: Format) -> &'static str {
+    match format {
+        Format::Module => "Module",
+        Format::Detect => "Detect",
+        Format::Not(Reason::CommonJs) => "CommonJs",
+        Format::Not(Reason::Json) => "Json",
+        Format::Not(Reason::Addon) => "Addon",
+        Format::Not(Reason::Other) => "Other",
+        Format::Not(Reason::Config) => "Config",
+        Format::Not(Reason::Unreadable { .. }) => "Unreadable",
+    }
+}
+
+fn is_format(
+    alloc: Global,
+    known: &mut Known,
+    folder: &mut MemFolder,
+    line: &str,
+) -> Result<bool, Fail> {
+    let (path, expected) = line.split_once(' ').ok_or("no format")?;
+    let path = Path::parse(alloc, path)?;
+    let mut trail = Trail::new(alloc);
+    let found = format_of(alloc, known, folder, &mut trail, &path)?;
+    Ok(format_name(found) == expected)
+}
+
+// How many formats are as they stand there.
+fn right_formats(alloc: Global, folder: &mut MemFolder, lines: &str) -> Result<usize, Fail> {
+    let mut known = Known::new(alloc);
+    let mut count: usize = 0;
+    for line in lines.lines().skip(1) {
+        if is_format(alloc, &mut known, folder, line)? {
+            count = count.saturating_add(1);
+        }
+    }
+    Ok(count)
+}
+
+#[test]
+fn formats(rt: HostRuntime) -> Result<(), Fail> {
+    let mut folder = folder(rt.alloc(), &[])?;
+    assert_eq!(rt; right_formats(rt.alloc(), &mut folder, FORMATS)?, 12);
+    Ok(())
+}
+
+fn is_package(
+    alloc: Global,
+    known: &mut Known,
+    folder: &mut MemFolder,
+    line: &str,
+) -> Result<bool, Fail> {
+    let (from, rest) = line.split_once(' ').ok_or("no folder")?;
+    let (name, expected) = rest.split_once(' ').ok_or("no name")?;
+    let from = Path::parse(alloc, from)?;
+    let mut trail = Trail::new(alloc);
+    let found = find_package(alloc, known, folder, &mut trail, &from, name)?;
+    Ok(match &found {
+        None => expected == "-",
+        Some(path) => path.as_str() == expected,
+    })
+}
+
+// How many packages are found where it stands there.
+fn right_packages(alloc: Global, folder: &mut MemFolder, lines: &str) -> Result<usize, Fail> {
+    let mut known = Known::new(alloc);
+    let mut count: usize = 0;
+    for line in lines.lines().skip(1) {
+        if is_package(alloc, &mut known, folder, line)? {
+            count = count.saturating_add(1);
+        }
+    }
+    Ok(count)
+}
+
 #[test]
 fn packages(rt: HostRuntime) -> Result<(), Fail> {
-    let alloc = rt.alloc();
-    let mut folder = folder(alloc, &[])?;
-    let mut known = Known::new(alloc);
-    let mut trail = Trail::new(alloc);
-    for (from, name, expected) in PACKAGES {
-        let from = Path::parse(alloc, from)?;
-        let found = find_package(alloc, &mut known, &mut folder, &mut trail, &from, name)?;
-        let found = match &found {
-            None => None,
-            Some(path) => Some(path.as_str()),
-        };
-        assert_eq!(rt; found, expected, "{name}");
-    }
+    let mut folder = folder(rt.alloc(), &[])?;
+    assert_eq!(rt; right_packages(rt.alloc(), &mut folder, PACKAGES)?, 6);
     Ok(())
 }
 

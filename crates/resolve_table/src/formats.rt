@@ -1,30 +1,24 @@
 //! The format of a file, by the ending of its name and the `type` of its scope.
 
-use crate::records::TOO_DEEP;
-use crate::site::{FormatSite, formats};
+use crate::site::formats;
 use std::test::Fail;
 
-static SITES: [FormatSite; 3] = [
-    FormatSite {
-        files: &[
-            ("/package.json", r#"{"type":"module"}"#),
-            ("/typed/package.json", r#"{"type":"commonjs"}"#),
-            ("/untyped/package.json", "{}"),
-            ("/other/package.json", r#"{"type":"Module"}"#),
-            ("/number/package.json", r#"{"type":1}"#),
-            (
-                "/twice/package.json",
-                r#"{"type":"commonjs","type":"module"}"#,
-            ),
-            ("/marked/package.json", "\u{feff}{\"type\":\"commonjs\"}"),
-            ("/folder/package.json/x", ""),
-            ("/list/package.json", "[]"),
-            ("/broken/package.json", "{"),
-            ("/node_modules/package.json", r#"{"type":"module"}"#),
-            ("/node_modules/q/package.json", r#"{"type":"module"}"#),
-            ("/node_modules/q/node_modules/r/x.js", ""),
-        ],
-        cases: "
+static SITES: &str = "
+§
+¶/package.json⇒{\"type\":\"module\"}
+¶/typed/package.json⇒{\"type\":\"commonjs\"}
+¶/untyped/package.json⇒{}
+¶/other/package.json⇒{\"type\":\"Module\"}
+¶/number/package.json⇒{\"type\":1}
+¶/twice/package.json⇒{\"type\":\"commonjs\",\"type\":\"module\"}
+¶/marked/package.json⇒\u{feff}{\"type\":\"commonjs\"}
+¶/folder/package.json/x
+¶/list/package.json⇒[]
+¶/broken/package.json⇒{
+¶/node_modules/package.json⇒{\"type\":\"module\"}
+¶/node_modules/q/package.json⇒{\"type\":\"module\"}
+¶/node_modules/q/node_modules/r/x.js
+»
 -- by the ending alone
 /a.mjs => Module
 /typed/a.mjs => Module
@@ -83,24 +77,18 @@ static SITES: [FormatSite; 3] = [
 /node_modules/q/node_modules/r/x.js => Detect
 /my_node_modules/a.js => Module
 /node_modules_/a.js => Module
-",
-    },
-    FormatSite {
-        files: &[],
-        cases: "
+§
+»
 /a.js => Detect
 /deep/er/a.js => Detect
 /a.mjs => Module
 /a => Other
-",
-    },
-    FormatSite {
-        files: &[
-            ("/package.json", "{"),
-            ("/a/package.json", r#"{"type":"module"}"#),
-            ("/deep/package.json", TOO_DEEP),
-        ],
-        cases: "
+§
+¶/package.json⇒{
+¶/a/package.json⇒{\"type\":\"module\"}
+¶/deep/package.json⇒{\"exports\":[[[[[[[[[[[[[[[[[[[[[[[[[[[[[[[[[[[[[[[[[[[[[[[[[[[[[[[[[[[[[[[[[[[\
+    [[[[[[[[[[[[[[[[[[[[[[[[[[[[[[[[[[[[[[[[[[[[[[[[[[[[[[[[[[[[[
+»
 /a.js => Config
 /a/a.js => Module
 /b/a.js => Config
@@ -108,12 +96,10 @@ static SITES: [FormatSite; 3] = [
 /deep/a.js => limit depth
 /deep/a.cjs => CommonJs
 /deep/node_modules/a.js => Detect
-",
-    },
-];
+";
 
 #[test]
 fn by_ending_and_scope(rt: HostRuntime) -> Result<(), Fail> {
-    assert_eq!(rt; formats(rt.alloc(), &SITES)?.as_str(), "66 cases");
+    assert_eq!(rt; formats(rt.alloc(), SITES)?.as_str(), "66 cases");
     Ok(())
 }

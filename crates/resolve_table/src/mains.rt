@@ -1,6 +1,6 @@
 //! The main file of a package without `exports`.
 
-use crate::site::{Site, answers, package_answers};
+use crate::site::{answers, package_answers};
 use std::test::Fail;
 
 /// The package.json of `p`, the files in it, and the answer for `p`.
@@ -60,96 +60,60 @@ static MAINS: &str = r#"
 {"main":"https://h/x.mjs"} | https:/h/x.mjs | p => found /node_modules/p/https:/h/x.mjs
 "#;
 
-static SITES: [Site; 4] = [
-    // a main file may stand outside
-    Site {
-        files: &[
-            ("/app.mjs", ""),
-            ("/node_modules/p/package.json", r#"{"main":"../q/x.mjs"}"#),
-            ("/node_modules/q/x.mjs", ""),
-            ("/node_modules/r/package.json", r#"{"main":".."}"#),
-            ("/node_modules/index.json", ""),
-            ("/node_modules/s/package.json", r#"{"main":"/abs.js"}"#),
-            ("/node_modules/s/abs.js", ""),
-            ("/abs.js", ""),
-            ("/node_modules/t/package.json", r#"{"main":"../../abs"}"#),
-            ("/node_modules/t/index.js", ""),
-        ],
-        from: "/app.mjs",
-        cases: "
+static SITES: &str = r#"
+§ a main file may stand outside
+¶/app.mjs
+¶/node_modules/p/package.json⇒{"main":"../q/x.mjs"}
+¶/node_modules/q/x.mjs
+¶/node_modules/r/package.json⇒{"main":".."}
+¶/node_modules/index.json
+¶/node_modules/s/package.json⇒{"main":"/abs.js"}
+¶/node_modules/s/abs.js
+¶/abs.js
+¶/node_modules/t/package.json⇒{"main":"../../abs"}
+¶/node_modules/t/index.js
+»/app.mjs
 p => found /node_modules/q/x.mjs
 r => found /node_modules/index.json
 s => found /node_modules/s/abs.js
 t => found /abs.js
-",
-    },
-    // main is for the package alone, not for its subpaths
-    Site {
-        files: &[
-            ("/app.mjs", ""),
-            ("/node_modules/p/package.json", r#"{"main":"m.mjs"}"#),
-            ("/node_modules/p/m.mjs", ""),
-            ("/node_modules/p/x/package.json", r#"{"main":"y.mjs"}"#),
-            ("/node_modules/p/x/y.mjs", ""),
-            ("/node_modules/@s/p/package.json", r#"{"main":"m"}"#),
-            ("/node_modules/@s/p/m.js", ""),
-        ],
-        from: "/app.mjs",
-        cases: "
+§ main is for the package alone, not for its subpaths
+¶/app.mjs
+¶/node_modules/p/package.json⇒{"main":"m.mjs"}
+¶/node_modules/p/m.mjs
+¶/node_modules/p/x/package.json⇒{"main":"y.mjs"}
+¶/node_modules/p/x/y.mjs
+¶/node_modules/@s/p/package.json⇒{"main":"m"}
+¶/node_modules/@s/p/m.js
+»/app.mjs
 p => found /node_modules/p/m.mjs
 p/m.mjs => found /node_modules/p/m.mjs
 p/x => refused DirectoryImport
 p/x/y.mjs => found /node_modules/p/x/y.mjs
 @s/p => found /node_modules/@s/p/m.js
-",
-    },
-    // exports go before main; null ones don't count
-    Site {
-        files: &[
-            ("/app.mjs", ""),
-            (
-                "/node_modules/p/package.json",
-                r#"{"main":"m.mjs","exports":"./e.mjs"}"#,
-            ),
-            ("/node_modules/p/m.mjs", ""),
-            ("/node_modules/p/e.mjs", ""),
-            (
-                "/node_modules/q/package.json",
-                r#"{"main":"m.mjs","exports":null}"#,
-            ),
-            ("/node_modules/q/m.mjs", ""),
-            (
-                "/node_modules/r/package.json",
-                r#"{"main":"m.mjs","exports":{}}"#,
-            ),
-            ("/node_modules/r/m.mjs", ""),
-        ],
-        from: "/app.mjs",
-        cases: "
+§ exports go before main; null ones don't count
+¶/app.mjs
+¶/node_modules/p/package.json⇒{"main":"m.mjs","exports":"./e.mjs"}
+¶/node_modules/p/m.mjs
+¶/node_modules/p/e.mjs
+¶/node_modules/q/package.json⇒{"main":"m.mjs","exports":null}
+¶/node_modules/q/m.mjs
+¶/node_modules/r/package.json⇒{"main":"m.mjs","exports":{}}
+¶/node_modules/r/m.mjs
+»/app.mjs
 p => found /node_modules/p/e.mjs
 p/m.mjs => refused NotExported
 q => found /node_modules/q/m.mjs
 q/m.mjs => found /node_modules/q/m.mjs
 r => refused NotExported
 r/m.mjs => refused NotExported
-",
-    },
-    // the folder of `main` is the package's, also where the package's name needs escapes
-    Site {
-        files: &[
-            ("/a b/%41/app.mjs", ""),
-            (
-                "/a b/%41/node_modules/é*/package.json",
-                r#"{"main":"lib/m"}"#,
-            ),
-            ("/a b/%41/node_modules/é*/lib/m.json", ""),
-        ],
-        from: "/a b/%41/app.mjs",
-        cases: "
+§ the folder of `main` is the package's, also where the package's name needs escapes
+¶/a b/%41/app.mjs
+¶/a b/%41/node_modules/é*/package.json⇒{"main":"lib/m"}
+¶/a b/%41/node_modules/é*/lib/m.json
+»/a b/%41/app.mjs
 é* => found /a b/%41/node_modules/é*/lib/m.json
-",
-    },
-];
+"#;
 
 #[test]
 fn mains(rt: HostRuntime) -> Result<(), Fail> {
@@ -159,6 +123,6 @@ fn mains(rt: HostRuntime) -> Result<(), Fail> {
 
 #[test]
 fn mains_and_more(rt: HostRuntime) -> Result<(), Fail> {
-    assert_eq!(rt; answers(rt.alloc(), &SITES)?.as_str(), "16 cases");
+    assert_eq!(rt; answers(rt.alloc(), SITES)?.as_str(), "16 cases");
     Ok(())
 }

@@ -1,14 +1,13 @@
 //! Specifiers that aren't relative: URLs, builtin modules, and which names a package may have.
 
-use crate::site::{Site, answers};
+use crate::site::answers;
 use std::test::Fail;
 
-static SITES: [Site; 5] = [
-    // URLs
-    Site {
-        files: &[("/app.mjs", ""), ("/node_modules/https:/index.js", "")],
-        from: "/app.mjs",
-        cases: "
+static SITES: &str = "
+§ URLs
+¶/app.mjs
+¶/node_modules/https:/index.js
+»/app.mjs
 https://cdn.test/x.js => refused ExternalUrl
 HTTPS://h/ => refused ExternalUrl
 http:x => refused ExternalUrl
@@ -26,18 +25,12 @@ https: => found /node_modules/https:/index.js
 https:// => refused InvalidSpecifier
 https://[ => refused NotFound
 1a:b => refused NotFound
-",
-    },
-    // builtin modules go before packages
-    Site {
-        files: &[
-            ("/app.mjs", ""),
-            ("/node_modules/fs/index.js", ""),
-            ("/node_modules/fs/extra.js", ""),
-            ("/node_modules/fs/promises/index.js", ""),
-        ],
-        from: "/app.mjs",
-        cases: "
+§ builtin modules go before packages
+¶/app.mjs
+¶/node_modules/fs/index.js
+¶/node_modules/fs/extra.js
+¶/node_modules/fs/promises/index.js
+»/app.mjs
 fs => refused Builtin
 fs/promises => refused Builtin
 node:fs => refused Builtin
@@ -68,13 +61,9 @@ _http_agent => refused NotFound
 test => refused NotFound
 sqlite => refused NotFound
 path/win64 => refused NotFound
-",
-    },
-    // refused names, in a tree without a package
-    Site {
-        files: &[("/app.mjs", "")],
-        from: "/app.mjs",
-        cases: "
+§ refused names, in a tree without a package
+¶/app.mjs
+»/app.mjs
  => refused InvalidSpecifier
 . => refused InvalidSpecifier
 .. => refused InvalidSpecifier
@@ -134,27 +123,22 @@ gone/../x => refused NotFound
 x@y => refused NotFound
 a\u{7f}b => refused NotFound
 a//b => refused NotFound
-",
-    },
-    Site {
-        files: &[
-            ("/app.mjs", ""),
-            ("/node_modules/@/y/index.js", ""),
-            ("/node_modules/@x/.y/index.js", ""),
-            ("/node_modules/@x/..y/index.js", ""),
-            ("/node_modules/@a:b/c/index.js", ""),
-            ("/node_modules/x@y/index.js", ""),
-            ("/node_modules/a*/index.js", ""),
-            ("/node_modules/é/index.js", ""),
-            ("/node_modules/a\u{7f}b/index.js", ""),
-            ("/node_modules/a..b/index.js", ""),
-            ("/node_modules/a^b|c/index.js", ""),
-            ("/node_modules/Up/index.js", ""),
-            ("/node_modules/node_modules/index.js", ""),
-            ("/node_modules/index.js", ""),
-        ],
-        from: "/app.mjs",
-        cases: "
+§
+¶/app.mjs
+¶/node_modules/@/y/index.js
+¶/node_modules/@x/.y/index.js
+¶/node_modules/@x/..y/index.js
+¶/node_modules/@a:b/c/index.js
+¶/node_modules/x@y/index.js
+¶/node_modules/a*/index.js
+¶/node_modules/é/index.js
+¶/node_modules/a\u{7f}b/index.js
+¶/node_modules/a..b/index.js
+¶/node_modules/a^b|c/index.js
+¶/node_modules/Up/index.js
+¶/node_modules/node_modules/index.js
+¶/node_modules/index.js
+»/app.mjs
 @/y => found /node_modules/@/y/index.js
 @x/.y => found /node_modules/@x/.y/index.js
 @x/..y => found /node_modules/@x/..y/index.js
@@ -168,17 +152,11 @@ a^b|c => found /node_modules/a^b|c/index.js
 Up => found /node_modules/Up/index.js
 up => refused NotFound
 node_modules => found /node_modules/node_modules/index.js
-",
-    },
-    // a name is judged before anything is looked at, also where the scope's package.json is broken
-    Site {
-        files: &[
-            ("/package.json", "{"),
-            ("/app.mjs", ""),
-            ("/node_modules/p/index.js", ""),
-        ],
-        from: "/app.mjs",
-        cases: "
+§ a name is judged before anything is looked at, also where the scope's package.json is broken
+¶/package.json⇒{
+¶/app.mjs
+¶/node_modules/p/index.js
+»/app.mjs
  => refused InvalidSpecifier
 p/ => refused InvalidSpecifier
 @p => refused InvalidSpecifier
@@ -193,12 +171,10 @@ gone => refused InvalidConfig
 # => refused InvalidSpecifier
 #/p => refused InvalidSpecifier
 #p/ => refused InvalidSpecifier
-",
-    },
-];
+";
 
 #[test]
 fn names(rt: HostRuntime) -> Result<(), Fail> {
-    assert_eq!(rt; answers(rt.alloc(), &SITES)?.as_str(), "128 cases");
+    assert_eq!(rt; answers(rt.alloc(), SITES)?.as_str(), "128 cases");
     Ok(())
 }

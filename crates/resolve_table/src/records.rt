@@ -1,34 +1,7 @@
 //! The package.json of a package, and that of a scope.
 
-use crate::site::{Site, answers, package_answers};
+use crate::site::{answers, package_answers};
 use std::test::Fail;
-
-/// 128 brackets are open in it, and all are closed.
-const DEEPEST: &str = "\
-{\"exports\":\
-[[[[[[[[[[[[[[[[[[[[[[[[[[[[[[[[[[[[[[[[[[[[[[[[[[[[[[[[[[[[[[[[\
-[[[[[[[[[[[[[[[[[[[[[[[[[[[[[[[[[[[[[[[[[[[[[[[[[[[[[[[[[[[[[[[\
-]]]]]]]]]]]]]]]]]]]]]]]]]]]]]]]]]]]]]]]]]]]]]]]]]]]]]]]]]]]]]]]]\
-]]]]]]]]]]]]]]]]]]]]]]]]]]]]]]]]]]]]]]]]]]]]]]]]]]]]]]]]]]]]]]]\
-}";
-
-/// 129 are open.
-pub const TOO_DEEP: &str = "\
-{\"exports\":\
-[[[[[[[[[[[[[[[[[[[[[[[[[[[[[[[[[[[[[[[[[[[[[[[[[[[[[[[[[[[[[[[[\
-[[[[[[[[[[[[[[[[[[[[[[[[[[[[[[[[[[[[[[[[[[[[[[[[[[[[[[[[[[[[[[[[";
-
-/// So are here, in a field without a meaning.
-const TOO_DEEP_ELSEWHERE: &str = "\
-{\"name\":\"p\",\"other\":\
-[[[[[[[[[[[[[[[[[[[[[[[[[[[[[[[[[[[[[[[[[[[[[[[[[[[[[[[[[[[[[[[[\
-[[[[[[[[[[[[[[[[[[[[[[[[[[[[[[[[[[[[[[[[[[[[[[[[[[[[[[[[[[[[[[[[";
-
-/// A fault stands before the bracket that is too much.
-const BROKEN_BEFORE: &str = "\
-{,\"exports\":\
-[[[[[[[[[[[[[[[[[[[[[[[[[[[[[[[[[[[[[[[[[[[[[[[[[[[[[[[[[[[[[[[[\
-[[[[[[[[[[[[[[[[[[[[[[[[[[[[[[[[[[[[[[[[[[[[[[[[[[[[[[[[[[[[[[[[";
 
 static RECORDS: &str = r#"
 -- no JSON
@@ -73,35 +46,25 @@ p => found /node_modules/p/3.mjs
 {"exports":{"./\u00e9":"./i.mjs"}} | i.mjs | p/é => found /node_modules/p/i.mjs
 "#;
 
-static SITES: [Site; 6] = [
-    // marks of byte order, and white space
-    Site {
-        files: &[
-            (
-                "/node_modules/one/package.json",
-                "\u{feff}{\"main\":\"m.mjs\"}",
-            ),
-            ("/node_modules/one/m.mjs", ""),
-            ("/node_modules/two/package.json", "\u{feff}\u{feff}{}"),
-            ("/node_modules/two/index.js", ""),
-            ("/node_modules/behind/package.json", " \u{feff}{}"),
-            ("/node_modules/behind/index.js", ""),
-            ("/node_modules/alone/package.json", "\u{feff}"),
-            ("/node_modules/alone/index.js", ""),
-            (
-                "/node_modules/white/package.json",
-                "\r\n\t {\"main\" :\n\"m.mjs\" }\n",
-            ),
-            ("/node_modules/white/m.mjs", ""),
-            ("/node_modules/comment/package.json", "// c\n{}"),
-            ("/node_modules/comment/index.js", ""),
-            ("/node_modules/tab/package.json", "{\"name\":\"a\tb\"}"),
-            ("/node_modules/tab/index.js", ""),
-            ("/node_modules/space/package.json", "{\u{a0}}"),
-            ("/node_modules/space/index.js", ""),
-        ],
-        from: "/app.mjs",
-        cases: "
+static SITES: &str = "
+§ marks of byte order, and white space
+¶/node_modules/one/package.json⇒\u{feff}{\"main\":\"m.mjs\"}
+¶/node_modules/one/m.mjs
+¶/node_modules/two/package.json⇒\u{feff}\u{feff}{}
+¶/node_modules/two/index.js
+¶/node_modules/behind/package.json⇒ \u{feff}{}
+¶/node_modules/behind/index.js
+¶/node_modules/alone/package.json⇒\u{feff}
+¶/node_modules/alone/index.js
+¶/node_modules/white/package.json⇒\r\n\t {\"main\" :\n\"m.mjs\" }\n
+¶/node_modules/white/m.mjs
+¶/node_modules/comment/package.json⇒// c\n{}
+¶/node_modules/comment/index.js
+¶/node_modules/tab/package.json⇒{\"name\":\"a\tb\"}
+¶/node_modules/tab/index.js
+¶/node_modules/space/package.json⇒{\u{a0}}
+¶/node_modules/space/index.js
+»/app.mjs
 one => found /node_modules/one/m.mjs
 two => refused InvalidConfig
 behind => refused InvalidConfig
@@ -110,21 +73,20 @@ white => found /node_modules/white/m.mjs
 comment => refused InvalidConfig
 tab => refused InvalidConfig
 space => refused InvalidConfig
-",
-    },
-    // 128 and 129 open brackets
-    Site {
-        files: &[
-            ("/node_modules/deepest/package.json", DEEPEST),
-            ("/node_modules/deepest/index.js", ""),
-            ("/node_modules/deep/package.json", TOO_DEEP),
-            ("/node_modules/deep/x.mjs", ""),
-            ("/node_modules/elsewhere/package.json", TOO_DEEP_ELSEWHERE),
-            ("/node_modules/elsewhere/x.mjs", ""),
-            ("/node_modules/broken/package.json", BROKEN_BEFORE),
-        ],
-        from: "/app.mjs",
-        cases: "
+§ 128 and 129 open brackets
+¶/node_modules/deepest/package.json⇒{\"exports\":[[[[[[[[[[[[[[[[[[[[[[[[[[[[[[[[[[[[[[[[[[[[[[[[[[[\
+    [[[[[[[[[[[[[[[[[[[[[[[[[[[[[[[[[[[[[[[[[[[[[[[[[[[[[[[[[[[[[[[[[[[[[[[[[[[[]]]]]]]]]]]]]]]]]]]]\
+    ]]]]]]]]]]]]]]]]]]]]]]]]]]]]]]]]]]]]]]]]]]]]]]]]]]]]]]]]]]]]]]]]]]]]]]]]]]]]]]]]]]]]]]]]]]]]]]]]]]]]]]]]]]]}
+¶/node_modules/deepest/index.js
+¶/node_modules/deep/package.json⇒{\"exports\":[[[[[[[[[[[[[[[[[[[[[[[[[[[[[[[[[[[[[[[[[[[[[[[[[[[[[[\
+    [[[[[[[[[[[[[[[[[[[[[[[[[[[[[[[[[[[[[[[[[[[[[[[[[[[[[[[[[[[[[[[[[[[[[[[[[[
+¶/node_modules/deep/x.mjs
+¶/node_modules/elsewhere/package.json⇒{\"name\":\"p\",\"other\":[[[[[[[[[[[[[[[[[[[[[[[[[[[[[[[[[[[[\
+    [[[[[[[[[[[[[[[[[[[[[[[[[[[[[[[[[[[[[[[[[[[[[[[[[[[[[[[[[[[[[[[[[[[[[[[[[[[[[[[[[[[[[[[[[[[[
+¶/node_modules/elsewhere/x.mjs
+¶/node_modules/broken/package.json⇒{,\"exports\":[[[[[[[[[[[[[[[[[[[[[[[[[[[[[[[[[[[[[[[[[[[[[[[[[[[\
+    [[[[[[[[[[[[[[[[[[[[[[[[[[[[[[[[[[[[[[[[[[[[[[[[[[[[[[[[[[[[[[[[[[[[[[[[[[[[[
+»/app.mjs
 deepest => refused NotExported
 deepest/x => refused NotExported
 deep => limit depth
@@ -134,17 +96,12 @@ elsewhere => limit depth
 elsewhere/x.mjs => limit depth
 broken => refused InvalidConfig
 ./node_modules/deep/x.mjs => found /node_modules/deep/x.mjs
-",
-    },
-    // the scope's package.json is read for every bare specifier, and for no relative one
-    Site {
-        files: &[
-            ("/package.json", TOO_DEEP),
-            ("/app.mjs", ""),
-            ("/node_modules/p/index.js", ""),
-        ],
-        from: "/app.mjs",
-        cases: "
+§ the scope's package.json is read for every bare specifier, and for no relative one
+¶/package.json⇒{\"exports\":[[[[[[[[[[[[[[[[[[[[[[[[[[[[[[[[[[[[[[[[[[[[[[[[[[[[[[[[[[[[[[[[[[[[[[[[\
+    [[[[[[[[[[[[[[[[[[[[[[[[[[[[[[[[[[[[[[[[[[[[[[[[[[[[[[[[
+¶/app.mjs
+¶/node_modules/p/index.js
+»/app.mjs
 p => limit depth
 gone => limit depth
 #a => limit depth
@@ -152,49 +109,30 @@ gone => limit depth
 fs => refused Builtin
 p% => refused InvalidSpecifier
 #/ => refused InvalidSpecifier
-",
-    },
-    Site {
-        files: &[
-            ("/package.json", "[]"),
-            ("/app.mjs", ""),
-            ("/node_modules/p/index.js", ""),
-        ],
-        from: "/app.mjs",
-        cases: "
+§
+¶/package.json⇒[]
+¶/app.mjs
+¶/node_modules/p/index.js
+»/app.mjs
 p => refused InvalidConfig
 #a => refused InvalidConfig
 ./app.mjs => found /app.mjs
 ./node_modules/p/index.js => found /node_modules/p/index.js
-",
-    },
-    // from within `node_modules` it isn't read
-    Site {
-        files: &[
-            ("/package.json", "["),
-            ("/node_modules/p/index.js", ""),
-            ("/node_modules/q/package.json", "{}"),
-        ],
-        from: "/node_modules/q/x.mjs",
-        cases: "
+§ from within `node_modules` it isn't read
+¶/package.json⇒[
+¶/node_modules/p/index.js
+¶/node_modules/q/package.json⇒{}
+»/node_modules/q/x.mjs
 p => found /node_modules/p/index.js
 #a => refused ImportNotDefined
-",
-    },
-    // a nearer one is the scope, whatever stands above
-    Site {
-        files: &[
-            ("/package.json", "["),
-            ("/a/package.json", "\u{feff}{}"),
-            ("/node_modules/p/index.js", ""),
-        ],
-        from: "/a/x.mjs",
-        cases: "
+§ a nearer one is the scope, whatever stands above
+¶/package.json⇒[
+¶/a/package.json⇒\u{feff}{}
+¶/node_modules/p/index.js
+»/a/x.mjs
 p => found /node_modules/p/index.js
 #a => refused ImportNotDefined
-",
-    },
-];
+";
 
 #[test]
 fn records(rt: HostRuntime) -> Result<(), Fail> {
@@ -204,6 +142,6 @@ fn records(rt: HostRuntime) -> Result<(), Fail> {
 
 #[test]
 fn scopes(rt: HostRuntime) -> Result<(), Fail> {
-    assert_eq!(rt; answers(rt.alloc(), &SITES)?.as_str(), "32 cases");
+    assert_eq!(rt; answers(rt.alloc(), SITES)?.as_str(), "32 cases");
     Ok(())
 }

@@ -1,34 +1,29 @@
 //! Relative specifiers: how they are joined, and what stands at the URL that comes of it.
 
-use crate::site::{Site, answers};
+use crate::site::answers;
 use std::test::Fail;
 
-const FILES: &[(&str, &str)] = &[
-    ("/app.mjs", ""),
-    ("/b.mjs", ""),
-    ("/a/m.mjs", ""),
-    ("/a/b.mjs", ""),
-    ("/d/index.js", ""),
-    ("/e/", ""),
-    ("/a b.mjs", ""),
-    ("/é.mjs", ""),
-    ("/%41.mjs", ""),
-    ("/%.mjs", ""),
-    ("/*.mjs", ""),
-    ("/^.mjs", ""),
-    ("/c:d.mjs", ""),
-    ("/C:/m.mjs", ""),
-    ("/%2F/y.mjs", ""),
-    ("/a*b/y.mjs", ""),
-    ("/q?x/y.mjs", ""),
-    ("/h#x/y.mjs", ""),
-];
-
-static SITES: [Site; 8] = [
-    Site {
-        files: FILES,
-        from: "/app.mjs",
-        cases: "
+static SITES: &str = "
+§
+¶/app.mjs
+¶/b.mjs
+¶/a/m.mjs
+¶/a/b.mjs
+¶/d/index.js
+¶/e/
+¶/a b.mjs
+¶/é.mjs
+¶/%41.mjs
+¶/%.mjs
+¶/*.mjs
+¶/^.mjs
+¶/c:d.mjs
+¶/C:/m.mjs
+¶/%2F/y.mjs
+¶/a*b/y.mjs
+¶/q?x/y.mjs
+¶/h#x/y.mjs
+»/app.mjs
 -- joined to the file's URL
 ./b.mjs => found /b.mjs
 /b.mjs => found /b.mjs
@@ -124,12 +119,7 @@ static SITES: [Site; 8] = [
 /C|/m.mjs => found /C:/m.mjs
 /C:/m.mjs => found /C:/m.mjs
 /c:/m.mjs => refused NotFound
-",
-    },
-    Site {
-        files: FILES,
-        from: "/a/m.mjs",
-        cases: "
+»/a/m.mjs
 ./b.mjs => found /a/b.mjs
 ../b.mjs => found /b.mjs
 /b.mjs => found /b.mjs
@@ -137,65 +127,33 @@ static SITES: [Site; 8] = [
 ./ => refused DirectoryImport
 ../a/b.mjs => found /a/b.mjs
 ../d => refused DirectoryImport
-",
-    },
-    // a file that isn't there asks too
-    Site {
-        files: FILES,
-        from: "/none/of/these.mjs",
-        cases: "
+»/none/of/these.mjs
+-- a file that isn't there asks too
 ../../b.mjs => found /b.mjs
 ./b.mjs => refused NotFound
-",
-    },
-    // the folder of `/` is `/`
-    Site {
-        files: FILES,
-        from: "/",
-        cases: "
+»/
+-- the folder of `/` is `/`
 ./b.mjs => found /b.mjs
 ../a/b.mjs => found /a/b.mjs
-",
-    },
-    Site {
-        files: FILES,
-        from: "/%2F/x.mjs",
-        cases: "
+»/%2F/x.mjs
 ./y.mjs => found /%2F/y.mjs
 ../b.mjs => found /b.mjs
-",
-    },
-    Site {
-        files: FILES,
-        from: "/a*b/x.mjs",
-        cases: "
+»/a*b/x.mjs
 ./y.mjs => found /a*b/y.mjs
-",
-    },
-    Site {
-        files: FILES,
-        from: "/q?x/x.mjs",
-        cases: "
+»/q?x/x.mjs
 ./y.mjs => found /q?x/y.mjs
 ../h#x/y.mjs => refused NotFound
-",
-    },
-    // a drive letter stays where it is
-    Site {
-        files: FILES,
-        from: "/C:/x.mjs",
-        cases: "
+»/C:/x.mjs
+-- a drive letter stays where it is
 ./m.mjs => found /C:/m.mjs
 ../m.mjs => found /C:/m.mjs
 /m.mjs => found /C:/m.mjs
 /b.mjs => refused NotFound
 ../../b.mjs => refused NotFound
-",
-    },
-];
+";
 
 #[test]
 fn relative(rt: HostRuntime) -> Result<(), Fail> {
-    assert_eq!(rt; answers(rt.alloc(), &SITES)?.as_str(), "105 cases");
+    assert_eq!(rt; answers(rt.alloc(), SITES)?.as_str(), "105 cases");
     Ok(())
 }

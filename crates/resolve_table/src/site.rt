@@ -1,4 +1,7 @@
-//! Small trees, and what is asked of them.
+//! Small trees, and what is asked of them. In a text of trees each begins with a line behind `§`, which may say what it
+//! is about. Then come its files, each behind a `¶`: its path, and its text behind a `⇒`. A path that ends in `/` is
+//! that of a folder. Behind a `»` stands the path of a file that asks, and then a case a line: what it asks for, and the
+//! answer behind ` => `. Behind `-- ` is a comment.
 ghost use Rattle.std.specs.Prelude.{◌≡◌, ◌<◌};
 
 use condition_match::Conditions;
@@ -11,21 +14,6 @@ use std::marker::Brand;
 use std::sync::ledger::{Blank, Ledger};
 use std::test::Fail;
 use tree_model::{LimitName, MemFolder, Path, Paths};
-
-/// A tree, a file that asks, and what it gets.
-pub struct Site {
-    /// Paths with texts. A path that ends in `/` is that of a folder.
-    pub files: &'static [(&'static str, &'static str)],
-    pub from: &'static str,
-    /// Lines: specifiers, each with its answer behind ` => `; and comments behind `-- `.
-    pub cases: &'static str,
-}
-
-/// A tree, and the formats of files in the same form.
-pub struct FormatSite {
-    pub files: &'static [(&'static str, &'static str)],
-    pub cases: &'static str,
-}
 
 /// A tree, with what is known of it.
 #[derive(Drop)]
@@ -44,9 +32,11 @@ impl Asked {
         })
     }
 
-    fn of(alloc: Global, files: &[(&str, &str)]) -> Result<Asked, Fail> {
+    fn of(alloc: Global, files: &str) -> Result<Asked, Fail> {
         let mut asked = Asked::new(alloc)?;
-        for (path, text) in files {
+        for file in files.split('¶').skip(1) {
+            let file = file.strip_suffix('\n').unwrap_or(file);
+            let (path, text) = file.split_once('⇒').unwrap_or((file, ""));
             asked.put(alloc, path, text)?;
         }
         Ok(asked)
@@ -263,9 +253,7 @@ impl Report {
     }
 
     fn compare(&mut self, asked: &str, wanted: &str, got: &str) -> Result<(), Fail> {
-        if self.cases < usize::MAX {
-            self.cases += 1;
-        }
+        self.cases = self.cases.saturating_add(1);
         if wanted == got {
             return Ok(());
         }
@@ -343,23 +331,67 @@ fn try_package(
     }
 }
 
-fn try_site(alloc: Global, site: &Site, report: &mut Report) -> Result<(), Fail> {
-    let mut asked = Asked::of(alloc, site.files)?;
-    for case in site.cases.lines() {
-        if !is_comment(case) {
-            try_answer(alloc, &mut asked, site.from, case, report)?;
+/// What is told of a case.
+#[derive(Clone, Copy)]
+enum Told {
+    Answer,
+    /// The paths of the footprint, with a space between each two; or the refusal.
+    Footprint,
+    /// The format of the file that is asked for.
+    Format,
+}
+
+fn try_group(
+    alloc: Global,
+    asked: &mut Asked,
+    group: &str,
+    told: Told,
+    report: &mut Report,
+) -> Result<(), Fail> {
+    let (from, cases) = group.split_once('\n').ok_or("no case")?;
+    for case in cases.lines() {
+        if is_comment(case) {
+            continue;
+        }
+        match told {
+            Told::Answer => try_answer(alloc, asked, from, case, report)?,
+            Told::Footprint => try_footprint(alloc, asked, from, case, report)?,
+            Told::Format => try_format(alloc, asked, case, report)?,
         }
     }
     Ok(())
 }
 
-/// Where the answers differ from those of the table, and how many cases there are.
-pub fn answers(alloc: Global, sites: &[Site]) -> Result<String, Fail> {
+fn try_tree(alloc: Global, tree: &str, told: Told, report: &mut Report) -> Result<(), Fail> {
+    let (files, groups) = tree.split_once('»').ok_or("nobody asks")?;
+    let mut asked = Asked::of(alloc, files)?;
+    for group in groups.split('»') {
+        try_group(alloc, &mut asked, group, told, report)?;
+    }
+    Ok(())
+}
+
+fn differing(alloc: Global, trees: &str, told: Told) -> Result<String, Fail> {
     let mut report = Report::new(alloc);
-    for site in sites {
-        try_site(alloc, site, &mut report)?;
+    for tree in trees.split('§').skip(1) {
+        try_tree(alloc, tree, told, &mut report)?;
     }
     report.text(alloc)
+}
+
+/// Where the answers differ from those of the table, and how many cases there are.
+pub fn answers(alloc: Global, trees: &str) -> Result<String, Fail> {
+    differing(alloc, trees, Told::Answer)
+}
+
+/// The same of footprints: the paths, with a space between each two.
+pub fn footprints(alloc: Global, trees: &str) -> Result<String, Fail> {
+    differing(alloc, trees, Told::Footprint)
+}
+
+/// The same of formats.
+pub fn formats(alloc: Global, trees: &str) -> Result<String, Fail> {
+    differing(alloc, trees, Told::Format)
 }
 
 /// The same of packages `p` in the root's `node_modules`, for which `/app.mjs` asks. A line is a package.json, and
@@ -380,44 +412,6 @@ pub fn package_answers(alloc: Global, text: &str) -> Result<String, Fail> {
         } else {
             try_answer(alloc, &mut asked, "/app.mjs", line, &mut report)?;
         }
-    }
-    report.text(alloc)
-}
-
-fn try_footprints(alloc: Global, site: &Site, report: &mut Report) -> Result<(), Fail> {
-    let mut asked = Asked::of(alloc, site.files)?;
-    for case in site.cases.lines() {
-        if !is_comment(case) {
-            try_footprint(alloc, &mut asked, site.from, case, report)?;
-        }
-    }
-    Ok(())
-}
-
-/// The same of footprints: the paths, with a space between each two.
-pub fn footprints(alloc: Global, sites: &[Site]) -> Result<String, Fail> {
-    let mut report = Report::new(alloc);
-    for site in sites {
-        try_footprints(alloc, site, &mut report)?;
-    }
-    report.text(alloc)
-}
-
-fn try_formats(alloc: Global, site: &FormatSite, report: &mut Report) -> Result<(), Fail> {
-    let mut asked = Asked::of(alloc, site.files)?;
-    for case in site.cases.lines() {
-        if !is_comment(case) {
-            try_format(alloc, &mut asked, case, report)?;
-        }
-    }
-    Ok(())
-}
-
-/// The same of formats.
-pub fn formats(alloc: Global, sites: &[FormatSite]) -> Result<String, Fail> {
-    let mut report = Report::new(alloc);
-    for site in sites {
-        try_formats(alloc, site, &mut report)?;
     }
     report.text(alloc)
 }

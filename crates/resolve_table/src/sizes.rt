@@ -25,15 +25,19 @@ fn long(alloc: Global, bytes: u64) -> Result<String, Fail> {
     Ok(text)
 }
 
-// Each is a file that asks, a specifier, and the answer.
-fn all_get(alloc: Global, asked: &mut Asked, cases: &[(&str, &str, &str)]) -> Result<bool, Fail> {
-    for (from, specifier, wanted) in cases {
-        let answer = found(alloc, asked, from, specifier)?;
-        if answer_text(alloc, &answer)?.as_str() != *wanted {
-            return Ok(false);
-        }
-    }
-    Ok(true)
+fn gets(
+    alloc: Global,
+    asked: &mut Asked,
+    from: &str,
+    specifier: &str,
+    wanted: &str,
+) -> Result<bool, Fail> {
+    let answer = found(alloc, asked, from, specifier)?;
+    Ok(answer_text(alloc, &answer)?.as_str() == wanted)
+}
+
+fn is_missing(alloc: Global, asked: &mut Asked, from: &str, specifier: &str) -> Result<bool, Fail> {
+    gets(alloc, asked, from, specifier, "refused NotFound")
 }
 
 #[test]
@@ -46,14 +50,12 @@ fn segments(rt: HostRuntime) -> Result<(), Fail> {
     let beyond = below(alloc, 64, "/m.mjs")?;
     // down and up again by the URL
     let again = below(alloc, 64, "/../m.mjs")?;
-    let cases = [
-        ("/app.mjs", deepest.as_str(), wanted.as_str()),
-        (deepest.as_str(), "./m.mjs", wanted.as_str()),
-        ("/app.mjs", again.as_str(), wanted.as_str()),
-        ("/app.mjs", beyond.as_str(), "refused NotFound"),
-        (deepest.as_str(), "./s/m.mjs", "refused NotFound"),
-    ];
-    assert!(rt; all_get(alloc, &mut asked, &cases)?);
+    let (deepest, wanted) = (deepest.as_str(), wanted.as_str());
+    assert!(rt; gets(alloc, &mut asked, "/app.mjs", deepest, wanted)?);
+    assert!(rt; gets(alloc, &mut asked, deepest, "./m.mjs", wanted)?);
+    assert!(rt; gets(alloc, &mut asked, "/app.mjs", again.as_str(), wanted)?);
+    assert!(rt; is_missing(alloc, &mut asked, "/app.mjs", beyond.as_str())?);
+    assert!(rt; is_missing(alloc, &mut asked, deepest, "./s/m.mjs")?);
     Ok(())
 }
 
@@ -65,11 +67,16 @@ fn bytes(rt: HostRuntime) -> Result<(), Fail> {
     asked.put(alloc, longest.as_str(), "")?;
     let wanted = format!(in alloc; "found {longest}")?;
     let beyond = long(alloc, 1_024)?;
-    let cases = [
-        ("/app.mjs", longest.as_str(), wanted.as_str()),
-        ("/app.mjs", beyond.as_str(), "refused NotFound"),
-    ];
-    assert!(rt; all_get(alloc, &mut asked, &cases)?);
+    assert!(rt;
+        gets(
+            alloc,
+            &mut asked,
+            "/app.mjs",
+            longest.as_str(),
+            wanted.as_str()
+        )?
+    );
+    assert!(rt; is_missing(alloc, &mut asked, "/app.mjs", beyond.as_str())?);
     Ok(())
 }
 
@@ -84,32 +91,51 @@ fn package_folders(rt: HostRuntime) -> Result<(), Fail> {
     let outside = below(alloc, 61, "/m.mjs")?;
     let beside = below(alloc, 62, "/m.mjs")?;
     let within = below(alloc, 63, "/m.mjs")?;
-    let cases = [
-        (outside.as_str(), "p", "found /node_modules/p/index.js"),
-        (beside.as_str(), "p", "refused NotFound"),
-        (beside.as_str(), "p/index.js", "refused NotFound"),
-        (within.as_str(), "p", "refused NotFound"),
-        (within.as_str(), "#a", "refused ImportNotDefined"),
-    ];
-    assert!(rt; all_get(alloc, &mut asked, &cases)?);
+    let within = within.as_str();
+    assert!(rt;
+        gets(
+            alloc,
+            &mut asked,
+            outside.as_str(),
+            "p",
+            "found /node_modules/p/index.js"
+        )?
+    );
+    assert!(rt; is_missing(alloc, &mut asked, beside.as_str(), "p")?);
+    assert!(rt; is_missing(alloc, &mut asked, beside.as_str(), "p/index.js")?);
+    assert!(rt; is_missing(alloc, &mut asked, within, "p")?);
+    assert!(rt; gets(alloc, &mut asked, within, "#a", "refused ImportNotDefined")?);
     Ok(())
 }
 
-/// Everything that is looked at counts, also what would be passed over.
-static LARGE: [(&str, &str, &str); 10] = [
-    ("/app.mjs", "./full.mjs", "found /full.mjs"),
-    ("/app.mjs", "./large.mjs", "limit file"),
-    ("/app.mjs", "./large.mjs", "limit file"),
-    ("/app.mjs", "./large.mjs/?q", "limit file"),
-    ("/app.mjs", "./large.mjs%2F", "refused InvalidSpecifier"),
-    ("/app.mjs", "./large.mjs/x", "refused NotFound"),
-    // the text `m/` of the main file is looked at, and index.js comes too late
-    ("/app.mjs", "p", "limit file"),
-    ("/app.mjs", "p/index.js", "found /node_modules/p/index.js"),
-    // a file where the package's folder would stand, and further up a folder
-    ("/lib/m.mjs", "p", "limit file"),
-    ("/lib/m.mjs", "p/index.js", "limit file"),
-];
+/// Files that ask, specifiers and answers. Everything that is looked at counts, also what would be passed over: the text
+/// `m/` of the main file is looked at, and index.js comes too late; and a file where the package's folder would stand
+/// counts, though the folder is found further up.
+static LARGE: &str = "
+/app.mjs ./full.mjs found /full.mjs
+/app.mjs ./large.mjs limit file
+/app.mjs ./large.mjs limit file
+/app.mjs ./large.mjs/?q limit file
+/app.mjs ./large.mjs%2F refused InvalidSpecifier
+/app.mjs ./large.mjs/x refused NotFound
+/app.mjs p limit file
+/app.mjs p/index.js found /node_modules/p/index.js
+/lib/m.mjs p limit file
+/lib/m.mjs p/index.js limit file
+";
+
+// How many cases are as they stand there.
+fn right(alloc: Global, asked: &mut Asked, cases: &str) -> Result<usize, Fail> {
+    let mut count: usize = 0;
+    for case in cases.lines().skip(1) {
+        let (from, rest) = case.split_once(' ').ok_or("no specifier")?;
+        let (specifier, wanted) = rest.split_once(' ').ok_or("no answer")?;
+        if gets(alloc, asked, from, specifier, wanted)? {
+            count = count.saturating_add(1);
+        }
+    }
+    Ok(count)
+}
 
 #[test]
 fn large_files(rt: HostRuntime) -> Result<(), Fail> {
@@ -122,6 +148,6 @@ fn large_files(rt: HostRuntime) -> Result<(), Fail> {
     asked.put_file(alloc, "/node_modules/p/m", large.as_slice())?;
     asked.put(alloc, "/node_modules/p/package.json", r#"{"main":"m/"}"#)?;
     asked.put(alloc, "/node_modules/p/index.js", "")?;
-    assert!(rt; all_get(alloc, &mut asked, &LARGE)?);
+    assert_eq!(rt; right(alloc, &mut asked, LARGE)?, 10);
     Ok(())
 }
