@@ -1,0 +1,3 @@
+pub mod OneProject
+pub mod SomeProject
+pub mod ReadBack
