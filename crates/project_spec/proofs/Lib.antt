@@ -1,3 +1,3 @@
 pub mod OneProject
-pub mod SomeProject
 pub mod ReadBack
+pub mod SomeProject

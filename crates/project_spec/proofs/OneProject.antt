@@ -26,21 +26,36 @@ same_text e f = cc
 same_list : {found : Option Json} (some other : List (List ℕ)) → found ≡ Some (a_list (strings some)) → found ≡ Some (a_list (strings other)) → some ≡ other
 same_list some other e f = let same : strings some ≡ strings other = cc in same_strings some other same
 
-same_members : {value : Json} {some other : Members} → value ≡ an_object some → value ≡ an_object other → some ≡ other
+pub same_members : {value : Json} {some other : Members} → value ≡ an_object some → value ≡ an_object other → some ≡ other
 same_members e f = cc
 
 same_config : (some other : Config) → some.base ≡ other.base → some.page ≡ other.page → some.conditions ≡ other.conditions → some.entries ≡ other.entries → some ≡ other
 same_config some other b p c e = λ i. record { base = b i; page = p i; conditions = c i; entries = e i }
 
+-- the parts that an object has
+pub record SameParts (base base' page page' : List ℕ) (conditions conditions' entries entries' : List (List ℕ)) : Type 0 where
+  pub same_base : base ≡ base'
+  pub same_page : page ≡ page'
+  pub same_conditions : conditions ≡ conditions'
+  pub same_entries : entries ≡ entries'
+
+pub same_parts : {members : Members} {base base' page page' : List ℕ} (conditions conditions' entries entries' : List (List ℕ)) → HasParts members base page conditions entries → HasParts members base' page' conditions' entries' → SameParts base base' page page' conditions conditions' entries entries'
+same_parts conditions conditions' entries entries' some other = record {
+  same_base = same_text some.base_member other.base_member;
+  same_page = same_text some.page_member other.page_member;
+  same_conditions = same_list conditions conditions' some.conditions_member other.conditions_member;
+  same_entries = same_list entries entries' some.entries_member other.entries_member;
+}
+
 same_base : {found : Option (List ℕ)} {some other : List ℕ} → found ≡ Some some → found ≡ Some other → some ≡ other
 same_base e f = cc
 
-pub one_config : {value : Json} (some other : Config) → Describes value some → Describes value other → some ≡ other
+one_config : {value : Json} (some other : Config) → Describes value some → Describes value other → some ≡ other
 one_config some other d f =
     let same = same_members d.object f.object in
     let moved = subst (λ ms. HasParts ms f.text other.page other.conditions other.entries) (sym same) f.parts in
-    let text = same_text d.parts.base moved.base in
-    same_config some other (same_base d.gives (subst (λ t. base_of t ≡ Some other.base) (sym text) f.gives)) (same_text d.parts.page moved.page) (same_list some.conditions other.conditions d.parts.conditions moved.conditions) (same_list some.entries other.entries d.parts.entries moved.entries)
+    let parts = same_parts some.conditions other.conditions some.entries other.entries d.parts moved in
+    same_config some other (same_base d.gives (ap base_of parts.same_base ∙ f.gives)) parts.same_page parts.same_conditions parts.same_entries
 
 too_many : (n : ℕ) (some other : Config) → some ≡ other → length some.entries ≤ n → n < length other.entries → ⊥
 too_many n some other same few many = let count : length some.entries ≡ length other.entries = ap (λ c. length c.entries) same in omega arith

@@ -27,10 +27,10 @@ strings (text ∷ texts) = an_item (a_text text) (strings texts)
 -- own: an object has these four members, in any order, and no other
 pub record HasParts (members : Members) (base page : List ℕ) (conditions entries : List (List ℕ)) : Type 0 where
   pub four : length (pairs_of members) ≡ 4
-  pub base : member (codes "base") members ≡ Some (a_text base)
-  pub page : member (codes "page") members ≡ Some (a_text page)
-  pub conditions : member (codes "conditions") members ≡ Some (a_list (strings conditions))
-  pub entries : member (codes "entries") members ≡ Some (a_list (strings entries))
+  pub base_member : member (codes "base") members ≡ Some (a_text base)
+  pub page_member : member (codes "page") members ≡ Some (a_text page)
+  pub conditions_member : member (codes "conditions") members ≡ Some (a_list (strings conditions))
+  pub entries_member : member (codes "entries") members ≡ Some (a_list (strings entries))
 
 -- own: the base is one, the page is a path other than `/`, the conditions can be conditions, and no entry stands twice
 pub record IsProject (config : Config) : Type 0 where
