@@ -11,7 +11,7 @@ use Rattle.trace_spec.specs.Modules.{Config}
 use Rattle.project_spec.specs.Laws.{OneProject}
 use Rattle.project_spec.specs.ProjectFiles.{strings, HasParts, Describes, Fault, PassesLimit, BadFile, Gives, a_project, many_entries, no_project, no_json, deep_json, ReadsProject, reads_project}
 
-same_strings : (some other : List (List ℕ)) → strings some ≡ strings other → some ≡ other
+pub same_strings : (some other : List (List ℕ)) → strings some ≡ strings other → some ≡ other
 same_strings [] [] e = refl
 same_strings [] (text ∷ texts) e = absurd (cc)
 same_strings (text ∷ texts) [] e = absurd (cc)
@@ -23,8 +23,8 @@ same_strings (text ∷ some) (word ∷ other) e =
 same_text : {found : Option Json} {some other : List ℕ} → found ≡ Some (a_text some) → found ≡ Some (a_text other) → some ≡ other
 same_text e f = cc
 
-same_list : {found : Option Json} (some other : List (List ℕ)) → found ≡ Some (a_list (strings some)) → found ≡ Some (a_list (strings other)) → some ≡ other
-same_list some other e f = let same : strings some ≡ strings other = cc in same_strings some other same
+same_list : {found : Option Json} {some other : Items} → found ≡ Some (a_list some) → found ≡ Some (a_list other) → some ≡ other
+same_list e f = cc
 
 pub same_members : {value : Json} {some other : Members} → value ≡ an_object some → value ≡ an_object other → some ≡ other
 same_members e f = cc
@@ -33,18 +33,18 @@ same_config : (some other : Config) → some.base ≡ other.base → some.page �
 same_config some other b p c e = λ i. record { base = b i; page = p i; conditions = c i; entries = e i }
 
 -- the parts that an object has
-pub record SameParts (base base' page page' : List ℕ) (conditions conditions' entries entries' : List (List ℕ)) : Type 0 where
+pub record SameParts (base base' page page' : List ℕ) (conditions conditions' entries entries' : Items) : Type 0 where
   pub same_base : base ≡ base'
   pub same_page : page ≡ page'
   pub same_conditions : conditions ≡ conditions'
   pub same_entries : entries ≡ entries'
 
-pub same_parts : {members : Members} {base base' page page' : List ℕ} (conditions conditions' entries entries' : List (List ℕ)) → HasParts members base page conditions entries → HasParts members base' page' conditions' entries' → SameParts base base' page page' conditions conditions' entries entries'
-same_parts conditions conditions' entries entries' some other = record {
+pub same_parts : {members : Members} {base base' page page' : List ℕ} {conditions conditions' entries entries' : Items} → HasParts members base page conditions entries → HasParts members base' page' conditions' entries' → SameParts base base' page page' conditions conditions' entries entries'
+same_parts some other = record {
   same_base = same_text some.base_member other.base_member;
   same_page = same_text some.page_member other.page_member;
-  same_conditions = same_list conditions conditions' some.conditions_member other.conditions_member;
-  same_entries = same_list entries entries' some.entries_member other.entries_member;
+  same_conditions = same_list some.conditions_member other.conditions_member;
+  same_entries = same_list some.entries_member other.entries_member;
 }
 
 same_base : {found : Option (List ℕ)} {some other : List ℕ} → found ≡ Some some → found ≡ Some other → some ≡ other
@@ -53,9 +53,9 @@ same_base e f = cc
 one_config : {value : Json} (some other : Config) → Describes value some → Describes value other → some ≡ other
 one_config some other d f =
     let same = same_members d.object f.object in
-    let moved = subst (λ ms. HasParts ms f.text other.page other.conditions other.entries) (sym same) f.parts in
-    let parts = same_parts some.conditions other.conditions some.entries other.entries d.parts moved in
-    same_config some other (same_base d.gives (ap base_of parts.same_base ∙ f.gives)) parts.same_page parts.same_conditions parts.same_entries
+    let moved = subst (λ ms. HasParts ms f.text other.page (strings other.conditions) (strings other.entries)) (sym same) f.parts in
+    let parts = same_parts d.parts moved in
+    same_config some other (same_base d.gives (ap base_of parts.same_base ∙ f.gives)) parts.same_page (same_strings some.conditions other.conditions parts.same_conditions) (same_strings some.entries other.entries parts.same_entries)
 
 too_many : (n : ℕ) (some other : Config) → some ≡ other → length some.entries ≤ n → n < length other.entries → ⊥
 too_many n some other same few many = let count : length some.entries ≡ length other.entries = ap (λ c. length c.entries) same in omega arith

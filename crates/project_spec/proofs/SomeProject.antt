@@ -20,7 +20,7 @@ use Rattle.url_spec.specs.PathTests.{is_path}
 use Rattle.import_map_spec.specs.Parsing.{member}
 use Rattle.condition_match.specs.Conditions.{is_name_byte, IsCondition, AreDistinct, AreConditions}
 use Rattle.trace_spec.specs.Modules.{Config}
-use Rattle.project_spec.proofs.OneProject.{same_parts, same_members}
+use Rattle.project_spec.proofs.OneProject.{same_parts, same_members, same_strings}
 use Rattle.project_spec.specs.Laws.{SomeProject}
 use Rattle.project_spec.specs.ProjectFiles.{strings, HasParts, Describes, Fault, BadFile, PassesLimit, Gives, a_project, many_entries, no_project, no_json, deep_json, reads_project}
 
@@ -152,7 +152,7 @@ record Parts (object : Members) : Type 0 where
   pub page : List ℕ
   pub conditions : List (List ℕ)
   pub entries : List (List ℕ)
-  pub are : HasParts object base page conditions entries
+  pub are : HasParts object base page (strings conditions) (strings entries)
 
 parts_or_not : (object : Members) → OrNot (Parts object)
 parts_or_not object =
@@ -233,20 +233,20 @@ own_parts object is (config, d) = record {
   page = config.page;
   conditions = config.conditions;
   entries = config.entries;
-  are = subst (λ ms. HasParts ms d.text config.page config.conditions config.entries) (same_members d.object is) d.parts;
+  are = subst (λ ms. HasParts ms d.text config.page (strings config.conditions) (strings config.entries)) (same_members d.object is) d.parts;
 }
 
 own_plain : {value : Json} (object : Members) → value ≡ an_object object → (parts : Parts object) → HasConfig value → ArePlain parts
 own_plain object is parts (config, d) =
-    let own = subst (λ ms. HasParts ms d.text config.page config.conditions config.entries) (same_members d.object is) d.parts in
-    let same = same_parts parts.conditions config.conditions parts.entries config.entries parts.are own in
+    let own = subst (λ ms. HasParts ms d.text config.page (strings config.conditions) (strings config.entries)) (same_members d.object is) d.parts in
+    let same = same_parts parts.are own in
     record {
       base = config.base;
       gives = ap base_of same.same_base ∙ d.gives;
       page = subst IsPath (sym same.same_page) d.is_project.page;
       no_root = λ e. d.is_project.no_root (sym same.same_page ∙ e);
-      conditions = subst AreConditions (sym same.same_conditions) d.is_project.conditions;
-      distinct = subst (IsDistinct bytes_eq) (sym same.same_entries) d.is_project.distinct;
+      conditions = subst AreConditions (sym (same_strings parts.conditions config.conditions same.same_conditions)) d.is_project.conditions;
+      distinct = subst (IsDistinct bytes_eq) (sym (same_strings parts.entries config.entries same.same_entries)) d.is_project.distinct;
     }
 
 config_by : {value : Json} (object : Members) → value ≡ an_object object → OrNot (Parts object) → OrNot (HasConfig value)

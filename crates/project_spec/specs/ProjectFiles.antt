@@ -25,12 +25,12 @@ strings [] = no_items
 strings (text ∷ texts) = an_item (a_text text) (strings texts)
 
 -- own: an object has these four members, in any order, and no other
-pub record HasParts (members : Members) (base page : List ℕ) (conditions entries : List (List ℕ)) : Type 0 where
+pub record HasParts (members : Members) (base page : List ℕ) (conditions entries : Items) : Type 0 where
   pub four : length (pairs_of members) ≡ 4
   pub base_member : member (codes "base") members ≡ Some (a_text base)
   pub page_member : member (codes "page") members ≡ Some (a_text page)
-  pub conditions_member : member (codes "conditions") members ≡ Some (a_list (strings conditions))
-  pub entries_member : member (codes "entries") members ≡ Some (a_list (strings entries))
+  pub conditions_member : member (codes "conditions") members ≡ Some (a_list conditions)
+  pub entries_member : member (codes "entries") members ≡ Some (a_list entries)
 
 -- own: the base is one, the page is a path other than `/`, the conditions can be conditions, and no entry stands twice
 pub record IsProject (config : Config) : Type 0 where
@@ -45,7 +45,7 @@ pub record Describes (value : Json) (config : Config) : Type 0 where
   pub members : Members
   pub text : List ℕ
   pub object : value ≡ an_object members
-  pub parts : HasParts members text config.page config.conditions config.entries
+  pub parts : HasParts members text config.page (strings config.conditions) (strings config.entries)
   pub gives : base_of text ≡ Some config.base
   pub is_project : IsProject config
 
