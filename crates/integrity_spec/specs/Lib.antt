@@ -1,0 +1,2 @@
+pub mod DigestTexts
+pub mod Laws

@@ -1,0 +1,4 @@
+pub mod Shown
+pub mod Parts
+pub mod Names
+pub mod Strings

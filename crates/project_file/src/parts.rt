@@ -1,0 +1,181 @@
+ghost use Rattle.std.specs.Prelude.{◌≡◌, List, ℕ, IfOk, MatchOption, option_map, bytes_eq};
+ghost use Rattle.std.specs.List.{IsDistinct};
+ghost use Rattle.url_spec.specs.Bases.{base_of};
+ghost use Rattle.json_spec.specs.Value.{a_list, a_text, Items as Spec};
+ghost use Rattle.import_map_spec.specs.Parsing.{member};
+ghost use Rattle.ordered_json.specs.Lists.{pairs_of, values_of};
+ghost use Rattle.ordered_json.specs.Shown.{json_of, items_of, members_of};
+ghost use Rattle.condition_match.specs.Conditions.{AreConditions};
+ghost use Rattle.project_spec.specs.ProjectFiles.{HasParts};
+ghost use Rattle.project_file.specs.Parts.{HoldsStrings, IsFilled, IsPage, IsWritten, NotWritten, has_written};
+
+use crate::lists::{are_distinct, are_names, joined, strings_in};
+use crate::project::Project;
+use condition_match::{Conditions, ConditionsFault};
+use ordered_json::{Items, Members, Value};
+use primitives::{Listed, Memory, Text};
+use std::alloc::{AllocError, Global};
+use tree_model::{Path, PathFault};
+use web_url::{Base, BaseFault};
+
+/// The parts of a project as its file has them.
+pub struct Written<'a> {
+    pub base: &'a str,
+    pub page: &'a str,
+    pub conditions: &'a Items,
+    pub entries: &'a Items,
+}
+
+/// The parts that a JSON value has.
+pub fn written_in(value: &Value) -> Option<Written<'_>>
+    ensures { MatchOption result (NotWritten (json_of value.now)) (IsWritten (json_of value.now)) }
+{
+    match value {
+        Value::Object(members) => parts_of(members),
+        _ => None,
+    }
+}
+
+// The parts that an object has: four members, and no other.
+fn parts_of(members: &Members) -> Option<Written<'_>>
+    ensures { MatchOption result
+        ((base page : List ℕ) (conditions entries : Spec)
+        → HasParts (members_of (pairs_of members.now)) base page conditions entries → ⊥)
+        (has_written (members_of (pairs_of members.now))) }
+{
+    if members.len() != 4 {
+        return None;
+    }
+    let base = string_under(members, "base")?;
+    let page = string_under(members, "page")?;
+    let conditions = list_under(members, "conditions")?;
+    let entries = list_under(members, "entries")?;
+    Some(Written {
+        base,
+        page,
+        conditions,
+        entries,
+    })
+}
+
+// The string that is the value of this member.
+fn string_under<'a>(members: &'a Members, name: &str) -> Option<&'a str>
+    ensures { MatchOption result
+        ((text : List ℕ) → member name.now (members_of (pairs_of members.now)) ≡ Some (a_text text) → ⊥)
+        (λ text. member name.now (members_of (pairs_of members.now)) ≡ Some (a_text text.now)) }
+{
+    match member(members, name) {
+        Some(Value::Text(text)) => Some(text.as_str()),
+        _ => None,
+    }
+}
+
+// The list that is the value of this member.
+fn list_under<'a>(members: &'a Members, name: &str) -> Option<&'a Items>
+    ensures { MatchOption result
+        ((items : Spec) → member name.now (members_of (pairs_of members.now)) ≡ Some (a_list items) → ⊥)
+        (λ items. member name.now (members_of (pairs_of members.now)) ≡ Some (a_list (items_of (values_of items.now)))) }
+{
+    match member(members, name) {
+        Some(Value::List(items)) => Some(items),
+        _ => None,
+    }
+}
+
+// The value of this member.
+fn member<'a>(members: &'a Members, name: &str) -> Option<&'a Value>
+    ensures { option_map (λ value. json_of value.now) result ≡ member name.now (members_of (pairs_of members.now)) }
+{
+    let mut rest = members.as_slice();
+    while let Some((pair, more)) = rest.split_first() {
+        if name == pair.0.as_str() {
+            return Some(&pair.1);
+        }
+        rest = more;
+    }
+    None
+}
+
+/// The project whose parts are written so; None where one of them can't stand there.
+pub fn filled(alloc: Global, written: &Written<'_>) -> Result<Option<Project>, Memory>
+    ensures { IfOk result (IsFilled written.now.base.now written.now.page.now
+        (items_of (values_of written.now.conditions.now)) (items_of (values_of written.now.entries.now))) }
+{
+    let Some(base) = base_in(alloc, written.base)? else {
+        return Ok(None);
+    };
+    let Some(page) = page_in(alloc, written.page)? else {
+        return Ok(None);
+    };
+    let Some(conditions) = conditions_in(alloc, written.conditions)? else {
+        return Ok(None);
+    };
+    let Some(entries) = entries_in(alloc, written.entries)? else {
+        return Ok(None);
+    };
+    Ok(Some(Project {
+        base,
+        page,
+        conditions,
+        entries,
+    }))
+}
+
+fn base_in(alloc: Global, text: &str) -> Result<Option<Base>, Memory>
+    ensures { IfOk result (λ found. base_of text.now ≡ found) }
+{
+    match Base::parse(alloc, text) {
+        Ok(base) => Ok(Some(base)),
+        Err(BaseFault::BadBase) => Ok(None),
+        Err(BaseFault::Memory) => Err(AllocError),
+    }
+}
+
+// The path of a page, which isn't the root.
+fn page_in(alloc: Global, text: &str) -> Result<Option<Path>, Memory>
+    ensures { IfOk result (λ found. MatchOption found (IsPage text.now → ⊥)
+        (λ page. (page ≡ text.now) × IsPage text.now)) }
+{
+    match Path::parse(alloc, text) {
+        Ok(path) => {
+            if text == "/" {
+                Ok(None)
+            } else {
+                Ok(Some(path))
+            }
+        }
+        Err(PathFault::BadPath) => Ok(None),
+        Err(PathFault::Memory) => Err(AllocError),
+    }
+}
+
+// The conditions that a list names. They are read from a text, in which commas part them.
+fn conditions_in(alloc: Global, items: &Items) -> Result<Option<Conditions>, Memory>
+    ensures { IfOk result (HoldsStrings (items_of (values_of items.now)) AreConditions) }
+{
+    let Some(names) = strings_in(alloc, items)? else {
+        return Ok(None);
+    };
+    if !are_names(names.as_slice()) {
+        return Ok(None);
+    }
+    let text = joined(alloc, names.as_slice())?;
+    match Conditions::parse(alloc, text.as_str()) {
+        Ok(conditions) => Ok(Some(conditions)),
+        Err(ConditionsFault::BadConditions) => Ok(None),
+        Err(ConditionsFault::Memory) => Err(AllocError),
+    }
+}
+
+// The entries of a list in which none stands twice.
+fn entries_in(alloc: Global, items: &Items) -> Result<Option<Listed<Text>>, Memory>
+    ensures { IfOk result (HoldsStrings (items_of (values_of items.now)) (IsDistinct bytes_eq)) }
+{
+    let Some(entries) = strings_in(alloc, items)? else {
+        return Ok(None);
+    };
+    if !are_distinct(alloc, entries.as_slice())? {
+        return Ok(None);
+    }
+    Ok(Some(entries))
+}

@@ -1,0 +1,3 @@
+pub mod OneProject
+pub mod ReadBack
+pub mod SomeProject

@@ -1,0 +1,28 @@
+-- The laws of project files. Each is the contract of a function of this crate.
+use Rattle.std.specs.Prelude.{◌≡◌, ◌≤◌, ℕ, List, length, All, IsUtf8, Result, Ok}
+use Rattle.tree_spec.specs.Limits.{limit_number}
+use Rattle.tree_spec.specs.declared.LimitName.TheVariants.{Entries}
+use Rattle.trace_spec.specs.Modules.{Config}
+use Rattle.project_spec.specs.ProjectFiles.{Fault, IsProject, ReadsProject, project_text}
+
+-- own law: the bytes of a file have one outcome
+abbrev pub OneProject : Type 0
+OneProject =
+    (bytes : List ℕ) (some other : Result Config Fault) → ReadsProject bytes some → ReadsProject bytes other
+    → some ≡ other
+
+-- own law: the bytes of each file have an outcome
+abbrev pub SomeProject : Type 0
+SomeProject = (bytes : List ℕ) → (out : Result Config Fault) × ReadsProject bytes out
+
+-- own law: a config that is read can stand in a file, and has no more entries than a project may
+abbrev pub ReadProjects : Type 0
+ReadProjects =
+    (bytes : List ℕ) (config : Config) → ReadsProject bytes (Ok config)
+    → IsProject config × (length config.entries ≤ limit_number Entries)
+
+-- own law: the text of a config that can stand in a file is read as that config
+abbrev pub ProjectsReadBack : Type 0
+ProjectsReadBack =
+    (config : Config) → IsProject config → length config.entries ≤ limit_number Entries → IsUtf8 config.page
+    → All IsUtf8 config.entries → ReadsProject (project_text config) (Ok config)
