@@ -21,46 +21,46 @@ fn one_file(alloc: Global, path: &str, text: &str) -> Result<MemFolder, Fail> {
 }
 
 /// A text that stands in `/app.mjs` so often, with another behind it, and what is said of it.
-struct Repeated {
+struct Filled {
     part: &'static str,
     count: usize,
     behind: &'static str,
     says: &'static str,
 }
 
-static REPEATED: [Repeated; 6] = [
-    Repeated {
+static FILLED: [Filled; 6] = [
+    Filled {
         part: "import \"./app.mjs\";",
         count: 4_096,
         behind: "",
         says: "0 ok: 1 modules, 4097 requests, 0 mappings",
     },
-    Repeated {
+    Filled {
         part: "import \"./app.mjs\";",
         count: 4_097,
         behind: "",
         says: "3 limit: module-requests above 4096",
     },
     // A text that can't be read goes before its requests, but not before one too many of them.
-    Repeated {
+    Filled {
         part: "import \"gone\";",
         count: 4_096,
         behind: "import x",
         says: "1 refused: NotModule \"/app.mjs\" Unreadable at 57344",
     },
-    Repeated {
+    Filled {
         part: "import \"gone\";",
         count: 4_097,
         behind: "import x",
         says: "3 limit: module-requests above 4096",
     },
-    Repeated {
+    Filled {
         part: "(",
         count: 4_096,
         behind: "",
         says: "1 refused: NotModule \"/app.mjs\" Unreadable at 4096",
     },
-    Repeated {
+    Filled {
         part: "(",
         count: 4_097,
         behind: "",
@@ -71,7 +71,7 @@ static REPEATED: [Repeated; 6] = [
 #[test]
 fn texts(rt: HostRuntime) -> Result<(), Fail> {
     let alloc = rt.alloc();
-    for row in &REPEATED {
+    for row in &FILLED {
         let mut text = repeated(alloc, row.part, row.count)?;
         text.push_str(row.behind)?;
         let folder = one_file(alloc, "/app.mjs", text.as_str())?;

@@ -188,9 +188,9 @@ fn asked_of(line: &str) -> (&str, &str) {
     line.split_once(" | ").unwrap_or((BASE, line))
 }
 
-// The entries of a run, and what it must say; None where the line is of a tree.
+// The entries of a run, and what it must say; None where the line is of a tree. No path begins with two slashes.
 fn run_of(line: &str) -> Option<(&str, &str)> {
-    if line.starts_with('/') {
+    if line.starts_with('/') && !line.starts_with("//") {
         return None;
     }
     line.split_once(" => ")
