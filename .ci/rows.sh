@@ -146,6 +146,23 @@ row data ./app.mjs 1 'refused: NotModule "/data.json" Json' </dev/null
 file builtin/app.mjs 'import "node:fs";'
 row builtin ./app.mjs 1 'refused: Builtin from "/app.mjs" for "node:fs"' </dev/null
 
+mkdir -p "$kept/package/node_modules/ui" && echo 'import "ui/x.mjs"; import "./node_modules/ui/x.mjs";' >"$kept/package/app.mjs" &&
+    echo '{"exports":{"./*":"./*"}}' >"$kept/package/node_modules/ui/package.json" && : >"$kept/package/node_modules/ui/x.mjs"
+row package ./app.mjs 0 'ok: 2 modules, 3 requests, 1 mappings' <<'MAP'
+{
+  "imports": {
+    "ui/x.mjs": "https://app.test/node_modules/ui/x.mjs"
+  }
+}
+MAP
+
+mkdir -p "$kept/nearest/lib/node_modules/ui" "$kept/nearest/node_modules/ui" && echo 'import "ui";' >"$kept/nearest/lib/m.mjs" &&
+    echo '{"main":"./i.mjs"}' >"$kept/nearest/node_modules/ui/package.json" && : >"$kept/nearest/node_modules/ui/i.mjs"
+row nearest ./lib/m.mjs 1 'refused: NotFound from "/lib/m.mjs" for "ui"' </dev/null
+
+mkdir "$kept/unread" && printf 'import "./b.mjs' >"$kept/unread/app.mjs"
+row unread ./app.mjs 1 'refused: NotModule "/app.mjs" Unreadable at 7' </dev/null
+
 # Injects into the folder $kept/NAME: page NAME STATUS LINE, and the page as it is afterwards on the standard input.
 page() {
     cat >"$kept/wanted"
