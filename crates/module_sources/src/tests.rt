@@ -18,7 +18,7 @@ static FILES: [(&str, &[u8], &str); 9] = [
     ("/a.cjs", b"import 'b'", "NotModule { reason: CommonJs }"),
     ("/a.json", b"{}", "NotModule { reason: Json }"),
     ("/bad.mjs", b"1 \xff", "NotModule { reason: Unreadable { at: 2 } }"),
-    ("/open.mjs", b"f(", "NotModule { reason: Unreadable { at: 1 } }"),
+    ("/open.mjs", b"f(", "NotModule { reason: Unreadable { at: 2 } }"),
     ("/odd/package.json", b"[]", "NotModule { reason: Json }"),
 ];
 
