@@ -82,7 +82,7 @@ module _ (references : List ℕ) (before after : State) (question : Question) (r
   comes_told is a told by is_told =
       (let tells = told_here a by.tree by.holds in
       let here = comes_by (answers by.sights before.trail question) response result after.trail is is_told
-          (tells.says by.sights by.sees) in
+      (tells.says by.sights by.sees) in
       subst (λ t. Comes t before.trail (fine (ask question answered)) result after.trail) (sym by.are)
       (record { is = here.0; leaves = here.1 }))
 

@@ -42,7 +42,11 @@ impl<'a, 'b, 'c, 'd, F: Folder, L: Ledger> Answerer for FolderAnswers<'a, 'b, 'c
 
     ghost steps = { λ answers. answers.steps.now };
 
-    fn module(&mut self, alloc: Global, path: &Path) -> Result<Result<Source, NoSource>, TraceFault> {
+    fn module(
+        &mut self,
+        alloc: Global,
+        path: &Path,
+    ) -> Result<Result<Source, NoSource>, TraceFault> {
         let found = module_source(alloc, self.known, self.folder, self.trail, path, self.steps);
         source_answer(found)
     }
