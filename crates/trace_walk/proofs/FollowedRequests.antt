@@ -1,21 +1,27 @@
 -- One request, by what is checked of it and what Node answers.
-use Rattle.std.proofs.Common.{◌≡◌, ℕ, List, Result, Ok, Err, refl, sym, ap, subst, arith}
+use Rattle.std.proofs.Common.{◌≡◌, ◌++◌, ◌∙◌, ℕ, List, Result, Ok, Err, refl, sym, ap, subst, arith}
 use Rattle.std.specs.Result.{IsErrAnd}
 use Rattle.asking_spec.specs.Askings.{Asking, answered, ask}
 use Rattle.asking_spec.specs.Evaluation.{evaluated}
-use Rattle.node_spec.specs.NodeAnswers.{Refusal}
+use Rattle.tree_spec.specs.declared.LimitName.TheVariants.{Depth}
+use Rattle.node_spec.specs.declared.Cause.{Cause}
+use Rattle.node_spec.specs.NodeAnswers.{Refusal, by_cause, too_deep}
+use Rattle.trace_spec.specs.declared.AskCause.{AskCause}
+use Rattle.trace_spec.specs.Causes.{ask_cause}
 use Rattle.trace_spec.specs.declared.TraceFault.{TraceFault}
-use Rattle.trace_spec.specs.declared.TraceFault.TheVariants.{ReadFault}
+use Rattle.trace_spec.specs.declared.TraceFault.TheVariants.{Refused, Limit, ReadFault}
 use Rattle.trace_spec.specs.Walking.{Referrer}
 use Rattle.trace_spec.specs.Modules.{Config, Module, path_of}
 use Rattle.trace_spec.specs.Questions.{Question, Answer, of_request}
 use Rattle.trace_spec.specs.Checks.{Gathered, Wanted, checked, led, followed_by, follows}
 use Rattle.trace_spec.specs.Traces.{result_of, state_of}
+use Rattle.trace_walk.specs.declared.referrer.Referrer as code
 use Rattle.trace_walk.specs.declared.tables.Tables.{Tables}
 use Rattle.trace_walk.specs.Meeting.{AnswererState, fine, Met}
 use Rattle.trace_walk.specs.Shown.{done}
-use Rattle.trace_walk.specs.Walking.{IsGiven}
+use Rattle.trace_walk.specs.Walking.{IsReferrer, IsGiven}
 use Rattle.trace_walk.proofs.FaultKinds.{handed}
+use Rattle.trace_walk.proofs.TableLemmas.{shown_is}
 use Rattle.trace_walk.proofs.Meetings.{told_err, met_then, met_failed, met_now}
 
 refused_first : (before : AnswererState) (config : Config) (tables : Gathered) (r : Referrer Module) (specifier : List ℕ) (want : Result Wanted TraceFault) (fault : TraceFault) → IsGiven want (Err fault) → Met {X = Gathered} before (followed_by config tables r specifier want) (Err fault) before
@@ -61,3 +67,15 @@ follow_led before after config tables r conditions path specifier want found res
     subst (λ w. Met before (followed_by config tables r specifier w) result after) (sym asks)
     (met_then before after after (fine (ask (of_request config.conditions (path_of config r) specifier) answered)) (by_answer config tables r specifier want) found result (put_so before after config r conditions path specifier (Ok found) on at met)
     (met_now after (led config tables r specifier want found) result given))
+
+-- Node refuses it
+pub given_refused : (config : Config) (r : Referrer Module) (referrer : code.Referrer) (tables : Gathered) (specifier : List ℕ) (want : Wanted) (cause : Cause) (shown : AskCause) (fault : TraceFault) → IsReferrer config r referrer → shown ≡ ask_cause cause → fault ≡ Refused (referrer.path ++ referrer.suffix) specifier shown
+    → IsGiven {X = Gathered} (led config tables r specifier want (Err (by_cause cause))) (Err fault)
+given_refused config r referrer tables specifier want cause shown fault is so says = record {
+  given = λ ne. ap Err (ap (λ text. Refused text specifier (ask_cause cause)) (shown_is config r referrer is) ∙ (ap (Refused (referrer.path ++ referrer.suffix) specifier) (sym so) ∙ sym says));
+  no_look = λ e. (let f : fault ≡ ReadFault = cc in let g = sym says ∙ f in cc);
+}
+
+-- a limit is passed as a package.json is read
+pub given_too_deep : (config : Config) (r : Referrer Module) (tables : Gathered) (specifier : List ℕ) (want : Wanted) → IsGiven {X = Gathered} (led config tables r specifier want (Err too_deep)) (Err (Limit Depth))
+given_too_deep config r tables specifier want = record { given = λ ne. refl; no_look = λ e. cc }

@@ -4,3 +4,4 @@ pub mod FaultKinds
 pub mod AskedTexts
 pub mod TableLemmas
 pub mod FollowedRequests
+pub mod Visiting

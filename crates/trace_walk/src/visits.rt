@@ -113,7 +113,8 @@ fn follow_all<A: Answerer>(
     ensures ready { OnOk result (A.ready answerer.new) }
 {
     let mut next = 0;
-    while let Some(specifier) = specifiers.at(next) {
+    while next < specifiers.len() {
+        let specifier = specifiers.at(next).unwrap();
         follow(alloc, answerer, config, tables, referrer, specifier)?;
         next += 1;
     }

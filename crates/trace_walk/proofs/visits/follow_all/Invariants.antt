@@ -7,14 +7,13 @@ use Rattle.trace_walk.specs.Walking.{IsReferrer, AllNamed, Grows, Spends}
 use Rattle.trace_walk.proofs.Meetings.{Left}
 use Rattle.trace_walk.proofs.visits.follow_all.Given as goal
 
-abbrev pub invariant-loop-specifier : goal.invariant-loop-specifier
-invariant-loop-specifier g l = record {
+abbrev pub invariant-loop-next : goal.invariant-loop-next
+invariant-loop-next g l = record {
   left : (r : Referrer Module) → IsReferrer l.config r l.referrer → AllNamed l.config l.fn.tables.modules.entries → Left (g.A.Answerer.state l.fn.answerer) (followed (rules l.config) (before_of l.fn.tables) r (specifiers_of l.specifiers)) (g.A.Answerer.state l.answerer) (followed (rules l.config) (before_of l.tables) r (drop l.next (specifiers_of l.specifiers)));
   grows : Grows l.config 0 l.fn.tables l.tables;
   spends : Spends 0 l.fn.tables l.tables (g.A.Answerer.steps l.fn.answerer) (g.A.Answerer.steps l.answerer);
   ready : g.A.Answerer.ready l.answerer;
-  within : l.next ≤ length (specifiers_of l.specifiers);
 }
 
-abbrev pub decreases-loop-specifier : goal.decreases-loop-specifier
-decreases-loop-specifier g l = length (specifiers_of l.specifiers) - l.next
+abbrev pub decreases-loop-next : goal.decreases-loop-next
+decreases-loop-next g l = length (specifiers_of l.specifiers) - l.next

@@ -1,18 +1,11 @@
-use Rattle.std.proofs.Common.{rules, ◌≡◌, ◌≢◌, ◌≤◌, ◌<◌, ◌+◌, ◌++◌, ◌∷◌, [], length, Some, slice_get, suc, IfOk, IfErr, OnOk, ℕ, ◌-◌, ◌*◌, ◌/◌, ◌%◌, Bool, true, false, nat_eq, nat_lt, List, slice_index_or, slice_set, bit_and, bit_or, Fits, w8, w32, w64, Bor, MutBor}
-use Rattle.indexmap.specs.IndexMap.{keys}
-use Rattle.tree_spec.specs.declared.LimitName.TheVariants.{Modules, Requests}
-use Rattle.tree_spec.specs.Limits.{limit_number}
-use Rattle.trace_spec.specs.Modules as spec
-use Rattle.trace_spec.specs.Walking.{Referrer as Referring}
-use Rattle.trace_spec.specs.Walking.{the_page, a_module, followed, visited, walked}
-use Rattle.trace_spec.specs.Traces.{trace}
-use Rattle.trace_spec.specs.Modules.{served_at}
-use Rattle.trace_walk.specs.Kinds.{IsOfWalk}
-use Rattle.trace_walk.specs.Meeting.{Met}
-use Rattle.trace_walk.specs.Walking.{IsReferrer, AllNamed, AreBeside, Grows, IsWhole, IsUnserved, Spends, IsBounded}
-use Rattle.trace_walk.specs.Shown.{before_of, done, traced_of, specifiers_of}
+use Rattle.std.proofs.Common.{◌≡◌, Some, sym, ap, ◌∙◌}
+use Rattle.std.specs.Prelude.{slice_get, option_map}
+use Rattle.std.specs.Map.Iter.{deref_pair}
+use Rattle.trace_walk.proofs.Visiting.{is_referrer}
 use Rattle.trace_walk.proofs.visits.visit.Goals as goal
 
--- src/visits.rt:152:1
 pub returns-clause-met : goal.returns-clause-met
-returns-clause-met g c = ?
+returns-clause-met g c = λ m at all.
+    let entry : slice_get c.args.tables.now.modules.entries c.args.place ≡ Some (c.unwrap.result.0.now, c.unwrap.result.1.now) = sym c.get_index.ensures.entry ∙ ap (option_map deref_pair) c.unwrap.ensures in
+    c.visit_module.ensures.met m
+    (is_referrer c.args.config.now c.args.tables.now.modules.entries c.args.place m (c.unwrap.result.0.now, c.unwrap.result.1.now) c.in_ok-referrer.referrer at entry all c.in_ok-referrer.ensures.name c.in_ok-referrer.ensures.text c.in_ok-referrer.ensures.path c.in_ok-referrer.ensures.suffix) all

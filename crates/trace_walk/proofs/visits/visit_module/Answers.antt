@@ -1,23 +1,20 @@
-use Rattle.std.proofs.Common.{rules, ◌≡◌, ◌≢◌, ◌≤◌, ◌<◌, ◌+◌, ◌++◌, ◌∷◌, [], length, Some, slice_get, suc, IfOk, IfErr, OnOk, ℕ, ◌-◌, ◌*◌, ◌/◌, ◌%◌, Bool, true, false, nat_eq, nat_lt, List, slice_index_or, slice_set, bit_and, bit_or, Fits, w8, w32, w64, Bor, MutBor}
-use Rattle.indexmap.specs.IndexMap.{keys}
-use Rattle.tree_spec.specs.declared.LimitName.TheVariants.{Modules, Requests}
-use Rattle.tree_spec.specs.Limits.{limit_number}
-use Rattle.trace_spec.specs.Modules as spec
-use Rattle.trace_spec.specs.Walking.{Referrer as Referring}
-use Rattle.trace_spec.specs.Walking.{the_page, a_module, followed, visited, walked}
-use Rattle.trace_spec.specs.Traces.{trace}
-use Rattle.trace_spec.specs.Modules.{served_at}
-use Rattle.trace_walk.specs.Kinds.{IsOfWalk}
-use Rattle.trace_walk.specs.Meeting.{Met}
-use Rattle.trace_walk.specs.Walking.{IsReferrer, AllNamed, AreBeside, Grows, IsWhole, IsUnserved, Spends, IsBounded}
-use Rattle.trace_walk.specs.Shown.{before_of, done, traced_of, specifiers_of}
+use Rattle.std.proofs.Common.{◌≡◌, refl, ap}
+use Rattle.std.specs.Prelude.{map}
+use Rattle.module_spec.specs.declared.request.Request.{Request}
+use Rattle.trace_spec.specs.Walking.{a_module}
+use Rattle.trace_walk.specs.declared.tables.Tables.{Tables}
+use Rattle.trace_walk.specs.Shown.{source_of, before_of, done}
+use Rattle.trace_walk.proofs.Visiting.{visit_done, pushed_source, grows_by_visit}
 use Rattle.trace_walk.proofs.visits.visit_module.Goals as goal
 
--- src/visits.rt:178:1
 pub returns-in_ok-push_source-in-Ok-clause-met : goal.returns-in_ok-push_source-in-Ok-clause-met
-returns-in_ok-push_source-in-Ok-clause-met g c = ?
+returns-in_ok-push_source-in-Ok-clause-met g c = λ m is all.
+    let pushed : Tables = record { modules = c.args.tables.now.modules; sources = c.push_source.new.sources; needs = c.args.tables.now.needs; spellings = c.args.tables.now.spellings; requests = c.args.tables.now.requests } in
+    let same : c.deref.result.now ≡ c.in-Ok.source.requests.value = (let a = c.deref.ensures in let b = c.in_ok-requests-in-Ok.ensures.cases in cc) in
+    visit_done _ _ _ c.args.config.now (before_of c.args.tables.now) _ m c.args.referrer.now.path (source_of c.in-Ok.source) _ (done c.follow_all.result c.follow_all.new.tables) is.path
+    (pushed_source c.args.tables.now pushed c.in-Ok.source refl c.in_ok-push_source-in-Ok.ensures refl refl refl) (ap (map (λ (request : Request). request.text)) same) (rw c.in-Ok.is at c.in_ok-source.ensures.met) (c.follow_all.ensures.met (a_module m) is all)
 
--- src/visits.rt:178:1
-pub returns-in_ok-push_source-in-Ok-clause-grows :
-    goal.returns-in_ok-push_source-in-Ok-clause-grows
-returns-in_ok-push_source-in-Ok-clause-grows g c = ?
+pub returns-in_ok-push_source-in-Ok-clause-grows : goal.returns-in_ok-push_source-in-Ok-clause-grows
+returns-in_ok-push_source-in-Ok-clause-grows g c =
+    let pushed : Tables = record { modules = c.args.tables.now.modules; sources = c.push_source.new.sources; needs = c.args.tables.now.needs; spellings = c.args.tables.now.spellings; requests = c.args.tables.now.requests } in
+    grows_by_visit c.args.config.now c.follow_all.result c.args.tables.now pushed c.follow_all.new.tables c.in-Ok.source refl c.in_ok-push_source-in-Ok.ensures refl refl c.follow_all.ensures.grows
