@@ -1,4 +1,1 @@
-pub mod Statements
-pub mod LeadLemmas
-pub mod LookLemmas
-pub mod SourceLemmas
+pub mod AnswerLemmas

@@ -1,4 +1,2 @@
-pub mod Reading
-pub mod Leads
-pub mod Looking
+pub mod Answering
 pub mod Tracing
