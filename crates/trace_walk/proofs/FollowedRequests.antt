@@ -6,10 +6,11 @@ use Rattle.asking_spec.specs.Evaluation.{evaluated}
 use Rattle.tree_spec.specs.declared.LimitName.TheVariants.{Depth}
 use Rattle.node_spec.specs.declared.Cause.{Cause}
 use Rattle.node_spec.specs.NodeAnswers.{Refusal, by_cause, too_deep}
+use Rattle.package_lookup.proofs.Learnings.{learns_nothing}
 use Rattle.trace_spec.specs.declared.AskCause.{AskCause}
 use Rattle.trace_spec.specs.Causes.{ask_cause}
 use Rattle.trace_spec.specs.declared.TraceFault.{TraceFault}
-use Rattle.trace_spec.specs.declared.TraceFault.TheVariants.{Refused, Limit, ReadFault}
+use Rattle.trace_spec.specs.declared.TraceFault.TheVariants.{Refused, Limit, ReadFault, Memory}
 use Rattle.trace_spec.specs.Walking.{Referrer}
 use Rattle.trace_spec.specs.Modules.{Config, Module, path_of}
 use Rattle.trace_spec.specs.Questions.{Question, Answer, of_request}
@@ -22,7 +23,7 @@ use Rattle.trace_walk.specs.Shown.{done}
 use Rattle.trace_walk.specs.Walking.{IsReferrer, IsGiven}
 use Rattle.trace_walk.proofs.FaultKinds.{handed}
 use Rattle.trace_walk.proofs.TableLemmas.{shown_is}
-use Rattle.trace_walk.proofs.Meetings.{told_err, met_then, met_failed, met_now}
+use Rattle.trace_walk.proofs.Meetings.{failed, told_err, met_then, met_failed, met_now}
 
 refused_first : (before : AnswererState) (config : Config) (tables : Gathered) (r : Referrer Module) (specifier : List ℕ) (want : Result Wanted TraceFault) (fault : TraceFault) → IsGiven want (Err fault) → Met {X = Gathered} before (followed_by config tables r specifier want) (Err fault) before
 refused_first before config tables r specifier want fault given = record {
@@ -35,6 +36,7 @@ refused_first before config tables r specifier want fault given = record {
   later = omega arith;
   cause = λ e. absurd (given.no_look (let f : fault ≡ ReadFault = cc in ap Err f));
   quiet = λ ne. refl;
+  learns = learns_nothing before.looks (failed Gathered fault ≡ Err Memory);
 }
 
 -- a check before Node is asked isn't passed

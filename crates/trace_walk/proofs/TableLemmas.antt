@@ -25,7 +25,8 @@ use Rattle.trace_spec.proofs.Steps.{file_name_parts}
 use Rattle.trace_walk.specs.declared.referrer.Referrer.{Referrer}
 use Rattle.trace_walk.specs.declared.tables.Name.{Name}
 use Rattle.trace_walk.specs.declared.tables.Tables.{Tables}
-use Rattle.trace_walk.specs.Shown.{source_of, before_of, done}
+use Rattle.module_sources.specs.Shown.{source_of}
+use Rattle.trace_walk.specs.Shown.{before_of, done}
 use Rattle.trace_walk.specs.Walking.{IsReferrer, IsNamed, AllNamed, IsAdded, IsGiven, Grows}
 use Rattle.trace_walk.specs.Refusing.{clash_by, IsClash, IsMisnamed}
 use Rattle.trace_walk.proofs.ServedNames.{served_is}

@@ -2,6 +2,7 @@
 use Rattle.std.proofs.Common.{◌≡◌, ◌≢◌, ◌≤◌, ◌<◌, ◌+◌, ◌-◌, ℕ, zero, suc, List, [], ◌∷◌, ◌++◌, length, length-append, drop, Option, Some, None, Result, Ok, Err, refl, sym, ap, ◌∙◌, subst, arith}
 use Rattle.std.specs.Prelude.{slice_get, map, OnOk}
 use Rattle.std.specs.Map.{keys_of}
+use Rattle.std.specs.Result.{IsErrAnd}
 use Rattle.std.proofs.lemmas.List.{map-append, length-map}
 use Rattle.std.proofs.lemmas.List.Elements.{All-head, All-tail}
 use Rattle.std.proofs.lemmas.Option.{slice_get_past}
@@ -9,22 +10,29 @@ use Rattle.asking_spec.specs.Askings.{Asking, answered, ask, on_ok, and_ok}
 use Rattle.layout_spec.specs.Needs.{NoClash}
 use Rattle.layout_spec.proofs.Contained.{contains_none}
 use Rattle.trace_spec.specs.declared.TraceFault.{TraceFault}
-use Rattle.trace_spec.specs.Walking.{the_page, a_module, followed, visited, walked, where_some}
+use Rattle.trace_spec.specs.declared.TraceFault.TheVariants as refused
+use Rattle.trace_spec.specs.declared.TraceFault.TheVariants.{ReadFault, Memory}
+use Rattle.trace_spec.specs.Walking.{the_page, a_module, Opened, followed, visited, walked, where_some}
 use Rattle.trace_spec.specs.Modules.{Config, Module, served_at}
 use Rattle.trace_spec.specs.Questions as spec
 use Rattle.trace_spec.specs.Questions.{Question, Answer, of_module}
 use Rattle.trace_spec.specs.Checks.{Gathered, nothing_gathered, page_opened, with_source, module_opened, rules}
 use Rattle.trace_spec.specs.Traces.{trace}
 use Rattle.trace_spec.proofs.Steps.{file_name_parts}
-use Rattle.trace_walk.specs.declared.answerer.Source.{Source}
+use Rattle.module_sources.specs.declared.source.Source.{Source}
 use Rattle.trace_walk.specs.declared.referrer.Referrer.{Referrer}
 use Rattle.trace_walk.specs.declared.tables.Name.{Name}
 use Rattle.trace_walk.specs.declared.tables.Tables.{Tables}
 use Rattle.trace_walk.specs.Meeting.{AnswererState, fine, Met}
-use Rattle.trace_walk.specs.Shown.{source_of, before_of}
-use Rattle.trace_walk.specs.Walking.{IsReferrer, IsNamed, AllNamed, AreBeside, Grows, IsWhole}
+use Rattle.module_sources.specs.declared.source.NoSource.{NoSource}
+use Rattle.module_sources.specs.declared.source.NoSource.TheVariants.{NotModule, Above}
+use Rattle.module_sources.specs.Shown.{source_of, no_source_of}
+use Rattle.trace_walk.specs.Shown.{before_of, done}
+use Rattle.trace_walk.specs.Refusing.{no_source_fault}
+use Rattle.trace_walk.specs.Walking.{IsReferrer, IsNamed, AllNamed, AreBeside, IsGiven, Grows, IsWhole, IsUnserved}
 use Rattle.trace_walk.proofs.TableLemmas.{keys_of-length}
-use Rattle.trace_walk.proofs.Meetings.{met_then, met_failed, Left}
+use Rattle.trace_walk.proofs.FaultKinds.{handed}
+use Rattle.trace_walk.proofs.Meetings.{met_then, met_failed, met_now, Left}
 
 -- ---- how the tables grow
 
@@ -102,6 +110,20 @@ pub page_done : (before after : AnswererState) (config : Config) (tables : Gathe
 page_done before after config tables url result served met =
     subst (λ o. Met before (on_ok (λ opened. followed (rules config) opened.after the_page opened.specifiers) (page_opened config tables o)) result after) (sym served) met
 
+page_lost : (config : Config) (tables : Gathered) (fault : TraceFault) → (fault ≢ Memory → IsUnserved config config.page [] fault) → IsGiven {X = Opened Gathered} (page_opened config tables (served_at config the_page)) (Err fault)
+page_lost config tables fault unserved = record {
+  given = λ ne. (let is = unserved (λ e. ne (ap Err e)) in ap (page_opened config tables) is.lost ∙ ap Err (sym is.is));
+  no_look = λ e. (let f : fault ≡ ReadFault = cc in let g = (unserved (λ h. (let k : ReadFault ≡ Memory = sym f ∙ h in cc))).is in let k = sym f ∙ g in cc);
+}
+
+-- the page isn't served
+pub page_refused : (before : AnswererState) (config : Config) (tables : Gathered) (fault : TraceFault) (result : Result (Unit {0}) TraceFault) (code : Tables) → IsErrAnd result (λ f. f ≡ fault) → (fault ≢ Memory → IsUnserved config config.page [] fault)
+    → Met before (visited (rules config) tables the_page) (done result code) before
+page_refused before config tables fault result code is unserved =
+    subst (λ v. Met before (visited (rules config) tables the_page) (done v code) before) (sym (handed result fault is))
+    (met_failed before before (answered (page_opened config tables (served_at config the_page))) (λ opened. followed (rules config) opened.after the_page opened.specifiers) fault
+    (met_now before (page_opened config tables (served_at config the_page)) (Err fault) (page_lost config tables fault unserved)))
+
 -- ---- a module's visit
 
 abbrev behind : Config → Gathered → Module → Result spec.Source spec.NoSource → Asking Question Answer (Result Gathered TraceFault)
@@ -117,6 +139,30 @@ pushed_source tables pushed source modules sources needs spellings requests =
       spellings = (spellings i).items;
       requests = requests i;
     }
+
+-- there is no answer
+pub visit_failed : (before after : AnswererState) (config : Config) (tables : Gathered) (m : Module) (path : List ℕ) (fault : TraceFault) (result : Result (Unit {0}) TraceFault) (code : Tables) → m.path ≡ path → IsErrAnd result (λ f. f ≡ fault)
+    → Met {X = Result spec.Source spec.NoSource} before (fine (ask (of_module path) answered)) (Err fault) after → Met before (visited (rules config) tables (a_module m)) (done result code) after
+visit_failed before after config tables m path fault result code at is first =
+    subst (λ v. Met before (visited (rules config) tables (a_module m)) (done v code) after) (sym (handed result fault is))
+    (met_failed before after (fine (ask (of_module m.path) answered)) (behind config tables m) fault (subst (λ p. Met {X = Result spec.Source spec.NoSource} before (fine (ask (of_module p) answered)) (Err fault) after) (sym at) first))
+
+sourceless : (config : Config) (tables : Gathered) (m : Module) (why : NoSource) (text : List ℕ) → text ≡ m.path ++ m.suffix → module_opened config tables m (Err (no_source_of why)) ≡ Err (no_source_fault text why)
+sourceless config tables m (NotModule reason) text is = ap (λ shown. Err (refused.NotModule shown reason)) (sym is)
+sourceless config tables m (Above which) text is = refl
+
+not_read : (text : List ℕ) (why : NoSource) → no_source_fault text why ≢ ReadFault
+not_read text (NotModule reason) e = cc
+not_read text (Above which) e = cc
+
+-- it has no source
+pub visit_sourceless : (before after : AnswererState) (config : Config) (tables : Gathered) (m : Module) (path suffix : List ℕ) (why : NoSource) (fault : TraceFault) → m.path ≡ path → m.suffix ≡ suffix → fault ≡ no_source_fault (path ++ suffix) why
+    → Met {X = Result spec.Source spec.NoSource} before (fine (ask (of_module path) answered)) (Ok (Err (no_source_of why))) after → Met {X = Gathered} before (visited (rules config) tables (a_module m)) (Err fault) after
+visit_sourceless before after config tables m path suffix why fault at tail is first =
+    met_then before after after (fine (ask (of_module m.path) answered)) (behind config tables m) (Err (no_source_of why)) (Err fault)
+    (subst (λ p. Met {X = Result spec.Source spec.NoSource} before (fine (ask (of_module p) answered)) (Ok (Err (no_source_of why))) after) (sym at) first)
+    (subst (λ opened. Met {X = Gathered} after (on_ok (λ opened. followed (rules config) opened.after (a_module m) opened.specifiers) opened) (Err fault) after) (sym (sourceless config tables m why (path ++ suffix) (λ i. sym at i ++ sym tail i)))
+    (met_now after (Err (no_source_fault (path ++ suffix) why)) (Err fault) (record { given = λ ne. ap Err (sym is); no_look = λ e. (let f : fault ≡ ReadFault = cc in not_read (path ++ suffix) why (sym is ∙ f)) })))
 
 pub visit_done : (before middle after : AnswererState) (config : Config) (tables : Gathered) (opened : Gathered) (m : Module) (path : List ℕ) (source : spec.Source) (specifiers : List (List ℕ)) (result : Result Gathered TraceFault) → m.path ≡ path
     → opened ≡ with_source tables source → specifiers ≡ source.specifiers → Met {X = Result spec.Source spec.NoSource} before (fine (ask (of_module path) answered)) (Ok (Ok source)) middle → Met middle (followed (rules config) opened (a_module m) specifiers) result after

@@ -13,8 +13,8 @@ use Rattle.trace_spec.specs.declared.AskCause.{AskCause}
 use Rattle.trace_spec.specs.Checks.{Gathered, Spelling, Wanted, wanted_by, clashing, named}
 use Rattle.trace_spec.specs.Modules.{Config, Module, served_at}
 use Rattle.trace_spec.specs.Walking as spec
-use Rattle.trace_walk.specs.declared.answerer.NoSource.{NoSource}
-use Rattle.trace_walk.specs.declared.answerer.NoSource.TheVariants.{NotModule, Above}
+use Rattle.module_sources.specs.declared.source.NoSource.{NoSource}
+use Rattle.module_sources.specs.declared.source.NoSource.TheVariants.{NotModule, Above}
 use Rattle.trace_walk.specs.declared.referrer.Referrer.{Referrer}
 use Rattle.trace_walk.specs.Walking.{IsReferrer}
 

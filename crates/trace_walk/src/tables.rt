@@ -13,7 +13,6 @@ ghost use Rattle.trace_walk.specs.Refusing.{IsMisnamed, IsClash};
 ghost use Rattle.trace_walk.specs.Walking.{IsReferrer, AllNamed, AreBeside, IsNamed, IsAdded, IsGiven, Grows};
 ghost use Rattle.trace_walk.specs.Shown.{before_of, done};
 
-use crate::answerer::Source;
 use crate::config::Config;
 use crate::module::Module;
 use crate::names::{is_folder_url, served_url};
@@ -21,6 +20,7 @@ use crate::referrer::Referrer;
 use crate::refusals::{clash, refusal};
 use crate::spelling::Spelling;
 use indexmap::IndexMap;
+use module_sources::Source;
 use need_table::{Added, Need, NeedFault, Needs};
 use primitives::{Memory, Text};
 use std::alloc::Global;

@@ -13,7 +13,7 @@ ghost use Rattle.trace_walk.specs.Meeting.{Met};
 ghost use Rattle.trace_walk.specs.Walking.{IsReferrer, AllNamed, AreBeside, Grows, IsWhole, IsUnserved, Spends, IsBounded};
 ghost use Rattle.trace_walk.specs.Shown.{before_of, done, traced_of, specifiers_of};
 
-use crate::answerer::{Answerer, Source};
+use crate::answerer::Answerer;
 use crate::config::Config;
 use crate::following::follow;
 use crate::module::Module;
@@ -22,6 +22,7 @@ use crate::referrer::Referrer;
 use crate::refusals::no_source;
 use crate::specifiers::Specifiers;
 use crate::tables::{Name, Tables};
+use module_sources::Source;
 use primitives::{Memory, Text};
 use std::alloc::Global;
 use std::rc::Rc;
