@@ -17,8 +17,16 @@ static FILES: [(&str, &[u8], &str); 9] = [
     ("/asks.js", b"import('b')", "NotModule { reason: CommonJs }"),
     ("/a.cjs", b"import 'b'", "NotModule { reason: CommonJs }"),
     ("/a.json", b"{}", "NotModule { reason: Json }"),
-    ("/bad.mjs", b"1 \xff", "NotModule { reason: Unreadable { at: 2 } }"),
-    ("/open.mjs", b"f(", "NotModule { reason: Unreadable { at: 1 } }"),
+    (
+        "/bad.mjs",
+        b"1 \xff",
+        "NotModule { reason: Unreadable { at: 2 } }",
+    ),
+    (
+        "/open.mjs",
+        b"f(",
+        "NotModule { reason: Unreadable { at: 2 } }",
+    ),
     ("/odd/package.json", b"[]", "NotModule { reason: Json }"),
 ];
 

@@ -2,9 +2,11 @@
 --     met_by               a question
 --     traces_by            the walk
 --     traces_moved         the same beside another name for the state
+--     traced_kind          why there is no trace
+--     first_name, second_name, third_name      the references
 --     named_limit, limit_ends, look_ends      a limit that ends a walk
 use Rattle.std.proofs.Common.{◌≡◌, ℕ, List, Option, Some, None, Result, Ok, Err, IfSome, refl, sym, ap, ◌∙◌, subst}
-use Rattle.std.specs.Prelude.{◌≢◌, IfErr}
+use Rattle.std.specs.Prelude.{◌≢◌, [], ◌∷◌, IfErr}
 use Rattle.asking_spec.specs.Askings.{Asking, answered, ask}
 use Rattle.asking_spec.specs.Evaluation.{Ended, ends, stopped, then_ended, Answers, evaluated}
 use Rattle.tree_spec.specs.declared.LimitName.{LimitName}
@@ -29,6 +31,8 @@ use Rattle.package_lookup.proofs.Questions.{sees_still}
 use Rattle.package_lookup.proofs.Learnings.{learns_as, learns_by, learns_at}
 use Rattle.trace_walk.specs.Meeting.{Kept, IsTold, Comes, Met, fine}
 use Rattle.trace_walk.specs.Kinds.{IsOfWalk}
+use Rattle.trace_walk.specs.Shown.{traced_of}
+use Rattle.trace_walk.specs.declared.tables.Tables.{Tables}
 use Rattle.request_trace.specs.Answering.{result_by, ToldBy, answers_of}
 use Rattle.request_trace.specs.Tracing.{Traces}
 
@@ -78,7 +82,7 @@ module _ (references : List ℕ) (before after : State) (question : Question) (r
   comes_told is a told by is_told =
       (let tells = told_here a by.tree by.holds in
       let here = comes_by (answers by.sights before.trail question) response result after.trail is is_told
-          (tells.says by.sights by.sees) in
+      (tells.says by.sights by.sees) in
       subst (λ t. Comes t before.trail (fine (ask question answered)) result after.trail) (sym by.are)
       (record { is = here.0; leaves = here.1 }))
 
@@ -183,3 +187,21 @@ limit_ends deep Choices ne other = absurd (ne refl)
 pub look_ends : {X : Type 0} (which : LimitName) → by_limit {X = X} (fails never) which ≢ fails never
     → result_by {X = X} (by_limit (fails never) which) ≡ Err (Limit which)
 look_ends {X} which ne = limit_ends {X = X} (fails never) which ne (λ e. ne (ap (λ w. by_limit {X = X} (fails never) w) e))
+
+-- ---- the references
+
+pub first_name : {a b c x y z : ℕ} → (a ∷ b ∷ c ∷ []) ≡ (x ∷ y ∷ z ∷ []) → a ≡ x
+first_name e = cc
+
+pub second_name : {a b c x y z : ℕ} → (a ∷ b ∷ c ∷ []) ≡ (x ∷ y ∷ z ∷ []) → b ≡ y
+second_name e = cc
+
+pub third_name : {a b c x y z : ℕ} → (a ∷ b ∷ c ∷ []) ≡ (x ∷ y ∷ z ∷ []) → c ≡ z
+third_name e = cc
+
+-- ---- why there is no trace
+
+pub traced_kind : (config : Config) (result : Result Tables TraceFault) → IfErr result (IsOfWalk config)
+    → IfErr (traced_of result) (IsOfWalk config)
+traced_kind config (Ok tables) kind = tt
+traced_kind config (Err fault) kind = kind

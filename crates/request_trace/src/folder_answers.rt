@@ -1,9 +1,10 @@
-ghost use Rattle.std.specs.Prelude.{◌≡◌, ◌≢◌, IfOk, IfErr};
-ghost use Rattle.module_sources.specs.Shown.{source_in};
+ghost use Rattle.std.specs.Prelude.{◌≡◌, ◌≢◌, Result, IfErr};
+ghost use Rattle.module_sources.specs.Shown.{source_in, NamesLimit};
 ghost use Rattle.node_resolve.specs.Places.{module_of};
 ghost use Rattle.node_resolve.specs.Responses.{responded};
-ghost use Rattle.package_lookup.specs.Responses.{fails, never, looked};
-ghost use Rattle.trace_walk.specs.Kinds.{IsOfAnswers, IsOfSource};
+ghost use Rattle.node_spec.specs.NodeAnswers.{Module, Refusal};
+ghost use Rattle.package_lookup.specs.Responses.{fails, never, looked, by_limit, deep_config};
+ghost use Rattle.trace_walk.specs.Kinds.{IsOfAnswers};
 ghost use Rattle.trace_walk.specs.Shown.{sources, resolutions};
 ghost use Rattle.request_trace.specs.Answering.{result_by};
 
@@ -22,14 +23,14 @@ use tree_spec::LimitName;
 /// Answers a walk's questions by looks at a folder. What is known of the folder isn't looked at again; each question is
 /// a new one on the trail.
 #[derive(Drop)]
-pub struct FolderAnswers<'a, F: Folder, L: Ledger> {
+pub struct FolderAnswers<'a, 'b, 'c, 'd, F: Folder, L: Ledger> {
     pub folder: &'a mut F,
-    pub known: &'a mut Known,
-    pub trail: &'a mut Trail,
-    pub steps: &'a mut Steps<L>,
+    pub known: &'b mut Known,
+    pub steps: &'c mut Steps<L>,
+    pub trail: &'d mut Trail,
 }
 
-impl<'a, F: Folder, L: Ledger> Answerer for FolderAnswers<'a, F, L> {
+impl<'a, 'b, 'c, 'd, F: Folder, L: Ledger> Answerer for FolderAnswers<'a, 'b, 'c, 'd, F, L> {
     ghost use Rattle.std.specs.Prelude.{⊤, [], ◌∷◌};
     ghost use Rattle.package_lookup.specs.Answered.{state};
     ghost use Rattle.request_trace.specs.Answering.{answers_of};
@@ -41,7 +42,11 @@ impl<'a, F: Folder, L: Ledger> Answerer for FolderAnswers<'a, F, L> {
 
     ghost steps = { λ answers. answers.steps.now };
 
-    fn module(&mut self, alloc: Global, path: &Path) -> Result<Result<Source, NoSource>, TraceFault> {
+    fn module(
+        &mut self,
+        alloc: Global,
+        path: &Path,
+    ) -> Result<Result<Source, NoSource>, TraceFault> {
         let found = module_source(alloc, self.known, self.folder, self.trail, path, self.steps);
         source_answer(found)
     }
@@ -74,6 +79,7 @@ fn source_answer(
     requires { looked source_in found ≢ fails never }
     ensures is { sources result ≡ result_by (looked source_in found) }
     ensures kind { IfErr result IsOfAnswers }
+    ensures limit { NamesLimit found → NamesLimit result }
 {
     match found {
         Ok(source) => Ok(source),

@@ -13,14 +13,20 @@ use web_url::Base;
 
 static FILES: [(&str, &str); 9] = [
     ("/package.json", "{\"type\":\"module\"}"),
-    ("/app.js", "import \"part\";\nimport { b } from './lib/b.mjs?1';\n"),
+    (
+        "/app.js",
+        "import \"part\";\nimport { b } from './lib/b.mjs?1';\n",
+    ),
     ("/lib/b.mjs", "export const b = 1;"),
     ("/lib/lost.mjs", "import \"./b.mjs\"; import \"gone\";"),
     (
         "/node_modules/part/package.json",
         "{\"exports\":{\"browser\":\"./b.mjs\",\"default\":\"./d.mjs\"}}",
     ),
-    ("/node_modules/part/b.mjs", "export * from '../../lib/b.mjs';"),
+    (
+        "/node_modules/part/b.mjs",
+        "export * from '../../lib/b.mjs';",
+    ),
     ("/node_modules/plain/package.json", "{\"main\":\"./m.js\"}"),
     ("/node_modules/plain/m.js", "exports.m = 1;"),
     ("/node_modules/part/text.mjs", "import {"),

@@ -1,6 +1,5 @@
 -- What can be refused where.
 --     IsOfAnswers fault          what an answerer gives in place of an answer
---     IsOfSource none            why a file has no source: of the limits only those of a trace
 --     IsOfWalk config fault      what a walk of this config ends with
 use Rattle.std.specs.Prelude.{⊤}
 use Rattle.trace_spec.specs.declared.TraceFault.{TraceFault}
@@ -8,8 +7,6 @@ use Rattle.trace_spec.specs.declared.TraceFault.TheVariants.{Unservable, Refused
 use Rattle.trace_spec.specs.declared.TraceFault.TheVariants.{Memory}
 use Rattle.trace_spec.specs.Kinds.{IsTraceLimit, IsOfTrace}
 use Rattle.trace_spec.specs.Modules.{Config}
-use Rattle.trace_walk.specs.declared.answerer.NoSource.{NoSource}
-use Rattle.trace_walk.specs.declared.answerer.NoSource.TheVariants as none
 
 -- own: a limit, a look that failed, or want of memory
 abbrev pub IsOfAnswers : TraceFault → Type 0
@@ -20,10 +17,6 @@ IsOfAnswers (NotModule path reason) = ⊥
 IsOfAnswers (Limit which) = IsTraceLimit which
 IsOfAnswers ReadFault = ⊤
 IsOfAnswers Memory = ⊤
-
-abbrev pub IsOfSource : NoSource → Type 0
-IsOfSource (none.NotModule reason) = ⊤
-IsOfSource (none.Above which) = IsTraceLimit which
 
 -- own: what a trace can be refused for, or a look that failed, or want of memory
 abbrev pub IsOfWalk : Config → TraceFault → Type 0

@@ -3,7 +3,7 @@
 --     IsUnwanted referrer specifier fault            the refusal of a specifier that asks for nothing
 --     IsMisnamed config referrer specifier target fault      the refusal of a request by the name of its target
 --     IsClash referrer needs need spellings spelling fault      the refusal of a need that clashes with one before it
-use Rattle.std.specs.Prelude.{◌≡◌, ◌++◌, ℕ, List, true, Some, Err}
+use Rattle.std.specs.Prelude.{◌≡◌, ◌≢◌, ◌++◌, ℕ, List, true, Some, Err}
 use Rattle.std.specs.List.{list_any}
 use Rattle.layout_spec.specs.declared.Need.{Need}
 use Rattle.layout_spec.specs.Needs.{clashes}
@@ -13,8 +13,8 @@ use Rattle.trace_spec.specs.declared.AskCause.{AskCause}
 use Rattle.trace_spec.specs.Checks.{Gathered, Spelling, Wanted, wanted_by, clashing, named}
 use Rattle.trace_spec.specs.Modules.{Config, Module, served_at}
 use Rattle.trace_spec.specs.Walking as spec
-use Rattle.trace_walk.specs.declared.answerer.NoSource.{NoSource}
-use Rattle.trace_walk.specs.declared.answerer.NoSource.TheVariants.{NotModule, Above}
+use Rattle.module_sources.specs.declared.source.NoSource.{NoSource}
+use Rattle.module_sources.specs.declared.source.NoSource.TheVariants.{NotModule, Above}
 use Rattle.trace_walk.specs.declared.referrer.Referrer.{Referrer}
 use Rattle.trace_walk.specs.Walking.{IsReferrer}
 
@@ -37,11 +37,13 @@ pub record IsUnwanted (referrer : Referrer) (specifier : List ℕ) (refusal : Tr
   pub is : refusal ≡ fault.Refused (referrer.path ++ referrer.suffix) specifier cause
 
 -- whatever came before and whatever it asks for
-abbrev pub IsMisnamed : Config → Referrer → List ℕ → Module → TraceFault → Type 0
-IsMisnamed config referrer specifier target refusal =
-    (r : spec.Referrer Module) (before : Gathered) (want : Wanted) → IsReferrer config r referrer
-    → named config before r want (record { specifier = specifier; target = target })
-    (served_at config (spec.a_module target)) ≡ Err refusal
+pub record IsMisnamed (config : Config) (referrer : Referrer) (specifier : List ℕ) (target : Module)
+    (refusal : TraceFault) : Type 0 where
+  pub refuses :
+      (r : spec.Referrer Module) (before : Gathered) (want : Wanted) → IsReferrer config r referrer
+      → named config before r want (record { specifier = specifier; target = target })
+      (served_at config (spec.a_module target)) ≡ Err refusal
+  pub no_look : refusal ≢ fault.ReadFault
 
 pub record IsClash (referrer : Referrer) (needs : List Need) (need : Need) (spellings : List Spelling)
     (spelling : Spelling) (refusal : TraceFault) : Type 0 where

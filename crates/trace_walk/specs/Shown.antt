@@ -1,6 +1,6 @@
 -- What the code's values stand for.
 --     shown_by show result       a result whose value is shown so
---     source_of, sources         a source; what an answerer gives for a module
+--     sources                    what an answerer gives for a module
 --     answer_of, resolutions     Node's answer; what an answerer gives for a request
 --     specifiers_of asked        what a referrer asks for
 --     before_of tables           the tables of a walk
@@ -12,11 +12,10 @@ use Rattle.module_spec.specs.declared.request.Request.{Request}
 use Rattle.node_spec.specs.NodeAnswers.{Module, Refusal, by_cause, too_deep}
 use Rattle.trace_spec.specs.declared.TraceFault.{TraceFault}
 use Rattle.trace_spec.specs.Questions as spec
-use Rattle.trace_spec.specs.Questions.{not_module, above}
 use Rattle.trace_spec.specs.Checks.{Gathered}
-use Rattle.trace_walk.specs.declared.answerer.Source.{Source}
-use Rattle.trace_walk.specs.declared.answerer.NoSource.{NoSource}
-use Rattle.trace_walk.specs.declared.answerer.NoSource.TheVariants.{NotModule, Above}
+use Rattle.module_sources.specs.declared.source.Source.{Source}
+use Rattle.module_sources.specs.declared.source.NoSource.{NoSource}
+use Rattle.module_sources.specs.Shown.{source_of, source_in}
 use Rattle.trace_walk.specs.declared.answerer.NodeAnswer.{NodeAnswer}
 use Rattle.trace_walk.specs.declared.answerer.NodeAnswer.TheVariants.{Resolved, Refused, TooDeep}
 use Rattle.trace_walk.specs.declared.specifiers.Specifiers.{Specifiers}
@@ -28,22 +27,8 @@ abbrev pub shown_by : {X Y : Type 0} → (X → Y) → Result X TraceFault → R
 shown_by show (Ok value) = Ok (show value)
 shown_by show (Err fault) = Err fault
 
-abbrev pub source_of : Source → spec.Source
-source_of source = record {
-  bytes = source.bytes.value;
-  specifiers = map (λ (request : Request). request.text) source.requests.value;
-}
-
-abbrev pub no_source_of : NoSource → spec.NoSource
-no_source_of (NotModule reason) = not_module reason
-no_source_of (Above which) = above which
-
-abbrev pub source_or_none : Result Source NoSource → Result spec.Source spec.NoSource
-source_or_none (Ok source) = Ok (source_of source)
-source_or_none (Err none) = Err (no_source_of none)
-
 abbrev pub sources : Result (Result Source NoSource) TraceFault → Result (Result spec.Source spec.NoSource) TraceFault
-sources result = shown_by source_or_none result
+sources result = shown_by source_in result
 
 abbrev pub answer_of : NodeAnswer → Result Module Refusal
 answer_of (Resolved path suffix) = Ok (record { path = path; suffix = suffix })

@@ -3,6 +3,7 @@
 --     AllNamed config entries               each module stands with its web name, which is no folder's, and the text
 --                                           of that
 --     AreBeside tables                      each need has its spelling
+--     IsAdded needs spellings need spelling after spelled      a need that clashes with none is put with its spelling
 --     Grows config visits old new           the tables grow by so many visits, and keep few modules, each with its
 --                                           name, and few requests
 --     IsWhole tables                        each module has its source, there aren't too many, nor too many requests,
@@ -11,13 +12,15 @@
 --     IsUnserved config path suffix fault   the refusal of what isn't served at its web name
 --     wanted_of name asked                  what a referrer of this name asks for
 --     Spends, IsBounded                     how many steps a part takes
-use Rattle.std.specs.Prelude.{◌≡◌, ◌≢◌, ◌≤◌, ◌+◌, ◌++◌, ℕ, List, length, Some, None, Result, Ok, Err, All}
+use Rattle.std.specs.Prelude.{◌≡◌, ◌≢◌, ◌≤◌, ◌+◌, ◌++◌, ℕ, List, length, Some, None, Result, Ok, Err, All, false}
+use Rattle.std.specs.List.{list_any}
 use Rattle.tree_spec.specs.declared.LimitName.TheVariants.{Modules, Requests}
 use Rattle.tree_spec.specs.Limits.{limit_number}
-use Rattle.layout_spec.specs.Needs.{NoClash}
+use Rattle.layout_spec.specs.Needs.{clashes, with_need, NoClash}
+use Rattle.layout_spec.specs.declared.Need.{Need}
 use Rattle.trace_spec.specs.declared.TraceFault.{TraceFault}
 use Rattle.trace_spec.specs.declared.TraceFault.TheVariants.{Unservable, ReadFault, Memory}
-use Rattle.trace_spec.specs.Checks.{Gathered, Wanted}
+use Rattle.trace_spec.specs.Checks.{Gathered, Wanted, Spelling, with_spelling}
 use Rattle.trace_spec.specs.Walking as spec
 use Rattle.trace_spec.specs.Modules.{Config, Module, path_of, suffix_of, web_name, served_name, file_name}
 use Rattle.url_spec.specs.WebNames.{web}
@@ -40,6 +43,13 @@ AllNamed config entries = All (λ entry. IsNamed config entry.0 entry.1) entries
 
 abbrev pub AreBeside : Tables → Type 0
 AreBeside tables = length tables.spellings.items ≡ length tables.needs
+
+pub record IsAdded (needs : List Need) (spellings : List Spelling) (need : Need) (spelling : Spelling)
+    (after : List Need) (spelled : List Spelling) : Type 0 where
+  pub clear : list_any (clashes need) needs ≡ false
+  pub needs_are : after ≡ with_need needs need
+  pub spellings_are : spelled ≡ with_spelling needs need spellings spelling
+  pub beside : length spelled ≡ length after
 
 -- a part gives its definition's result, or memory is wanting
 pub record IsGiven {X : Type 0} (definition result : Result X TraceFault) : Type 0 where

@@ -1,36 +1,18 @@
-ghost use Rattle.std.specs.Prelude.{◌≤◌, ◌+◌, ℕ, IfOk, IfErr, OnOk};
+ghost use Rattle.std.specs.Prelude.{◌≤◌, ◌+◌, ℕ, IfErr, OnOk};
 ghost use Rattle.asking_spec.specs.Askings.{ask, answered};
 ghost use Rattle.trace_spec.specs.Questions.{of_module, of_request};
 ghost use Rattle.trace_walk.specs.Meeting.{AnswererState, Met, fine};
 ghost use Rattle.trace_walk.specs.Shown.{sources, resolutions};
-ghost use Rattle.trace_walk.specs.Kinds.{IsOfAnswers, IsOfSource};
+ghost use Rattle.trace_walk.specs.Kinds.{IsOfAnswers};
+ghost use Rattle.module_sources.specs.Shown.{NamesLimit};
 
 use condition_match::Conditions;
-use es_module_parser::Requests;
-use node_spec::{Cause, Reason};
-use primitives::Bytes;
+use module_sources::{NoSource, Source};
+use node_spec::Cause;
 use std::alloc::Global;
-use std::rc::Rc;
 use trace_spec::TraceFault;
 use tree_model::Path;
-use tree_spec::LimitName;
 use web_url::Suffix;
-
-/// A module's bytes, and its requests in text order.
-#[derive(Drop)]
-pub struct Source {
-    pub bytes: Rc<Bytes>,
-    pub requests: Rc<Requests>,
-}
-
-/// Why a file has no source.
-#[derive(Clone, Copy, Debug, PartialEq, Eq)]
-pub enum NoSource {
-    /// It is no module.
-    NotModule { reason: Reason },
-    /// A limit is passed as it is read.
-    Above { which: LimitName },
-}
 
 /// What Node's resolver answers for a request.
 #[derive(Drop)]
@@ -61,7 +43,7 @@ pub trait Answerer {
             (state self.new) }
         ensures steps { steps self.new ≤ steps self.old + 1 }
         ensures ready { OnOk result (ready self.new) }
-        ensures limit { IfOk result (λ found. IfErr found IsOfSource) }
+        ensures limit { NamesLimit result }
         ensures kind { IfErr result IsOfAnswers };
 
     /// Where a specifier in the file at a path leads.

@@ -14,9 +14,10 @@ mod spelling;
 mod tables;
 mod visits;
 
-pub use answerer::{Answerer, NoSource, NodeAnswer, Source};
+pub use answerer::{Answerer, NodeAnswer};
 pub use config::Config;
 pub use module::Module;
+pub use module_sources::{NoSource, Source};
 pub use spelling::Spelling;
 pub use tables::{Name, Tables};
 pub use visits::walk;

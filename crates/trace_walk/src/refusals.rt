@@ -2,10 +2,10 @@
 ghost use Rattle.std.specs.Prelude.{◌≡◌, ◌++◌, IfOk};
 ghost use Rattle.trace_walk.specs.Refusing.{no_source_fault};
 
-use crate::answerer::NoSource;
 use crate::module::Module;
 use crate::referrer::Referrer;
 use crate::spelling::Spelling;
+use module_sources::NoSource;
 use primitives::{Memory, Text};
 use std::alloc::Global;
 use trace_spec::{AskCause, TraceFault};

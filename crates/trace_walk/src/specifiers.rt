@@ -1,4 +1,4 @@
-ghost use Rattle.std.specs.Prelude.{◌≡◌, slice_get, option_copied};
+ghost use Rattle.std.specs.Prelude.{◌≡◌, length, slice_get, option_copied};
 ghost use Rattle.trace_walk.specs.Shown.{specifiers_of};
 
 use es_module_parser::Requests;
@@ -14,6 +14,16 @@ pub(crate) enum Specifiers<'a> {
 }
 
 impl<'a> Specifiers<'a> {
+    /// The number of specifiers.
+    pub(crate) fn len(self) -> usize
+        ensures { result ≡ length (specifiers_of self.entry) }
+    {
+        match self {
+            Specifiers::Entries(entries) => entries.len(),
+            Specifiers::Requests(requests) => requests.len(),
+        }
+    }
+
     /// The specifier with this number, counted from 0.
     pub(crate) fn at(self, index: usize) -> Option<&'a Text>
         ensures { option_copied result ≡ slice_get (specifiers_of self.entry) index }

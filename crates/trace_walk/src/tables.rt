@@ -1,21 +1,18 @@
 ghost use Rattle.std.specs.Prelude.{◌≡◌, ◌≢◌, ◌≤◌, ◌<◌, ◌+◌, ◌++◌, ◌∷◌, [], ℕ, List, Option, Some, None, Ok, Err};
-ghost use Rattle.std.specs.Prelude.{true, false, length, IfOk, IfErr, IfSome, OnOk};
+ghost use Rattle.std.specs.Prelude.{true, false, length, slice_get, IfOk, IfErr, IfSome, OnOk};
 ghost use Rattle.std.specs.List.{list_any};
 ghost use Rattle.indexmap.specs.IndexMap.{keys};
 ghost use Rattle.tree_spec.specs.declared.LimitName.TheVariants.{Modules, Requests, Specifier};
 ghost use Rattle.tree_spec.specs.Limits.{limit_number};
-ghost use Rattle.layout_spec.specs.declared.Need.{Need};
-ghost use Rattle.layout_spec.specs.Needs.{clashes, with_need, NoClash};
 ghost use Rattle.trace_spec.specs.Modules as spec;
-ghost use Rattle.trace_spec.specs.Modules.{file_name, served_at};
-ghost use Rattle.trace_spec.specs.Walking.{Referrer as Referring, a_module};
-ghost use Rattle.trace_spec.specs.Checks.{with_spelling, needed, named, led};
+ghost use Rattle.trace_spec.specs.Modules.{file_name};
+ghost use Rattle.trace_spec.specs.Walking.{Referrer as Referring};
+ghost use Rattle.trace_spec.specs.Checks.{needed, led};
 ghost use Rattle.trace_walk.specs.Kinds.{IsOfWalk};
 ghost use Rattle.trace_walk.specs.Refusing.{IsMisnamed, IsClash};
-ghost use Rattle.trace_walk.specs.Walking.{IsReferrer, AllNamed, AreBeside, IsNamed, IsGiven, Grows};
+ghost use Rattle.trace_walk.specs.Walking.{IsReferrer, AllNamed, AreBeside, IsNamed, IsAdded, IsGiven, Grows};
 ghost use Rattle.trace_walk.specs.Shown.{before_of, done};
 
-use crate::answerer::Source;
 use crate::config::Config;
 use crate::module::Module;
 use crate::names::{is_folder_url, served_url};
@@ -23,6 +20,7 @@ use crate::referrer::Referrer;
 use crate::refusals::{clash, refusal};
 use crate::spelling::Spelling;
 use indexmap::IndexMap;
+use module_sources::Source;
 use need_table::{Added, Need, NeedFault, Needs};
 use primitives::{Memory, Text};
 use std::alloc::Global;
@@ -89,8 +87,11 @@ impl Tables {
         ensures kind { IfErr result (IsOfWalk config.now) }
     {
         match known_text(&self.modules, alloc, &target)? {
-            Some(text) => self.put_known(alloc, config, referrer, specifier, asked, target, text),
-            None => self.put_new(alloc, config, referrer, specifier, asked, target),
+            Some(text) => self.put_known(alloc, config, referrer, specifier, asked, &target, text),
+            None => {
+                let name = name_of(alloc, config, referrer, specifier, &target)?;
+                self.put_new(alloc, config, referrer, specifier, asked, target, name)
+            }
         }
     }
 
@@ -102,29 +103,29 @@ impl Tables {
         referrer: &Referrer,
         specifier: &Text,
         asked: Text,
-        target: Module,
+        target: &Module,
         text: Text,
     ) -> Result<(), TraceFault>
         requires beside { AreBeside self.old }
         requires room { self.old.requests < limit_number Requests }
         requires short { length specifier.now ≤ limit_number Specifier }
-        requires known { list_any (spec.is_module target) (keys self.old.modules) ≡ true }
+        requires known { list_any (spec.is_module target.now) (keys self.old.modules) ≡ true }
         ensures put { (r : Referring spec.Module) → IsReferrer config.now r referrer.now
             → IsGiven (needed config.now (before_of self.old) r
             (record { referrer = referrer.now.text; asked = asked; target = text })
-            (record { specifier = specifier.now; target = target })) (done result self.new) }
+            (record { specifier = specifier.now; target = target.now })) (done result self.new) }
         ensures grows { OnOk result (Grows config.now 0 self.old self.new) }
         ensures counts { OnOk result (self.new.requests ≡ self.old.requests + 1) }
         ensures kind { IfErr result (IsOfWalk config.now) }
     {
+        let spelling = spelling_of(alloc, specifier, target)?;
         let need = need_of(alloc, referrer, asked, text)?;
-        let spelling = Spelling::new(specifier.copy(alloc)?, target);
         put_need(alloc, &mut self.needs, &mut self.spellings, referrer, need, spelling)?;
         self.requests += 1;
         Ok(())
     }
 
-    // The same where the module is new.
+    // The same where the module is new, with its name.
     fn put_new(
         &mut self,
         alloc: Global,
@@ -133,28 +134,36 @@ impl Tables {
         specifier: &Text,
         asked: Text,
         target: Module,
+        name: Name,
     ) -> Result<(), TraceFault>
         requires beside { AreBeside self.old }
         requires room { self.old.requests < limit_number Requests }
         requires short { length specifier.now ≤ limit_number Specifier }
         requires new { list_any (spec.is_module target) (keys self.old.modules) ≡ false }
+        requires named { IsNamed config.now target name }
         ensures put { (r : Referring spec.Module) → IsReferrer config.now r referrer.now
-            → IsGiven (named config.now (before_of self.old) r
-            (record { referrer = referrer.now.text; asked = asked })
-            (record { specifier = specifier.now; target = target }) (served_at config.now (a_module target)))
-            (done result self.new) }
+            → IsGiven (needed config.now (before_of self.old) r
+            (record { referrer = referrer.now.text; asked = asked; target = name.text })
+            (record { specifier = specifier.now; target = target })) (done result self.new) }
         ensures grows { OnOk result (Grows config.now 0 self.old self.new) }
         ensures counts { OnOk result (self.new.requests ≡ self.old.requests + 1) }
         ensures kind { IfErr result (IsOfWalk config.now) }
     {
-        let name = name_of(alloc, config, referrer, specifier, &target)?;
-        let need = need_of(alloc, referrer, asked, name.text.copy(alloc)?)?;
-        let spelling = Spelling::new(specifier.copy(alloc)?, target.copy(alloc)?);
+        let spelling = spelling_of(alloc, specifier, &target)?;
+        let text = name.text.copy(alloc)?;
+        let need = need_of(alloc, referrer, asked, text)?;
         put_need(alloc, &mut self.needs, &mut self.spellings, referrer, need, spelling)?;
         put_module(&mut self.modules, target, name)?;
         self.requests += 1;
         Ok(())
     }
+}
+
+// How a request spells its need.
+fn spelling_of(alloc: Global, specifier: &Text, target: &Module) -> Result<Spelling, Memory>
+    ensures { IfOk result (λ spelling. spelling ≡ record { specifier = specifier.now; target = target.now }) }
+{
+    Ok(Spelling::new(specifier.copy(alloc)?, target.copy(alloc)?))
 }
 
 // The web name of what a request leads to; its refusal where it isn't served there, or the name is a folder's.
@@ -230,11 +239,7 @@ fn put_need(
     spelling: Spelling,
 ) -> Result<(), TraceFault>
     requires beside { length spellings.old.items ≡ length needs.old }
-    ensures clear { OnOk result (list_any (clashes need) needs.old ≡ false) }
-    ensures needs { OnOk result (needs.new ≡ with_need needs.old need) }
-    ensures spellings { OnOk result (spellings.new.items
-        ≡ with_spelling needs.old need spellings.old.items spelling) }
-    ensures beside { OnOk result (length spellings.new.items ≡ length needs.new) }
+    ensures added { OnOk result (IsAdded needs.old spellings.old.items need spelling needs.new spellings.new.items) }
     ensures clash { IfErr result (λ fault. fault ≢ TraceFault.Memory
         → IsClash referrer.now needs.old need spellings.old.items spelling fault) }
 {
@@ -245,10 +250,18 @@ fn put_need(
         }
         Ok(Added::Known) => Ok(()),
         Err(NeedFault::Clash { first }) => {
-            Err(clash(alloc, referrer, &spellings[first], &spelling)?)
+            let earlier = spelling_at(spellings, first);
+            Err(clash(alloc, referrer, earlier, &spelling)?)
         }
         Err(NeedFault::Memory) => Err(TraceFault::Memory),
     }
+}
+
+fn spelling_at(spellings: &Vec<Spelling>, place: usize) -> &Spelling
+    requires { place < length spellings.now.items }
+    ensures { slice_get spellings.now.items place ≡ Some result.now }
+{
+    &spellings[place]
 }
 
 fn push_spelling(spellings: &mut Vec<Spelling>, spelling: Spelling) -> Result<(), Memory>

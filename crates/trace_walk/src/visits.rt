@@ -13,7 +13,7 @@ ghost use Rattle.trace_walk.specs.Meeting.{Met};
 ghost use Rattle.trace_walk.specs.Walking.{IsReferrer, AllNamed, AreBeside, Grows, IsWhole, IsUnserved, Spends, IsBounded};
 ghost use Rattle.trace_walk.specs.Shown.{before_of, done, traced_of, specifiers_of};
 
-use crate::answerer::{Answerer, Source};
+use crate::answerer::Answerer;
 use crate::config::Config;
 use crate::following::follow;
 use crate::module::Module;
@@ -22,6 +22,7 @@ use crate::referrer::Referrer;
 use crate::refusals::no_source;
 use crate::specifiers::Specifiers;
 use crate::tables::{Name, Tables};
+use module_sources::Source;
 use primitives::{Memory, Text};
 use std::alloc::Global;
 use std::rc::Rc;
@@ -113,7 +114,8 @@ fn follow_all<A: Answerer>(
     ensures ready { OnOk result (A.ready answerer.new) }
 {
     let mut next = 0;
-    while let Some(specifier) = specifiers.at(next) {
+    while next < specifiers.len() {
+        let specifier = specifiers.at(next).unwrap();
         follow(alloc, answerer, config, tables, referrer, specifier)?;
         next += 1;
     }
