@@ -1,0 +1,118 @@
+-- What comes of a trace for which nothing was known.
+use Rattle.std.proofs.Common.{◌≡◌, ◌≢◌, ◌≤◌, ℕ, List, length, Option, Some, None, IfSome, Result, Ok, Err, refl, sym, ap, subst}
+use Rattle.std.specs.FinMap.{get}
+use Rattle.std.specs.Option.{option_or}
+use Rattle.tree_spec.specs.LookAskings.{Sights}
+use Rattle.tree_spec.specs.States.{FolderState, OnlyLooks}
+use Rattle.tree_spec.specs.Trees.{Tree}
+use Rattle.tree_spec.specs.declared.LimitName.TheVariants.{Map}
+use Rattle.tree_spec.specs.Limits.{limit_number}
+use Rattle.package_lookup.specs.declared.known.Known.{Known}
+use Rattle.package_lookup.specs.Answered.{AsksOnce}
+use Rattle.package_lookup.specs.Looked.{kept_at, laid_at, known_at, look_or, Sees}
+use Rattle.trace_spec.specs.declared.TraceFault.{TraceFault}
+use Rattle.trace_spec.specs.declared.TraceFault.TheVariants as fault
+use Rattle.trace_spec.specs.Checks.{Gathered}
+use Rattle.trace_spec.specs.Kinds.{IsOfTrace}
+use Rattle.trace_spec.specs.Modules.{Config}
+use Rattle.trace_spec.specs.Traces.{traced}
+use Rattle.trace_walk.specs.Kinds.{IsOfWalk}
+use Rattle.trace_walk.specs.Meeting.{IsTold}
+use Rattle.request_trace.specs.Tracing.{Traces, known_of}
+use Rattle.generator_spec.specs.Commands.{Refuses as refuses, IsRefusalOf as kind}
+use Rattle.generation.specs.declared.generated.Generated.{Generated}
+use Rattle.generation.specs.declared.stop.Stop.{Stop}
+use Rattle.generation.specs.declared.stop.Stop.TheVariants.{Refused, ReadFault, Memory}
+use Rattle.generation.specs.Generating.{StopsAs, IsMapOf, HasLargeMap, IsGenerated, AsksNoPathTwice, Generating}
+use Rattle.generation.specs.Generating.StopsAs.{failed_look, memory, refused}
+use Rattle.generator_spec.specs.declared.Refusal.TheVariants.{Limit}
+
+pub if_some : {A : Type 0} {P Q : A → Type 0} (told : Option A) → ((x : A) → P x → Q x) → IfSome told P → IfSome told Q
+if_some None f h = h
+if_some (Some x) f h = f x h
+
+-- looks of which one failed in the same case
+pub looks_as : {P Q : Type 0} (before after : FolderState) → (Q → P) → (P → Q) → OnlyLooks before after P → OnlyLooks before after Q
+looks_as before after back on looks = record {
+  tree = looks.tree;
+  writes = looks.writes;
+  later = looks.later;
+  cause = λ q. looks.cause (back q);
+  quiet = λ none. looks.quiet (λ p. none (on p));
+}
+
+-- ---- where nothing is known
+
+pub record IsFresh (known : Known) : Type 0 where
+  pub kept : (path : List ℕ) → kept_at known path ≡ None
+  pub laid : (path : List ℕ) → laid_at known path ≡ None
+
+sees_all : (tree : Tree) (known : Known) → IsFresh known → Sees tree known (get tree)
+sees_all tree known fresh = record { each = λ path. sym (λ i. look_or (option_or (fresh.laid path i) (fresh.kept path i)) (get tree path)) }
+
+-- ---- the trace
+
+of_trace : (config : Config) (why : TraceFault) → why ≢ fault.ReadFault → why ≢ fault.Memory → IsOfWalk config why → IsOfTrace config why
+of_trace config (fault.Unservable path url) no_look no_memory is = is
+of_trace config (fault.Refused referrer specifier cause) no_look no_memory is = is
+of_trace config (fault.Clash referrer first first_to second second_to) no_look no_memory is = is
+of_trace config (fault.NotModule path reason) no_look no_memory is = is
+of_trace config (fault.Limit which) no_look no_memory is = is
+of_trace config fault.ReadFault no_look no_memory is = absurd (no_look refl)
+of_trace config fault.Memory no_look no_memory is = absurd (no_memory refl)
+
+abbrev as_err : TraceFault → Result Gathered TraceFault
+as_err why = Err why
+
+abbrev as_stop : Stop → Result Generated Stop
+as_stop stop = Err stop
+
+module _ (config : Config) (before after : FolderState) (known later : Known) (fresh : IsFresh known) where
+  abbrev IsTraced : Result Gathered TraceFault → Type 0
+  IsTraced result = IfSome before.holds (λ tree. traced (get tree) config ≡ result)
+
+  traced_so : (result : Result Gathered TraceFault) → Traces config before known result after later → IsTold result → IsTraced result
+  traced_so result is told = if_some before.holds (λ tree each. each (get tree) (sees_all tree known fresh) told) is.is
+
+  asks : (result : Result Gathered TraceFault) → Traces config before known result after later → IfSome before.asked (λ old. AsksNoPathTwice old after)
+  asks result is = if_some before.asked (λ old once. record { more = once.more; asked = once.asked; once = once.once }) is.learns.asked
+
+  pub stopped : (why : TraceFault) (stop : Stop) → Traces config before known (Err why) after later → StopsAs why stop → Generating config before (Err stop) after
+  stopped why stop is (failed_look same) = record { generated = tt; refused = tt; kind = tt; asked = asks (Err why) is; looks = looks_as before after (λ e. ap as_err same) (λ e. refl) is.looks }
+  stopped why stop is (memory same) = record { generated = tt; refused = tt; kind = tt; asked = asks (Err why) is; looks = looks_as before after (λ e. absurd (cc)) (λ e. absurd (cc)) is.looks }
+  stopped why stop is (refused no_look no_memory) = record {
+    generated = tt;
+    refused = if_some before.holds (λ tree e command opened. refuses.trace command why opened e) (traced_so (Err why) is (λ e. no_look (cc), λ e. no_memory (cc)));
+    kind = λ command. kind.trace command why (of_trace config why no_look no_memory is.kind);
+    asked = asks (Err why) is;
+    looks = looks_as before after (λ e. absurd (cc)) (λ e. absurd (no_look (cc))) is.looks;
+  }
+
+  -- ---- what a trace comes to
+
+  module _ (all : Gathered) (is : Traces config before known (Ok all) after later) where
+    has_trace : IsTraced (Ok all)
+    has_trace = traced_so (Ok all) is (λ e. absurd (cc), λ e. absurd (cc))
+
+    pub generated : (found : Generated) → IsMapOf all found → Generating config before (Ok found) after
+    generated found is_map = record {
+      generated = if_some before.holds (λ tree e. record { all = all; is_traced = e; is_map = is_map }) has_trace;
+      refused = tt;
+      kind = tt;
+      asked = asks (Ok all) is;
+      looks = looks_as before after (λ e. absurd (cc)) (λ e. absurd (cc)) is.looks;
+    }
+
+    pub too_large : (stop : Stop) → stop ≡ Refused (Limit Map) → HasLargeMap all → Generating config before (Err stop) after
+    too_large stop same large =
+        subst (λ s. Generating config before (Err s) after) (sym same)
+        (record {
+          generated = tt;
+          refused = if_some before.holds (λ tree e command opened. refuses.large_map command opened (record { all = all; is_traced = e; map = large.layout; agreed = large.agreed; large = large.large })) has_trace;
+          kind = λ command. kind.large_map command;
+          asked = asks (Ok all) is;
+          looks = looks_as before after (λ e. absurd (cc)) (λ e. absurd (cc)) is.looks;
+        })
+
+    pub lacks : Generating config before (Err Memory) after
+    lacks = record { generated = tt; refused = tt; kind = tt; asked = asks (Ok all) is; looks = looks_as before after (λ e. absurd (cc)) (λ e. absurd (cc)) is.looks }
