@@ -19,6 +19,7 @@ use tree_model::{Path, PathFault};
 use web_url::{Base, BaseFault};
 
 /// The parts of a project as its file has them.
+#[derive(Clone, Copy)]
 pub struct Written<'a> {
     pub base: &'a str,
     pub page: &'a str,

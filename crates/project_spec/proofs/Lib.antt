@@ -1,3 +1,4 @@
 pub mod OneProject
 pub mod ReadBack
 pub mod SomeProject
+pub mod FourMembers

@@ -3,7 +3,7 @@
 //! Definitions and laws alone: each function here is empty, and its contract is a law.
 #![tactic(auto)]
 
-ghost use Rattle.project_spec.specs.Laws.{OneProject, ProjectsReadBack, ReadProjects, SomeProject};
+ghost use Rattle.project_spec.specs.Laws.{FourMembers, OneProject, ProjectsReadBack, ReadProjects, SomeProject};
 
 /// The bytes of a file have at most one config, or one fault.
 #[tactic(auto, using(crate::proofs::OneProject::one_project))]
@@ -27,4 +27,9 @@ pub fn read_projects()
 #[tactic(auto, using(crate::proofs::ReadBack::projects_read_back))]
 pub fn projects_read_back()
     ensures { ProjectsReadBack }
+{}
+
+/// The members of a project's file are these four, in any order.
+pub fn four_members()
+    ensures { FourMembers }
 {}
