@@ -16,8 +16,8 @@ returns-in-Err-page_file-clause-prepares g c =
     let after = g.F.Folder.state c.generate.new.folder in
     λ takes stands. lacks c.args.config.now before after Inject c.in-Ok.generated (subst (λ r. Generating c.args.config.now before r after) c.in-Ok.is c.generate.ensures.generates)
 
-pub returns-in-Ok-page_file-clause-prepares : goal.returns-in-Ok-page_file-clause-prepares
-returns-in-Ok-page_file-clause-prepares g c =
+pub returns-clause-prepares : goal.returns-clause-prepares
+returns-clause-prepares g c =
     let before = g.F.Folder.state c.args.folder.now in
     let after = g.F.Folder.state c.generate.new.folder in
     λ takes stands. page_ready c.args.config.now before after c.args.site.now takes stands c.in-Ok.generated c.in-Ok-page_file.prepared (subst (λ r. Generating c.args.config.now before r after) c.in-Ok.is c.generate.ensures.generates) c.in-Ok-page_file.ensures
