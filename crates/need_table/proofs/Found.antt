@@ -1,6 +1,6 @@
 -- The need that is found where another asks alike.
-use Rattle.std.proofs.Common.{◌≡◌, ℕ, Bool, true, false, List, [], ◌∷◌, ◌++◌, get_or, Some, Result, Ok, Err, Contains, refl, sym, ap, ◌∙◌, subst, ⊎_elim}
-use Rattle.std.specs.Prelude.{◌≢◌, ◌⊎◌, IfErr, ◌&&◌, ◌||◌, not, slice_get, bytes_eq}
+use Rattle.std.proofs.Common.{◌≡◌, ℕ, zero, suc, Bool, true, false, List, [], ◌∷◌, ◌++◌, get_or, Some, Result, Ok, Err, Contains, refl, sym, ap, ◌∙◌, subst, ⊎_elim}
+use Rattle.std.specs.Prelude.{◌≢◌, ◌⊎◌, IfErr, ◌&&◌, ◌||◌, not, slice_get, take, bytes_eq}
 use mathlib.Core.Logic.{inl, inr}
 use Rattle.std.specs.List.{find, list_any, IsDistinct, AllByRecursion}
 use Rattle.std.specs.Cmp.{first_so, second_so}
@@ -55,6 +55,9 @@ left a b e = ap (λ x. x || b) e
 right : (a b : Bool) → b ≡ true → (a || b) ≡ true
 right true b e = refl
 right false b e = e
+
+neither : (a b : Bool) → a ≡ false → b ≡ false → (a || b) ≡ false
+neither a b e f = ap (λ x. x || b) e ∙ f
 
 no_truth : (b : Bool) → (b ≡ true → ⊥) → b ≡ false
 no_truth true none = absurd (none refl)
@@ -124,6 +127,14 @@ alike_back one other e =
     let parts = and_parts _ _ e in
     both _ _ ((bytes_eq-Decides other.referrer one.referrer).1 (sym ((bytes_eq-Decides _ _).0 parts.0))) ((bytes_eq-Decides other.asked one.asked).1 (sym ((bytes_eq-Decides _ _).0 parts.1)))
 
+alike_through : (one middle other : Need) → asks_alike one middle ≡ true → asks_alike middle other ≡ true → asks_alike one other ≡ true
+alike_through one middle other e f =
+    let parts = and_parts _ _ e in
+    let more = and_parts _ _ f in
+    both _ _
+    ((bytes_eq-Decides one.referrer other.referrer).1 ((bytes_eq-Decides _ _).0 parts.0 ∙ (bytes_eq-Decides _ _).0 more.0))
+    ((bytes_eq-Decides one.asked other.asked).1 ((bytes_eq-Decides _ _).0 parts.1 ∙ (bytes_eq-Decides _ _).0 more.1))
+
 -- of two needs of one row in a table there is one
 one_row : (needs : List Need) → IsDistinct asks_alike needs → (one other : Need) → Contains needs one → Contains needs other → asks_alike one other ≡ true → one ≡ other
 unfolding IsDistinct
@@ -156,16 +167,32 @@ is_known needs need other first apart stored alike target =
       stays = cond-true _ needs (needs ++ need ∷ []) (found_by (is_need need) needs need stands (itself need));
     }
 
-pub clashes_at : (needs : List Need) (need other : Need) (first : ℕ) → slice_get needs first ≡ Some other → asks_alike need other ≡ true → other.target ≢ need.target → ClashesAt needs need first
-clashes_at needs need other first stored alike apart =
+none_clashes_with : (needs : List Need) (need first other : Need) → AllByRecursion (λ z. asks_alike first z ≡ false) needs → Contains needs other → asks_alike need other ≡ true → clashes need first ≡ false
+none_clashes_with needs need first other apart c alike =
+    no_truth (clashes need first) (λ clash.
+    let back = alike_back need first (alike_by need first clash) in
+    true≢false (sym (alike_through first need other back alike) ∙ all_apart asks_alike first other needs apart c))
+
+-- before the place of a need that asks alike none clashes
+none_before : (needs : List Need) (need other : Need) (first : ℕ) → IsDistinct asks_alike needs → slice_get needs first ≡ Some other → asks_alike need other ≡ true → list_any (clashes need) (take first needs) ≡ false
+unfolding IsDistinct
+none_before needs need other zero apart stored alike = refl
+none_before [] need other (suc first) apart stored alike = refl
+none_before (one ∷ needs) need other (suc first) apart stored alike =
+    neither (clashes need one) (list_any (clashes need) (take first needs))
+    (none_clashes_with needs need one other apart.0 (Contains-slice_get needs first other stored) alike)
+    (none_before needs need other first apart.1 stored alike)
+
+pub clashes_at : (needs : List Need) (need other : Need) (first : ℕ) → IsDistinct asks_alike needs → slice_get needs first ≡ Some other → asks_alike need other ≡ true → other.target ≢ need.target → ClashesAt needs need first
+clashes_at needs need other first rows stored alike apart =
     let parts = and_parts _ _ alike in
     let clash : clashes need other ≡ true =
     both _ _ (both _ _ ((bytes_eq-Decides other.referrer need.referrer).1 (sym ((bytes_eq-Decides _ _).0 parts.0))) ((bytes_eq-Decides other.asked need.asked).1 (sym ((bytes_eq-Decides _ _).0 parts.1))))
     (ap not (no_truth (bytes_eq other.target need.target) (λ same. apart ((bytes_eq-Decides _ _).0 same)))) in
-    record { other = other; stands = stored; alike = alike; apart = apart; clash = clash; found = found_by (clashes need) needs other (Contains-slice_get needs first other stored) clash }
+    record { other = other; stands = stored; alike = alike; apart = apart; clash = clash; found = found_by (clashes need) needs other (Contains-slice_get needs first other stored) clash; none_before = none_before needs need other first rows stored alike }
 
-pub clash_by : (needs : List Need) (need other : Need) (first : ℕ) (result : Result Added NeedFault) → slice_get needs first ≡ Some other → asks_alike need other ≡ true → IfErr result (λ fault. (fault ≡ Clash first) × (other.target ≢ need.target)) → IfErr result (λ fault. (place : ℕ) → fault ≡ Clash place → ClashesAt needs need place)
-clash_by needs need other first (Ok added) stored alike is = tt
-clash_by needs need other first (Err fault) stored alike is = λ place e.
+pub clash_by : (needs : List Need) (need other : Need) (first : ℕ) (result : Result Added NeedFault) → IsDistinct asks_alike needs → slice_get needs first ≡ Some other → asks_alike need other ≡ true → IfErr result (λ fault. (fault ≡ Clash first) × (other.target ≢ need.target)) → IfErr result (λ fault. (place : ℕ) → fault ≡ Clash place → ClashesAt needs need place)
+clash_by needs need other first (Ok added) rows stored alike is = tt
+clash_by needs need other first (Err fault) rows stored alike is = λ place e.
     let same : first ≡ place = (let f = is.0 in cc) in
-    subst (ClashesAt needs need) same (clashes_at needs need other first stored alike is.1)
+    subst (ClashesAt needs need) same (clashes_at needs need other first rows stored alike is.1)

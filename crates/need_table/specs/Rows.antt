@@ -2,8 +2,8 @@
 --     asks_alike one other           two needs are of one row
 --     IsFresh needs need after       the need is of a row of its own, and is put at the end
 --     IsKnown needs need             the need is there, and clashes with none
---     ClashesAt needs need first     the need at this place clashes with it
-use Rattle.std.specs.Prelude.{◌≡◌, ◌≢◌, ℕ, Bool, true, false, List, [], ◌∷◌, ◌++◌, bytes_eq, Some, slice_get, Contains}
+--     ClashesAt needs need first     the need at this place clashes with it, and none before
+use Rattle.std.specs.Prelude.{◌≡◌, ◌≢◌, ℕ, Bool, true, false, List, [], ◌∷◌, ◌++◌, bytes_eq, Some, slice_get, take, Contains}
 use Rattle.std.specs.List.{list_any}
 use Rattle.std.specs.Ordering.{on, eq_of_both}
 use Rattle.layout_spec.specs.declared.Need.{Need}
@@ -31,3 +31,4 @@ pub record ClashesAt (needs : List Need) (need : Need) (first : ℕ) : Type 0 wh
   pub apart : other.target ≢ need.target
   pub clash : clashes need other ≡ true
   pub found : list_any (clashes need) needs ≡ true
+  pub none_before : list_any (clashes need) (take first needs) ≡ false

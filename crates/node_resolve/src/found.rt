@@ -35,6 +35,14 @@ impl Found {
         &self.footprint
     }
 
+    /// The path, and the query and fragment.
+    pub fn into_parts(self) -> (Path, Suffix)
+        ensures path { result.0 ≡ self.path }
+        ensures suffix { result.1 ≡ self.suffix }
+    {
+        (self.path, self.suffix)
+    }
+
     /// An equal one.
     pub fn copy(&self, alloc: Global) -> Result<Found, Memory>
         ensures { IfOk result (λ copy. copy ≡ self.now) }

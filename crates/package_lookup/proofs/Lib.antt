@@ -6,5 +6,6 @@ mod Folders
 mod Copies
 mod Sights
 pub mod Questions
+pub mod Learnings
 pub mod Searches
 pub mod RecordAnswers

@@ -63,7 +63,7 @@ none_by (Some look) other grows e = (let f = grows look refl in absurd (cc))
 pub grows_itself : (known : Known) → Grows known known
 grows_itself known = record { laid = λ path. refl; kept = λ path look e. e }
 
-grows_twice : (before middle after : Known) → Grows before middle → Grows middle after → Grows before after
+pub grows_twice : (before middle after : Known) → Grows before middle → Grows middle after → Grows before after
 grows_twice before middle after one rest = record {
   laid = λ path. rest.laid path ∙ one.laid path;
   kept = λ path look e. rest.kept path look (one.kept path look e);
@@ -118,12 +118,12 @@ asks_nothing old before after unfinished same = record {
   held = λ finished. All-nil (λ path. is_some (known_at after.known path) ≡ true);
 }
 
-asks_nothing_told : (told : Option (List (List ℕ))) (before after : State) (unfinished : Type 0)
+pub asks_nothing_told : (told : Option (List (List ℕ))) (before after : State) (unfinished : Type 0)
     → after.folder.asked ≡ told → IfSome told (λ old. AsksOnce old before after unfinished)
 asks_nothing_told None before after unfinished same = tt
 asks_nothing_told (Some old) before after unfinished same = asks_nothing old before after unfinished same
 
-asks_finished : (old : List (List ℕ)) (before after : State) (some other : Type 0) → (some → other)
+pub asks_finished : (old : List (List ℕ)) (before after : State) (some other : Type 0) → (some → other)
     → AsksOnce old before after some → AsksOnce old before after other
 asks_finished old before after some other weaker one = record {
   more = one.more;
@@ -133,13 +133,13 @@ asks_finished old before after some other weaker one = record {
   held = λ finished. one.held (λ s. finished (weaker s));
 }
 
-if_weaker : {X : Type 0} (told : Option X) (P Q : X → Type 0) → ((x : X) → P x → Q x) → IfSome told P → IfSome told Q
+pub if_weaker : {X : Type 0} (told : Option X) (P Q : X → Type 0) → ((x : X) → P x → Q x) → IfSome told P → IfSome told Q
 if_weaker None P Q weaker p = tt
 if_weaker (Some x) P Q weaker p = weaker x p
 
 -- ---- what the folder did
 
-looks_then : (before middle after : FolderState) (one rest : Type 0) → (one → ⊥) → OnlyLooks before middle one
+pub looks_then : (before middle after : FolderState) (one rest : Type 0) → (one → ⊥) → OnlyLooks before middle one
     → OnlyLooks middle after rest → OnlyLooks before after rest
 looks_then before middle after one rest fine first last = record {
   tree = last.tree ∙ first.tree;
@@ -149,7 +149,7 @@ looks_then before middle after one rest fine first last = record {
   quiet = λ none. last.quiet none ∙ first.quiet fine;
 }
 
-looks_as : (before after : FolderState) (one other : Type 0) → (one → other) → (other → one)
+pub looks_as : (before after : FolderState) (one other : Type 0) → (one → other) → (other → one)
     → OnlyLooks before after one → OnlyLooks before after other
 looks_as before after one other there back only = record {
   tree = only.tree;
@@ -170,7 +170,7 @@ no_looks folder failed fine = record {
 
 -- ---- what an asking comes to
 
-sees_still : (tree : Tree) (before after : Known) (sights : Sights)
+pub sees_still : (tree : Tree) (before after : Known) (sights : Sights)
     → ((path : List ℕ) → look_in tree after path ≡ look_in tree before path) → Sees tree before sights
     → Sees tree after sights
 sees_still tree before after sights same sees = record { each = λ path. sees.each path ∙ sym (same path) }
@@ -212,7 +212,7 @@ tells_unfinished : {X Y : Type 0} (tree : Tree) (before after : State) (part : L
     → Tells {X = Y} tree before whole (fails no_memory) after
 tells_unfinished tree before after part response whole one = record { says = λ sights sees. tt; same = one.same }
 
-both_told : {X : Type 0} (told : Option X) (P Q R : X → Type 0) → ((x : X) → P x → Q x → R x) → IfSome told P
+pub both_told : {X : Type 0} (told : Option X) (P Q R : X → Type 0) → ((x : X) → P x → Q x → R x) → IfSome told P
     → IfSome told Q → IfSome told R
 both_told None P Q R join p q = tt
 both_told (Some x) P Q R join p q = join x p q

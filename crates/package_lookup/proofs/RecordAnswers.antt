@@ -23,7 +23,7 @@ use Rattle.package_lookup.specs.declared.fault.LookupFault.{LookupFault}
 use Rattle.package_lookup.specs.declared.fault.LookupFault.TheVariants.{Memory}
 use Rattle.package_lookup.specs.declared.format.Format.{Format}
 use Rattle.package_lookup.specs.declared.format.Format.TheVariants.{Module, Not}
-use Rattle.package_lookup.specs.declared.format.Reason.TheVariants as reason
+use Rattle.node_spec.specs.declared.Reason.TheVariants as reason
 use Rattle.package_lookup.specs.declared.known.Known.{Known}
 use Rattle.package_lookup.specs.Looked.{IsSameKnown}
 use Rattle.package_lookup.specs.Recorded.{shown_record, IsRecorded}

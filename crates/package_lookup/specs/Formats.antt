@@ -10,8 +10,8 @@ use Rattle.node_spec.specs.NodeAnswers.{Refusal}
 use Rattle.package_lookup.specs.declared.fault.LookupFault.{LookupFault}
 use Rattle.package_lookup.specs.declared.format.Format.{Format}
 use Rattle.package_lookup.specs.declared.format.Format.TheVariants.{Module, Detect, Not}
-use Rattle.package_lookup.specs.declared.format.Reason.{Reason}
-use Rattle.package_lookup.specs.declared.format.Reason.TheVariants.{CommonJs, Json, Addon, Other, Config, Unreadable}
+use Rattle.node_spec.specs.declared.Reason.{Reason}
+use Rattle.node_spec.specs.declared.Reason.TheVariants.{CommonJs, Json, Addon, Other, Config, Unreadable}
 use Rattle.package_lookup.specs.Responses.{Response, given, fails, never, by_fault, deep_config}
 
 -- own: that a file can't be read as a module is told by its text, which isn't asked for here

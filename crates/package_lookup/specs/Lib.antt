@@ -4,6 +4,7 @@ pub mod Looked
 pub mod Trails
 pub mod Responses
 pub mod Answered
+pub mod Learning
 pub mod Fetching
 pub mod Recorded
 pub mod Formats

@@ -10,7 +10,7 @@ ghost use Rattle.package_lookup.specs.Responses.{given, by_fault, deep_config};
 
 use crate::packages::{record_of, scope_of};
 use crate::{Known, LookupFault, Trail};
-use node_spec::PackageKind;
+use node_spec::{PackageKind, Reason};
 use primitives::Memory;
 use std::alloc::Global;
 use tree_model::{Folder, Path};
@@ -24,20 +24,6 @@ pub enum Format {
     Detect,
     /// It is no module.
     Not(Reason),
-}
-
-/// Why a file is no module.
-#[derive(Clone, Copy, Debug, PartialEq, Eq)]
-pub enum Reason {
-    CommonJs,
-    Json,
-    Addon,
-    /// A file whose name has another ending, or none.
-    Other,
-    /// The package.json of its package scope isn't well formed.
-    Config,
-    /// Its text can't be read as a module's.
-    Unreadable { at: usize },
 }
 
 /// The format of a file (Node.js, ECMAScript modules: ESM_FILE_FORMAT). It begins a question; where the text decides,

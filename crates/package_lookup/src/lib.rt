@@ -16,9 +16,10 @@ mod tests;
 mod trail;
 
 pub use fault::LookupFault;
-pub use format::{Format, Reason, format_of};
+pub use format::{Format, format_of};
 pub use held::Seen;
 pub use known::Known;
+pub use node_spec::Reason;
 pub use over::Over;
 pub use packages::{find_package, record_of, scope_of};
 pub use trail::Trail;

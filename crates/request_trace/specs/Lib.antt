@@ -1,7 +1,2 @@
-pub mod Reading
-pub mod Meeting
-pub mod Shown
-pub mod Walking
-pub mod Leads
-pub mod Looking
+pub mod Answering
 pub mod Tracing

@@ -1,29 +1,32 @@
--- The trace of a folder, and what each trace keeps.
---     IsWhole tables                         each module has its source, there aren't too many, and no two needs clash
---     Traces config before result after      the trace of a folder and a config, or its first refusal
-use Rattle.std.specs.Prelude.{◌≡◌, ◌≤◌, length, Result, Err, IfSome, IfErr}
-use Rattle.std.specs.FinMap.{get}
-use Rattle.tree_spec.specs.declared.LimitName.TheVariants.{Modules}
-use Rattle.tree_spec.specs.Limits.{limit_number}
+-- The trace of a folder, of which something is known.
+--     Traces config before known result after later      the trace, or its first refusal
+use Rattle.std.specs.Prelude.{◌≡◌, Result, Err, IfSome, IfErr}
+use Rattle.tree_spec.specs.LookAskings.{Sights}
+use Rattle.tree_spec.specs.LookLimits.{no_trail}
 use Rattle.tree_spec.specs.States.{FolderState, OnlyLooks}
-use Rattle.layout_spec.specs.Needs.{NoClash}
 use Rattle.trace_spec.specs.declared.TraceFault.{TraceFault}
-use Rattle.trace_spec.specs.declared.TraceFault.TheVariants.{ReadFault}
+use Rattle.trace_spec.specs.declared.TraceFault.TheVariants.{ReadFault, Memory}
 use Rattle.trace_spec.specs.Modules.{Config}
 use Rattle.trace_spec.specs.Checks.{Gathered}
 use Rattle.trace_spec.specs.Traces.{traced}
-use Rattle.request_trace.specs.Meeting.{IsTold}
-use Rattle.request_trace.specs.Walking.{IsOfWalk}
+use Rattle.package_lookup.specs.declared.known.Known.{Known}
+use Rattle.package_lookup.specs.Looked.{Sees}
+use Rattle.package_lookup.specs.Answered.{State, state}
+use Rattle.package_lookup.specs.Learning.{Learns}
+use Rattle.trace_walk.specs.Meeting.{IsTold}
+use Rattle.trace_walk.specs.Kinds.{IsOfWalk}
 
--- the tables behind the last visit
-pub record IsWhole (tables : Gathered) : Type 0 where
-  pub visited : length tables.sources ≡ length tables.modules
-  pub few : length tables.modules ≤ limit_number Modules
-  pub clear : NoClash tables.needs
+-- what is known of a folder, where nothing was looked at yet
+abbrev pub known_of : FolderState → Known → State
+known_of folder known = state folder known no_trail
 
--- own: unless a look fails or memory is wanting, the result is the definition's for the tree that the folder holds
-pub record Traces (config : Config) (before : FolderState) (result : Result Gathered TraceFault)
-    (after : FolderState) : Type 0 where
-  pub is : IfSome before.holds (λ tree. IsTold result → traced (get tree) config ≡ result)
+-- own: unless a look fails or memory is wanting, the result is the definition's, whatever stands at each path as far as
+-- looks tell
+pub record Traces (config : Config) (before : FolderState) (known : Known) (result : Result Gathered TraceFault)
+    (after : FolderState) (later : Known) : Type 0 where
+  pub is :
+      IfSome before.holds
+      (λ tree. (sights : Sights) → Sees tree known sights → IsTold result → traced sights config ≡ result)
+  pub learns : Learns (known_of before known) (known_of after later) (result ≡ Err Memory)
   pub looks : OnlyLooks before after (result ≡ Err ReadFault)
   pub kind : IfErr result (IsOfWalk config)

@@ -1,120 +1,121 @@
-ghost use Rattle.std.specs.Prelude.{◌≡◌, ℕ, List, Some, codes, nat_eq, option_map, IfOk};
-ghost use Rattle.std.specs.List.{ends_with};
-ghost use Rattle.tree_spec.specs.declared.Entry.TheVariants.{Stored};
-ghost use Rattle.trace_spec.specs.Questions.{source_in};
-ghost use Rattle.request_trace.specs.Leads.{judged_there};
-ghost use Rattle.request_trace.specs.Looking.{entry_of};
-ghost use Rattle.request_trace.specs.Shown.{source_of, answer_of};
+ghost use Rattle.std.specs.Prelude.{◌≡◌, ◌≢◌, Result, IfErr};
+ghost use Rattle.module_sources.specs.Shown.{source_in, NamesLimit};
+ghost use Rattle.node_resolve.specs.Places.{module_of};
+ghost use Rattle.node_resolve.specs.Responses.{responded};
+ghost use Rattle.node_spec.specs.NodeAnswers.{Module, Refusal};
+ghost use Rattle.package_lookup.specs.Responses.{fails, never, looked, by_limit, deep_config};
+ghost use Rattle.trace_walk.specs.Kinds.{IsOfAnswers};
+ghost use Rattle.trace_walk.specs.Shown.{sources, resolutions};
+ghost use Rattle.request_trace.specs.Answering.{result_by};
 
-use crate::answerer::{Answerer, NodeAnswer, Source};
-use crate::lead::Lead;
-use crate::looks::{Looks, Seen};
-use crate::parents::Parents;
-use crate::requests::requests_of;
-use node_spec::Cause;
-use primitives::{Bytes, Memory};
+use condition_match::Conditions;
+use module_sources::{NoSource, Source, module_source};
+use node_resolve::{Found, NodeFault, resolve};
+use package_lookup::{Known, LookupFault, Trail};
+use primitives::Steps;
 use std::alloc::Global;
-use std::rc::Rc;
+use std::sync::ledger::Ledger;
 use trace_spec::TraceFault;
+use trace_walk::{Answerer, NodeAnswer};
 use tree_model::{Folder, Path};
-use web_url::Suffix;
+use tree_spec::LimitName;
 
-/// Answers a walk's questions by looks at a folder.
+/// Answers a walk's questions by looks at a folder. What is known of the folder isn't looked at again; each question is
+/// a new one on the trail.
 #[derive(Drop)]
-pub struct FolderAnswers<'a, F: Folder> {
+pub struct FolderAnswers<'a, 'b, 'c, 'd, F: Folder, L: Ledger> {
     pub folder: &'a mut F,
-    pub looks: &'a mut Looks,
-    pub parents: &'a mut Parents,
+    pub known: &'b mut Known,
+    pub steps: &'c mut Steps<L>,
+    pub trail: &'d mut Trail,
 }
 
-impl<'a, F: Folder> Answerer for FolderAnswers<'a, F> {
-    ghost use Rattle.request_trace.specs.Looking.{KnowsFolder, answers_of};
+impl<'a, 'b, 'c, 'd, F: Folder, L: Ledger> Answerer for FolderAnswers<'a, 'b, 'c, 'd, F, L> {
+    ghost use Rattle.std.specs.Prelude.{⊤, [], ◌∷◌};
+    ghost use Rattle.package_lookup.specs.Answered.{state};
+    ghost use Rattle.request_trace.specs.Answering.{answers_of};
 
-    ghost state = { λ answers. answers_of answers.folder.ghost_name (F.state answers.folder.now) };
+    ghost state = { λ answers. answers_of (answers.folder.ghost_name ∷ answers.known.ghost_name
+        ∷ answers.steps.ghost_name ∷ []) (state (F.state answers.folder.now) answers.known.now answers.trail.now) };
 
-    ghost ready = { λ answers. KnowsFolder (F.state answers.folder.now) answers.looks.now };
+    ghost ready = { λ answers. ⊤ };
 
-    fn module(&mut self, alloc: Global, path: &Path) -> Result<Option<Source>, TraceFault> {
-        let seen = self.looks.look(alloc, self.folder, path)?;
-        Ok(source_at(alloc, path, seen)?)
+    ghost steps = { λ answers. answers.steps.now };
+
+    fn module(
+        &mut self,
+        alloc: Global,
+        path: &Path,
+    ) -> Result<Result<Source, NoSource>, TraceFault> {
+        let found = module_source(alloc, self.known, self.folder, self.trail, path, self.steps);
+        source_answer(found)
     }
 
     fn request(
         &mut self,
         alloc: Global,
+        conditions: &Conditions,
         parent: &Path,
         specifier: &str,
     ) -> Result<NodeAnswer, TraceFault> {
-        match self.parents.lead(alloc, parent, specifier)? {
-            Lead::Nowhere { cause } => Ok(NodeAnswer::Refused { cause }),
-            Lead::Path {
-                path,
-                folder_only,
-                suffix,
-            } => {
-                let seen = self.looks.look(alloc, self.folder, &path)?;
-                Ok(answer_at(path, folder_only, suffix, seen))
-            }
+        let found = resolve(
+            alloc,
+            self.known,
+            self.folder,
+            self.trail,
+            parent,
+            specifier,
+            conditions,
+            self.steps,
+        );
+        node_answer(found)
+    }
+}
+
+// A module's source, as the walk is told it.
+fn source_answer(
+    found: Result<Result<Source, NoSource>, LookupFault>,
+) -> Result<Result<Source, NoSource>, TraceFault>
+    requires { looked source_in found ≢ fails never }
+    ensures is { sources result ≡ result_by (looked source_in found) }
+    ensures kind { IfErr result IsOfAnswers }
+    ensures limit { NamesLimit found → NamesLimit result }
+{
+    match found {
+        Ok(source) => Ok(source),
+        Err(LookupFault::ReadFault) => Err(TraceFault::ReadFault),
+        Err(LookupFault::Limit { which }) => Err(TraceFault::Limit { which }),
+        Err(LookupFault::InvalidConfig) => unreachable!(),
+        Err(LookupFault::Memory) => Err(TraceFault::Memory),
+    }
+}
+
+// Node's answer, as the walk is told it.
+fn node_answer(found: Result<Found, NodeFault>) -> Result<NodeAnswer, TraceFault>
+    requires { responded module_of found ≢ fails never }
+    ensures is { resolutions result ≡ result_by (responded module_of found) }
+    ensures kind { IfErr result IsOfAnswers }
+{
+    match found {
+        Ok(found) => {
+            let (path, suffix) = found.into_parts();
+            Ok(NodeAnswer::Resolved { path, suffix })
         }
+        Err(NodeFault::Refused(cause)) => Ok(NodeAnswer::Refused { cause }),
+        Err(NodeFault::ReadFault) => Err(TraceFault::ReadFault),
+        Err(NodeFault::Limit { which }) => limit_answer(which),
+        Err(NodeFault::Memory) => Err(TraceFault::Memory),
     }
 }
 
-// Node's answer by what stands at the path to which a request leads.
-fn answer_at(path: Path, folder_only: bool, suffix: Suffix, seen: Seen) -> NodeAnswer
-    ensures { answer_of result ≡ judged_there path folder_only suffix (entry_of seen) }
+// The limit of brackets is an answer, and the others end the walk.
+fn limit_answer(which: LimitName) -> Result<NodeAnswer, TraceFault>
+    requires { by_limit {X = Result Module Refusal} deep_config which ≢ fails never }
+    ensures is { resolutions result ≡ result_by (by_limit deep_config which) }
+    ensures kind { IfErr result IsOfAnswers }
 {
-    match seen {
-        Seen::Absent => NodeAnswer::Refused {
-            cause: Cause::NotFound,
-        },
-        Seen::Folder => NodeAnswer::Refused {
-            cause: Cause::DirectoryImport,
-        },
-        Seen::File(_) => answer_file(path, folder_only, suffix),
+    match which {
+        LimitName::Depth => Ok(NodeAnswer::TooDeep),
+        _ => Err(TraceFault::Limit { which }),
     }
-}
-
-fn answer_file(path: Path, folder_only: bool, suffix: Suffix) -> NodeAnswer
-    ensures { (bytes : List ℕ) → answer_of result ≡ judged_there path folder_only suffix (Some (Stored bytes)) }
-{
-    if folder_only {
-        NodeAnswer::Refused {
-            cause: Cause::NotFound,
-        }
-    } else {
-        NodeAnswer::Resolved { path, suffix }
-    }
-}
-
-// The source of the module at a path, by what stands there.
-fn source_at(alloc: Global, path: &Path, seen: Seen) -> Result<Option<Source>, Memory>
-    ensures { IfOk result (λ found. source_in path.now (entry_of seen) ≡ option_map source_of found) }
-{
-    match seen {
-        Seen::Absent => Ok(None),
-        Seen::Folder => Ok(None),
-        Seen::File(bytes) => source_of_file(alloc, path, bytes),
-    }
-}
-
-fn source_of_file(alloc: Global, path: &Path, bytes: Rc<Bytes>) -> Result<Option<Source>, Memory>
-    ensures { IfOk result (λ found. source_in path.now (Some (Stored bytes.value)) ≡ option_map source_of found) }
-{
-    if !is_module_name(path.as_str()) {
-        return Ok(None);
-    }
-    match requests_of(alloc, bytes.as_bytes())? {
-        None => Ok(None),
-        Some(specifiers) => Ok(Some(Source {
-            bytes,
-            specifiers: Rc::new(alloc, specifiers)?,
-        })),
-    }
-}
-
-#[tactic(auto, using(std::proofs::lemmas::Str::Pattern::ends_text))]
-fn is_module_name(path: &str) -> bool
-    ensures { result ≡ ends_with nat_eq path.now (codes ".mjs") }
-{
-    path.ends_with(".mjs")
 }

@@ -1,41 +1,58 @@
-ghost use Rattle.std.specs.Prelude.{IfOk};
-ghost use Rattle.request_trace.specs.Shown.{before_of, traced_of};
-ghost use Rattle.request_trace.specs.Tracing.{IsWhole, Traces};
+ghost use Rattle.std.specs.Prelude.{◌≤◌, ◌+◌, length, IfOk};
+ghost use Rattle.tree_spec.specs.declared.LimitName.TheVariants.{Modules, Requests};
+ghost use Rattle.tree_spec.specs.Limits.{limit_number};
+ghost use Rattle.trace_walk.specs.Shown.{before_of, traced_of};
+ghost use Rattle.trace_walk.specs.Walking.{IsWhole};
+ghost use Rattle.request_trace.specs.Tracing.{Traces};
 
-use crate::config::Config;
 use crate::folder_answers::FolderAnswers;
-use crate::looks::Looks;
-use crate::parents::Parents;
-use crate::tables::Tables;
 use crate::traces::Trace;
-use crate::visits::walk;
+use package_lookup::{Known, Trail};
+use primitives::Steps;
 use std::alloc::Global;
+use std::sync::ledger::Ledger;
 use trace_spec::TraceFault;
+use trace_walk::{Config, Tables, walk};
 use tree_model::Folder;
 
-/// The trace of a folder and a config, or its first refusal. No path is looked at twice.
-pub fn trace<F: Folder>(alloc: Global, folder: &mut F, config: &Config) -> Result<Trace, TraceFault>
-    ensures { Traces config.now (F.state folder.old) result (F.state folder.new) }
+/// The trace of a folder and a config, or its first refusal. No path is looked at that is known, and none twice. It
+/// takes at most one step for each module and for each request.
+pub fn trace<F: Folder, L: Ledger>(
+    alloc: Global,
+    folder: &mut F,
+    known: &mut Known,
+    config: &Config,
+    steps: &mut Steps<L>,
+) -> Result<Trace, TraceFault>
+    ensures traces { Traces config.now (F.state folder.old) known.old result (F.state folder.new) known.new }
+    ensures steps { IfOk result (λ trace. steps.new ≤ steps.old + (length trace.sources + trace.requests)) }
+    ensures bounded { steps.new ≤ steps.old + (limit_number Modules + limit_number Requests) }
 {
-    let tables = tables_of(alloc, folder, config)?;
+    let tables = tables_of(alloc, folder, known, config, steps)?;
     Ok(Trace::of(tables))
 }
 
 // The tables of the trace.
-fn tables_of<F: Folder>(
+fn tables_of<F: Folder, L: Ledger>(
     alloc: Global,
     folder: &mut F,
+    known: &mut Known,
     config: &Config,
+    steps: &mut Steps<L>,
 ) -> Result<Tables, TraceFault>
-    ensures traces { Traces config.now (F.state folder.old) (traced_of result) (F.state folder.new) }
+    ensures traces { Traces config.now (F.state folder.old) known.old (traced_of result)
+        (F.state folder.new) known.new }
     ensures whole { IfOk result (λ tables. IsWhole (before_of tables)) }
+    ensures steps { IfOk result (λ tables. steps.new
+        ≤ steps.old + (length tables.sources.items + tables.requests)) }
+    ensures bounded { steps.new ≤ steps.old + (limit_number Modules + limit_number Requests) }
 {
-    let mut looks = Looks::new(alloc);
-    let mut parents = Parents::new();
+    let mut trail = Trail::new(alloc);
     let mut answers = FolderAnswers {
         folder,
-        looks: &mut looks,
-        parents: &mut parents,
+        known,
+        trail: &mut trail,
+        steps,
     };
     walk(alloc, &mut answers, config)
 }

@@ -1,13 +1,13 @@
 ghost use Rattle.std.specs.Prelude.{◌≡◌, ◌≤◌, length, slice_get, option_map, option_and_then, option_copied};
-ghost use Rattle.tree_spec.specs.declared.LimitName.TheVariants.{Modules};
+ghost use Rattle.tree_spec.specs.declared.LimitName.TheVariants.{Modules, Requests};
 ghost use Rattle.tree_spec.specs.Limits.{limit_number};
 ghost use Rattle.layout_spec.specs.Needs.{NoClash};
-ghost use Rattle.request_trace.specs.Shown.{before_of};
-ghost use Rattle.request_trace.specs.Tracing.{IsWhole};
+ghost use Rattle.trace_walk.specs.Shown.{before_of};
+ghost use Rattle.trace_walk.specs.Walking.{IsWhole};
 
-use crate::tables::Tables;
 use need_table::Needs;
 use std::marker::Model;
+use trace_walk::Tables;
 use tree_model::Path;
 
 /// What a trace holds: the modules in trace order, the source of each, the needs, and how many requests were followed.
@@ -19,8 +19,8 @@ pub struct Trace {
 impl Model for Trace {
     ghost use Rattle.trace_spec.specs.Checks.{Gathered};
     ghost use Rattle.layout_spec.specs.Needs.{NoClash};
-    ghost use Rattle.request_trace.specs.Shown.{before_of};
-    ghost use Rattle.request_trace.specs.Tracing.{IsWhole};
+    ghost use Rattle.trace_walk.specs.Shown.{before_of};
+    ghost use Rattle.trace_walk.specs.Walking.{IsWhole};
 
     ghost Value = { Gathered };
 
@@ -57,7 +57,8 @@ impl Trace {
 
     /// How many requests were followed, those of the page too.
     pub fn request_count(&self) -> usize
-        ensures { result ≡ self.now.requests }
+        ensures requests { result ≡ self.now.requests }
+        ensures few { result ≤ limit_number Requests }
     {
         self.tables.requests
     }
@@ -98,7 +99,7 @@ impl Trace {
     {
         match self.tables.sources.get(place) {
             None => None,
-            Some(source) => Some(source.specifiers.len()),
+            Some(source) => Some(source.requests.len()),
         }
     }
 
@@ -109,9 +110,9 @@ impl Trace {
     {
         match self.tables.sources.get(place) {
             None => None,
-            Some(source) => match source.specifiers.at(number) {
+            Some(source) => match source.requests.at(number) {
                 None => None,
-                Some(specifier) => Some(specifier.as_str()),
+                Some(request) => Some(request.text.as_str()),
             },
         }
     }

@@ -1,13 +1,19 @@
 use Rattle.std.proofs.Common.{◌≡◌, rules, ap}
-use Rattle.request_trace.specs.Meeting.{Kept}
-use Rattle.request_trace.specs.Shown.{traced_of}
-use Rattle.request_trace.proofs.LookLemmas.{traces, traces_moved, traced_kind}
+use Rattle.package_lookup.specs.Answered.{state}
+use Rattle.trace_walk.specs.Meeting.{Kept}
+use Rattle.trace_walk.specs.Shown.{traced_of}
+use Rattle.request_trace.proofs.AnswerLemmas.{traces_by, traces_moved, first_name, second_name, traced_kind}
 use Rattle.request_trace.proofs.folder_trace.tables_of.Goals as goal
 
 pub returns-clause-traces : goal.returns-clause-traces
 returns-clause-traces g c =
+    let names = ap (λ (keeps : Kept). keeps.references) c.walk.ensures.met.keeps in
+    let folder_named : c.walk.new.answerer.folder.ghost_name ≡ _ = first_name names in
+    let known_named : c.walk.new.answerer.known.ghost_name ≡ _ = second_name names in
     let old = g.F.Folder.state c.args.folder.now in
     let new = g.F.Folder.state c.walk.new.answerer.folder.now in
-    let named : c.walk.new.answerer.folder.ghost_name ≡ _ = ap (λ (keeps : Kept). keeps.reference) c.walk.ensures.met.keeps in
-    traces_moved c.args.config.now old new _ (traced_of c.walk.result) (ap g.F.Folder.state (search rules))
-    (traces c.args.config.now _ _ old new (traced_of c.walk.result) c.walk.ensures.met (traced_kind c.args.config.now c.walk.result c.walk.ensures.kind))
+    traces_moved c.args.config.now old c.args.known.now (traced_of c.walk.result) new _ c.walk.new.answerer.known.now _
+    (ap g.F.Folder.state (search rules)) (search rules)
+    (traces_by _ _ c.args.config.now (state old c.args.known.now c.new-trail.result)
+    (state new c.walk.new.answerer.known.now c.walk.new.answerer.trail.now) (traced_of c.walk.result) c.new-trail.ensures
+    c.walk.ensures.met (traced_kind c.args.config.now c.walk.result c.walk.ensures.kind))

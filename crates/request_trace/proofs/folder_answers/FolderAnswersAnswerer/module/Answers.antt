@@ -1,6 +1,16 @@
-use Rattle.request_trace.specs.Looking.{entry_of}
-use Rattle.request_trace.proofs.LookLemmas.{module_done}
+use Rattle.std.specs.Prelude.{[], ◌∷◌}
+use Rattle.module_sources.specs.Shown.{source_in}
+use Rattle.package_lookup.specs.Responses.{looked}
+use Rattle.package_lookup.specs.Answered.{state}
+use Rattle.trace_spec.specs.Questions.{of_module}
+use Rattle.trace_walk.specs.Shown.{sources}
+use Rattle.request_trace.proofs.AnswerLemmas.{met_by}
 use Rattle.request_trace.proofs.folder_answers.FolderAnswersAnswerer.module.Goals as goal
 
 pub returns-clause-met : goal.returns-clause-met
-returns-clause-met g c = module_done c.args.self.now.folder.ghost_name (g.F.Folder.state c.args.self.now.folder.now) (g.F.Folder.state c.look.new.folder) c.args.path.now (entry_of c.in_ok-seen.seen) _ c.in_ok-seen.ensures.met c.in_ok-source_at.ensures
+returns-clause-met g c =
+    met_by
+    (c.args.self.now.folder.ghost_name ∷ c.args.self.now.known.ghost_name ∷ c.args.self.now.steps.ghost_name ∷ [])
+    (state (g.F.Folder.state c.args.self.now.folder.now) c.args.self.now.known.now c.args.self.now.trail.now)
+    (state (g.F.Folder.state c.module_source-found.new.folder) c.module_source-found.new.known c.module_source-found.new.trail)
+    (of_module c.args.path.now) (looked source_in c.module_source-found.result) (sources c.source_answer.result) c.source_answer.ensures.is c.module_source-found.ensures.answered

@@ -1,0 +1,199 @@
+ghost use Rattle.std.specs.Prelude.{◌≡◌, ◌≤◌, ◌+◌, Bool, ℕ, List, Some, Result, Ok, Err, IfOk, IfErr};
+ghost use Rattle.std.specs.Str.{is_utf8};
+ghost use Rattle.tree_spec.specs.declared.Entry.TheVariants.{Stored};
+ghost use Rattle.tree_spec.specs.LookLimits.{begun};
+ghost use Rattle.module_spec.specs.OutlineReading.{read_outline};
+ghost use Rattle.node_spec.specs.EsmFileFormat as formats;
+ghost use Rattle.node_spec.specs.NodeAnswers.{Refusal};
+ghost use Rattle.trace_spec.specs.Questions as spec;
+ghost use Rattle.package_lookup.specs.Answered.{state, Answered};
+ghost use Rattle.package_lookup.specs.Formats.{by_format};
+ghost use Rattle.package_lookup.specs.Responses.{given, fails, never, by_fault, by_limit, looked};
+ghost use Rattle.package_lookup.specs.SeenLooks.{entry_of};
+ghost use Rattle.es_module_parser.specs.Faults.{IsFaultOf};
+ghost use Rattle.es_module_parser.specs.Outlines.{as_outline};
+ghost use Rattle.module_sources.specs.Shown.{source_in, IsOfSource, NamesLimit};
+
+use crate::{NoSource, Source};
+use es_module_parser::{Outline, OutlineFault, outline};
+use node_spec::Reason;
+use package_lookup::{Format, Known, LookupFault, Seen, Trail, format_of};
+use primitives::{Bytes, Memory, Steps};
+use std::alloc::{AllocError, Global};
+use std::rc::Rc;
+use std::sync::ledger::Ledger;
+use tree_model::{Folder, Path};
+use tree_spec::LimitName;
+
+/// The source of the file at a path, or why it has none. It begins a question: first the format is asked for, and then
+/// the file is looked at. It takes one step at most.
+pub fn module_source<F: Folder, L: Ledger>(
+    alloc: Global,
+    known: &mut Known,
+    folder: &mut F,
+    trail: &mut Trail,
+    path: &Path,
+    steps: &mut Steps<L>,
+) -> Result<Result<Source, NoSource>, LookupFault>
+    ensures answered { Answered (state (F.state folder.old) known.old (begun trail.old)) (spec.module_source path.now)
+        (looked source_in result) (state (F.state folder.new) known.new trail.new) }
+    ensures cost { steps.new ≤ steps.old + 1 }
+    ensures limit { NamesLimit result }
+{
+    match format_of(alloc, known, folder, trail, path) {
+        Err(fault) => without_format(fault),
+        Ok(format) => source_by_format(alloc, known, folder, trail, path, format, steps),
+    }
+}
+
+// The format of a file that isn't known, since a package.json has too many open brackets, is no source.
+fn without_format(fault: LookupFault) -> Result<Result<Source, NoSource>, LookupFault>
+    ensures source { looked source_in result ≡ by_fault (fails never) (given (Err (spec.above LimitName.Depth))) fault }
+    ensures limit { NamesLimit result }
+{
+    match fault {
+        LookupFault::Limit { which } => above_limit(which),
+        LookupFault::InvalidConfig => Err(LookupFault::InvalidConfig),
+        LookupFault::ReadFault => Err(LookupFault::ReadFault),
+        LookupFault::Memory => Err(LookupFault::Memory),
+    }
+}
+
+fn above_limit(which: LimitName) -> Result<Result<Source, NoSource>, LookupFault>
+    ensures source { looked source_in result ≡ by_limit (given (Err (spec.above LimitName.Depth))) which }
+    ensures limit { NamesLimit result }
+{
+    match which {
+        LimitName::Depth => Ok(Err(NoSource::Above { which })),
+        _ => Err(LookupFault::Limit { which }),
+    }
+}
+
+// The source of a file with this format.
+fn source_by_format<F: Folder, L: Ledger>(
+    alloc: Global,
+    known: &mut Known,
+    folder: &mut F,
+    trail: &mut Trail,
+    path: &Path,
+    format: Format,
+    steps: &mut Steps<L>,
+) -> Result<Result<Source, NoSource>, LookupFault>
+    ensures answered { (found : Result formats.Format Refusal) → by_format format ≡ given found
+        → Answered (state (F.state folder.old) known.old trail.old) (spec.by_format path.now found)
+        (looked source_in result) (state (F.state folder.new) known.new trail.new) }
+    ensures cost { steps.new ≤ steps.old + 1 }
+    ensures limit { NamesLimit result }
+{
+    match format {
+        Format::Module => read_module(alloc, known, folder, trail, path, false, steps),
+        Format::Detect => read_module(alloc, known, folder, trail, path, true, steps),
+        Format::Not(reason) => Ok(Err(NoSource::NotModule { reason })),
+    }
+}
+
+// The source of the file at a path, where its format is that of a module or its text decides.
+fn read_module<F: Folder, L: Ledger>(
+    alloc: Global,
+    known: &mut Known,
+    folder: &mut F,
+    trail: &mut Trail,
+    path: &Path,
+    is_detected: bool,
+    steps: &mut Steps<L>,
+) -> Result<Result<Source, NoSource>, LookupFault>
+    ensures answered { Answered (state (F.state folder.old) known.old trail.old) (spec.read_module is_detected path.now)
+        (looked source_in result) (state (F.state folder.new) known.new trail.new) }
+    ensures cost { steps.new ≤ steps.old + 1 }
+    ensures limit { NamesLimit result }
+{
+    match known.look(alloc, folder, path, trail) {
+        Err(fault) => Err(fault),
+        Ok(seen) => Ok(source_seen(alloc, seen, is_detected, steps)?),
+    }
+}
+
+fn source_seen<L: Ledger>(
+    alloc: Global,
+    seen: Seen,
+    is_detected: bool,
+    steps: &mut Steps<L>,
+) -> Result<Result<Source, NoSource>, Memory>
+    ensures source { IfOk result (λ found. source_in found ≡ spec.by_entry is_detected (entry_of seen)) }
+    ensures cost { steps.new ≤ steps.old + 1 }
+    ensures limit { NamesLimit result }
+{
+    match seen {
+        Seen::Absent => Ok(unreadable(0)),
+        Seen::Folder => Ok(unreadable(0)),
+        Seen::File(bytes) => source_of_bytes(alloc, bytes, is_detected, steps),
+    }
+}
+
+fn unreadable(at: usize) -> Result<Source, NoSource>
+    ensures source { source_in result ≡ Err (spec.not_module (Reason.Unreadable at)) }
+    ensures limit { IfErr result IsOfSource }
+{
+    Err(NoSource::NotModule {
+        reason: Reason::Unreadable { at },
+    })
+}
+
+fn source_of_bytes<L: Ledger>(
+    alloc: Global,
+    bytes: Rc<Bytes>,
+    is_detected: bool,
+    steps: &mut Steps<L>,
+) -> Result<Result<Source, NoSource>, Memory>
+    ensures source { IfOk result (λ found. source_in found ≡ spec.by_bytes is_detected bytes.value) }
+    ensures cost { steps.new ≤ steps.old + 1 }
+    ensures limit { NamesLimit result }
+{
+    match std::str::from_utf8(bytes.as_bytes()) {
+        Err(fault) => Ok(unreadable(fault.valid_up_to())),
+        Ok(text) => match outline(alloc, text, steps) {
+            Err(fault) => without_outline(fault),
+            Ok(outline) => source_of_outline(alloc, bytes, outline, is_detected),
+        },
+    }
+}
+
+// Where a text has no outline, it has no source.
+fn without_outline(fault: OutlineFault) -> Result<Result<Source, NoSource>, Memory>
+    ensures source { IfOk result (λ found. (text bytes : List ℕ) (is_detected : Bool) → IsFaultOf text fault
+        → source_in found ≡ spec.by_outline is_detected bytes (read_outline text)) }
+    ensures limit { NamesLimit result }
+{
+    match fault {
+        OutlineFault::Unreadable { at } => Ok(unreadable(at)),
+        OutlineFault::TooDeep => Ok(Err(NoSource::Above {
+            which: LimitName::Brackets,
+        })),
+        OutlineFault::TooManyRequests => Ok(Err(NoSource::Above {
+            which: LimitName::ModuleRequests,
+        })),
+        OutlineFault::Memory => Err(AllocError),
+    }
+}
+
+// The source of a text with this outline; where the text decides, only where it declares that it is a module's.
+fn source_of_outline(
+    alloc: Global,
+    bytes: Rc<Bytes>,
+    outline: Outline,
+    is_detected: bool,
+) -> Result<Result<Source, NoSource>, Memory>
+    ensures source { IfOk result (λ found. source_in found
+        ≡ spec.by_outline is_detected bytes.value (Ok (as_outline outline))) }
+    ensures limit { NamesLimit result }
+{
+    if is_detected && !outline.declares {
+        return Ok(Err(NoSource::NotModule {
+            reason: Reason::CommonJs,
+        }));
+    }
+    Ok(Ok(Source {
+        bytes,
+        requests: Rc::new(alloc, outline.requests)?,
+    }))
+}

@@ -1,0 +1,77 @@
+-- What one call after another learns.
+--     learns_then          what two calls learn
+--     learns_nothing       what none learns
+--     learns_as            the same, where more may be left unfinished
+--     learns_by            what a call that asks learns
+--     learns_at            the same beside other trails
+use Rattle.std.proofs.Common.{◌≡◌, Option, Some, None, IfSome, refl, ◌∙◌, subst}
+use Rattle.tree_spec.specs.LookAskings.{LookAsking}
+use Rattle.tree_spec.specs.LookLimits.{Trail}
+use Rattle.tree_spec.specs.Trees.{Tree}
+use Rattle.package_lookup.specs.Answered.{State, state, Tells, AsksOnce, Answered}
+use Rattle.package_lookup.specs.Learning.{IsSameIn, Learns}
+use Rattle.package_lookup.specs.Responses.{Response, fails, no_memory}
+use Rattle.package_lookup.proofs.Questions.{grows_itself, grows_twice, asks_then, asks_nothing_told, asks_finished, if_weaker}
+
+same_then : (told later : Option Tree) (before middle after : State) → later ≡ told
+    → IfSome told (λ tree. IsSameIn tree before middle) → IfSome later (λ tree. IsSameIn tree middle after)
+    → IfSome told (λ tree. IsSameIn tree before after)
+same_then None later before middle after e first rest = tt
+same_then (Some tree) later before middle after e first rest =
+    (let two : IsSameIn tree middle after = subst (λ t. IfSome t (λ tree. IsSameIn tree middle after)) e rest in
+    (λ path. two path ∙ first path))
+
+same_now : (told : Option Tree) (before : State) → IfSome told (λ tree. IsSameIn tree before before)
+same_now None before = tt
+same_now (Some tree) before = λ path. refl
+
+pub learns_then : (before middle after : State) (some rest : Type 0) → (some → ⊥) → Learns before middle some
+    → Learns middle after rest → Learns before after rest
+learns_then before middle after some rest done first last = record {
+  tree = last.tree ∙ first.tree;
+  same = same_then before.folder.holds middle.folder.holds before middle after first.tree first.same last.same;
+  known = grows_twice before.known middle.known after.known first.known last.known;
+  asked = if_weaker before.folder.asked (λ old. AsksOnce old before middle some) (λ old. AsksOnce old before after rest)
+      (λ old asks. asks_then old before middle after some rest done first.known last.known asks last.asked) first.asked;
+}
+
+pub learns_nothing : (before : State) (unfinished : Type 0) → Learns before before unfinished
+learns_nothing before unfinished = record {
+  tree = refl;
+  same = same_now before.folder.holds before;
+  known = grows_itself before.known;
+  asked = asks_nothing_told before.folder.asked before before unfinished refl;
+}
+
+pub learns_as : (before after : State) (some other : Type 0) → (some → other) → Learns before after some
+    → Learns before after other
+learns_as before after some other weaker learns = record {
+  tree = learns.tree;
+  same = learns.same;
+  known = learns.known;
+  asked = if_weaker before.folder.asked (λ old. AsksOnce old before after some) (λ old. AsksOnce old before after other)
+      (λ old asks. asks_finished old before after some other weaker asks) learns.asked;
+}
+
+pub learns_by : {X : Type 0} (before after : State) (asking : LookAsking X) (response : Response X)
+    → Answered before asking response after → Learns before after (response ≡ fails no_memory)
+learns_by before after asking response a = record {
+  tree = a.folder.tree;
+  same = if_weaker before.folder.holds (λ tree. Tells tree before asking response after)
+      (λ tree. IsSameIn tree before after) (λ tree tells. tells.same) a.tells;
+  known = a.known;
+  asked = a.asked;
+}
+
+pub learns_at : (before after : State) (first last : Trail) (unfinished : Type 0) → Learns before after unfinished
+    → Learns (state before.folder before.known first) (state after.folder after.known last) unfinished
+learns_at before after first last unfinished learns = record {
+  tree = learns.tree;
+  same = learns.same;
+  known = learns.known;
+  asked = if_weaker before.folder.asked (λ old. AsksOnce old before after unfinished)
+      (λ old. AsksOnce old (state before.folder before.known first) (state after.folder after.known last) unfinished)
+      (λ old asks.
+      record { more = asks.more; asked = asks.asked; once = asks.once; new = asks.new; held = asks.held })
+      learns.asked;
+}

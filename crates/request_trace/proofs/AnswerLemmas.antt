@@ -1,0 +1,207 @@
+-- A question of a walk that is answered by looks, and the walk over these answers.
+--     met_by               a question
+--     traces_by            the walk
+--     traces_moved         the same beside another name for the state
+--     traced_kind          why there is no trace
+--     first_name, second_name, third_name      the references
+--     named_limit, limit_ends, look_ends      a limit that ends a walk
+use Rattle.std.proofs.Common.{◌≡◌, ℕ, List, Option, Some, None, Result, Ok, Err, IfSome, refl, sym, ap, ◌∙◌, subst}
+use Rattle.std.specs.Prelude.{◌≢◌, [], ◌∷◌, IfErr}
+use Rattle.asking_spec.specs.Askings.{Asking, answered, ask}
+use Rattle.asking_spec.specs.Evaluation.{Ended, ends, stopped, then_ended, Answers, evaluated}
+use Rattle.tree_spec.specs.declared.LimitName.{LimitName}
+use Rattle.tree_spec.specs.declared.LimitName.TheVariants.{File, Bytes, Looks, Modules, ModuleRequests, Requests, Specifier, Entries, Brackets, Depth, Session, Map, Choices}
+use Rattle.tree_spec.specs.LookAskings.{Sights}
+use Rattle.tree_spec.specs.LookLimits.{Trail, begun, no_trail, look_limits, limited}
+use Rattle.tree_spec.specs.States.{FolderState}
+use Rattle.tree_spec.specs.Trees.{Tree}
+use Rattle.trace_spec.specs.declared.TraceFault.{TraceFault}
+use Rattle.trace_spec.specs.declared.TraceFault.TheVariants.{Limit, ReadFault, Memory}
+use Rattle.trace_spec.specs.Questions.{Question, Answer, put, answers}
+use Rattle.trace_spec.specs.Kinds.{IsTraceLimit}
+use Rattle.trace_spec.specs.Traces.{result_of, state_of, trace, traced}
+use Rattle.trace_spec.specs.Checks.{Gathered}
+use Rattle.trace_spec.specs.Modules.{Config}
+use Rattle.package_lookup.specs.declared.known.Known.{Known}
+use Rattle.package_lookup.specs.Looked.{Sees}
+use Rattle.package_lookup.specs.Answered.{State, state, Tells, Answered}
+use Rattle.package_lookup.specs.Answered as lookup
+use Rattle.package_lookup.specs.Responses.{Response, given, fails, passes, not_read, no_memory, never, by_limit}
+use Rattle.package_lookup.proofs.Questions.{sees_still}
+use Rattle.package_lookup.proofs.Learnings.{learns_as, learns_by, learns_at}
+use Rattle.trace_walk.specs.Meeting.{Kept, IsTold, Comes, Met, fine}
+use Rattle.trace_walk.specs.Kinds.{IsOfWalk}
+use Rattle.trace_walk.specs.Shown.{traced_of}
+use Rattle.trace_walk.specs.declared.tables.Tables.{Tables}
+use Rattle.request_trace.specs.Answering.{result_by, ToldBy, answers_of}
+use Rattle.request_trace.specs.Tracing.{Traces}
+
+abbrev Told : Type 0
+Told = Answers Trail LimitName Question Answer
+
+abbrev going : {X : Type 0} → Ended X Trail LimitName → Ended (Result X TraceFault) Trail LimitName
+going end = then_ended end (λ value after. ends (Ok value) after)
+
+-- ---- one question
+
+abbrev Is : {X : Type 0} → Ended X Trail LimitName → Result X TraceFault → Trail → Type 0
+Is end result after = (result_of (going end) ≡ result) × (state_of (going end) ≡ after)
+
+comes_by : {X : Type 0} (end : Ended X Trail LimitName) (response : Response X) (result : Result X TraceFault)
+    (after : Trail) → result ≡ result_by response → IsTold result → lookup.Comes end response after
+    → Is end result after
+comes_by end (given value) result after is told e =
+    (ap (λ x. result_of (going x)) e ∙ sym is, ap (λ x. state_of (going x)) e)
+comes_by end (fails (passes which)) result after is told e =
+    (ap (λ x. result_of (going x)) e ∙ sym is, ap (λ x. state_of (going x)) e)
+comes_by end (fails not_read) result after is told e = absurd (told.0 is)
+comes_by end (fails no_memory) result after is told e = absurd (told.1 is)
+comes_by end (fails never) result after is told e = absurd e
+
+read_by : {X : Type 0} (response : Response X) (result : Result X TraceFault) → result ≡ result_by response
+    → result ≡ Err ReadFault → response ≡ fails not_read
+read_by (given value) result is e = absurd (cc)
+read_by (fails (passes which)) result is e = absurd (cc)
+read_by (fails not_read) result is e = refl
+read_by (fails no_memory) result is e = absurd (cc)
+read_by (fails never) result is e = absurd (cc)
+
+abbrev afresh : State → State
+afresh before = state before.folder before.known (begun before.trail)
+
+module _ (references : List ℕ) (before after : State) (question : Question) (response : Response (Answer question))
+    (result : Result (Answer question) TraceFault) where
+  told_here : Answered (afresh before) (put question) response after → (by : Tree)
+      → before.folder.holds ≡ Some by → Tells by (afresh before) (put question) response after
+  told_here a tree holds =
+      subst (λ h. IfSome h (λ tree. Tells tree (afresh before) (put question) response after)) holds a.tells
+
+  comes_told : result ≡ result_by response → Answered (afresh before) (put question) response after → (told : Told)
+      → ToldBy before.folder before.known told → IsTold result
+      → Comes told before.trail (fine (ask question answered)) result after.trail
+  comes_told is a told by is_told =
+      (let tells = told_here a by.tree by.holds in
+      let here = comes_by (answers by.sights before.trail question) response result after.trail is is_told
+      (tells.says by.sights by.sees) in
+      subst (λ t. Comes t before.trail (fine (ask question answered)) result after.trail) (sym by.are)
+      (record { is = here.0; leaves = here.1 }))
+
+  told_still : Answered (afresh before) (put question) response after → (told : Told)
+      → ToldBy before.folder before.known told → ToldBy after.folder after.known told
+  told_still a told by = record {
+    tree = by.tree;
+    sights = by.sights;
+    holds = a.folder.tree ∙ by.holds;
+    sees = sees_still by.tree before.known after.known by.sights (told_here a by.tree by.holds).same by.sees;
+    are = by.are;
+  }
+
+  pub met_by : result ≡ result_by response → Answered (afresh before) (put question) response after
+      → Met (answers_of references before) (fine (ask question answered)) result (answers_of references after)
+  met_by is a = record {
+    comes = comes_told is a;
+    told = told_still a;
+    keeps = (λ i. record { references = references; holds = a.folder.tree i; writes = a.folder.writes i });
+    later = a.folder.later;
+    cause = λ e. a.folder.cause (read_by response result is e);
+    quiet = λ ne. a.folder.quiet (λ e. ne (is ∙ ap result_by e));
+    learns = learns_as before after (response ≡ fails no_memory) (result ≡ Err Memory) (λ e. is ∙ ap result_by e)
+        (learns_at (afresh before) after before.trail after.trail (response ≡ fails no_memory)
+        (learns_by (afresh before) after (put question) response a));
+  }
+
+-- ---- the walk
+
+is_traced : (told : Option Tree) (references others : List ℕ) (config : Config) (before after : State)
+    (result : Result Gathered TraceFault) → before.folder.holds ≡ told → before.trail ≡ no_trail
+    → Met (answers_of references before) (trace config) result (answers_of others after)
+    → IfSome told
+    (λ tree. (sights : Sights) → Sees tree before.known sights → IsTold result → traced sights config ≡ result)
+is_traced None references others config before after result holds fresh met = tt
+is_traced (Some tree) references others config before after result holds fresh met = λ sights sees is_told.
+    ap (λ trail. result_of (evaluated (answers sights) trail (trace config))) (sym fresh)
+    ∙ (met.comes (answers sights) (record { tree = tree; sights = sights; holds = holds; sees = sees; are = refl })
+    is_told).is
+
+pub traces_by : (references others : List ℕ) (config : Config) (before after : State)
+    (result : Result Gathered TraceFault) → before.trail ≡ no_trail
+    → Met (answers_of references before) (trace config) result (answers_of others after)
+    → IfErr result (IsOfWalk config)
+    → Traces config before.folder before.known result after.folder after.known
+traces_by references others config before after result fresh met kind = record {
+  is = is_traced before.folder.holds references others config before after result refl fresh met;
+  learns = learns_at before after no_trail no_trail (result ≡ Err Memory) met.learns;
+  looks = record {
+    tree = ap (λ (keeps : Kept). keeps.holds) met.keeps;
+    writes = ap (λ (keeps : Kept). keeps.writes) met.keeps;
+    later = met.later;
+    cause = met.cause;
+    quiet = met.quiet;
+  };
+  kind = kind;
+}
+
+-- another state that is the same
+pub traces_moved : (config : Config) (before : FolderState) (known : Known) (result : Result Gathered TraceFault)
+    (one other : FolderState) (some later : Known) → one ≡ other → some ≡ later
+    → Traces config before known result one some → Traces config before known result other later
+traces_moved config before known result one other some later here there traces =
+    subst (λ k. Traces config before known result other k) there
+    (subst (λ f. Traces config before known result f some) here traces)
+
+-- ---- why an answer ends a walk
+
+-- a limit that a look passes, or that of brackets
+pub named_limit : {X : Type 0} (deep : Response X) (which : LimitName) → by_limit deep which ≢ fails never
+    → IsTraceLimit which
+named_limit deep File ne = tt
+named_limit deep Bytes ne = tt
+named_limit deep Looks ne = tt
+named_limit deep Modules ne = absurd (ne refl)
+named_limit deep ModuleRequests ne = absurd (ne refl)
+named_limit deep Requests ne = absurd (ne refl)
+named_limit deep Specifier ne = absurd (ne refl)
+named_limit deep Entries ne = absurd (ne refl)
+named_limit deep Brackets ne = absurd (ne refl)
+named_limit deep Depth ne = tt
+named_limit deep Session ne = absurd (ne refl)
+named_limit deep Map ne = absurd (ne refl)
+named_limit deep Choices ne = absurd (ne refl)
+
+pub limit_ends : {X : Type 0} (deep : Response X) (which : LimitName) → by_limit deep which ≢ fails never → which ≢ Depth
+    → result_by (by_limit deep which) ≡ Err (Limit which)
+limit_ends deep File ne other = refl
+limit_ends deep Bytes ne other = refl
+limit_ends deep Looks ne other = refl
+limit_ends deep Modules ne other = absurd (ne refl)
+limit_ends deep ModuleRequests ne other = absurd (ne refl)
+limit_ends deep Requests ne other = absurd (ne refl)
+limit_ends deep Specifier ne other = absurd (ne refl)
+limit_ends deep Entries ne other = absurd (ne refl)
+limit_ends deep Brackets ne other = absurd (ne refl)
+limit_ends deep Depth ne other = absurd (other refl)
+limit_ends deep Session ne other = absurd (ne refl)
+limit_ends deep Map ne other = absurd (ne refl)
+limit_ends deep Choices ne other = absurd (ne refl)
+
+pub look_ends : {X : Type 0} (which : LimitName) → by_limit {X = X} (fails never) which ≢ fails never
+    → result_by {X = X} (by_limit (fails never) which) ≡ Err (Limit which)
+look_ends {X} which ne = limit_ends {X = X} (fails never) which ne (λ e. ne (ap (λ w. by_limit {X = X} (fails never) w) e))
+
+-- ---- the references
+
+pub first_name : {a b c x y z : ℕ} → (a ∷ b ∷ c ∷ []) ≡ (x ∷ y ∷ z ∷ []) → a ≡ x
+first_name e = cc
+
+pub second_name : {a b c x y z : ℕ} → (a ∷ b ∷ c ∷ []) ≡ (x ∷ y ∷ z ∷ []) → b ≡ y
+second_name e = cc
+
+pub third_name : {a b c x y z : ℕ} → (a ∷ b ∷ c ∷ []) ≡ (x ∷ y ∷ z ∷ []) → c ≡ z
+third_name e = cc
+
+-- ---- why there is no trace
+
+pub traced_kind : (config : Config) (result : Result Tables TraceFault) → IfErr result (IsOfWalk config)
+    → IfErr (traced_of result) (IsOfWalk config)
+traced_kind config (Ok tables) kind = tt
+traced_kind config (Err fault) kind = kind

@@ -1,0 +1,44 @@
+-- The answers to a walk's questions by looks at a folder.
+--     result_by response            what a question comes to, as the result of a call
+--     ToldBy folder known told      these are the answers by what stands at each path, as far as looks tell
+--     answers_of references looks   what answers, in this state
+use Rattle.std.specs.Prelude.{◌≡◌, ℕ, List, Some, Result, Ok, Err}
+use Rattle.asking_spec.specs.Evaluation.{Answers}
+use Rattle.tree_spec.specs.declared.LimitName.{LimitName}
+use Rattle.tree_spec.specs.LookAskings.{Sights}
+use Rattle.tree_spec.specs.LookLimits.{Trail}
+use Rattle.tree_spec.specs.States.{FolderState}
+use Rattle.tree_spec.specs.Trees.{Tree}
+use Rattle.trace_spec.specs.declared.TraceFault.{TraceFault}
+use Rattle.trace_spec.specs.declared.TraceFault.TheVariants.{Limit, ReadFault, Memory}
+use Rattle.trace_spec.specs.Questions.{Question, Answer, answers}
+use Rattle.package_lookup.specs.declared.known.Known.{Known}
+use Rattle.package_lookup.specs.Looked.{Sees}
+use Rattle.package_lookup.specs.Answered.{State}
+use Rattle.package_lookup.specs.Responses.{Response, given, fails, passes, not_read, no_memory, never}
+use Rattle.trace_walk.specs.Meeting.{AnswererState}
+
+-- no call comes to `never`
+abbrev pub result_by : {X : Type 0} → Response X → Result X TraceFault
+result_by (given value) = Ok value
+result_by (fails (passes which)) = Err (Limit which)
+result_by (fails not_read) = Err ReadFault
+result_by (fails no_memory) = Err Memory
+result_by (fails never) = Err Memory
+
+pub record ToldBy (folder : FolderState) (known : Known) (told : Answers Trail LimitName Question Answer) : Type 0 where
+  pub tree : Tree
+  pub sights : Sights
+  pub holds : folder.holds ≡ Some tree
+  pub sees : Sees tree known sights
+  pub are : told ≡ answers sights
+
+abbrev pub answers_of : List ℕ → State → AnswererState
+answers_of references looks =
+    record {
+      told = ToldBy looks.folder looks.known;
+      state = looks.trail;
+      faults = looks.folder.look_faults;
+      keeps = record { references = references; holds = looks.folder.holds; writes = looks.folder.write_faults };
+      looks = looks;
+    }

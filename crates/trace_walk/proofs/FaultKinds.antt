@@ -1,0 +1,38 @@
+-- What is refused where.
+use Rattle.std.proofs.Common.{◌≡◌, ◌≢◌, Result, Ok, Err, IfErr, refl, ap, subst, sym}
+use Rattle.std.specs.Result.{IsErrAnd}
+use Rattle.trace_spec.specs.declared.TraceFault.{TraceFault}
+use Rattle.trace_spec.specs.declared.TraceFault.TheVariants.{Unservable, Refused, Clash, NotModule, Limit, ReadFault, Memory}
+use Rattle.trace_spec.specs.Walking.{Referrer}
+use Rattle.trace_spec.specs.Modules.{Config, Module, path_of, suffix_of}
+use Rattle.trace_walk.specs.Kinds.{IsOfAnswers, IsOfWalk}
+use Rattle.trace_walk.specs.Walking.{IsUnserved}
+
+-- a fault that `?` hands on
+pub handed : {X : Type 0} (result : Result X TraceFault) (fault : TraceFault) → IsErrAnd result (λ f. f ≡ fault) → result ≡ Err fault
+handed (Ok value) fault is = absurd is
+handed (Err other) fault is = ap Err is
+
+pub handed_kind : {X : Type 0} (config : Config) (result : Result X TraceFault) (fault : TraceFault) → IsErrAnd result (λ f. f ≡ fault) → IsOfWalk config fault → IfErr result (IsOfWalk config)
+handed_kind config result fault is kind = subst (λ r. IfErr r (IsOfWalk config)) (sym (handed result fault is)) kind
+
+pub unserved_kind : (config : Config) (r : Referrer Module) (fault : TraceFault) → (fault ≢ Memory → IsUnserved config (path_of config r) (suffix_of r) fault) → IsOfWalk config fault
+unserved_kind config r (Unservable path url) unserved =
+    let is = unserved (λ e. cc) in
+    let same = is.is in
+    record { which = r; path_is = (cc); url_is = (cc); lost = is.lost }
+unserved_kind config r (Refused referrer specifier cause) unserved = absurd (let e = (unserved (λ e. cc)).is in cc)
+unserved_kind config r (Clash referrer first first_to second second_to) unserved = absurd (let e = (unserved (λ e. cc)).is in cc)
+unserved_kind config r (NotModule path reason) unserved = absurd (let e = (unserved (λ e. cc)).is in cc)
+unserved_kind config r (Limit which) unserved = absurd (let e = (unserved (λ e. cc)).is in cc)
+unserved_kind config r ReadFault unserved = tt
+unserved_kind config r Memory unserved = tt
+
+pub answers_kind : (config : Config) (fault : TraceFault) → IsOfAnswers fault → IsOfWalk config fault
+answers_kind config (Unservable path url) is = absurd is
+answers_kind config (Refused referrer specifier cause) is = absurd is
+answers_kind config (Clash referrer first first_to second second_to) is = absurd is
+answers_kind config (NotModule path reason) is = absurd is
+answers_kind config (Limit which) is = is
+answers_kind config ReadFault is = tt
+answers_kind config Memory is = tt

@@ -1,0 +1,153 @@
+-- One call after another: what a whole asking comes to, by what its parts come to.
+--     Left before whole middle rest      whatever the rest comes to from here, the whole comes to
+use Rattle.std.proofs.Common.{◌≡◌, Result, Ok, Err, refl, ap, ◌∙◌, subst, arith}
+use Rattle.asking_spec.specs.Askings.{Asking, answered, and_ok}
+use Rattle.asking_spec.specs.Evaluation.{Ended, ends, stopped, Answers, evaluated}
+use Rattle.asking_spec.proofs.EvaluationLemmas.{ends_then, refused_then, stopped_then}
+use Rattle.tree_spec.specs.declared.LimitName.{LimitName}
+use Rattle.tree_spec.specs.Counts.{Rose}
+use Rattle.trace_spec.specs.declared.TraceFault.{TraceFault}
+use Rattle.trace_spec.specs.declared.TraceFault.TheVariants.{ReadFault, Memory, Limit}
+use Rattle.trace_spec.specs.Traces.{result_of, state_of}
+use Rattle.package_lookup.specs.Learning.{Learns}
+use Rattle.package_lookup.proofs.Learnings.{learns_then, learns_nothing, learns_as}
+use Rattle.trace_walk.specs.Meeting.{Outside, IsTold, Comes, Met}
+use Rattle.trace_walk.specs.Walking.{IsGiven}
+
+abbrev pub failed : (X : Type 0) → TraceFault → Result X TraceFault
+failed X fault = Err fault
+
+abbrev pub succeeded : (X : Type 0) → X → Result X TraceFault
+succeeded X value = Ok value
+
+ended_ok : {X T : Type 0} (end : Ended (Result X TraceFault) T LimitName) (value : X) (after : T) → result_of end ≡ Ok value → state_of end ≡ after → end ≡ ends (Ok value) after
+ended_ok (ends result state) value after is leaves = (λ i. ends (is i) (leaves i))
+ended_ok (stopped limit state) value after is leaves = absurd (cc)
+
+-- what an asking that fails comes to, with anything behind it
+fails_by : {T Q : Type 0} {A : Q → Type 0} {X Y : Type 0} (answers : Answers T LimitName Q A) (before after : T) (part : Asking Q A (Result X TraceFault)) (next : X → Asking Q A (Result Y TraceFault)) (fault : TraceFault) (end : Ended (Result X TraceFault) T LimitName)
+    → evaluated answers before part ≡ end → result_of end ≡ Err fault → state_of end ≡ after → Comes {X = Y} answers before (and_ok part next) (Err fault) after
+fails_by answers before after part next fault (ends (Ok value) state) e is leaves = absurd (cc)
+fails_by answers before after part next fault (ends (Err refusal) state) e is leaves =
+    let same : evaluated answers before (and_ok part next) ≡ ends (Err refusal) state = refused_then answers before state part next refusal e in
+    record { is = ap result_of same ∙ (let f : refusal ≡ fault = cc in ap Err f); leaves = ap state_of same ∙ leaves }
+fails_by answers before after part next fault (stopped limit state) e is leaves =
+    let same : evaluated answers before (and_ok part next) ≡ stopped limit state = stopped_then answers before state part next limit e in
+    record { is = ap result_of same ∙ (let f : Limit limit ≡ fault = cc in ap Err f); leaves = ap state_of same ∙ leaves }
+
+comes_then : {T Q : Type 0} {A : Q → Type 0} {X Y : Type 0} (answers : Answers T LimitName Q A) (before middle after : T) (part : Asking Q A (Result X TraceFault)) (next : X → Asking Q A (Result Y TraceFault)) (value : X) (result : Result Y TraceFault)
+    → Comes answers before part (Ok value) middle → Comes answers middle (next value) result after → Comes answers before (and_ok part next) result after
+comes_then answers before middle after part next value result one two =
+    let same : evaluated answers before (and_ok part next) ≡ evaluated answers middle (next value) = ends_then answers before middle part next value (ended_ok (evaluated answers before part) value middle one.is one.leaves) in
+    record { is = ap result_of same ∙ two.is; leaves = ap state_of same ∙ two.leaves }
+
+pub told_err : {X Y : Type 0} (fault : TraceFault) → IsTold {X = Y} (Err fault) → IsTold {X = X} (Err fault)
+told_err fault told = ((λ e. told.0 (cc)), (λ e. told.1 (cc)))
+
+-- a part that has its value, and what comes behind it
+pub met_then : {T Q : Type 0} {A : Q → Type 0} {X Y : Type 0} (before middle after : Outside T Q A) (part : Asking Q A (Result X TraceFault)) (next : X → Asking Q A (Result Y TraceFault)) (value : X) (result : Result Y TraceFault)
+    → Met before part (Ok value) middle → Met middle (next value) result after → Met before (and_ok part next) result after
+met_then {X = X} before middle after part next value result first rest = record {
+  comes = λ answers told is_told. comes_then answers before.state middle.state after.state part next value result (first.comes answers told ((λ e. cc), (λ e. cc))) (rest.comes answers (first.told answers told) is_told);
+  told = λ answers told. rest.told answers (first.told answers told);
+  keeps = rest.keeps ∙ first.keeps;
+  later = (let one = first.later in let two = rest.later in omega arith);
+  cause = λ e. (let two = rest.cause e in let same : middle.faults ≡ before.faults = first.quiet (λ f. cc) in subst (λ n. Rose n after.faults) same two);
+  quiet = λ ne. rest.quiet ne ∙ first.quiet (λ f. cc);
+  learns = learns_then before.looks middle.looks after.looks (succeeded X value ≡ Err Memory) (result ≡ Err Memory) (λ e. cc)
+      first.learns rest.learns;
+}
+
+-- a part that has none
+pub met_failed : {T Q : Type 0} {A : Q → Type 0} {X Y : Type 0} (before after : Outside T Q A) (part : Asking Q A (Result X TraceFault)) (next : X → Asking Q A (Result Y TraceFault)) (fault : TraceFault)
+    → Met {X = X} before part (Err fault) after → Met {X = Y} before (and_ok part next) (Err fault) after
+met_failed {X = X} {Y = Y} before after part next fault first = record {
+  comes = λ answers told is_told. (let one = first.comes answers told (told_err fault is_told) in fails_by answers before.state after.state part next fault (evaluated answers before.state part) refl one.is one.leaves);
+  told = first.told;
+  keeps = first.keeps;
+  later = first.later;
+  cause = λ e. first.cause (let f : fault ≡ ReadFault = cc in ap Err f);
+  quiet = λ ne. first.quiet (λ e. ne (let f : fault ≡ ReadFault = cc in ap Err f));
+  learns = learns_as before.looks after.looks (failed X fault ≡ Err Memory) (failed Y fault ≡ Err Memory)
+      (λ e. (let f : fault ≡ Memory = cc in ap Err f)) first.learns;
+}
+
+-- nothing is asked
+pub met_now : {T Q : Type 0} {A : Q → Type 0} {X : Type 0} (before : Outside T Q A) (value result : Result X TraceFault) → IsGiven value result → Met before (answered value) result before
+met_now before value result given = record {
+  comes = λ answers told is_told. record { is = given.given is_told.1; leaves = refl };
+  told = λ answers told. told;
+  keeps = refl;
+  later = omega arith;
+  cause = λ e. absurd (given.no_look e);
+  quiet = λ ne. refl;
+  learns = learns_nothing before.looks (result ≡ Err Memory);
+}
+
+-- want of memory behind a part leaves the whole unfinished
+pub met_unfinished : {T Q : Type 0} {A : Q → Type 0} {X Y : Type 0} (before after : Outside T Q A) (part : Asking Q A (Result X TraceFault)) (value : X) (whole : Asking Q A (Result Y TraceFault)) → Met before part (Ok value) after → Met {X = Y} before whole (Err Memory) after
+met_unfinished {X = X} {Y = Y} before after part value whole first = record {
+  comes = λ answers told is_told. absurd (is_told.1 refl);
+  told = first.told;
+  keeps = first.keeps;
+  later = first.later;
+  cause = λ e. absurd (cc);
+  quiet = λ ne. first.quiet (λ e. cc);
+  learns = learns_as before.looks after.looks (succeeded X value ≡ Err Memory) (failed Y Memory ≡ Err Memory) (λ e. refl)
+      first.learns;
+}
+
+-- and so does want of memory before anything was asked
+pub met_memory : {T Q : Type 0} {A : Q → Type 0} {X : Type 0} (before : Outside T Q A) (whole : Asking Q A (Result X TraceFault)) → Met {X = X} before whole (Err Memory) before
+met_memory {X = X} before whole = record {
+  comes = λ answers told is_told. absurd (is_told.1 refl);
+  told = λ answers told. told;
+  keeps = refl;
+  later = omega arith;
+  cause = λ e. absurd (cc);
+  quiet = λ ne. refl;
+  learns = learns_nothing before.looks (failed X Memory ≡ Err Memory);
+}
+
+pub given_same : {X : Type 0} (value : X) → IsGiven (Ok value) (Ok value)
+given_same value = record { given = λ ne. refl; no_look = λ e. cc }
+
+-- ---- whatever the rest comes to, the whole does
+
+pub record Left {T Q : Type 0} {A : Q → Type 0} {X : Type 0} (before : Outside T Q A) (whole : Asking Q A (Result X TraceFault)) (middle : Outside T Q A) (rest : Asking Q A (Result X TraceFault)) : Type 0 where
+  pub same : (answers : Answers T LimitName Q A) → before.told answers → evaluated answers before.state whole ≡ evaluated answers middle.state rest
+  pub told : (answers : Answers T LimitName Q A) → before.told answers → middle.told answers
+  pub keeps : middle.keeps ≡ before.keeps
+  pub quiet : middle.faults ≡ before.faults
+  pub learns : Learns before.looks middle.looks ⊥
+
+pub left_begins : {T Q : Type 0} {A : Q → Type 0} {X : Type 0} (before : Outside T Q A) (whole : Asking Q A (Result X TraceFault)) → Left before whole before whole
+left_begins before whole = record { same = λ answers told. refl; told = λ answers told. told; keeps = refl; quiet = refl; learns = learns_nothing before.looks ⊥ }
+
+pub left_completes : {T Q : Type 0} {A : Q → Type 0} {X : Type 0} (before middle after : Outside T Q A) (whole rest : Asking Q A (Result X TraceFault)) (result : Result X TraceFault)
+    → Left before whole middle rest → Met middle rest result after → Met before whole result after
+left_completes before middle after whole rest result left met = record {
+  comes = λ answers told is_told. (let one = met.comes answers (left.told answers told) is_told in let same = left.same answers told in record { is = ap result_of same ∙ one.is; leaves = ap state_of same ∙ one.leaves });
+  told = λ answers told. met.told answers (left.told answers told);
+  keeps = met.keeps ∙ left.keeps;
+  later = (let one = left.quiet in let two = met.later in omega arith);
+  cause = λ e. subst (λ n. Rose n after.faults) left.quiet (met.cause e);
+  quiet = λ ne. met.quiet ne ∙ left.quiet;
+  learns = learns_then before.looks middle.looks after.looks ⊥ (result ≡ Err Memory) (λ e. e) left.learns met.learns;
+}
+
+pub left_goes : {T Q : Type 0} {A : Q → Type 0} {X Y : Type 0} (before middle later : Outside T Q A) (whole : Asking Q A (Result Y TraceFault)) (part : Asking Q A (Result X TraceFault)) (next : X → Asking Q A (Result Y TraceFault)) (value : X)
+    → Left before whole middle (and_ok part next) → Met middle part (Ok value) later → Left before whole later (next value)
+left_goes {X = X} before middle later whole part next value left met = record {
+  same = λ answers told. (let one = met.comes answers (left.told answers told) ((λ e. cc), (λ e. cc)) in
+      left.same answers told ∙ ends_then answers middle.state later.state part next value (ended_ok (evaluated answers middle.state part) value later.state one.is one.leaves));
+  told = λ answers told. met.told answers (left.told answers told);
+  keeps = met.keeps ∙ left.keeps;
+  quiet = met.quiet (λ e. cc) ∙ left.quiet;
+  learns = learns_then before.looks middle.looks later.looks ⊥ ⊥ (λ e. e) left.learns
+      (learns_as middle.looks later.looks (succeeded X value ≡ Err Memory) ⊥ (λ e. absurd (cc)) met.learns);
+}
+
+pub left_fails : {T Q : Type 0} {A : Q → Type 0} {X Y : Type 0} (before middle later : Outside T Q A) (whole : Asking Q A (Result Y TraceFault)) (part : Asking Q A (Result X TraceFault)) (next : X → Asking Q A (Result Y TraceFault)) (fault : TraceFault)
+    → Left before whole middle (and_ok part next) → Met {X = X} middle part (Err fault) later → Met {X = Y} before whole (Err fault) later
+left_fails before middle later whole part next fault left met = left_completes before middle later whole (and_ok part next) (Err fault) left (met_failed middle later part next fault met)

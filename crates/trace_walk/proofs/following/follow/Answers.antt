@@ -1,0 +1,37 @@
+use Rattle.std.proofs.Common.{◌≡◌, Ok, Err, refl, ap}
+use Rattle.trace_spec.specs.Modules.{Module}
+use Rattle.trace_walk.specs.Shown.{before_of, done, answer_of}
+use Rattle.trace_walk.specs.declared.answerer.NodeAnswer.TheVariants.{Resolved, Refused, TooDeep}
+use Rattle.trace_walk.proofs.FaultKinds.{handed_kind}
+use Rattle.trace_walk.proofs.FollowedRequests.{follow_refused, follow_failed, follow_led, given_refused, given_too_deep}
+use Rattle.trace_walk.proofs.following.follow.Goals as goal
+
+pub returns-in_err-asked-clause-met : goal.returns-in_err-asked-clause-met
+returns-in_err-asked-clause-met g c = λ r is all.
+    follow_refused _ c.args.config.now (before_of c.args.tables.now) r c.args.specifier.now c.in_err-asked.field-0.0 c.from_residual.result c.args.tables.now c.from_residual.ensures.1 (c.in_err-asked.ensures.checked c.args.config.now (before_of c.args.tables.now) r refl is)
+
+pub returns-in_err-asked-clause-kind : goal.returns-in_err-asked-clause-kind
+returns-in_err-asked-clause-kind g c = handed_kind c.args.config.now c.from_residual.result c.in_err-asked.field-0.0 c.from_residual.ensures.1 (c.in_err-asked.ensures.kind c.args.config.now)
+
+pub returns-in_err-path-clause-met : goal.returns-in_err-path-clause-met
+returns-in_err-path-clause-met g c = λ r is all.
+    follow_failed _ _ c.args.config.now (before_of c.args.tables.now) r c.conditions-conditions.result.now c.args.referrer.now.path c.args.specifier.now (record { referrer = c.args.referrer.now.name; asked = c.in_ok-asked.asked }) c.in_err-path.field-0.0 c.from_residual-in_err-path.result c.args.tables.now
+    c.conditions-conditions.ensures is.path c.from_residual-in_err-path.ensures.1 ((c.in_ok-asked.ensures.checked c.args.config.now (before_of c.args.tables.now) r refl is).given (λ e. cc)) (rw c.as_str.ensures at c.in_err-path.ensures.met)
+
+pub returns-in-Resolved-clause-met : goal.returns-in-Resolved-clause-met
+returns-in-Resolved-clause-met g c = λ r is all.
+    let target : c.new-target.result ≡ record { path = c.in-Resolved.path; suffix = c.in-Resolved.suffix } = (λ i. record { path = c.new-target.ensures.path i; suffix = c.new-target.ensures.suffix i }) in
+    follow_led _ _ c.args.config.now (before_of c.args.tables.now) r c.conditions-conditions.result.now c.args.referrer.now.path c.args.specifier.now (record { referrer = c.args.referrer.now.name; asked = c.in_ok-asked.asked }) (Ok (record { path = c.in-Resolved.path; suffix = c.in-Resolved.suffix })) (done c.put.result c.put.new.self)
+    c.conditions-conditions.ensures is.path ((c.in_ok-asked.ensures.checked c.args.config.now (before_of c.args.tables.now) r refl is).given (λ e. cc)) (rw (c.as_str.ensures, c.in-Resolved.is) at c.in_ok-path.ensures.met) (rw target at (c.put.ensures.put r is all))
+
+pub returns-in_ok-refusal-in-Refused-clause-met : goal.returns-in_ok-refusal-in-Refused-clause-met
+returns-in_ok-refusal-in-Refused-clause-met g c = λ r is all.
+    follow_led _ _ c.args.config.now (before_of c.args.tables.now) r c.conditions-conditions.result.now c.args.referrer.now.path c.args.specifier.now (record { referrer = c.args.referrer.now.name; asked = c.in_ok-asked.asked }) (answer_of (Refused c.in-Refused.cause)) (Err c.in_ok-refusal-in-Refused.field-0)
+    c.conditions-conditions.ensures is.path ((c.in_ok-asked.ensures.checked c.args.config.now (before_of c.args.tables.now) r refl is).given (λ e. cc)) (rw (c.as_str.ensures, c.in-Refused.is) at c.in_ok-path.ensures.met)
+    (given_refused c.args.config.now r c.args.referrer.now (before_of c.args.tables.now) c.args.specifier.now (record { referrer = c.args.referrer.now.name; asked = c.in_ok-asked.asked }) c.in-Refused.cause c.from.result c.in_ok-refusal-in-Refused.field-0 is c.from.ensures c.in_ok-refusal-in-Refused.ensures)
+
+pub returns-in-TooDeep-clause-met : goal.returns-in-TooDeep-clause-met
+returns-in-TooDeep-clause-met g c = λ r is all.
+    follow_led _ _ c.args.config.now (before_of c.args.tables.now) r c.conditions-conditions.result.now c.args.referrer.now.path c.args.specifier.now (record { referrer = c.args.referrer.now.name; asked = c.in_ok-asked.asked }) (answer_of TooDeep) _
+    c.conditions-conditions.ensures is.path ((c.in_ok-asked.ensures.checked c.args.config.now (before_of c.args.tables.now) r refl is).given (λ e. cc)) (rw (c.as_str.ensures, c.in-TooDeep.is) at c.in_ok-path.ensures.met)
+    (given_too_deep c.args.config.now r (before_of c.args.tables.now) c.args.specifier.now (record { referrer = c.args.referrer.now.name; asked = c.in_ok-asked.asked }))

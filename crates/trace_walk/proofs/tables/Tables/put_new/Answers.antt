@@ -1,0 +1,16 @@
+use Rattle.std.proofs.Common.{refl, sym, ap, subst, Some, ◌≡◌, ◌++◌, ◌∷◌, []}
+use Rattle.trace_spec.specs.Modules.{Module}
+use Rattle.trace_walk.specs.Walking.{IsNamed}
+use Rattle.trace_walk.proofs.TableLemmas.{memory_given, grows_by_one}
+use Rattle.trace_walk.proofs.tables.Tables.put_new.Goals as goal
+
+pub returns-in_err-text-clause-put : goal.returns-in_err-text-clause-put
+returns-in_err-text-clause-put c = λ r is. memory_given _ c.from_residual-in_err-text.result c.args.self.now c.from_residual-in_err-text.ensures.1
+
+pub returns-clause-grows : goal.returns-clause-grows
+returns-clause-grows c =
+    let target : c.in_ok-spelling.spelling.target ≡ c.args.target = (let e = c.in_ok-spelling.ensures in cc) in
+    grows_by_one c.args.config.now c.args.self.now _ c.in_ok-need.need c.in_ok-spelling.spelling c.args.name c.requires.room c.in_ok-put_module.ensures.put.0
+    (subst (λ m. c.put_module.new.modules.entries ≡ c.args.self.now.modules.entries ++ (m, c.args.name) ∷ []) (sym target) c.in_ok-put_module.ensures.put.1)
+    (subst (λ m. IsNamed c.args.config.now m c.args.name) (sym target) c.requires.named)
+    (record { sources = refl; added = c.in_ok-put_need.ensures.added; requests = refl })

@@ -1,0 +1,45 @@
+use Rattle.std.proofs.Common.{◌≡◌, ◌≤◌, length, [], Ok, Err, ap, sym, subst, arith}
+use Rattle.std.proofs.lemmas.List.Elements.{All-nil}
+use Rattle.trace_spec.specs.Traces.{trace}
+use Rattle.trace_spec.specs.Modules.{Module}
+use Rattle.trace_walk.specs.declared.tables.Name.{Name}
+use Rattle.trace_walk.specs.Meeting.{Met}
+use Rattle.trace_walk.specs.Shown.{before_of, traced_of}
+use Rattle.trace_walk.specs.Walking.{IsNamed, AllNamed}
+use Rattle.trace_walk.proofs.FaultKinds.{handed}
+use Rattle.trace_walk.proofs.Visiting.{begun_is, walk_unpaged, walk_paged, whole_by}
+use Rattle.trace_walk.proofs.visits.walk.Goals as goal
+
+pub returns-in_err-visit_page-clause-met : goal.returns-in_err-visit_page-clause-met
+returns-in_err-visit_page-clause-met g c =
+    let none : AllNamed c.args.config.now c.new-tables.result.modules.entries = subst (AllNamed c.args.config.now) (sym c.new-tables.ensures.modules) (All-nil (λ (x : Module × Name). IsNamed c.args.config.now x.0 x.1)) in
+    let begins = begun_is c.new-tables.result c.new-tables.ensures.modules c.new-tables.ensures.sources c.new-tables.ensures.needs c.new-tables.ensures.spellings c.new-tables.ensures.requests in
+    subst (λ v. Met (g.A.Answerer.state c.args.answerer.now) (trace c.args.config.now) (traced_of v) (g.A.Answerer.state c.visit_page.new.answerer)) (sym (handed c.from_residual.result c.in_err-visit_page.field-0.0 c.from_residual.ensures.1))
+    (walk_unpaged _ _ c.args.config.now (before_of c.new-tables.result) c.in_err-visit_page.field-0.0 begins (c.in_err-visit_page.ensures.met none))
+
+pub returns-in_err-visit_modules-clause-met : goal.returns-in_err-visit_modules-clause-met
+returns-in_err-visit_modules-clause-met g c =
+    let none : AllNamed c.args.config.now c.new-tables.result.modules.entries = subst (AllNamed c.args.config.now) (sym c.new-tables.ensures.modules) (All-nil (λ (x : Module × Name). IsNamed c.args.config.now x.0 x.1)) in
+    let begins = begun_is c.new-tables.result c.new-tables.ensures.modules c.new-tables.ensures.sources c.new-tables.ensures.needs c.new-tables.ensures.spellings c.new-tables.ensures.requests in
+    subst (λ v. Met (g.A.Answerer.state c.args.answerer.now) (trace c.args.config.now) (traced_of v) (g.A.Answerer.state c.visit_modules.new.answerer)) (sym (handed c.from_residual-in_err-visit_modules.result c.in_err-visit_modules.field-0.0 c.from_residual-in_err-visit_modules.ensures.1))
+    (walk_paged _ _ _ c.args.config.now (before_of c.new-tables.result) (before_of c.visit_page.new.tables) (Err c.in_err-visit_modules.field-0.0) begins
+    (c.in_ok-visit_page.ensures.met none) (c.in_err-visit_modules.ensures.met (c.in_ok-visit_page.ensures.grows.named none)))
+
+pub returns-clause-met : goal.returns-clause-met
+returns-clause-met g c =
+    let none : AllNamed c.args.config.now c.new-tables.result.modules.entries = subst (AllNamed c.args.config.now) (sym c.new-tables.ensures.modules) (All-nil (λ (x : Module × Name). IsNamed c.args.config.now x.0 x.1)) in
+    let begins = begun_is c.new-tables.result c.new-tables.ensures.modules c.new-tables.ensures.sources c.new-tables.ensures.needs c.new-tables.ensures.spellings c.new-tables.ensures.requests in
+    walk_paged _ _ _ c.args.config.now (before_of c.new-tables.result) (before_of c.visit_page.new.tables) (Ok (before_of c.visit_modules.new.tables)) begins
+    (c.in_ok-visit_page.ensures.met none) (c.in_ok-visit_modules.ensures.met (c.in_ok-visit_page.ensures.grows.named none))
+
+pub returns-clause-whole : goal.returns-clause-whole
+returns-clause-whole g c =
+    whole_by c.args.config.now c.new-tables.result c.visit_page.new.tables c.visit_modules.new.tables c.new-tables.ensures.modules c.new-tables.ensures.sources c.new-tables.ensures.needs c.new-tables.ensures.requests c.in_ok-visit_page.ensures.grows c.in_ok-visit_modules.ensures.grows
+
+pub returns-clause-bounded : goal.returns-clause-bounded
+returns-clause-bounded g c =
+    let begins = c.new-tables.ensures.requests in
+    let page = c.in_ok-visit_page.ensures.steps in
+    let few = c.in_ok-visit_page.ensures.grows.requests (omega (arith, begins)) in
+    let all = c.in_ok-visit_modules.ensures.bounded few in
+    omega (arith, begins, page, all)

@@ -1,0 +1,5 @@
+pub mod Meeting
+pub mod Shown
+pub mod Kinds
+pub mod Walking
+pub mod Refusing

@@ -1,0 +1,64 @@
+-- What is known of answers from outside, and what a call that asks for them comes to.
+--     Outside T Q A                    which answers are those that are told; the state that they see; how many looks
+--                                      failed; what stays as it is; what was looked at, and is known
+--     Kept                             what looks leave as it is
+--     fine asking                      an asking whose value is `Ok`
+--     IsTold result                    no failed look and no want of memory ended the call
+--     Comes answers before asking result after     by these answers the asking comes to this, and leaves that state
+--     Met before asking result after   the call comes to what the asking comes to, unless a look fails or memory is
+--                                      wanting; and what it learns of the folder
+--     AnswererState                    the answers to the questions of a walk, which see a trail of looks
+use Rattle.std.specs.Prelude.{◌≡◌, ◌≢◌, ◌≤◌, ℕ, List, Option, Result, Ok, Err}
+use Rattle.asking_spec.specs.Askings.{Asking, answered, and_then}
+use Rattle.asking_spec.specs.Evaluation.{Answers, evaluated}
+use Rattle.tree_spec.specs.declared.LimitName.{LimitName}
+use Rattle.tree_spec.specs.Counts.{Rose}
+use Rattle.tree_spec.specs.LookLimits.{Trail}
+use Rattle.tree_spec.specs.Trees.{Tree}
+use Rattle.trace_spec.specs.declared.TraceFault.{TraceFault}
+use Rattle.trace_spec.specs.declared.TraceFault.TheVariants.{ReadFault, Memory}
+use Rattle.trace_spec.specs.Questions.{Question, Answer}
+use Rattle.trace_spec.specs.Traces.{result_of, state_of}
+use Rattle.package_lookup.specs.Answered.{State}
+use Rattle.package_lookup.specs.Learning.{Learns}
+
+-- the references to what is outside, what that holds where it is told, and how many writes failed
+pub record Kept : Type 0 where
+  pub references : List ℕ
+  pub holds : Option Tree
+  pub writes : ℕ
+
+-- own: more than one answer can be told where what is known leaves more than one open
+pub record Outside (T Q : Type 0) (A : Q → Type 0) : Type 1 where
+  pub told : Answers T LimitName Q A → Type 0
+  pub state : T
+  pub faults : ℕ
+  pub keeps : Kept
+  pub looks : State
+
+abbrev pub fine : {Q : Type 0} {A : Q → Type 0} {X : Type 0} → Asking Q A X → Asking Q A (Result X TraceFault)
+fine asking = and_then asking (λ value. answered (Ok value))
+
+-- the call wasn't ended by a look that failed, nor by want of memory
+abbrev pub IsTold : {X : Type 0} → Result X TraceFault → Type 0
+IsTold result = (result ≢ Err ReadFault) × (result ≢ Err Memory)
+
+pub record Comes {T Q X : Type 0} {A : Q → Type 0} (answers : Answers T LimitName Q A) (before : T)
+    (asking : Asking Q A (Result X TraceFault)) (result : Result X TraceFault) (after : T) : Type 0 where
+  pub is : result_of (evaluated answers before asking) ≡ result
+  pub leaves : state_of (evaluated answers before asking) ≡ after
+
+pub record Met {T Q X : Type 0} {A : Q → Type 0} (before : Outside T Q A) (asking : Asking Q A (Result X TraceFault))
+    (result : Result X TraceFault) (after : Outside T Q A) : Type 0 where
+  pub comes :
+      (answers : Answers T LimitName Q A) → before.told answers → IsTold result
+      → Comes answers before.state asking result after.state
+  pub told : (answers : Answers T LimitName Q A) → before.told answers → after.told answers
+  pub keeps : after.keeps ≡ before.keeps
+  pub later : before.faults ≤ after.faults
+  pub cause : result ≡ Err ReadFault → Rose before.faults after.faults
+  pub quiet : result ≢ Err ReadFault → after.faults ≡ before.faults
+  pub learns : Learns before.looks after.looks (result ≡ Err Memory)
+
+abbrev pub AnswererState : Type 1
+AnswererState = Outside Trail Question Answer

@@ -1,0 +1,97 @@
+-- What the parts of the walk keep and give.
+--     IsReferrer config referrer value      the code's referrer is this one
+--     AllNamed config entries               each module stands with its web name, which is no folder's, and the text
+--                                           of that
+--     AreBeside tables                      each need has its spelling
+--     IsAdded needs spellings need spelling after spelled      a need that clashes with none is put with its spelling
+--     Grows config visits old new           the tables grow by so many visits, and keep few modules, each with its
+--                                           name, and few requests
+--     IsWhole tables                        each module has its source, there aren't too many, nor too many requests,
+--                                           and no two needs clash
+--     IsGiven definition result             a part gives what the definition says, unless memory is wanting
+--     IsUnserved config path suffix fault   the refusal of what isn't served at its web name
+--     wanted_of name asked                  what a referrer of this name asks for
+--     Spends, IsBounded                     how many steps a part takes
+use Rattle.std.specs.Prelude.{◌≡◌, ◌≢◌, ◌≤◌, ◌+◌, ◌++◌, ℕ, List, length, Some, None, Result, Ok, Err, All, false}
+use Rattle.std.specs.List.{list_any}
+use Rattle.tree_spec.specs.declared.LimitName.TheVariants.{Modules, Requests}
+use Rattle.tree_spec.specs.Limits.{limit_number}
+use Rattle.layout_spec.specs.Needs.{clashes, with_need, NoClash}
+use Rattle.layout_spec.specs.declared.Need.{Need}
+use Rattle.trace_spec.specs.declared.TraceFault.{TraceFault}
+use Rattle.trace_spec.specs.declared.TraceFault.TheVariants.{Unservable, ReadFault, Memory}
+use Rattle.trace_spec.specs.Checks.{Gathered, Wanted, Spelling, with_spelling}
+use Rattle.trace_spec.specs.Walking as spec
+use Rattle.trace_spec.specs.Modules.{Config, Module, path_of, suffix_of, web_name, served_name, file_name}
+use Rattle.url_spec.specs.WebNames.{web}
+use Rattle.trace_walk.specs.declared.referrer.Referrer.{Referrer}
+use Rattle.trace_walk.specs.declared.tables.Name.{Name}
+use Rattle.trace_walk.specs.declared.tables.Tables.{Tables}
+
+pub record IsReferrer (config : Config) (referrer : spec.Referrer Module) (value : Referrer) : Type 0 where
+  pub named : web_name config referrer ≡ Some value.name
+  pub text : value.text ≡ value.name
+  pub path : path_of config referrer ≡ value.path
+  pub suffix : suffix_of referrer ≡ value.suffix
+
+pub record IsNamed (config : Config) (m : Module) (name : Name) : Type 0 where
+  pub is : file_name config m ≡ Some name.url
+  pub text : name.text ≡ name.url
+
+abbrev pub AllNamed : Config → List (Module × Name) → Type 0
+AllNamed config entries = All (λ entry. IsNamed config entry.0 entry.1) entries
+
+abbrev pub AreBeside : Tables → Type 0
+AreBeside tables = length tables.spellings.items ≡ length tables.needs
+
+pub record IsAdded (needs : List Need) (spellings : List Spelling) (need : Need) (spelling : Spelling)
+    (after : List Need) (spelled : List Spelling) : Type 0 where
+  pub clear : list_any (clashes need) needs ≡ false
+  pub needs_are : after ≡ with_need needs need
+  pub spellings_are : spelled ≡ with_spelling needs need spellings spelling
+  pub beside : length spelled ≡ length after
+
+-- a part gives its definition's result, or memory is wanting
+pub record IsGiven {X : Type 0} (definition result : Result X TraceFault) : Type 0 where
+  pub given : result ≢ Err Memory → definition ≡ result
+  pub no_look : result ≢ Err ReadFault
+
+-- so many visits put their sources into the tables, and leave the modules few and named, the requests few, the needs
+-- without a clash, and each with its spelling
+pub record Grows (config : Config) (visits : ℕ) (old new : Tables) : Type 0 where
+  pub named : AllNamed config old.modules.entries → AllNamed config new.modules.entries
+  pub few : length old.modules.entries ≤ limit_number Modules → length new.modules.entries ≤ limit_number Modules
+  pub longer : length old.modules.entries ≤ length new.modules.entries
+  pub sources : length new.sources.items ≡ length old.sources.items + visits
+  pub requests : old.requests ≤ limit_number Requests → new.requests ≤ limit_number Requests
+  pub beside : AreBeside new
+  pub clear : NoClash old.needs → NoClash new.needs
+
+-- own: the tables behind the last visit
+pub record IsWhole (tables : Gathered) : Type 0 where
+  pub visited : length tables.sources ≡ length tables.modules
+  pub few : length tables.modules ≤ limit_number Modules
+  pub few_requests : tables.requests ≤ limit_number Requests
+  pub spelled : length tables.spellings ≡ length tables.needs
+  pub clear : NoClash tables.needs
+
+-- what isn't served at its web name
+pub record IsUnserved (config : Config) (path suffix : List ℕ) (fault : TraceFault) : Type 0 where
+  pub lost : served_name config.base path (web config.base path suffix) ≡ None
+  pub is : fault ≡ Unservable (path ++ suffix) (web config.base path suffix)
+
+-- the wanted text of a referrer with this name
+abbrev pub wanted_of : List ℕ → Result (List ℕ) TraceFault → Result Wanted TraceFault
+wanted_of name (Ok asked) = Ok (record { referrer = name; asked = asked })
+wanted_of name (Err refusal) = Err refusal
+
+-- ---- steps
+
+-- as many steps as there are visits, and requests that are put into the tables
+abbrev pub Spends : ℕ → Tables → Tables → ℕ → ℕ → Type 0
+Spends visits old new before after = after + old.requests ≤ before + visits + new.requests
+
+-- and no more than there is room for, also where the part is refused
+abbrev pub IsBounded : ℕ → Tables → ℕ → ℕ → Type 0
+IsBounded visits old before after =
+    old.requests ≤ limit_number Requests → after + old.requests ≤ before + visits + limit_number Requests

@@ -1,0 +1,23 @@
+//! The walk of a trace: the requests of a page and of what they lead to are followed one after another, until one is
+//! refused. It asks an answerer what a module asks for and where a request leads, and knows no folder.
+#![tactic(auto)]
+
+mod answerer;
+mod config;
+mod following;
+mod module;
+mod names;
+mod referrer;
+mod refusals;
+mod specifiers;
+mod spelling;
+mod tables;
+mod visits;
+
+pub use answerer::{Answerer, NodeAnswer};
+pub use config::Config;
+pub use module::Module;
+pub use module_sources::{NoSource, Source};
+pub use spelling::Spelling;
+pub use tables::{Name, Tables};
+pub use visits::walk;

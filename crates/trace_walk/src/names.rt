@@ -1,0 +1,41 @@
+//! Web names of what a walk meets.
+ghost use Rattle.std.specs.Prelude.{◌≡◌, ◌≢◌, Some, IfOk, IfErr};
+ghost use Rattle.url_spec.specs.Specifiers.{ends_in_slash};
+ghost use Rattle.url_spec.specs.WebNames.{web};
+ghost use Rattle.trace_spec.specs.Modules.{served_name};
+ghost use Rattle.trace_walk.specs.Walking.{IsUnserved};
+
+use crate::config::Config;
+use crate::refusals::unservable;
+use std::alloc::Global;
+use trace_spec::TraceFault;
+use tree_model::Path;
+use web_url::{Suffix, WebFault, WebUrl, web_of};
+
+/// The web name of what lies at a path, which is served there.
+pub fn served_url(
+    alloc: Global,
+    config: &Config,
+    path: &Path,
+    suffix: &Suffix,
+) -> Result<WebUrl, TraceFault>
+    ensures name { IfOk result (λ url. web config.now.base path.now suffix.now ≡ Some url) }
+    ensures served { IfOk result (λ url. served_name config.now.base path.now
+        (web config.now.base path.now suffix.now) ≡ Some url) }
+    ensures unserved { IfErr result (λ fault. fault ≢ TraceFault.Memory
+        → IsUnserved config.now path.now suffix.now fault) }
+{
+    match web_of(alloc, config.base(), path, suffix) {
+        Ok(url) => Ok(url),
+        Err(WebFault::Unservable { url }) => Err(unservable(alloc, path, suffix, url)?),
+        Err(WebFault::Memory) => Err(TraceFault::Memory),
+    }
+}
+
+/// Whether a URL is a folder's.
+#[tactic(auto, using(std::proofs::lemmas::Str::Pattern::ends_text))]
+pub fn is_folder_url(url: &WebUrl) -> bool
+    ensures { result ≡ ends_in_slash url.now }
+{
+    url.as_str().ends_with("/")
+}

@@ -1,0 +1,13 @@
+use primitives::Text;
+use tree_model::Path;
+use web_url::{Suffix, WebUrl};
+
+/// The page or a module as it makes requests: its web name, the text of that, which its needs share, its path, and
+/// its suffix.
+#[derive(Drop)]
+pub struct Referrer {
+    pub name: WebUrl,
+    pub text: Text,
+    pub path: Path,
+    pub suffix: Suffix,
+}

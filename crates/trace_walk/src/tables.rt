@@ -1,0 +1,301 @@
+ghost use Rattle.std.specs.Prelude.{◌≡◌, ◌≢◌, ◌≤◌, ◌<◌, ◌+◌, ◌++◌, ◌∷◌, [], ℕ, List, Option, Some, None, Ok, Err};
+ghost use Rattle.std.specs.Prelude.{true, false, length, slice_get, IfOk, IfErr, IfSome, OnOk};
+ghost use Rattle.std.specs.List.{list_any};
+ghost use Rattle.indexmap.specs.IndexMap.{keys};
+ghost use Rattle.tree_spec.specs.declared.LimitName.TheVariants.{Modules, Requests, Specifier};
+ghost use Rattle.tree_spec.specs.Limits.{limit_number};
+ghost use Rattle.trace_spec.specs.Modules as spec;
+ghost use Rattle.trace_spec.specs.Modules.{file_name};
+ghost use Rattle.trace_spec.specs.Walking.{Referrer as Referring};
+ghost use Rattle.trace_spec.specs.Checks.{needed, led};
+ghost use Rattle.trace_walk.specs.Kinds.{IsOfWalk};
+ghost use Rattle.trace_walk.specs.Refusing.{IsMisnamed, IsClash};
+ghost use Rattle.trace_walk.specs.Walking.{IsReferrer, AllNamed, AreBeside, IsNamed, IsAdded, IsGiven, Grows};
+ghost use Rattle.trace_walk.specs.Shown.{before_of, done};
+
+use crate::config::Config;
+use crate::module::Module;
+use crate::names::{is_folder_url, served_url};
+use crate::referrer::Referrer;
+use crate::refusals::{clash, refusal};
+use crate::spelling::Spelling;
+use indexmap::IndexMap;
+use module_sources::Source;
+use need_table::{Added, Need, NeedFault, Needs};
+use primitives::{Memory, Text};
+use std::alloc::Global;
+use trace_spec::{AskCause, TraceFault};
+use tree_spec::{LimitName, MOST_MODULES};
+use web_url::WebUrl;
+
+/// A module's web name, and its text, which needs share.
+#[derive(Drop)]
+pub struct Name {
+    pub url: WebUrl,
+    pub text: Text,
+}
+
+/// The tables of a walk: the modules in trace order with their names, the sources of those that had their visits, the
+/// needs, how each of them is first spelled, and the number of requests.
+#[derive(Drop)]
+pub struct Tables {
+    pub modules: IndexMap<Module, Name>,
+    pub sources: Vec<Source>,
+    pub needs: Needs,
+    pub spellings: Vec<Spelling>,
+    pub requests: usize,
+}
+
+impl Tables {
+    /// Nothing yet.
+    pub(crate) fn new(alloc: Global) -> Tables
+        ensures modules { result.modules.entries ≡ [] }
+        ensures sources { result.sources.items ≡ [] }
+        ensures needs { result.needs ≡ [] }
+        ensures spellings { result.spellings.items ≡ [] }
+        ensures requests { result.requests ≡ 0 }
+    {
+        Tables {
+            modules: IndexMap::new(alloc),
+            sources: Vec::new(alloc),
+            needs: Needs::new(alloc),
+            spellings: Vec::new(alloc),
+            requests: 0,
+        }
+    }
+
+    /// Puts a request that leads to this module into the tables, where the module is served at its web name, which is
+    /// no folder's: its need, unless it clashes with one before it, and its module, unless there are too many.
+    pub(crate) fn put(
+        &mut self,
+        alloc: Global,
+        config: &Config,
+        referrer: &Referrer,
+        specifier: &Text,
+        asked: Text,
+        target: Module,
+    ) -> Result<(), TraceFault>
+        requires beside { AreBeside self.old }
+        requires room { self.old.requests < limit_number Requests }
+        requires short { length specifier.now ≤ limit_number Specifier }
+        ensures put { (r : Referring spec.Module) → IsReferrer config.now r referrer.now
+            → AllNamed config.now self.old.modules.entries
+            → IsGiven (led config.now (before_of self.old) r specifier.now
+            (record { referrer = referrer.now.name; asked = asked }) (Ok target)) (done result self.new) }
+        ensures grows { OnOk result (Grows config.now 0 self.old self.new) }
+        ensures counts { OnOk result (self.new.requests ≡ self.old.requests + 1) }
+        ensures kind { IfErr result (IsOfWalk config.now) }
+    {
+        match known_text(&self.modules, alloc, &target)? {
+            Some(text) => self.put_known(alloc, config, referrer, specifier, asked, &target, text),
+            None => {
+                let name = name_of(alloc, config, referrer, specifier, &target)?;
+                self.put_new(alloc, config, referrer, specifier, asked, target, name)
+            }
+        }
+    }
+
+    // The same where the module is known, with the text of its name.
+    fn put_known(
+        &mut self,
+        alloc: Global,
+        config: &Config,
+        referrer: &Referrer,
+        specifier: &Text,
+        asked: Text,
+        target: &Module,
+        text: Text,
+    ) -> Result<(), TraceFault>
+        requires beside { AreBeside self.old }
+        requires room { self.old.requests < limit_number Requests }
+        requires short { length specifier.now ≤ limit_number Specifier }
+        requires known { list_any (spec.is_module target.now) (keys self.old.modules) ≡ true }
+        ensures put { (r : Referring spec.Module) → IsReferrer config.now r referrer.now
+            → IsGiven (needed config.now (before_of self.old) r
+            (record { referrer = referrer.now.text; asked = asked; target = text })
+            (record { specifier = specifier.now; target = target.now })) (done result self.new) }
+        ensures grows { OnOk result (Grows config.now 0 self.old self.new) }
+        ensures counts { OnOk result (self.new.requests ≡ self.old.requests + 1) }
+        ensures kind { IfErr result (IsOfWalk config.now) }
+    {
+        let spelling = spelling_of(alloc, specifier, target)?;
+        let need = need_of(alloc, referrer, asked, text)?;
+        put_need(alloc, &mut self.needs, &mut self.spellings, referrer, need, spelling)?;
+        self.requests += 1;
+        Ok(())
+    }
+
+    // The same where the module is new, with its name.
+    fn put_new(
+        &mut self,
+        alloc: Global,
+        config: &Config,
+        referrer: &Referrer,
+        specifier: &Text,
+        asked: Text,
+        target: Module,
+        name: Name,
+    ) -> Result<(), TraceFault>
+        requires beside { AreBeside self.old }
+        requires room { self.old.requests < limit_number Requests }
+        requires short { length specifier.now ≤ limit_number Specifier }
+        requires new { list_any (spec.is_module target) (keys self.old.modules) ≡ false }
+        requires named { IsNamed config.now target name }
+        ensures put { (r : Referring spec.Module) → IsReferrer config.now r referrer.now
+            → IsGiven (needed config.now (before_of self.old) r
+            (record { referrer = referrer.now.text; asked = asked; target = name.text })
+            (record { specifier = specifier.now; target = target })) (done result self.new) }
+        ensures grows { OnOk result (Grows config.now 0 self.old self.new) }
+        ensures counts { OnOk result (self.new.requests ≡ self.old.requests + 1) }
+        ensures kind { IfErr result (IsOfWalk config.now) }
+    {
+        let spelling = spelling_of(alloc, specifier, &target)?;
+        let text = name.text.copy(alloc)?;
+        let need = need_of(alloc, referrer, asked, text)?;
+        put_need(alloc, &mut self.needs, &mut self.spellings, referrer, need, spelling)?;
+        put_module(&mut self.modules, target, name)?;
+        self.requests += 1;
+        Ok(())
+    }
+}
+
+// How a request spells its need.
+fn spelling_of(alloc: Global, specifier: &Text, target: &Module) -> Result<Spelling, Memory>
+    ensures { IfOk result (λ spelling. spelling ≡ record { specifier = specifier.now; target = target.now }) }
+{
+    Ok(Spelling::new(specifier.copy(alloc)?, target.copy(alloc)?))
+}
+
+// The web name of what a request leads to; its refusal where it isn't served there, or the name is a folder's.
+fn name_of(
+    alloc: Global,
+    config: &Config,
+    referrer: &Referrer,
+    specifier: &Text,
+    target: &Module,
+) -> Result<Name, TraceFault>
+    requires short { length specifier.now ≤ limit_number Specifier }
+    ensures named { IfOk result (IsNamed config.now target.now) }
+    ensures misnamed { IfErr result (λ fault. fault ≢ TraceFault.Memory
+        → IsMisnamed config.now referrer.now specifier.now target.now fault) }
+    ensures kind { IfErr result (IsOfWalk config.now) }
+{
+    let url = served_url(alloc, config, target.path(), target.suffix())?;
+    if is_folder_url(&url) {
+        return Err(refusal(alloc, referrer, specifier, AskCause::TrailingSlash)?);
+    }
+    let text = Text::of(alloc, url.as_str())?;
+    Ok(Name { url, text })
+}
+
+// The text of the name of a module that is known.
+fn known_text(
+    modules: &IndexMap<Module, Name>,
+    alloc: Global,
+    target: &Module,
+) -> Result<Option<Text>, Memory>
+    ensures unknown { IfOk result (λ found. found ≡ None
+        → list_any (spec.is_module target.now) (keys modules.now) ≡ false) }
+    ensures known { IfOk result (λ found. IfSome found
+        (λ text. list_any (spec.is_module target.now) (keys modules.now) ≡ true)) }
+    ensures text { IfOk result (λ found. IfSome found
+        (λ text. (config : spec.Config) → AllNamed config modules.now.entries
+        → file_name config target.now ≡ Some text)) }
+{
+    match modules.get(target) {
+        None => Ok(None),
+        Some(name) => Ok(Some(name.text.copy(alloc)?)),
+    }
+}
+
+// The need of a request; where what is asked for is its target, they share their text.
+fn need_of(alloc: Global, referrer: &Referrer, asked: Text, target: Text) -> Result<Need, Memory>
+    ensures { IfOk result (λ need. need ≡ record { referrer = referrer.now.text; asked = asked; target = target }) }
+{
+    let asked = shared_text(alloc, asked, &target)?;
+    Ok(Need {
+        referrer: referrer.text.copy(alloc)?,
+        asked,
+        target,
+    })
+}
+
+fn shared_text(alloc: Global, text: Text, other: &Text) -> Result<Text, Memory>
+    ensures { IfOk result (λ shared. shared ≡ text) }
+{
+    if text == *other {
+        return Ok(other.copy(alloc)?);
+    }
+    Ok(text)
+}
+
+// Puts a need with its spelling among the others, unless it is there, or clashes with one of them.
+fn put_need(
+    alloc: Global,
+    needs: &mut Needs,
+    spellings: &mut Vec<Spelling>,
+    referrer: &Referrer,
+    need: Need,
+    spelling: Spelling,
+) -> Result<(), TraceFault>
+    requires beside { length spellings.old.items ≡ length needs.old }
+    ensures added { OnOk result (IsAdded needs.old spellings.old.items need spelling needs.new spellings.new.items) }
+    ensures clash { IfErr result (λ fault. fault ≢ TraceFault.Memory
+        → IsClash referrer.now needs.old need spellings.old.items spelling fault) }
+{
+    match needs.add(need) {
+        Ok(Added::New) => {
+            push_spelling(spellings, spelling)?;
+            Ok(())
+        }
+        Ok(Added::Known) => Ok(()),
+        Err(NeedFault::Clash { first }) => {
+            let earlier = spelling_at(spellings, first);
+            Err(clash(alloc, referrer, earlier, &spelling)?)
+        }
+        Err(NeedFault::Memory) => Err(TraceFault::Memory),
+    }
+}
+
+fn spelling_at(spellings: &Vec<Spelling>, place: usize) -> &Spelling
+    requires { place < length spellings.now.items }
+    ensures { slice_get spellings.now.items place ≡ Some result.now }
+{
+    &spellings[place]
+}
+
+fn push_spelling(spellings: &mut Vec<Spelling>, spelling: Spelling) -> Result<(), Memory>
+    ensures { OnOk result (spellings.new.items ≡ spellings.old.items ++ spelling ∷ []) }
+{
+    spellings.push(spelling)?;
+    Ok(())
+}
+
+// Puts a new module at the end, unless there are too many.
+fn put_module(
+    modules: &mut IndexMap<Module, Name>,
+    target: Module,
+    name: Name,
+) -> Result<(), TraceFault>
+    requires { list_any (spec.is_module target) (keys modules.old) ≡ false }
+    ensures put { OnOk result ((length modules.old.entries < limit_number Modules)
+        × (modules.new.entries ≡ modules.old.entries ++ (target, name) ∷ [])) }
+    ensures full { IfErr result (λ fault. fault ≢ TraceFault.Memory → (fault ≡ TraceFault.Limit Modules)
+        × (limit_number Modules ≤ length modules.old.entries)) }
+{
+    if modules.len() >= MOST_MODULES {
+        return Err(TraceFault::Limit {
+            which: LimitName::Modules,
+        });
+    }
+    insert(modules, target, name)?;
+    Ok(())
+}
+
+fn insert(modules: &mut IndexMap<Module, Name>, target: Module, name: Name) -> Result<(), Memory>
+    requires { list_any (spec.is_module target) (keys modules.old) ≡ false }
+    ensures { OnOk result (modules.new.entries ≡ modules.old.entries ++ (target, name) ∷ []) }
+{
+    modules.insert(target, name)?;
+    Ok(())
+}

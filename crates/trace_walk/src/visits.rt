@@ -1,0 +1,230 @@
+ghost use Rattle.std.specs.Prelude.{◌≡◌, ◌≢◌, ◌≤◌, ◌<◌, ◌+◌, ◌++◌, ◌∷◌, [], length, Some, slice_get, suc, IfOk, IfErr};
+ghost use Rattle.std.specs.Prelude.{OnOk};
+ghost use Rattle.indexmap.specs.IndexMap.{keys};
+ghost use Rattle.tree_spec.specs.declared.LimitName.TheVariants.{Modules, Requests};
+ghost use Rattle.tree_spec.specs.Limits.{limit_number};
+ghost use Rattle.trace_spec.specs.Modules as spec;
+ghost use Rattle.trace_spec.specs.Walking.{Referrer as Referring, the_page, a_module, followed, visited, walked};
+ghost use Rattle.trace_spec.specs.Checks.{rules};
+ghost use Rattle.trace_spec.specs.Traces.{trace};
+ghost use Rattle.trace_spec.specs.Modules.{served_at};
+ghost use Rattle.trace_walk.specs.Kinds.{IsOfWalk};
+ghost use Rattle.trace_walk.specs.Meeting.{Met};
+ghost use Rattle.trace_walk.specs.Walking.{IsReferrer, AllNamed, AreBeside, Grows, IsWhole, IsUnserved, Spends, IsBounded};
+ghost use Rattle.trace_walk.specs.Shown.{before_of, done, traced_of, specifiers_of};
+
+use crate::answerer::Answerer;
+use crate::config::Config;
+use crate::following::follow;
+use crate::module::Module;
+use crate::names::served_url;
+use crate::referrer::Referrer;
+use crate::refusals::no_source;
+use crate::specifiers::Specifiers;
+use crate::tables::{Name, Tables};
+use module_sources::Source;
+use primitives::{Memory, Text};
+use std::alloc::Global;
+use std::rc::Rc;
+use trace_spec::TraceFault;
+use web_url::Suffix;
+
+/// Walks from the page: follows its requests, and then those of each module, in the order in which they were asked for.
+pub fn walk<A: Answerer>(
+    alloc: Global,
+    answerer: &mut A,
+    config: &Config,
+) -> Result<Tables, TraceFault>
+    requires ready { A.ready answerer.old }
+    ensures met { Met (A.state answerer.old) (trace config.now) (traced_of result) (A.state answerer.new) }
+    ensures named { IfOk result (λ tables. AllNamed config.now tables.modules.entries) }
+    ensures whole { IfOk result (λ tables. IsWhole (before_of tables)) }
+    ensures steps { IfOk result (λ tables. A.steps answerer.new
+        ≤ A.steps answerer.old + (length tables.sources.items + tables.requests)) }
+    ensures bounded { A.steps answerer.new
+        ≤ A.steps answerer.old + (limit_number Modules + limit_number Requests) }
+    ensures kind { IfErr result (IsOfWalk config.now) }
+{
+    let mut tables = Tables::new(alloc);
+    visit_page(alloc, answerer, config, &mut tables)?;
+    visit_modules(alloc, answerer, config, &mut tables)?;
+    Ok(tables)
+}
+
+// The page's visit, before anything is in the tables.
+fn visit_page<A: Answerer>(
+    alloc: Global,
+    answerer: &mut A,
+    config: &Config,
+    tables: &mut Tables,
+) -> Result<(), TraceFault>
+    requires ready { A.ready answerer.old }
+    requires beside { AreBeside tables.old }
+    ensures met { AllNamed config.now tables.old.modules.entries
+        → Met (A.state answerer.old) (visited (rules config.now) (before_of tables.old) the_page)
+        (done result tables.new) (A.state answerer.new) }
+    ensures grows { OnOk result (Grows config.now 0 tables.old tables.new) }
+    ensures steps { OnOk result (Spends 0 tables.old tables.new (A.steps answerer.old) (A.steps answerer.new)) }
+    ensures bounded { IsBounded 0 tables.old (A.steps answerer.old) (A.steps answerer.new) }
+    ensures kind { IfErr result (IsOfWalk config.now) }
+    ensures ready { OnOk result (A.ready answerer.new) }
+{
+    let referrer = page_referrer(alloc, config)?;
+    let entries = Specifiers::Entries(config.entries());
+    follow_all(alloc, answerer, config, tables, &referrer, entries)
+}
+
+// The page as it makes requests, where it can be served.
+fn page_referrer(alloc: Global, config: &Config) -> Result<Referrer, TraceFault>
+    ensures is { IfOk result (IsReferrer config.now the_page) }
+    ensures served { IfOk result (λ referrer. served_at config.now the_page ≡ Some referrer.name) }
+    ensures unserved { IfErr result (λ fault. fault ≢ TraceFault.Memory
+        → IsUnserved config.now config.now.page [] fault) }
+{
+    let suffix = Suffix::none(alloc);
+    let name = served_url(alloc, config, config.page(), &suffix)?;
+    Ok(Referrer {
+        text: Text::of(alloc, name.as_str())?,
+        path: config.page().copy(alloc)?,
+        name,
+        suffix,
+    })
+}
+
+// Follows the requests of a referrer in order.
+fn follow_all<A: Answerer>(
+    alloc: Global,
+    answerer: &mut A,
+    config: &Config,
+    tables: &mut Tables,
+    referrer: &Referrer,
+    specifiers: Specifiers<'_>,
+) -> Result<(), TraceFault>
+    requires ready { A.ready answerer.old }
+    requires beside { AreBeside tables.old }
+    ensures met { (r : Referring spec.Module) → IsReferrer config.now r referrer.now
+        → AllNamed config.now tables.old.modules.entries
+        → Met (A.state answerer.old)
+        (followed (rules config.now) (before_of tables.old) r (specifiers_of specifiers.entry))
+        (done result tables.new) (A.state answerer.new) }
+    ensures grows { OnOk result (Grows config.now 0 tables.old tables.new) }
+    ensures steps { OnOk result (Spends 0 tables.old tables.new (A.steps answerer.old) (A.steps answerer.new)) }
+    ensures bounded { IsBounded 0 tables.old (A.steps answerer.old) (A.steps answerer.new) }
+    ensures kind { IfErr result (IsOfWalk config.now) }
+    ensures ready { OnOk result (A.ready answerer.new) }
+{
+    let mut next = 0;
+    while next < specifiers.len() {
+        let specifier = specifiers.at(next).unwrap();
+        follow(alloc, answerer, config, tables, referrer, specifier)?;
+        next += 1;
+    }
+    Ok(())
+}
+
+// The visits of the modules, until the last one in the table had its visit.
+fn visit_modules<A: Answerer>(
+    alloc: Global,
+    answerer: &mut A,
+    config: &Config,
+    tables: &mut Tables,
+) -> Result<(), TraceFault>
+    requires ready { A.ready answerer.old }
+    requires few { length tables.old.modules.entries ≤ limit_number Modules }
+    requires beside { AreBeside tables.old }
+    ensures met { AllNamed config.now tables.old.modules.entries
+        → Met (A.state answerer.old) (walked (rules config.now) (suc (limit_number Modules))
+        (before_of tables.old) 0) (done result tables.new) (A.state answerer.new) }
+    ensures grows { OnOk result (Grows config.now (length tables.new.modules.entries) tables.old tables.new) }
+    ensures steps { OnOk result (Spends (length tables.new.modules.entries) tables.old tables.new
+        (A.steps answerer.old) (A.steps answerer.new)) }
+    ensures bounded { IsBounded (limit_number Modules) tables.old (A.steps answerer.old) (A.steps answerer.new) }
+    ensures kind { IfErr result (IsOfWalk config.now) }
+    ensures ready { OnOk result (A.ready answerer.new) }
+{
+    let mut place = 0;
+    while place < tables.modules.len() {
+        visit(alloc, answerer, config, tables, place)?;
+        place += 1;
+    }
+    Ok(())
+}
+
+// The visit of the module at a place of the table.
+fn visit<A: Answerer>(
+    alloc: Global,
+    answerer: &mut A,
+    config: &Config,
+    tables: &mut Tables,
+    place: usize,
+) -> Result<(), TraceFault>
+    requires ready { A.ready answerer.old }
+    requires within { place < length tables.old.modules.entries }
+    requires beside { AreBeside tables.old }
+    ensures met { (m : spec.Module) → slice_get (keys tables.old.modules) place ≡ Some m
+        → AllNamed config.now tables.old.modules.entries
+        → Met (A.state answerer.old) (visited (rules config.now) (before_of tables.old) (a_module m))
+        (done result tables.new) (A.state answerer.new) }
+    ensures grows { OnOk result (Grows config.now 1 tables.old tables.new) }
+    ensures steps { OnOk result (Spends 1 tables.old tables.new (A.steps answerer.old) (A.steps answerer.new)) }
+    ensures bounded { IsBounded 1 tables.old (A.steps answerer.old) (A.steps answerer.new) }
+    ensures kind { IfErr result (IsOfWalk config.now) }
+    ensures ready { OnOk result (A.ready answerer.new) }
+{
+    let (module, name) = tables.modules.get_index(place).unwrap();
+    let referrer = referrer_of(alloc, module, name)?;
+    visit_module(alloc, answerer, config, tables, &referrer)
+}
+
+// The visit of a module.
+fn visit_module<A: Answerer>(
+    alloc: Global,
+    answerer: &mut A,
+    config: &Config,
+    tables: &mut Tables,
+    referrer: &Referrer,
+) -> Result<(), TraceFault>
+    requires ready { A.ready answerer.old }
+    requires beside { AreBeside tables.old }
+    ensures met { (m : spec.Module) → IsReferrer config.now (a_module m) referrer.now
+        → AllNamed config.now tables.old.modules.entries
+        → Met (A.state answerer.old) (visited (rules config.now) (before_of tables.old) (a_module m))
+        (done result tables.new) (A.state answerer.new) }
+    ensures grows { OnOk result (Grows config.now 1 tables.old tables.new) }
+    ensures steps { OnOk result (Spends 1 tables.old tables.new (A.steps answerer.old) (A.steps answerer.new)) }
+    ensures bounded { IsBounded 1 tables.old (A.steps answerer.old) (A.steps answerer.new) }
+    ensures kind { IfErr result (IsOfWalk config.now) }
+    ensures ready { OnOk result (A.ready answerer.new) }
+{
+    match answerer.module(alloc, &referrer.path)? {
+        Ok(source) => {
+            let requests = Rc::clone(&source.requests)?;
+            push_source(&mut tables.sources, source)?;
+            let specifiers = Specifiers::Requests(&requests);
+            follow_all(alloc, answerer, config, tables, referrer, specifiers)
+        }
+        Err(why) => Err(no_source(alloc, referrer, why)?),
+    }
+}
+
+fn push_source(sources: &mut Vec<Source>, source: Source) -> Result<(), Memory>
+    ensures { OnOk result (sources.new.items ≡ sources.old.items ++ source ∷ []) }
+{
+    sources.push(source)?;
+    Ok(())
+}
+
+// A module as it makes requests.
+fn referrer_of(alloc: Global, target: &Module, name: &Name) -> Result<Referrer, Memory>
+    ensures name { IfOk result (λ referrer. referrer.name ≡ name.now.url) }
+    ensures text { IfOk result (λ referrer. referrer.text ≡ name.now.text) }
+    ensures path { IfOk result (λ referrer. referrer.path ≡ target.now.path) }
+    ensures suffix { IfOk result (λ referrer. referrer.suffix ≡ target.now.suffix) }
+{
+    Ok(Referrer {
+        name: name.url.copy(alloc)?,
+        text: name.text.copy(alloc)?,
+        path: target.path().copy(alloc)?,
+        suffix: target.suffix().copy(alloc)?,
+    })
+}
