@@ -25,8 +25,18 @@ example() {
     cp -R examples/site "$kept/site" &&
         rm -f "$kept/site/importmap.json" &&
         (cd "$kept/site" && "$program" link --base https://app.test/ ./app.mjs >"$kept/out") &&
-        echo 'ok: 5 modules, 8 requests, 2 mappings' | diff - "$kept/out" &&
+        echo 'ok: 5 modules, 8 requests, 1 mappings' | diff - "$kept/out" &&
         diff examples/expected-importmap.json "$kept/site/importmap.json"
+}
+
+# The same of the example with packages.
+packages() {
+    program=$PWD/build/salimgub
+    cp -R examples/packages "$kept/packages" &&
+        rm -f "$kept/packages/importmap.json" &&
+        (cd "$kept/packages" && "$program" link --base https://app.test/ ./app.js >"$kept/out") &&
+        echo 'ok: 9 modules, 11 requests, 8 mappings' | diff - "$kept/out" &&
+        diff examples/expected-packages.json "$kept/packages/importmap.json"
 }
 
 # The page of the examples gets the map that was typed by hand, once and again, in a copy, and nothing else is written.
@@ -44,6 +54,7 @@ injected() {
 
 check "build.sh" ./build.sh
 check "the example" example
+check "the example with packages" packages
 check "the page of the examples" injected
 check "rows on disk" .ci/rows.sh
 check "a program that must not compile" .ci/must_not_compile.sh

@@ -40,20 +40,41 @@ MAP
 mkdir "$kept/escaped" && echo 'import "./a%62.mjs";' >"$kept/escaped/app.mjs" && : >"$kept/escaped/ab.mjs"
 row escaped ./app.mjs 0 'ok: 2 modules, 2 requests, 1 mappings' <<'MAP'
 {
-  "imports": {},
-  "scopes": {
-    "https://app.test/app.mjs": {
-      "https://app.test/a%62.mjs": "https://app.test/ab.mjs"
-    }
+  "imports": {
+    "https://app.test/a%62.mjs": "https://app.test/ab.mjs"
   }
 }
 MAP
 
 mkdir "$kept/quotes" && echo "  import './b.mjs';" >"$kept/quotes/app.mjs" && : >"$kept/quotes/b.mjs"
-row quotes ./app.mjs 9 'not built: "/app.mjs"' </dev/null
+row quotes ./app.mjs 0 'ok: 2 modules, 2 requests, 0 mappings' <<'MAP'
+{
+  "imports": {}
+}
+MAP
 
 mkdir "$kept/bare"
-row bare ui 9 'not built: from "/index.html" for "ui"' </dev/null
+row bare ui 1 'refused: NotFound from "/index.html" for "ui"' </dev/null
+
+mkdir -p "$kept/package/node_modules/ui" && echo 'import "ui/x.mjs"; import "./node_modules/ui/x.mjs";' >"$kept/package/app.mjs" &&
+    echo '{"exports":{"./*":"./*"}}' >"$kept/package/node_modules/ui/package.json" && : >"$kept/package/node_modules/ui/x.mjs"
+row package ./app.mjs 0 'ok: 2 modules, 3 requests, 1 mappings' <<'MAP'
+{
+  "imports": {
+    "ui/x.mjs": "https://app.test/node_modules/ui/x.mjs"
+  }
+}
+MAP
+
+mkdir -p "$kept/nearest/lib/node_modules/ui" "$kept/nearest/node_modules/ui" && echo 'import "ui";' >"$kept/nearest/lib/m.mjs" &&
+    echo '{"main":"./i.mjs"}' >"$kept/nearest/node_modules/ui/package.json" && : >"$kept/nearest/node_modules/ui/i.mjs"
+row nearest ./lib/m.mjs 1 'refused: NotFound from "/lib/m.mjs" for "ui"' </dev/null
+
+mkdir "$kept/common" && echo 'module.exports = 1;' >"$kept/common/x.js"
+row common ./x.js 1 'refused: NotModule "/x.js" CommonJs' </dev/null
+
+mkdir "$kept/unread" && printf 'import "./b.mjs' >"$kept/unread/app.mjs"
+row unread ./app.mjs 1 'refused: NotModule "/app.mjs" Unreadable at 7' </dev/null
 
 mkdir "$kept/missing" && echo 'import "./q.mjs";' >"$kept/missing/app.mjs"
 row missing ./app.mjs 1 'refused: NotFound from "/app.mjs" for "./q.mjs"' </dev/null

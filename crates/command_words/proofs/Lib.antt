@@ -1,2 +1,3 @@
+mod LinkConditions
 mod LinkWords
 mod Refusing

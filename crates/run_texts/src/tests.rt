@@ -205,59 +205,85 @@ static LIMITS: [(LimitName, &str); 13] = [
 ];
 
 #[test]
-fn limits(rt: HostRuntime) -> Result<(), Fail> {
-    let alloc = rt.alloc();
+fn limits_of_traces(rt: HostRuntime) -> Result<(), Fail> {
     for (which, line) in &LIMITS {
-        let of_trace = Refusal::Trace {
-            fault: TraceFault::Limit { which: *which },
-        };
-        assert!(rt; says(alloc, &of_trace, 3, line)?, "{line}");
-        let of_words = Refusal::Limit { which: *which };
-        assert!(rt; says(alloc, &of_words, 3, line)?, "{line}");
+        let fault = TraceFault::Limit { which: *which };
+        assert!(rt;
+            says(rt.alloc(), &Refusal::Trace { fault }, 3, line)?,
+            "{line}"
+        );
     }
     Ok(())
 }
 
 #[test]
-fn clashes(rt: HostRuntime) -> Result<(), Fail> {
-    let alloc = rt.alloc();
-    let refusal = clash(
-        alloc,
+fn limits_of_words(rt: HostRuntime) -> Result<(), Fail> {
+    for (which, line) in &LIMITS {
+        let refusal = Refusal::Limit { which: *which };
+        assert!(rt; says(rt.alloc(), &refusal, 3, line)?, "{line}");
+    }
+    Ok(())
+}
+
+/// A referrer, two requests of it, each with what it leads to, and their line.
+static CLASHES: [(&str, (&str, &str), (&str, &str), &str); 2] = [
+    (
         "/m.mjs",
         ("../app/x.mjs", "/app/x.mjs"),
         ("./x.mjs", "/x.mjs"),
-    )?;
-    let line =
-        "refused: Clash from \"/m.mjs\" for \"../app/x.mjs\" to \"/app/x.mjs\" and \"./x.mjs\" to \"/x.mjs\"\n";
-    assert!(rt; says(alloc, &refusal, 1, line)?, "{line}");
-    let refusal = clash(alloc, "/index.html", ("a", "/a?<"), ("b", "/b#\\"))?;
-    let line =
-        "refused: Clash from \"/index.html\" for \"a\" to \"/a?\\u003c\" and \"b\" to \"/b#\\\\\"\n";
-    assert!(rt; says(alloc, &refusal, 1, line)?, "{line}");
+        "refused: Clash from \"/m.mjs\" for \"../app/x.mjs\" to \"/app/x.mjs\" and \"./x.mjs\" to \"/x.mjs\"\n",
+    ),
+    (
+        "/index.html",
+        ("a", "/a?<"),
+        ("b", "/b#\\"),
+        "refused: Clash from \"/index.html\" for \"a\" to \"/a?\\u003c\" and \"b\" to \"/b#\\\\\"\n",
+    ),
+];
+
+#[test]
+fn clashes(rt: HostRuntime) -> Result<(), Fail> {
+    for (referrer, first, second, line) in &CLASHES {
+        let refusal = clash(rt.alloc(), referrer, *first, *second)?;
+        assert!(rt; says(rt.alloc(), &refusal, 1, line)?, "{line}");
+    }
     Ok(())
 }
+
+/// What isn't served at its URL, that URL, and its line.
+static UNSERVABLE: [(&str, Option<&str>, &str); 2] = [
+    (
+        "/a/b.mjs",
+        Some("https://app.test/c.mjs"),
+        "refused: Unservable \"/a/b.mjs\" as \"https://app.test/c.mjs\"\n",
+    ),
+    (
+        "/a/b.mjs?q",
+        None,
+        "refused: Unservable \"/a/b.mjs?q\" as \"\"\n",
+    ),
+];
 
 #[test]
 fn unservables(rt: HostRuntime) -> Result<(), Fail> {
-    let alloc = rt.alloc();
-    let refusal = unservable(alloc, "/a/b.mjs", Some("https://app.test/c.mjs"))?;
-    let line = "refused: Unservable \"/a/b.mjs\" as \"https://app.test/c.mjs\"\n";
-    assert!(rt; says(alloc, &refusal, 1, line)?, "{line}");
-    let refusal = unservable(alloc, "/a/b.mjs?q", None)?;
-    let line = "refused: Unservable \"/a/b.mjs?q\" as \"\"\n";
-    assert!(rt; says(alloc, &refusal, 1, line)?, "{line}");
+    for (path, url, line) in &UNSERVABLE {
+        let refusal = unservable(rt.alloc(), path, *url)?;
+        assert!(rt; says(rt.alloc(), &refusal, 1, line)?, "{line}");
+    }
     Ok(())
 }
 
 #[test]
-fn words(rt: HostRuntime) -> Result<(), Fail> {
-    let alloc = rt.alloc();
-    assert!(rt; says(alloc, &Refusal::Words, 9, "not built: words\n")?);
-    let refusal = Refusal::BadBase {
-        text: Text::of(alloc, "ftp://h/")?,
-    };
+fn other_words(rt: HostRuntime) -> Result<(), Fail> {
+    assert!(rt; says(rt.alloc(), &Refusal::Words, 9, "not built: words\n")?);
+    Ok(())
+}
+
+#[test]
+fn a_bad_base(rt: HostRuntime) -> Result<(), Fail> {
+    let text = Text::of(rt.alloc(), "ftp://h/")?;
     let line = "words: BadBase \"ftp://h/\"\n";
-    assert!(rt; says(alloc, &refusal, 2, line)?, "{line}");
+    assert!(rt; says(rt.alloc(), &Refusal::BadBase { text }, 2, line)?);
     Ok(())
 }
 
@@ -305,20 +331,31 @@ fn pages(rt: HostRuntime) -> Result<(), Fail> {
     Ok(())
 }
 
+fn trace_says(alloc: Global, fault: TraceFault, status: u8, line: &str) -> Result<bool, Memory> {
+    says(alloc, &Refusal::Trace { fault }, status, line)
+}
+
 #[test]
-fn faults(rt: HostRuntime) -> Result<(), Fail> {
-    let alloc = rt.alloc();
-    let read = Refusal::Trace {
-        fault: TraceFault::ReadFault,
-    };
-    assert!(rt; says(alloc, &read, 4, "fault: read\n")?);
-    let memory = Refusal::Trace {
-        fault: TraceFault::Memory,
-    };
-    assert!(rt; says(alloc, &memory, 8, "memory\n")?);
-    assert_eq!(rt; read_fault_line(), b"fault: read\n".as_slice());
-    assert_eq!(rt; write_fault_line(), b"fault: write\n".as_slice());
-    assert_eq!(rt; memory_line(), b"memory\n".as_slice());
+fn a_failed_look(rt: HostRuntime) -> Result<(), Fail> {
+    assert!(rt; trace_says(rt.alloc(), TraceFault::ReadFault, 4, "fault: read\n")?);
+    Ok(())
+}
+
+#[test]
+fn want_of_memory(rt: HostRuntime) -> Result<(), Fail> {
+    assert!(rt; trace_says(rt.alloc(), TraceFault::Memory, 8, "memory\n")?);
+    Ok(())
+}
+
+fn fixed_lines_stand() -> bool {
+    read_fault_line() == b"fault: read\n".as_slice()
+        && write_fault_line() == b"fault: write\n".as_slice()
+        && memory_line() == b"memory\n".as_slice()
+}
+
+#[test]
+fn fixed_lines(rt: HostRuntime) -> Result<(), Fail> {
+    assert!(rt; fixed_lines_stand());
     Ok(())
 }
 

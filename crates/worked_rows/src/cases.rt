@@ -7,11 +7,8 @@ pub const MISSING: &[(&str, &str)] = &[("/app.mjs", "import \"./q.mjs\";")];
 const ALONE: &[(&str, &str)] = &[("/app.mjs", "")];
 
 const ESCAPED: &str = "{
-  \"imports\": {},
-  \"scopes\": {
-    \"https://app.test/app.mjs\": {
-      \"https://app.test/a%62.mjs\": \"https://app.test/ab.mjs\"
-    }
+  \"imports\": {
+    \"https://app.test/a%62.mjs\": \"https://app.test/ab.mjs\"
   }
 }
 ";
@@ -26,7 +23,7 @@ const BELOW_BASE: &str = "{
 }
 ";
 
-/// The rows: maps, refusals, and what isn't built.
+/// The rows: maps, refusals, and words that aren't built.
 pub static CASES: [Case; 37] = [
     Case {
         words: LINK,
@@ -112,7 +109,7 @@ pub static CASES: [Case; 37] = [
         files: &[
             ("/a.mjs", "import \"./c.mjs\";"),
             ("/b.mjs", "import \"./q.mjs\";"),
-            ("/c.mjs", "x"),
+            ("/c.mjs", "import x"),
         ],
         status: 1,
         line: "refused: NotFound from \"/b.mjs\" for \"./q.mjs\"\n",
@@ -152,22 +149,22 @@ pub static CASES: [Case; 37] = [
     Case {
         words: LINK,
         files: &[("/app.mjs", "import \"ui\";import \"./q.mjs\";")],
-        status: 9,
-        line: "not built: from \"/app.mjs\" for \"ui\"\n",
+        status: 1,
+        line: "refused: NotFound from \"/app.mjs\" for \"ui\"\n",
         map: None,
     },
     Case {
         words: "link --base https://app.test/ ./app.mjs ./b.mjs",
-        files: &[("/app.mjs", "x"), ("/b.mjs", "import \"./q.mjs\";")],
-        status: 9,
-        line: "not built: \"/app.mjs\"\n",
+        files: &[("/app.mjs", "import x"), ("/b.mjs", "import \"./q.mjs\";")],
+        status: 1,
+        line: "refused: NotModule \"/app.mjs\" Unreadable at 0\n",
         map: None,
     },
     Case {
         words: LINK,
         files: &[("/app.mjs", "import \"./b.mjs/\";"), ("/b.mjs", "")],
-        status: 9,
-        line: "not built: from \"/app.mjs\" for \"./b.mjs/\"\n",
+        status: 1,
+        line: "refused: TrailingSlash from \"/app.mjs\" for \"./b.mjs/\"\n",
         map: None,
     },
     Case {
@@ -180,29 +177,29 @@ pub static CASES: [Case; 37] = [
     Case {
         words: LINK,
         files: &[("/app.mjs", "  import './b.mjs';"), ("/b.mjs", "")],
-        status: 9,
-        line: "not built: \"/app.mjs\"\n",
-        map: None,
+        status: 0,
+        line: "ok: 2 modules, 2 requests, 0 mappings\n",
+        map: Some(NO_MAPPINGS),
     },
     Case {
         words: "link --base https://app.test/ ui",
         files: &[],
-        status: 9,
-        line: "not built: from \"/index.html\" for \"ui\"\n",
+        status: 1,
+        line: "refused: NotFound from \"/index.html\" for \"ui\"\n",
         map: None,
     },
     Case {
         words: "link --base https://app.test/ ./app.js",
         files: &[("/app.js", "")],
-        status: 9,
-        line: "not built: \"/app.js\"\n",
+        status: 1,
+        line: "refused: NotModule \"/app.js\" CommonJs\n",
         map: None,
     },
     Case {
         words: "link --base https://app.test/ ./m.mjs?a",
-        files: &[("/m.mjs", "x")],
-        status: 9,
-        line: "not built: \"/m.mjs?a\"\n",
+        files: &[("/m.mjs", " import x")],
+        status: 1,
+        line: "refused: NotModule \"/m.mjs?a\" Unreadable at 1\n",
         map: None,
     },
     Case {
@@ -212,36 +209,36 @@ pub static CASES: [Case; 37] = [
             ("/x.mjs", ""),
             ("/app/x.mjs", ""),
         ],
-        status: 9,
-        line: "not built: from \"/m.mjs\" for \"./x.mjs\"\n",
+        status: 1,
+        line: "refused: Clash from \"/m.mjs\" for \"../app/x.mjs\" to \"/app/x.mjs\" and \"./x.mjs\" to \"/x.mjs\"\n",
         map: None,
     },
     Case {
         words: LINK,
         files: &[("/app.mjs", "import \"./d\";"), ("/d/x.mjs", "")],
-        status: 9,
-        line: "not built: from \"/app.mjs\" for \"./d\"\n",
+        status: 1,
+        line: "refused: DirectoryImport from \"/app.mjs\" for \"./d\"\n",
         map: None,
     },
     Case {
         words: LINK,
         files: &[("/app.mjs", "import \"//[\";")],
-        status: 9,
-        line: "not built: from \"/app.mjs\" for \"//[\"\n",
+        status: 1,
+        line: "refused: Unaskable from \"/app.mjs\" for \"//[\"\n",
         map: None,
     },
     Case {
         words: LINK,
         files: &[("/app.mjs", "import \"./a%2fb.mjs\";"), ("/a/b.mjs", "")],
-        status: 9,
-        line: "not built: from \"/app.mjs\" for \"./a%2fb.mjs\"\n",
+        status: 1,
+        line: "refused: InvalidSpecifier from \"/app.mjs\" for \"./a%2fb.mjs\"\n",
         map: None,
     },
     Case {
         words: LINK,
         files: &[("/app.mjs", "import \"https://cdn.test/x.js\";")],
-        status: 9,
-        line: "not built: from \"/app.mjs\" for \"https://cdn.test/x.js\"\n",
+        status: 1,
+        line: "refused: ExternalUrl from \"/app.mjs\" for \"https://cdn.test/x.js\"\n",
         map: None,
     },
     Case {

@@ -22,8 +22,8 @@ const MISSING_WITH_OLD_MAP: &[(&str, &str)] = &[
 
 /// A run over a module that asks for another one looks at each of the two, writes the map, and gives one line: two
 /// looks, one write and one give. Each of them fails in turn, and so does the one that would come next. A command
-/// that is refused makes no write that could fail, and refused words and an entry that isn't built make no look.
-pub static FAULTS: [Fault; 17] = [
+/// that is refused makes no write that could fail, and refused words and the name of a builtin make no look.
+pub static FAULTS: [Fault; 18] = [
     Fault {
         fails: Fails {
             looks: &[1],
@@ -243,8 +243,22 @@ pub static FAULTS: [Fault; 17] = [
         case: Case {
             words: "link --base https://app.test/ ui",
             files: &[],
-            status: 9,
-            line: "not built: from \"/index.html\" for \"ui\"\n",
+            status: 4,
+            line: "fault: read\n",
+            map: None,
+        },
+    },
+    Fault {
+        fails: Fails {
+            looks: &[1],
+            writes: &[1],
+            gives: &[],
+        },
+        case: Case {
+            words: "link --base https://app.test/ fs",
+            files: &[],
+            status: 1,
+            line: "refused: Builtin from \"/index.html\" for \"fs\"\n",
             map: None,
         },
     },

@@ -87,11 +87,8 @@ pub static PAGE_CASES: [PageCase; 19] = [
         line: "ok: 2 modules, 2 requests, 1 mappings\n",
         page: Some(
             "<script type='ImportMap'>{
-  \"imports\": {},
-  \"scopes\": {
-    \"https://app.test/site/app.mjs\": {
-      \"https://app.test/b.mjs\": \"https://app.test/site/b.mjs\"
-    }
+  \"imports\": {
+    \"https://app.test/b.mjs\": \"https://app.test/site/b.mjs\"
   }
 }
 </script><p>",
@@ -179,9 +176,18 @@ pub static PAGE_CASES: [PageCase; 19] = [
             ("/x.mjs", ""),
         ],
         fails: NONE,
-        status: 9,
-        line: "not built: from \"/app.mjs\" for \"#\\u003c/script>\"\n",
-        page: Some(HEAD),
+        status: 0,
+        line: "ok: 2 modules, 2 requests, 1 mappings\n",
+        page: Some(
+            "<head><script type=\"importmap\">{
+  \"imports\": {
+    \"#\\u003c/script>\": \"https://app.test/x.mjs\"
+  }
+}
+</script>
+</head>
+",
+        ),
     },
     PageCase {
         words: "inject --base ftp://h/ x",

@@ -1,6 +1,7 @@
 use crate::case::{Case, Fails, LINK, NONE, ended, ends, fits, outcome_of, put};
 use crate::cases::CASES;
 use crate::faults::FAULTS;
+use primitives::Memory;
 use std::alloc::Global;
 use std::test::Fail;
 use tree_model::{MemFolder, PathFault};
@@ -46,7 +47,12 @@ static FULL: [(u8, usize, u8, &str); 3] = [
         "ok: 1 modules, 1 requests, 0 mappings\n",
     ),
     (b' ', 16_777_217, 3, "limit: file above 16777216\n"),
-    (255, 1, 9, "not built: \"/app.mjs\"\n"),
+    (
+        255,
+        1,
+        1,
+        "refused: NotModule \"/app.mjs\" Unreadable at 0\n",
+    ),
 ];
 
 fn full_of(alloc: Global, byte: u8, count: usize) -> Result<MemFolder, PathFault> {
@@ -66,29 +72,41 @@ fn files_at_their_limit(rt: HostRuntime) -> Result<(), Fail> {
     Ok(())
 }
 
-/// How many modules `/app.mjs` asks for, and how the run ends.
+const FIVE: &str = "link --base https://app.test/ ./m0.mjs ./m1.mjs ./m2.mjs ./m3.mjs ./m4.mjs";
+
+/// How many modules the last of five modules asks for, after 4,000 of each other, and how the run ends.
 static FANS: [(u64, u8, &str); 2] = [
-    (19_999, 0, "ok: 20000 modules, 20000 requests, 0 mappings\n"),
-    (20_000, 3, "limit: modules above 20000\n"),
+    (3_995, 0, "ok: 20000 modules, 20000 requests, 0 mappings\n"),
+    (3_996, 3, "limit: modules above 20000\n"),
 ];
 
-fn fan_of(alloc: Global, modules: u64) -> Result<MemFolder, PathFault> {
+// A text that asks for so many modules of one file, each by a suffix that holds this name.
+fn fan_text(alloc: Global, name: u64, modules: u64) -> Result<String, Memory> {
     let mut text = String::new(alloc);
     for number in 0..modules {
-        let statement = format!(in alloc; "import \"./m.mjs?{number}\";")?;
+        let statement = format!(in alloc; "import \"./x.mjs?{name}-{number}\";")?;
         text.push_str(statement.as_str())?;
     }
+    Ok(text)
+}
+
+fn fan_of(alloc: Global, last: u64) -> Result<MemFolder, PathFault> {
     let mut folder = MemFolder::new(alloc, &[], &[])?;
-    put(alloc, &mut folder, "/app.mjs", text.as_bytes())?;
-    put(alloc, &mut folder, "/m.mjs", &[])?;
+    for name in 0..5 {
+        let path = format!(in alloc; "/m{name}.mjs")?;
+        let modules = if name == 4 { last } else { 4_000 };
+        let text = fan_text(alloc, name, modules)?;
+        put(alloc, &mut folder, path.as_str(), text.as_bytes())?;
+    }
+    put(alloc, &mut folder, "/x.mjs", &[])?;
     Ok(folder)
 }
 
 #[test]
 fn modules_at_their_limit(rt: HostRuntime) -> Result<(), Fail> {
     let alloc = rt.alloc();
-    for (modules, status, line) in &FANS {
-        let outcome = ended(alloc, LINK, fan_of(alloc, *modules)?, &[])?;
+    for (last, status, line) in &FANS {
+        let outcome = ended(alloc, FIVE, fan_of(alloc, *last)?, &[])?;
         assert!(rt; ends(&outcome, *status, line), "{line}");
     }
     Ok(())

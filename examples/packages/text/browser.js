@@ -1,0 +1,3 @@
+export const show = (text) => {
+    document.getElementById("state").textContent = text;
+};

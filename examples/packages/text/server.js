@@ -1,0 +1,3 @@
+export const show = (text) => {
+    console.log(text);
+};
