@@ -21,16 +21,8 @@ static NEEDS: [Three; 4] = [
         "https://app.test/c.mjs",
         "https://app.test/c.mjs",
     ),
-    (
-        "https://app.test/x/m.mjs",
-        "c",
-        "https://app.test/x/c.mjs",
-    ),
-    (
-        "https://app.test/y/m.mjs",
-        "c",
-        "https://app.test/y/c.mjs",
-    ),
+    ("https://app.test/x/m.mjs", "c", "https://app.test/x/c.mjs"),
+    ("https://app.test/y/m.mjs", "c", "https://app.test/y/c.mjs"),
 ];
 
 fn needs_of(alloc: Global, rows: &[Three]) -> Result<Needs, Fail> {

@@ -29,7 +29,7 @@ static FILES: [(&str, &str); 9] = [
     ),
     ("/node_modules/plain/package.json", "{\"main\":\"./m.js\"}"),
     ("/node_modules/plain/m.js", "exports.m = 1;"),
-    ("/node_modules/part/text.mjs", "import {"),
+    ("/node_modules/part/text.mjs", "x; import 5"),
 ];
 
 /// An entry, and the modules of the trace with their requests, the needs, and the number of requests; or the first
@@ -47,7 +47,7 @@ static CASES: [(&str, &str); 4] = [
     ("plain", "/node_modules/plain/m.js is no module: CommonJs"),
     (
         "./node_modules/part/text.mjs",
-        "/node_modules/part/text.mjs is no module: Unreadable { at: 0 }",
+        "/node_modules/part/text.mjs is no module: Unreadable { at: 3 }",
     ),
 ];
 

@@ -1,5 +1,5 @@
-use Rattle.generator_core.proofs.Preparings.{absent_end, folder_end, too_large_end, keeps_out_end}
-use Rattle.generator_core.proofs.prepared.open_page.Goals as goal
+use Rattle.generator_core.proofs.Preparings.{absent_end, folder_end, too_large_end}
+use Rattle.generator_core.proofs.prepared.page_of.Goals as goal
 
 pub returns-in-Ok-Absent : goal.returns-in-Ok-Absent
 returns-in-Ok-Absent g c =
@@ -12,7 +12,3 @@ returns-in-Ok-Folder g c =
 pub returns-in-Ok-TooLarge : goal.returns-in-Ok-TooLarge
 returns-in-Ok-TooLarge g c =
     too_large_end c.args.config.now _ c.page.ensures.page _ _ c.in-Ok-TooLarge.field-0 c.without_page-in-Ok-TooLarge.result c.in-Ok-TooLarge.field-0-is c.without_page-in-Ok-TooLarge.ensures c.in-Ok-TooLarge.ensures.looked
-
-pub returns-in-Err : goal.returns-in-Err
-returns-in-Err g c =
-    keeps_out_end c.args.config.now _ c.page.ensures.page _ _ c.in-Ok-File.field-0 c.without_page-in-Err.result c.in-Ok-File.bytes c.as_slice.result.now c.in-Err.fault c.in-Ok-File.field-0-is c.without_page-in-Err.ensures c.as_slice.ensures c.in-Err.ensures.fault c.in-Ok-File.ensures.looked
