@@ -1,15 +1,14 @@
 -- What a request asks for.
-use Rattle.std.proofs.Common.{◌≡◌, Bool, true, false, List, ℕ, Option, Some, None, Result, Ok, Err, sym, ap, ◌∙◌}
-use Rattle.std.specs.Prelude.{if◌then◌else◌, unwrap_or}
+use Rattle.std.proofs.Common.{◌≡◌, true, false, List, ℕ, Some, None, Ok, Err, sym, ap, ◌∙◌}
+use Rattle.std.specs.Prelude.{unwrap_or}
 use Rattle.std.specs.Str.{IsUtf8, is_utf8}
 use mathlib.Core.Logic.{inl, inr}
 use Rattle.std.proofs.lemmas.Bool.{cases_Bool, cond-true, cond-false}
 use Rattle.std.proofs.lemmas.Str.{is_utf8-from_IsUtf8}
 use Rattle.url_spec.specs.Specifiers.{is_relative, ends_in_slash, as_url, normalized}
 use Rattle.url_spec.proofs.NormalTexts.{normal_by}
-use Rattle.trace_spec.specs.declared.AskCause.{AskCause}
 use Rattle.trace_spec.specs.declared.AskCause.TheVariants.{Unaskable, TrailingSlash}
-use Rattle.trace_spec.specs.Checks.{Wanted, url_wanted, text_wanted, wanted_by}
+use Rattle.trace_spec.specs.Checks.{url_wanted, text_wanted, wanted_by}
 
 text_asked : (specifier name : List ℕ) → IsUtf8 specifier → wanted_by specifier (Some name) ≡ text_wanted name specifier
 text_asked specifier name utf8 = cond-true (is_utf8 specifier) (text_wanted name specifier) (Err Unaskable) (is_utf8-from_IsUtf8 specifier utf8)

@@ -1,11 +1,11 @@
 -- What is refused where.
-use Rattle.std.proofs.Common.{◌≡◌, ◌≢◌, Result, Ok, Err, IfErr, refl, ap, subst, sym}
+use Rattle.std.proofs.Common.{◌≡◌, ◌≢◌, Result, Ok, Err, IfErr, ap, subst, sym}
 use Rattle.std.specs.Result.{IsErrAnd}
 use Rattle.trace_spec.specs.declared.TraceFault.{TraceFault}
 use Rattle.trace_spec.specs.declared.TraceFault.TheVariants.{Unservable, Refused, Clash, NotModule, Limit, ReadFault, Memory}
 use Rattle.trace_spec.specs.Walking.{Referrer}
 use Rattle.trace_spec.specs.Modules.{Config, Module, path_of, suffix_of}
-use Rattle.trace_walk.specs.Kinds.{IsOfAnswers, IsOfWalk}
+use Rattle.trace_walk.specs.Kinds.{IsOfWalk}
 use Rattle.trace_walk.specs.Walking.{IsUnserved}
 
 -- a fault that `?` hands on
@@ -27,12 +27,3 @@ unserved_kind config r (NotModule path reason) unserved = absurd (let e = (unser
 unserved_kind config r (Limit which) unserved = absurd (let e = (unserved (λ e. cc)).is in cc)
 unserved_kind config r ReadFault unserved = tt
 unserved_kind config r Memory unserved = tt
-
-pub answers_kind : (config : Config) (fault : TraceFault) → IsOfAnswers fault → IsOfWalk config fault
-answers_kind config (Unservable path url) is = absurd is
-answers_kind config (Refused referrer specifier cause) is = absurd is
-answers_kind config (Clash referrer first first_to second second_to) is = absurd is
-answers_kind config (NotModule path reason) is = absurd is
-answers_kind config (Limit which) is = is
-answers_kind config ReadFault is = tt
-answers_kind config Memory is = tt

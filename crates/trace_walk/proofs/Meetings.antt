@@ -84,19 +84,6 @@ met_now before value result given = record {
   learns = learns_nothing before.looks (result ≡ Err Memory);
 }
 
--- want of memory behind a part leaves the whole unfinished
-pub met_unfinished : {T Q : Type 0} {A : Q → Type 0} {X Y : Type 0} (before after : Outside T Q A) (part : Asking Q A (Result X TraceFault)) (value : X) (whole : Asking Q A (Result Y TraceFault)) → Met before part (Ok value) after → Met {X = Y} before whole (Err Memory) after
-met_unfinished {X = X} {Y = Y} before after part value whole first = record {
-  comes = λ answers told is_told. absurd (is_told.1 refl);
-  told = first.told;
-  keeps = first.keeps;
-  later = first.later;
-  cause = λ e. absurd (cc);
-  quiet = λ ne. first.quiet (λ e. cc);
-  learns = learns_as before.looks after.looks (succeeded X value ≡ Err Memory) (failed Y Memory ≡ Err Memory) (λ e. refl)
-      first.learns;
-}
-
 -- and so does want of memory before anything was asked
 pub met_memory : {T Q : Type 0} {A : Q → Type 0} {X : Type 0} (before : Outside T Q A) (whole : Asking Q A (Result X TraceFault)) → Met {X = X} before whole (Err Memory) before
 met_memory {X = X} before whole = record {

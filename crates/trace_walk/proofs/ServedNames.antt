@@ -1,9 +1,8 @@
 -- Web names that are served.
 use Rattle.std.proofs.Common.{◌≡◌, ℕ, List, ◌++◌, Option, Some, None, refl, sym, ap, ◌∙◌, subst}
-use Rattle.std.specs.Prelude.{⊤, false, MatchOption}
+use Rattle.std.specs.Prelude.{⊤, MatchOption}
 use mathlib.Core.Logic.{inl, inr}
 use Rattle.std.proofs.lemmas.Bool.{cases_Bool, cond-true, cond-false}
-use Rattle.url_spec.specs.Specifiers.{ends_in_slash}
 use Rattle.url_spec.specs.WebNames.{web}
 use Rattle.url_spec.specs.ServedPaths.{IsServed}
 use Rattle.url_spec.specs.PathTests.{is_served}
@@ -11,8 +10,7 @@ use Rattle.url_spec.proofs.PathTestLemmas.{served_by_test, test_by_served}
 use Rattle.web_url.specs.declared.names.WebFault.{WebFault}
 use Rattle.web_url.specs.declared.names.WebFault.TheVariants.{Unservable}
 use Rattle.web_url.specs.Serving.{IsUnservable}
-use Rattle.trace_spec.specs.Modules.{Config, Module, served_name, served_at, not_folder, file_name}
-use Rattle.trace_spec.specs.Walking.{a_module}
+use Rattle.trace_spec.specs.Modules.{Config, served_name}
 use Rattle.trace_spec.specs.declared.TraceFault.{TraceFault}
 use Rattle.trace_spec.specs.declared.TraceFault.TheVariants as refused
 use Rattle.trace_walk.specs.Walking.{IsUnserved}
@@ -37,7 +35,3 @@ unserved_is config base path suffix named url fault on same is says =
       lost = ap (served_name config.base path) (sym parts.0) ∙ served_none config.base path url parts.1;
       is = says ∙ ap (refused.Unservable (path ++ suffix)) parts.0;
     }
-
--- the name of a file
-pub file_name_is : (config : Config) (m : Module) (url : List ℕ) → served_at config (a_module m) ≡ Some url → ends_in_slash url ≡ false → file_name config m ≡ Some url
-file_name_is config m url served file = ap not_folder served ∙ cond-false (ends_in_slash url) None (Some url) file

@@ -1,35 +1,32 @@
 -- What is put into the tables of a walk.
-use Rattle.std.proofs.Common.{◌≡◌, ◌≢◌, ◌≤◌, ◌<◌, ◌+◌, ℕ, zero, suc, Bool, true, false, List, [], ◌∷◌, ◌++◌, length, Option, Some, None, Result, Ok, Err, refl, sym, ap, ◌∙◌, subst, arith, append-nil, length-append, nat_lt}
-use Rattle.std.specs.Prelude.{◌||◌, map, is_some, slice_get, take}
+use Rattle.std.proofs.Common.{◌≡◌, ◌≢◌, ◌<◌, ◌+◌, ℕ, zero, suc, Bool, true, false, List, [], ◌∷◌, ◌++◌, length, Option, Some, None, Result, Ok, Err, refl, sym, ap, ◌∙◌, subst, arith, length-append}
+use Rattle.std.specs.Prelude.{◌||◌, is_some, slice_get, take}
 use Rattle.std.specs.Result.{IsErrAnd}
 use mathlib.Core.Logic.{inl, inr}
 use Rattle.std.specs.List.{list_any}
 use Rattle.std.specs.Map.{keys_of, lookup}
-use Rattle.std.proofs.lemmas.Bool.{cases_Bool, cond-true, cond-false, true≢false, lt-ltb, le-ltb}
+use Rattle.std.proofs.lemmas.Bool.{cases_Bool, cond-true, cond-false}
 use Rattle.std.proofs.lemmas.Map.Made.{is_some-lookup}
 use Rattle.std.proofs.lemmas.List.Elements.{All-push, All-head, All-tail}
 use Rattle.tree_spec.specs.declared.LimitName.TheVariants.{Modules, Requests}
 use Rattle.tree_spec.specs.Limits.{limit_number}
 use Rattle.layout_spec.specs.declared.Need.{Need}
-use Rattle.layout_spec.specs.Needs.{is_need, clashes, with_need, NoClash}
-use Rattle.need_table.specs.Rows.{IsFresh, IsKnown, ClashesAt}
+use Rattle.layout_spec.specs.Needs.{clashes, NoClash}
+use Rattle.need_table.specs.Rows.{ClashesAt}
 use Rattle.trace_spec.specs.declared.TraceFault.{TraceFault}
-use Rattle.trace_spec.specs.declared.TraceFault.TheVariants.{Clash, Limit, ReadFault, Memory}
+use Rattle.trace_spec.specs.declared.TraceFault.TheVariants.{ReadFault, Memory}
 use Rattle.trace_spec.specs.Walking.{new_modules, a_module}
 use Rattle.trace_spec.specs.Walking as walking
 use Rattle.trace_spec.specs.Modules.{Config, Module, is_module, file_name, served_at, shown}
-use Rattle.trace_spec.specs.Checks.{Gathered, Spelling, Wanted, clashing, with_spelling, clash_with, with_request, has_room, with_room, needed, named, led}
+use Rattle.trace_spec.specs.Checks.{Gathered, Spelling, Wanted, clashing, named}
 use Rattle.trace_spec.proofs.Lists.{same_module}
 use Rattle.trace_spec.proofs.NeedLemmas.{no_clash_more}
-use Rattle.trace_spec.proofs.Steps.{file_name_parts}
 use Rattle.trace_walk.specs.declared.referrer.Referrer.{Referrer}
 use Rattle.trace_walk.specs.declared.tables.Name.{Name}
 use Rattle.trace_walk.specs.declared.tables.Tables.{Tables}
-use Rattle.module_sources.specs.Shown.{source_of}
-use Rattle.trace_walk.specs.Shown.{before_of, done}
+use Rattle.trace_walk.specs.Shown.{done}
 use Rattle.trace_walk.specs.Walking.{IsReferrer, IsNamed, AllNamed, IsAdded, IsGiven, Grows}
 use Rattle.trace_walk.specs.Refusing.{clash_by, IsClash, IsMisnamed}
-use Rattle.trace_walk.proofs.ServedNames.{served_is}
 
 -- ---- a module that is looked up
 
@@ -66,19 +63,9 @@ text_of config target entries found e all = let is = named_as config target entr
 
 -- ---- a module that is put at the end
 
-keys_of-push : {X : Type 0} (entries : List (Module × X)) (target : Module) (x : X) → keys_of (entries ++ (target, x) ∷ []) ≡ keys_of entries ++ target ∷ []
-keys_of-push [] target x = refl
-keys_of-push (entry ∷ entries) target x = ap (λ ms. entry.0 ∷ ms) (keys_of-push entries target x)
-
 pub keys_of-length : {X : Type 0} (entries : List (Module × X)) → length (keys_of entries) ≡ length entries
 keys_of-length [] = refl
 keys_of-length (entry ∷ entries) = ap suc (keys_of-length entries)
-
-pub keys_new : {X : Type 0} (old new : List (Module × X)) (target : Module) (x : X) → list_any (is_module target) (keys_of old) ≡ false → new ≡ old ++ (target, x) ∷ [] → keys_of new ≡ keys_of old ++ new_modules is_module (keys_of old) (target ∷ [])
-keys_new old new target x fresh e = ap keys_of e ∙ (keys_of-push old target x ∙ sym (ap (λ ms. keys_of old ++ ms) (cond-false (list_any (is_module target) (keys_of old)) [] (target ∷ []) fresh)))
-
-pub keys_known : (modules : List Module) (target : Module) → list_any (is_module target) modules ≡ true → modules ≡ modules ++ new_modules is_module modules (target ∷ [])
-keys_known modules target known = sym (ap (λ ms. modules ++ ms) (cond-true (list_any (is_module target) modules) [] (target ∷ []) known) ∙ append-nil modules)
 
 names_push : (config : Config) (old new : List (Module × Name)) (target : Module) (name : Name) → new ≡ old ++ (target, name) ∷ [] → IsNamed config target name → AllNamed config old → AllNamed config new
 names_push config old new target name e is all = subst (AllNamed config) (sym e) (All-push (λ (x : Module × Name). IsNamed config x.0 x.1) old (target, name) all is)
@@ -117,38 +104,6 @@ grows_by_none config old new need spelling few modules put = record {
 
 -- ---- needs and their spellings
 
-one_longer : {X : Type 0} (xs : List X) (x : X) → xs ≡ xs ++ x ∷ [] → ⊥
-one_longer xs x e = absurd (let n = ap length e in let m = length-append xs (x ∷ []) in omega arith)
-
--- a need that is put at the end
-pub added_new : (needs after : List Need) (need : Need) (spellings spelled : List Spelling) (spelling : Spelling) → length spellings ≡ length needs → IsFresh needs need after → spelled ≡ spellings ++ spelling ∷ [] → IsAdded needs spellings need spelling after spelled
-added_new needs after need spellings spelled spelling beside fresh e = record {
-  clear = fresh.clear;
-  needs_are = fresh.is_new;
-  spellings_are = e ∙ elim (cases_Bool (list_any (is_need need) needs)) [
-    | inl known ↦ absurd (one_longer needs need (sym (cond-true _ needs (needs ++ need ∷ []) known) ∙ (sym fresh.is_new ∙ fresh.at_end)))
-    | inr new ↦ sym (cond-false _ spellings (spellings ++ spelling ∷ []) new)
-  ];
-  beside =
-      let a = ap length fresh.at_end in
-      let b = length-append needs (need ∷ []) in
-      let c = ap length e in
-      let d = length-append spellings (spelling ∷ []) in
-      omega (arith, beside, a, b, c, d);
-}
-
--- a need that is there
-pub added_known : (needs : List Need) (need : Need) (spellings : List Spelling) (spelling : Spelling) → length spellings ≡ length needs → IsKnown needs need → IsAdded needs spellings need spelling needs spellings
-added_known needs need spellings spelling beside is = record {
-  clear = is.clear;
-  needs_are = sym is.stays;
-  spellings_are = elim (cases_Bool (list_any (is_need need) needs)) [
-    | inl known ↦ sym (cond-true _ spellings (spellings ++ spelling ∷ []) known)
-    | inr fresh ↦ absurd (one_longer needs need (sym is.stays ∙ cond-false _ needs (needs ++ need ∷ []) fresh))
-  ];
-  beside = beside;
-}
-
 left_false : (a b : Bool) → (a || b) ≡ false → a ≡ false
 left_false true b e = absurd (cc)
 left_false false b e = refl
@@ -175,43 +130,10 @@ is_clash referrer needs need spellings spelling found first fault at stands is =
   is = is ∙ ap (λ s. clash_by referrer s spelling) (sym (clashing_at need at.other needs spellings first found at.stands at.clash at.none_before stands));
 }
 
--- ---- the definitions' checks
+-- ---- what a part gives
 
 pub shown_is : (config : Config) (r : walking.Referrer Module) (referrer : Referrer) → IsReferrer config r referrer → shown config r ≡ referrer.path ++ referrer.suffix
 shown_is config r referrer is = λ i. is.path i ++ is.suffix i
-
-needed_clash : (config : Config) (r : walking.Referrer Module) (referrer : Referrer) (before : Gathered) (need : Need) (spelling : Spelling) (fault : TraceFault) → IsReferrer config r referrer → IsClash referrer before.needs need before.spellings spelling fault → needed config before r need spelling ≡ Err fault
-needed_clash config r referrer before need spelling fault is clash =
-    let first = clashing need before.needs before.spellings in
-    let same : clash_with config r first spelling ≡ clash_by referrer first spelling = ap (λ text. Clash text first.specifier (shown config (a_module first.target)) spelling.specifier (shown config (a_module spelling.target))) (shown_is config r referrer is) in
-    cond-true _ (Err (clash_with config r first spelling)) (with_room before need spelling) clash.clash ∙ ap Err (same ∙ sym clash.is)
-
-room_or_known : (modules : List Module) (target : Module) (known : Bool) → list_any (is_module target) modules ≡ known → (known ≡ false → length modules < limit_number Modules) → has_room modules target ≡ true
-room_or_known modules target true e room = ap (λ b. b || nat_lt (length modules) (limit_number Modules)) e
-room_or_known modules target false e room = ap (λ b. b || nat_lt (length modules) (limit_number Modules)) e ∙ lt-ltb (length modules) (limit_number Modules) (room refl)
-
-needed_room : (config : Config) (r : walking.Referrer Module) (before : Gathered) (need : Need) (spelling : Spelling) → list_any (clashes need) before.needs ≡ false → (list_any (is_module spelling.target) before.modules ≡ false → length before.modules < limit_number Modules) → needed config before r need spelling ≡ Ok (with_request before need spelling)
-needed_room config r before need spelling clear room =
-    cond-false _ (Err (clash_with config r (clashing need before.needs before.spellings) spelling)) (with_room before need spelling) clear
-    ∙ cond-true _ (Ok (with_request before need spelling)) (Err (Limit Modules)) (room_or_known before.modules spelling.target (list_any (is_module spelling.target) before.modules) refl room)
-
-needed_full : (config : Config) (r : walking.Referrer Module) (before : Gathered) (need : Need) (spelling : Spelling) → list_any (clashes need) before.needs ≡ false → list_any (is_module spelling.target) before.modules ≡ false → limit_number Modules ≤ length before.modules → needed config before r need spelling ≡ Err (Limit Modules)
-needed_full config r before need spelling clear fresh full =
-    cond-false _ (Err (clash_with config r (clashing need before.needs before.spellings) spelling)) (with_room before need spelling) clear
-    ∙ cond-false _ (Ok (with_request before need spelling)) (Err (Limit Modules)) (ap (λ b. b || nat_lt (length before.modules) (limit_number Modules)) fresh ∙ le-ltb (length before.modules) (limit_number Modules) full)
-
--- the tables behind a request
-put_is : (old new : Tables) (need : Need) (spelling : Spelling) → keys_of new.modules.entries ≡ keys_of old.modules.entries ++ new_modules is_module (keys_of old.modules.entries) (spelling.target ∷ []) → IsPut old new need spelling → before_of new ≡ with_request (before_of old) need spelling
-put_is old new need spelling modules put =
-    λ i. record {
-      modules = modules i;
-      sources = map source_of (put.sources i).items;
-      needs = put.added.needs_are i;
-      spellings = put.added.spellings_are i;
-      requests = put.requests i;
-    }
-
--- ---- what a part gives
 
 pub handed_given : (definition : Result Gathered TraceFault) (fault : TraceFault) (result : Result (Unit {0}) TraceFault) (tables : Tables) → IsErrAnd result (λ f. f ≡ fault) → (fault ≢ Memory → definition ≡ Err fault) → (fault ≢ Memory → fault ≢ ReadFault) → IsGiven definition (done result tables)
 handed_given definition fault (Ok unit) tables is given no_look = absurd is
@@ -219,65 +141,6 @@ handed_given definition fault (Err other) tables is given no_look = record {
   given = λ ne. given (λ e. ne (ap Err (is ∙ e))) ∙ ap Err (sym is);
   no_look = λ e. (let f : fault ≡ ReadFault = (let g : other ≡ ReadFault = cc in sym is ∙ g) in no_look (λ h. (let g : ReadFault ≡ Memory = sym f ∙ h in cc)) f);
 }
-
-no_look_failed : (referrer : Referrer) (needs : List Need) (need : Need) (spellings : List Spelling) (spelling : Spelling) (fault : TraceFault) → IsClash referrer needs need spellings spelling fault → fault ≢ ReadFault
-no_look_failed referrer needs need spellings spelling fault is e = let f = sym is.is ∙ e in cc
-
--- the need clashes
-pub given_clash : (config : Config) (r : walking.Referrer Module) (referrer : Referrer) (before : Gathered) (need : Need) (spelling : Spelling) (fault : TraceFault) (result : Result (Unit {0}) TraceFault) (tables : Tables) → IsReferrer config r referrer → IsErrAnd result (λ f. f ≡ fault)
-    → (fault ≢ Memory → IsClash referrer before.needs need before.spellings spelling fault) → IsGiven (needed config before r need spelling) (done result tables)
-given_clash config r referrer before need spelling fault result tables is handed clash =
-    handed_given (needed config before r need spelling) fault result tables handed
-    (λ ne. needed_clash config r referrer before need spelling fault is (clash ne))
-    (λ ne. no_look_failed referrer before.needs need before.spellings spelling fault (clash ne))
-
--- there is no room for its module
-pub given_full : (config : Config) (r : walking.Referrer Module) (old after : Tables) (need : Need) (spelling : Spelling) (fault : TraceFault) (result : Result (Unit {0}) TraceFault)
-    → list_any (clashes need) old.needs ≡ false → list_any (is_module spelling.target) (keys_of old.modules.entries) ≡ false → (fault ≢ Memory → (fault ≡ Limit Modules) × (limit_number Modules ≤ length old.modules.entries)) → IsErrAnd result (λ f. f ≡ fault)
-    → IsGiven (needed config (before_of old) r need spelling) (done result after)
-given_full config r old after need spelling fault result clear fresh full is =
-    handed_given (needed config (before_of old) r need spelling) fault result after is
-    (λ ne. needed_full config r (before_of old) need spelling clear fresh (let most = (full ne).1 in let keys = keys_of-length old.modules.entries in omega (arith, most, keys)) ∙ ap Err (sym (full ne).0))
-    (λ ne e. (let f : Limit Modules ≡ ReadFault = sym (full ne).0 ∙ e in cc))
-
--- its module has its place
-pub given_new : (config : Config) (r : walking.Referrer Module) (old new : Tables) (need : Need) (spelling : Spelling) (name : Name)
-    → list_any (is_module spelling.target) (keys_of old.modules.entries) ≡ false → length old.modules.entries < limit_number Modules → new.modules.entries ≡ old.modules.entries ++ (spelling.target, name) ∷ [] → IsPut old new need spelling
-    → IsGiven (needed config (before_of old) r need spelling) (Ok (before_of new))
-given_new config r old new need spelling name fresh room modules put =
-    let keys = keys_of-length old.modules.entries in
-    record {
-      given = λ ne. needed_room config r (before_of old) need spelling put.added.clear (λ f. omega (arith, room, keys))
-          ∙ ap Ok (sym (put_is old new need spelling (keys_new old.modules.entries new.modules.entries spelling.target name fresh modules) put));
-      no_look = λ e. cc;
-    }
-
--- its module is known
-pub given_known : (config : Config) (r : walking.Referrer Module) (old new : Tables) (need : Need) (spelling : Spelling)
-    → list_any (is_module spelling.target) (keys_of old.modules.entries) ≡ true → new.modules ≡ old.modules → IsPut old new need spelling → IsGiven (needed config (before_of old) r need spelling) (Ok (before_of new))
-given_known config r old new need spelling known modules put = record {
-  given = λ ne. needed_room config r (before_of old) need spelling put.added.clear (λ f. absurd (true≢false (sym known ∙ f)))
-      ∙ ap Ok (sym (put_is old new need spelling (ap (λ ms. keys_of ms.entries) modules ∙ keys_known (keys_of old.modules.entries) spelling.target known) put));
-  no_look = λ e. cc;
-}
-
--- ---- by its name
-
--- a file's name is no folder's, and leads back
-pub named_by : (config : Config) (r : walking.Referrer Module) (before : Gathered) (want : Wanted) (spelling : Spelling) (url : List ℕ) → file_name config spelling.target ≡ Some url → named config before r want spelling (served_at config (a_module spelling.target)) ≡ needed config before r (record { referrer = want.referrer; asked = want.asked; target = url }) spelling
-named_by config r before want spelling url is =
-    let parts = file_name_parts config spelling.target url is in
-    let served : served_at config (a_module spelling.target) ≡ Some url = served_is config.base spelling.target.path spelling.target.suffix url parts.servable.name parts.servable.back in
-    ap (named config before r want spelling) served ∙ cond-false _ _ _ parts.is_file
-
-pub led_by : (config : Config) (r : walking.Referrer Module) (referrer : Referrer) (before : Gathered) (specifier asked : List ℕ) (target : Module) (url : List ℕ) (result : Result Gathered TraceFault) → IsReferrer config r referrer → file_name config target ≡ Some url
-    → IsGiven (needed config before r (record { referrer = referrer.text; asked = asked; target = url }) (record { specifier = specifier; target = target })) result
-    → IsGiven (led config before r specifier (record { referrer = referrer.name; asked = asked }) (Ok target)) result
-led_by config r referrer before specifier asked target url result is name given =
-    subst (λ definition. IsGiven definition result)
-    (sym (named_by config r before (record { referrer = referrer.name; asked = asked }) (record { specifier = specifier; target = target }) url name
-    ∙ ap (λ n. needed config before r (record { referrer = n; asked = asked; target = url }) (record { specifier = specifier; target = target })) (sym is.text)))
-    given
 
 -- memory is wanting
 pub memory_given : (definition : Result Gathered TraceFault) (result : Result (Unit {0}) TraceFault) (tables : Tables) → IsErrAnd result (λ f. f ≡ Memory) → IsGiven definition (done result tables)

@@ -120,7 +120,14 @@ impl Tables {
     {
         let spelling = spelling_of(alloc, specifier, target)?;
         let need = need_of(alloc, referrer, asked, text)?;
-        put_need(alloc, &mut self.needs, &mut self.spellings, referrer, need, spelling)?;
+        put_need(
+            alloc,
+            &mut self.needs,
+            &mut self.spellings,
+            referrer,
+            need,
+            spelling,
+        )?;
         self.requests += 1;
         Ok(())
     }
@@ -152,7 +159,14 @@ impl Tables {
         let spelling = spelling_of(alloc, specifier, &target)?;
         let text = name.text.copy(alloc)?;
         let need = need_of(alloc, referrer, asked, text)?;
-        put_need(alloc, &mut self.needs, &mut self.spellings, referrer, need, spelling)?;
+        put_need(
+            alloc,
+            &mut self.needs,
+            &mut self.spellings,
+            referrer,
+            need,
+            spelling,
+        )?;
         put_module(&mut self.modules, target, name)?;
         self.requests += 1;
         Ok(())

@@ -1,7 +1,6 @@
-use Rattle.std.proofs.Common.{◌≡◌, Ok, Err, refl, ap}
-use Rattle.trace_spec.specs.Modules.{Module}
+use Rattle.std.proofs.Common.{◌≡◌, Ok, Err, refl}
 use Rattle.trace_walk.specs.Shown.{before_of, done, answer_of}
-use Rattle.trace_walk.specs.declared.answerer.NodeAnswer.TheVariants.{Resolved, Refused, TooDeep}
+use Rattle.trace_walk.specs.declared.answerer.NodeAnswer.TheVariants.{Refused, TooDeep}
 use Rattle.trace_walk.proofs.FaultKinds.{handed_kind}
 use Rattle.trace_walk.proofs.FollowedRequests.{follow_refused, follow_failed, follow_led, given_refused, given_too_deep}
 use Rattle.trace_walk.proofs.following.follow.Goals as goal

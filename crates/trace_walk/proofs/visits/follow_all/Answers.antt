@@ -1,4 +1,4 @@
-use Rattle.std.proofs.Common.{◌≡◌, [], ◌∷◌, ◌+◌, length, drop, Ok, Some, refl, sym, ap, ◌∙◌, subst, arith}
+use Rattle.std.proofs.Common.{◌≡◌, [], ◌+◌, drop, Ok, Some, sym, ap, ◌∙◌, subst, arith}
 use Rattle.std.specs.Prelude.{slice_get, option_copied}
 use Rattle.trace_spec.specs.Walking.{followed}
 use Rattle.trace_spec.specs.Checks.{rules, follows}

@@ -1,4 +1,4 @@
-use Rattle.std.proofs.Common.{◌≤◌, ◌-◌, length, drop}
+use Rattle.std.proofs.Common.{◌-◌, length, drop}
 use Rattle.trace_spec.specs.Modules.{Module}
 use Rattle.trace_spec.specs.Walking.{Referrer, followed}
 use Rattle.trace_spec.specs.Checks.{rules}

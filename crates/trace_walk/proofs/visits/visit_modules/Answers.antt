@@ -1,4 +1,4 @@
-use Rattle.std.proofs.Common.{◌≡◌, length, Ok, sym, subst, arith}
+use Rattle.std.proofs.Common.{Ok, sym, subst, arith}
 use Rattle.std.specs.Map.{keys_of}
 use Rattle.trace_spec.specs.Walking.{a_module, visited, walked}
 use Rattle.trace_spec.specs.Checks.{rules}

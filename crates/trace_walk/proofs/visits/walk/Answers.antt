@@ -1,4 +1,4 @@
-use Rattle.std.proofs.Common.{◌≡◌, ◌≤◌, length, [], Ok, Err, ap, sym, subst, arith}
+use Rattle.std.proofs.Common.{Ok, Err, sym, subst, arith}
 use Rattle.std.proofs.lemmas.List.Elements.{All-nil}
 use Rattle.trace_spec.specs.Traces.{trace}
 use Rattle.trace_spec.specs.Modules.{Module}

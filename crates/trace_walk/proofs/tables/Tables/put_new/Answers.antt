@@ -1,5 +1,4 @@
-use Rattle.std.proofs.Common.{refl, sym, ap, subst, Some, ◌≡◌, ◌++◌, ◌∷◌, []}
-use Rattle.trace_spec.specs.Modules.{Module}
+use Rattle.std.proofs.Common.{refl, sym, subst, ◌≡◌, ◌++◌, ◌∷◌, []}
 use Rattle.trace_walk.specs.Walking.{IsNamed}
 use Rattle.trace_walk.proofs.TableLemmas.{memory_given, grows_by_one}
 use Rattle.trace_walk.proofs.tables.Tables.put_new.Goals as goal
