@@ -1,8 +1,9 @@
 -- Names that commas part are read back from their text.
-use Rattle.std.proofs.Common.{◌≡◌, ◌≢◌, ◌<◌, ◌==◌, ◌+◌, ℕ, true, List, [], ◌∷◌, ◌++◌, All, length, refl, sym, ap, subst, ◌∙◌, append-nil, arith}
+use Rattle.std.proofs.Common.{◌≡◌, ◌≢◌, ◌<◌, ◌==◌, ◌+◌, ℕ, Bool, true, false, List, [], ◌∷◌, ◌++◌, All, get_or, length, refl, sym, ap, subst, ◌∙◌, append-nil, arith}
 use Rattle.std.specs.List.{flat_map, slice_split}
+use Rattle.std.specs.Prelude.{◌↔◌, IsTrue, not}
 use Rattle.std.proofs.lemmas.List.{length-append}
-use Rattle.std.proofs.lemmas.List.Elements.{All-head, All-tail, All-weaker}
+use Rattle.std.proofs.lemmas.List.Elements.{All-head, All-tail, All-weaker, All-from_get_or}
 use Rattle.condition_match.proofs.ConditionLemmas.{cut_there, cut_nowhere, names_of}
 use Rattle.condition_match.specs.Conditions.{is_name_byte, names_in, IsCondition, AreConditions}
 use Rattle.project_file.specs.Names.{IsName, joined}
@@ -40,3 +41,11 @@ condition_name name is = record {
 
 pub conditions_names : (names : List (List ℕ)) → AreConditions names → All IsName names
 conditions_names names are = All-weaker IsCondition IsName condition_name names are.each
+
+pub name_if : (text : List ℕ) (found : Bool) → text ≢ [] → (found ≡ true → (k : ℕ) × (k < length text) × (get_or text k 0 ≡ 44)) × ((k : ℕ) → k < length text → get_or text k 0 ≡ 44 → found ≡ true) → IsTrue (not found) ↔ IsName text
+name_if text true some n = ((λ f. cc), (λ is. let at = n.0 refl in absurd (is.no_comma at.0 0 at.1 at.2)))
+name_if text false some n =
+    (
+      (λ f. record { nonempty = some; no_comma = All-from_get_or (λ b. b ≢ 44) text 0 (λ k below e. let wrong : false ≡ true = n.1 k below e in cc) }),
+      (λ is. refl),
+    )

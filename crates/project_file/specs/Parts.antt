@@ -1,5 +1,6 @@
 -- The parts of a project as its file has them, and what is made of them.
 --     IsWritten value written, NotWritten value      a JSON value has these parts, or none
+--     HasNoParts members                             an object has no such parts
 --     IsFilled base page conditions entries found    the project that parts written so give, or none
 --     HoldsStrings items Are found                   the list is these strings, and they are so; or it is no such list
 --     IsPage text                                    the text is the path of a page
@@ -22,15 +23,17 @@ has_written members written =
     HasParts members written.base.now written.page.now (items_of (values_of written.conditions.now))
     (items_of (values_of written.entries.now))
 
+abbrev pub HasNoParts : Members → Type 0
+HasNoParts members =
+    (base page : List ℕ) (conditions entries : Items) → HasParts members base page conditions entries → ⊥
+
 pub record IsWritten (value : Json) (written : Written) : Type 0 where
   pub members : Members
   pub object : value ≡ an_object members
   pub parts : has_written members written
 
 abbrev pub NotWritten : Json → Type 0
-NotWritten value =
-    (members : Members) (base page : List ℕ) (conditions entries : Items) → value ≡ an_object members
-    → HasParts members base page conditions entries → ⊥
+NotWritten value = (members : Members) → value ≡ an_object members → HasNoParts members
 
 pub record IsPage (text : List ℕ) : Type 0 where
   pub path : IsPath text

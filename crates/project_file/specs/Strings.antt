@@ -1,8 +1,10 @@
--- Strings in a list of values.
---     IsStringAt values i text      the value with this number is this string
---     NoStringAt values i           no string has this number
-use Rattle.std.specs.Prelude.{◌≡◌, ℕ, List, Some, slice_get}
-use Rattle.json_spec.specs.Value.{a_text}
+-- Strings and lists among the values of a list and of an object.
+--     IsStringAt values i text        the value with this number is this string
+--     NoStringAt values i             no string has this number
+--     string_found, list_found        the text or the list of a value that was found
+use Rattle.std.specs.Prelude.{◌≡◌, ℕ, List, Option, Some, None, slice_get}
+use Rattle.json_spec.specs.Value.{Json, a_null, a_bool, a_number, a_text, a_list, an_object, Items}
+use Rattle.node_spec.specs.Records.{text_in}
 use Rattle.ordered_json.specs.Shown.{json_of}
 use Rattle.ordered_json.specs.declared.value.Value.{Value}
 
@@ -13,3 +15,19 @@ pub record IsStringAt (values : List Value) (i : ℕ) (text : List ℕ) : Type 0
 
 abbrev pub NoStringAt : List Value → ℕ → Type 0
 NoStringAt values i = (text : List ℕ) → IsStringAt values i text → ⊥
+
+abbrev pub string_found : Option Json → Option (List ℕ)
+string_found None = None
+string_found (Some value) = text_in value
+
+abbrev pub list_in : Json → Option Items
+list_in a_null = None
+list_in (a_bool b) = None
+list_in (a_number number) = None
+list_in (a_text text) = None
+list_in (a_list items) = Some items
+list_in (an_object members) = None
+
+abbrev pub list_found : Option Json → Option Items
+list_found None = None
+list_found (Some value) = list_in value

@@ -1,11 +1,11 @@
-ghost use Rattle.std.specs.Prelude.{◌≡◌, ◌↔◌, ℕ, List, All, Some, IfOk, IsTrue, MatchOption, bytes_eq, slice_get, string_bytes};
+ghost use Rattle.std.specs.Prelude.{◌≡◌, ◌↔◌, All, IfOk, IsTrue, bytes_eq, slice_get, option_map, string_bytes};
 ghost use Rattle.std.specs.List.{IsDistinct};
-ghost use Rattle.json_spec.specs.Value.{a_text};
+ghost use Rattle.node_spec.specs.Records.{text_in};
 ghost use Rattle.ordered_json.specs.Lists.{values_of};
 ghost use Rattle.ordered_json.specs.Shown.{json_of, items_of};
 ghost use Rattle.project_file.specs.Parts.{HoldsStrings, IsAnyList};
 ghost use Rattle.project_file.specs.Names.{IsName, joined};
-ghost use Rattle.project_file.specs.Strings.{IsStringAt, NoStringAt};
+ghost use Rattle.project_file.specs.Strings.{list_in, string_found};
 
 use indexmap::IndexSet;
 use ordered_json::{Items, Value};
@@ -18,21 +18,41 @@ pub fn strings_in(alloc: Global, items: &Items) -> Result<Option<Listed<Text>>, 
 {
     let mut texts = Listed::new(alloc);
     for index in 0..items.len() {
-        let Some(text) = string_at(items, index) else {
-            return Ok(None);
-        };
-        texts.push(text.copy(alloc)?)?;
+        match string_at(items, index) {
+            None => return Ok(None),
+            Some(text) => texts.push(text.copy(alloc)?)?,
+        }
     }
     Ok(Some(texts))
 }
 
 // The string with this number in a list.
 fn string_at(items: &Items, index: usize) -> Option<&Text>
-    ensures { MatchOption result (NoStringAt (values_of items.now) index)
-        (λ text. IsStringAt (values_of items.now) index text.now) }
+    ensures { option_map (λ text. text.now) result
+        ≡ string_found (option_map json_of (slice_get (values_of items.now) index)) }
 {
     match items.at(index) {
-        Some(Value::Text(text)) => Some(text),
+        None => None,
+        Some(value) => string_of(value),
+    }
+}
+
+/// The text of a value that is a string.
+pub fn string_of(value: &Value) -> Option<&Text>
+    ensures { option_map (λ text. text.now) result ≡ text_in (json_of value.now) }
+{
+    match value {
+        Value::Text(text) => Some(text),
+        _ => None,
+    }
+}
+
+/// The list that a value is.
+pub fn list_of(value: &Value) -> Option<&Items>
+    ensures { option_map (λ items. items_of (values_of items.now)) result ≡ list_in (json_of value.now) }
+{
+    match value {
+        Value::List(items) => Some(items),
         _ => None,
     }
 }
@@ -43,7 +63,8 @@ pub fn are_distinct(alloc: Global, texts: &[Text]) -> Result<bool, Memory>
 {
     let mut seen = IndexSet::new(alloc);
     for text in texts {
-        if !seen.insert(text.copy(alloc)?)? {
+        let is_new = seen.insert(text.copy(alloc)?)?;
+        if !is_new {
             return Ok(false);
         }
     }
@@ -60,7 +81,10 @@ pub fn are_names(texts: &[Text]) -> bool
 fn is_name(text: &str) -> bool
     ensures { IsTrue result ↔ IsName text.now }
 {
-    !text.is_empty() && !text.contains(',')
+    match text {
+        "" => false,
+        _ => !text.contains(','),
+    }
 }
 
 /// The texts with a comma between each two.

@@ -1,15 +1,14 @@
-ghost use Rattle.std.specs.Prelude.{◌≡◌, List, ℕ, IfOk, MatchOption, option_map, bytes_eq};
+ghost use Rattle.std.specs.Prelude.{◌≡◌, IfOk, MatchOption, option_map, bytes_eq};
 ghost use Rattle.std.specs.List.{IsDistinct};
 ghost use Rattle.url_spec.specs.Bases.{base_of};
-ghost use Rattle.json_spec.specs.Value.{a_list, a_text, Items as Spec};
 ghost use Rattle.import_map_spec.specs.Parsing.{member};
 ghost use Rattle.ordered_json.specs.Lists.{pairs_of, values_of};
 ghost use Rattle.ordered_json.specs.Shown.{json_of, items_of, members_of};
 ghost use Rattle.condition_match.specs.Conditions.{AreConditions};
-ghost use Rattle.project_spec.specs.ProjectFiles.{HasParts};
-ghost use Rattle.project_file.specs.Parts.{HoldsStrings, IsFilled, IsPage, IsWritten, NotWritten, has_written};
+ghost use Rattle.project_file.specs.Strings.{list_found, string_found};
+ghost use Rattle.project_file.specs.Parts.{HasNoParts, HoldsStrings, IsFilled, IsPage, IsWritten, NotWritten, has_written};
 
-use crate::lists::{are_distinct, are_names, joined, strings_in};
+use crate::lists::{are_distinct, are_names, joined, list_of, string_of, strings_in};
 use crate::project::Project;
 use condition_match::{Conditions, ConditionsFault};
 use ordered_json::{Items, Members, Value};
@@ -38,10 +37,9 @@ pub fn written_in(value: &Value) -> Option<Written<'_>>
 }
 
 // The parts that an object has: four members, and no other.
+#[tactic(auto, using(crate::proofs::PartLemmas::kinds))]
 fn parts_of(members: &Members) -> Option<Written<'_>>
-    ensures { MatchOption result
-        ((base page : List ℕ) (conditions entries : Spec)
-        → HasParts (members_of (pairs_of members.now)) base page conditions entries → ⊥)
+    ensures { MatchOption result (HasNoParts (members_of (pairs_of members.now)))
         (has_written (members_of (pairs_of members.now))) }
 {
     if members.len() != 4 {
@@ -61,25 +59,26 @@ fn parts_of(members: &Members) -> Option<Written<'_>>
 
 // The string that is the value of this member.
 fn string_under<'a>(members: &'a Members, name: &str) -> Option<&'a str>
-    ensures { MatchOption result
-        ((text : List ℕ) → member name.now (members_of (pairs_of members.now)) ≡ Some (a_text text) → ⊥)
-        (λ text. member name.now (members_of (pairs_of members.now)) ≡ Some (a_text text.now)) }
+    ensures { option_map (λ text. text.now) result
+        ≡ string_found (member name.now (members_of (pairs_of members.now))) }
 {
     match member(members, name) {
-        Some(Value::Text(text)) => Some(text.as_str()),
-        _ => None,
+        None => None,
+        Some(value) => match string_of(value) {
+            None => None,
+            Some(text) => Some(text.as_str()),
+        },
     }
 }
 
 // The list that is the value of this member.
 fn list_under<'a>(members: &'a Members, name: &str) -> Option<&'a Items>
-    ensures { MatchOption result
-        ((items : Spec) → member name.now (members_of (pairs_of members.now)) ≡ Some (a_list items) → ⊥)
-        (λ items. member name.now (members_of (pairs_of members.now)) ≡ Some (a_list (items_of (values_of items.now)))) }
+    ensures { option_map (λ items. items_of (values_of items.now)) result
+        ≡ list_found (member name.now (members_of (pairs_of members.now))) }
 {
     match member(members, name) {
-        Some(Value::List(items)) => Some(items),
-        _ => None,
+        None => None,
+        Some(value) => list_of(value),
     }
 }
 
