@@ -6,7 +6,6 @@ use Rattle.std.specs.List.{IsDistinct}
 use Rattle.std.specs.Prelude.{bytes_eq}
 use Rattle.tree_spec.specs.declared.Look.{Look}
 use Rattle.tree_spec.specs.declared.Look.TheVariants as look
-use Rattle.tree_spec.specs.declared.LookFault.{LookFault}
 use Rattle.tree_spec.specs.declared.LookFault.TheVariants as look_fault
 use Rattle.tree_spec.specs.declared.LimitName.TheVariants.{File, Map}
 use Rattle.tree_spec.specs.Counts.{Rose}
@@ -25,7 +24,7 @@ use Rattle.generator_spec.specs.declared.Command.TheVariants.{Link, Inject}
 use Rattle.generator_spec.specs.declared.PageFault.{PageFault}
 use Rattle.generator_spec.specs.declared.PageFault.TheVariants.{Absent, TooLarge, KeepsMapsOut}
 use Rattle.generator_spec.specs.declared.Refusal.TheVariants.{Page}
-use Rattle.generator_spec.specs.Commands.{IsPage, RefusesPage, RefusesPage as refuses_page, Opens, Opens as opens, Refuses, Refuses as refuses, IsOfPage, IsRefusalOf, IsRefusalOf as kind, map_path, Writes, Writes as writes}
+use Rattle.generator_spec.specs.Commands.{IsPage, RefusesPage, RefusesPage as refuses_page, Opens, Opens as opens, Refuses, Refuses as refuses, IsOfPage, IsRefusalOf as kind, map_path, Writes, Writes as writes}
 use Rattle.generation.specs.declared.generated.Generated.{Generated}
 use Rattle.generation.specs.declared.stop.Stop.{Stop}
 use Rattle.generation.specs.declared.stop.Stop.TheVariants.{Refused, ReadFault, Memory}
