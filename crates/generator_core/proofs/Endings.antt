@@ -1,7 +1,6 @@
 -- How a run ends.
-use Rattle.std.proofs.Common.{◌≡◌, ◌≢◌, ◌≤◌, ◌⊎◌, ⊎_elim, ℕ, List, [], ◌++◌, length, take, Option, Some, None, Ok, Err, IfSome, Result, inl, inr, refl, sym, ap, ◌∙◌, subst, arith}
+use Rattle.std.proofs.Common.{◌≡◌, ◌≢◌, ◌≤◌, ℕ, List, [], ◌++◌, Option, Some, None, IfSome, inl, inr, refl, sym, ap, ◌∙◌, subst, arith}
 use Rattle.std.specs.Prelude.{◌+◌, option_map}
-use Rattle.std.specs.FinMap.{get}
 use Rattle.tree_spec.specs.declared.Entry.TheVariants.{Stored}
 use Rattle.tree_spec.specs.Counts.{Rose}
 use Rattle.tree_spec.specs.States.{FolderState, SinkState}
@@ -24,7 +23,7 @@ use Rattle.generator_spec.specs.Words.{IsConfigOf, RefusesWords}
 use Rattle.generator_spec.specs.Lines.{page_status, status_of, line_of, counts_line, memory_line, read_fault_line}
 use Rattle.generator_spec.specs.Outcome.{Outcome}
 use Rattle.generator_spec.specs.Outcome.Outcome.{words_refused, refused, done}
-use Rattle.generator_spec.specs.Ending.{IsFileWritten, IsGenerated, IsCarried, Linked, IsCounted, Shaped, Says, Ends, EndsAs, TellsRefusal}
+use Rattle.generator_spec.specs.Ending.{IsFileWritten, IsGenerated, IsCarried, Linked, IsCounted, Says, Ends, EndsAs, TellsRefusal}
 use Rattle.generator_spec.specs.Ending.{Shaped as shaped, Says as says, Ends as ends}
 use Rattle.soundness.proofs.Sound.{sound, one_map_in_page}
 use Rattle.generation.specs.declared.stop.Stop.{Stop}

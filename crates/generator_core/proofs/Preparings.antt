@@ -1,13 +1,16 @@
 -- How a command comes to its file, step by step.
-use Rattle.std.proofs.Common.{◌≡◌, ◌≤◌, ℕ, List, [], length, Option, Some, None, Ok, Err, IfSome, Result, refl, sym, ap, ◌∙◌, subst, arith}
+use Rattle.std.proofs.Common.{◌≡◌, ◌≤◌, ◌⊎◌, ℕ, Bool, true, false, List, [], ◌∷◌, ◌++◌, length, Option, Some, None, Ok, Err, IfSome, Result, refl, sym, ap, ◌∙◌, subst, inl, inr, arith, append_assoc}
+use Rattle.std.proofs.lemmas.List.{append-nil}
 use Rattle.std.specs.FinMap.{get}
+use Rattle.std.specs.List.{IsDistinct}
+use Rattle.std.specs.Prelude.{bytes_eq}
 use Rattle.tree_spec.specs.declared.Look.{Look}
 use Rattle.tree_spec.specs.declared.Look.TheVariants as look
-use Rattle.tree_spec.specs.declared.LookFault.{LookFault}
 use Rattle.tree_spec.specs.declared.LookFault.TheVariants as look_fault
 use Rattle.tree_spec.specs.declared.LimitName.TheVariants.{File, Map}
 use Rattle.tree_spec.specs.Counts.{Rose}
 use Rattle.tree_spec.specs.Limits.{limit_number}
+use Rattle.tree_spec.specs.Looks.{asked_after}
 use Rattle.tree_spec.specs.States.{FolderState, OnlyLooks, IsLooked}
 use Rattle.tree_spec.specs.Trees.{Tree}
 use Rattle.page_spec.specs.declared.kinds.InjectFault.{InjectFault}
@@ -21,13 +24,13 @@ use Rattle.generator_spec.specs.declared.Command.TheVariants.{Link, Inject}
 use Rattle.generator_spec.specs.declared.PageFault.{PageFault}
 use Rattle.generator_spec.specs.declared.PageFault.TheVariants.{Absent, TooLarge, KeepsMapsOut}
 use Rattle.generator_spec.specs.declared.Refusal.TheVariants.{Page}
-use Rattle.generator_spec.specs.Commands.{IsPage, RefusesPage, RefusesPage as refuses_page, Opens, Opens as opens, Refuses, Refuses as refuses, IsOfPage, IsRefusalOf, IsRefusalOf as kind, map_path, Writes, Writes as writes}
+use Rattle.generator_spec.specs.Commands.{IsPage, RefusesPage, RefusesPage as refuses_page, Opens, Opens as opens, Refuses, Refuses as refuses, IsOfPage, IsRefusalOf as kind, map_path, Writes, Writes as writes}
 use Rattle.generation.specs.declared.generated.Generated.{Generated}
 use Rattle.generation.specs.declared.stop.Stop.{Stop}
 use Rattle.generation.specs.declared.stop.Stop.TheVariants.{Refused, ReadFault, Memory}
-use Rattle.generation.specs.Generating.{Generating, IsGenerated}
+use Rattle.generation.specs.Generating.{Generating, IsGenerated, AsksNoPathTwice}
 use Rattle.generator_core.specs.declared.prepared.Prepared.{Prepared}
-use Rattle.generator_core.specs.Preparing.{EndsBefore, IsPageFound, FindsPage, HasCounts, IsMapFile, IsPageFile, IsPrepared, IsReady, Prepares}
+use Rattle.generator_core.specs.Preparing.{AsksPage, AsksFew, EndsBefore, IsPageFound, FindsPage, HasCounts, IsMapFile, IsPageFile, IsPrepared, IsReady, Prepares}
 
 pub if_some : {A : Type 0} {P Q : A → Type 0} (told : Option A) → ((x : A) → P x → Q x) → IfSome told P → IfSome told Q
 if_some None f h = h
@@ -64,6 +67,41 @@ looks_as before after back on looks = record {
   quiet = λ none. looks.quiet (λ p. none (on p));
 }
 
+-- ---- what is asked of the folder
+
+none_twice : IsDistinct bytes_eq []
+unfolding IsDistinct
+none_twice = tt
+
+asks_few : (page : List ℕ) (told : Option (List (List ℕ))) (after : FolderState) → IfSome told (λ old. AsksNoPathTwice old after) → IfSome told (λ old. AsksFew page old after)
+asks_few page told after asks = if_some told (λ old is. record { first = []; is_page = inl refl; more = is.more; asked = is.asked; once = is.once }) asks
+
+page_asked : (page path : List ℕ) (b : Bool) (told : Option (List (List ℕ))) (after : FolderState) → path ≡ page → after.asked ≡ asked_after b path told → IfSome told (λ old. AsksPage page old after)
+page_asked page path b None after same is = tt
+page_asked page path true (Some old) after same is = record { first = page ∷ []; is_page = inr refl; asked = is ∙ ap (λ p. Some (old ++ p ∷ [])) same }
+page_asked page path false (Some old) after same is = record { first = []; is_page = inl refl; asked = is ∙ ap Some (sym (append-nil old)) }
+
+page_alone : (page : List ℕ) (told : Option (List (List ℕ))) (after : FolderState) → IfSome told (λ old. AsksPage page old after) → IfSome told (λ old. AsksFew page old after)
+page_alone page told after asks = if_some told (λ old is. record { first = is.first; is_page = is.is_page; more = []; asked = is.asked ∙ ap (λ first. Some (old ++ first)) (sym (append-nil is.first)); once = none_twice }) asks
+
+page_then : (page : List ℕ) (told : Option (List (List ℕ))) (middle after : FolderState) → IfSome told (λ old. AsksPage page old middle) → IfSome middle.asked (λ old. AsksNoPathTwice old after) → IfSome told (λ old. AsksFew page old after)
+page_then page None middle after first later = tt
+page_then page (Some old) middle after first later =
+    let more : AsksNoPathTwice (old ++ first.first) after = subst (λ told. IfSome told (λ before. AsksNoPathTwice before after)) first.asked later in
+    record { first = first.first; is_page = first.is_page; more = more.more; asked = more.asked ∙ ap Some (append_assoc old first.first more.more); once = more.once }
+
+-- a write asks for nothing
+pub still_few : (page other : List ℕ) (told : Option (List (List ℕ))) (middle after : FolderState) → page ≡ other → after.asked ≡ middle.asked → IfSome told (λ old. AsksFew page old middle) → IfSome told (λ old. AsksFew other old after)
+still_few page other told middle after same still asks =
+    if_some told (λ old is. record { first = is.first; is_page = subst (λ p. (is.first ≡ []) ⊎ (is.first ≡ p ∷ [])) same is.is_page; more = is.more; asked = still ∙ is.asked; once = is.once }) asks
+
+pub asks_nothing : (page : List ℕ) (state : FolderState) → IfSome state.asked (λ old. AsksFew page old state)
+asks_nothing page state = by state.asked refl
+  where
+    by : (told : Option (List (List ℕ))) → state.asked ≡ told → IfSome told (λ old. AsksFew page old state)
+    by None e = tt
+    by (Some old) e = record { first = []; is_page = inl refl; more = []; asked = e ∙ ap Some (sym (append-nil old)); once = none_twice }
+
 -- ---- generation
 
 module _ (config : Config) (before after : FolderState) where
@@ -84,10 +122,10 @@ module _ (config : Config) (before after : FolderState) where
     stopped_as Memory is = record { refused = tt; kind = tt; looks = looks_as before after (λ e. absurd (cc)) (λ e. absurd (cc)) is.looks }
 
     pub stopped : (stop : Stop) → Generating config before (Err stop) after → Prepares command config before (Err stop) after
-    stopped stop is = record { ready = tt; stopped = stopped_as stop is }
+    stopped stop is = record { ready = tt; asked = asks_few config.page before.asked after is.asked; stopped = stopped_as stop is }
 
   pub lacks : (command : Command) (generated : Generated) → Generating config before (Ok generated) after → Prepares command config before (Err Memory) after
-  lacks command generated is = record { ready = tt; stopped = lacks_memory command (generated_looks generated is) }
+  lacks command generated is = record { ready = tt; asked = asks_few config.page before.asked after is.asked; stopped = lacks_memory command (generated_looks generated is) }
 
   prepared_of : (command : Command) (tree : Tree) (generated : Generated) (prepared : Prepared) → HasCounts generated prepared → Writes tree config generated.map.items command prepared.path prepared.file.items → IsGenerated tree config generated → IsPrepared command config tree prepared
   prepared_of command tree generated prepared counts wrote is = record {
@@ -108,6 +146,7 @@ module _ (config : Config) (before after : FolderState) where
       is_prepared = if_two before.holds (λ tree writes_so is_generated. prepared_of command tree generated prepared counts writes_so is_generated) wrote is.generated;
       looks = generated_looks generated is;
     };
+    asked = asks_few config.page before.asked after is.asked;
     stopped = tt;
   }
 
@@ -149,16 +188,17 @@ module _ (config : Config) (before middle after : FolderState) where
   earlier_ready : (command : Command) (prepared : Prepared) → OnlyLooks before middle ⊥ → IsReady command config middle after prepared → IsReady command config before after prepared
   earlier_ready command prepared looks is = record { is_prepared = subst (λ held. IfSome held (λ tree. IsPrepared command config tree prepared)) looks.tree is.is_prepared; looks = then_looks before middle after looks is.looks }
 
-  earlier : (command : Command) (result : Result Prepared Stop) → OnlyLooks before middle ⊥ → Prepares command config middle result after → Prepares command config before result after
-  earlier command (Ok prepared) looks is = record { ready = earlier_ready command prepared looks is.ready; stopped = tt }
-  earlier command (Err stop) looks is = record { ready = tt; stopped = earlier_end command stop looks is.stopped }
+  module _ (command : Command) (looks : OnlyLooks before middle ⊥) (asked : IfSome before.asked (λ old. AsksPage config.page old middle)) (later : IfSome middle.asked (λ old. AsksNoPathTwice old after)) where
+    earlier : (result : Result Prepared Stop) → Prepares command config middle result after → Prepares command config before result after
+    earlier (Ok prepared) is = record { ready = earlier_ready command prepared looks is.ready; asked = page_then config.page before.asked middle after asked later; stopped = tt }
+    earlier (Err stop) is = record { ready = tt; asked = page_then config.page before.asked middle after asked later; stopped = earlier_end command stop looks is.stopped }
 
   -- the page is where it was
   page_still : (page : List ℕ) → IsPageFound config before middle page → IfSome middle.holds (λ tree. IsPage tree config page)
   page_still page is = subst (λ held. IfSome held (λ tree. IsPage tree config page)) (sym is.looks.tree) is.is_page
 
-  pub page_prepared : (page : List ℕ) (result : Result Prepared Stop) → IsPageFound config before middle page → (IfSome middle.holds (λ tree. IsPage tree config page) → Prepares Inject config middle result after) → Prepares Inject config before result after
-  page_prepared page result is prepares = earlier Inject result is.looks (prepares (page_still page is))
+  pub page_prepared : (page : List ℕ) (result : Result Prepared Stop) → FindsPage config before (Ok page) middle → IfSome middle.asked (λ old. AsksNoPathTwice old after) → (IfSome middle.holds (λ tree. IsPage tree config page) → Prepares Inject config middle result after) → Prepares Inject config before result after
+  page_prepared page result is asks prepares = earlier Inject is.found.looks is.asked asks result (prepares (page_still page is.found))
 
 -- ---- the look at the page
 
@@ -170,7 +210,7 @@ no_memory bytes inject.Memory keeps = takes_or_keeps_out.no_memory [] bytes (kee
 
 module _ (config : Config) (before after : FolderState) where
   pub page_refused : (stop : Stop) → FindsPage config before (Err stop) after → Prepares Inject config before (Err stop) after
-  page_refused stop is = record { ready = tt; stopped = is.stopped }
+  page_refused stop is = record { ready = tt; asked = page_alone config.page before.asked after is.asked; stopped = is.stopped }
 
   page_ends : (why : PageFault) → OnlyLooks before after ⊥ → IfSome before.holds (λ tree. RefusesPage tree config why) → IsOfPage why → EndsBefore Inject config before after (Refused (Page why))
   page_ends why looks why_not of = record {
@@ -179,12 +219,13 @@ module _ (config : Config) (before after : FolderState) where
     looks = looks_as before after (λ e. absurd (cc)) (λ e. absurd e) looks;
   }
 
-  pub page_keeps_out : (page : List ℕ) (why : InjectFault) (stop : Stop) → IsPageFound config before after page → injection.KeepsMapsOut page why → stop ≡ Refused (Page (KeepsMapsOut why)) → Prepares Inject config before (Err stop) after
+  pub page_keeps_out : (page : List ℕ) (why : InjectFault) (stop : Stop) → FindsPage config before (Ok page) after → injection.KeepsMapsOut page why → stop ≡ Refused (Page (KeepsMapsOut why)) → Prepares Inject config before (Err stop) after
   page_keeps_out page why stop is keeps same =
       subst (λ s. Prepares Inject config before (Err s) after) (sym same)
       (record {
         ready = tt;
-        stopped = page_ends (KeepsMapsOut why) is.looks (if_some before.holds (λ tree stands. refuses_page.keeps_out page why stands keeps) is.is_page) (no_memory page why keeps);
+        asked = page_alone config.page before.asked after is.asked;
+        stopped = page_ends (KeepsMapsOut why) is.found.looks (if_some before.holds (λ tree stands. refuses_page.keeps_out page why stands keeps) is.found.is_page) (no_memory page why keeps);
       })
 
 module _ (config : Config) (path : List ℕ) (is_page : path ≡ config.page) (before after : FolderState) where
@@ -192,7 +233,7 @@ module _ (config : Config) (path : List ℕ) (is_page : path ≡ config.page) (b
   looked found is = record { tree = is.tree; writes = is.writes; later = is.later; cause = λ e. absurd e; quiet = λ e. is.quiet (λ same. cc) }
 
   no_page : (found : Look) (why : PageFault) → IsLooked before path (limit_number File) (Ok found) after → IfSome before.holds (λ tree. RefusesPage tree config why) → IsOfPage why → FindsPage config before (Err (Refused (Page why))) after
-  no_page found why is why_not of = record { found = tt; stopped = page_ends config before after why (looked found is) why_not of }
+  no_page found why is why_not of = record { found = tt; asked = page_asked config.page path true before.asked after is_page is.asked; stopped = page_ends config before after why (looked found is) why_not of }
 
   pub page_absent : IsLooked before path (limit_number File) (Ok look.Absent) after → FindsPage config before (Err (Refused (Page Absent))) after
   page_absent is = no_page look.Absent Absent is (if_some before.holds (λ tree e. refuses_page.absent (ap (get tree) (sym is_page) ∙ e)) is.entry) tt
@@ -207,11 +248,12 @@ module _ (config : Config) (path : List ℕ) (is_page : path ≡ config.page) (b
   page_stands bytes is = if_some before.holds (λ tree e. record { stands = ap (get tree) (sym is_page) ∙ e.0; small = e.1 }) is.entry
 
   pub page_found : (bytes : List ℕ) → IsLooked before path (limit_number File) (Ok (look.File bytes)) after → FindsPage config before (Ok bytes) after
-  page_found bytes is = record { found = record { is_page = page_stands bytes is; looks = looked (look.File bytes) is }; stopped = tt }
+  page_found bytes is = record { found = record { is_page = page_stands bytes is; looks = looked (look.File bytes) is }; asked = page_asked config.page path true before.asked after is_page is.asked; stopped = tt }
 
   pub page_fault : IsLooked before path (limit_number File) (Err look_fault.Failed) after → FindsPage config before (Err ReadFault) after
   page_fault is = record {
     found = tt;
+    asked = page_asked config.page path false before.asked after is_page is.asked;
     stopped = record {
       refused = tt;
       kind = tt;
@@ -222,6 +264,7 @@ module _ (config : Config) (path : List ℕ) (is_page : path ≡ config.page) (b
   pub page_memory : IsLooked before path (limit_number File) (Err look_fault.Memory) after → FindsPage config before (Err Memory) after
   page_memory is = record {
     found = tt;
+    asked = page_asked config.page path false before.asked after is_page is.asked;
     stopped = record {
       refused = tt;
       kind = tt;

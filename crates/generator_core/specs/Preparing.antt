@@ -1,10 +1,13 @@
 -- How a command comes to what it writes.
+--     AsksPage page old after      the folder was asked for the page, or for nothing
+--     AsksFew page old after      and then for further paths, for none of them twice
 --     FindsPage config before result after      the page is read, or it is told why not
 --     IsMapFile generated prepared      the file is the map that was generated
 --     IsPageFile config page generated prepared      the file is the page with that map
 --     Prepares command config before result after      the command has its file, or it is told why not
-use Rattle.std.specs.Prelude.{◌≡◌, ◌≤◌, ℕ, List, length, Result, Ok, IfOk, IfErr, IfSome}
+use Rattle.std.specs.Prelude.{◌≡◌, ◌≤◌, ◌⊎◌, ◌++◌, [], ◌∷◌, ℕ, List, length, bytes_eq, Some, Result, Ok, IfOk, IfErr, IfSome}
 use Rattle.std.specs.FinMap.{get}
+use Rattle.std.specs.List.{IsDistinct}
 use Rattle.tree_spec.specs.declared.LimitName.TheVariants.{Map}
 use Rattle.tree_spec.specs.Limits.{limit_number}
 use Rattle.tree_spec.specs.States.{FolderState, OnlyLooks}
@@ -26,6 +29,23 @@ use Rattle.generation.specs.declared.stop.Stop.TheVariants.{ReadFault}
 use Rattle.generation.specs.Generating.{IfRefused}
 use Rattle.generator_core.specs.declared.prepared.Prepared.{Prepared}
 
+-- ---- what is asked of the folder
+
+pub record AsksPage (page : List ℕ) (old : List (List ℕ)) (after : FolderState) : Type 0 where
+  pub first : List (List ℕ)
+  pub is_page : (first ≡ []) ⊎ (first ≡ page ∷ [])
+  pub asked : after.asked ≡ Some (old ++ first)
+
+-- own: the page may be among the further paths too
+pub record AsksFew (page : List ℕ) (old : List (List ℕ)) (after : FolderState) : Type 0 where
+  pub first : List (List ℕ)
+  pub is_page : (first ≡ []) ⊎ (first ≡ page ∷ [])
+  pub more : List (List ℕ)
+  pub asked : after.asked ≡ Some (old ++ (first ++ more))
+  pub once : IsDistinct bytes_eq more
+
+-- ---- before the write
+
 -- a told tree refuses the command so; and whatever is told, the command can be refused so. A failed look was counted
 pub record EndsBefore (command : Command) (config : Config) (before after : FolderState) (stop : Stop) : Type 0 where
   pub refused : IfRefused (λ why. IfSome before.holds (λ tree. Refuses tree config command why)) stop
@@ -41,6 +61,7 @@ pub record IsPageFound (config : Config) (before after : FolderState) (page : Li
 pub record FindsPage (config : Config) (before : FolderState) (result : Result (List ℕ) Stop)
     (after : FolderState) : Type 0 where
   pub found : IfOk result (λ page. IsPageFound config before after page)
+  pub asked : IfSome before.asked (λ old. AsksPage config.page old after)
   pub stopped : IfErr result (λ stop. EndsBefore Inject config before after stop)
 
 -- ---- the file
@@ -79,4 +100,5 @@ pub record IsReady (command : Command) (config : Config) (before after : FolderS
 pub record Prepares (command : Command) (config : Config) (before : FolderState) (result : Result Prepared Stop)
     (after : FolderState) : Type 0 where
   pub ready : IfOk result (λ prepared. IsReady command config before after prepared)
+  pub asked : IfSome before.asked (λ old. AsksFew config.page old after)
   pub stopped : IfErr result (λ stop. EndsBefore command config before after stop)

@@ -41,6 +41,7 @@ pub record Finishes (prepared : Prepared) (before after : FolderState) (out out_
       (counts_line prepared.modules prepared.requests prepared.mappings) status line
   pub ends : Ends status line out out_after result
   pub untold : before.holds ≡ None → after.holds ≡ None
+  pub asked : after.asked ≡ before.asked
   pub looks : after.look_faults ≡ before.look_faults
   pub writes : before.write_faults ≤ after.write_faults
   pub output : out.faults ≤ out_after.faults

@@ -1,8 +1,6 @@
 -- The laws of words, generation, outcomes and ends. Each is the contract of a function of this crate.
-use Rattle.std.specs.Prelude.{◌≡◌, ◌≤◌, ◌⊎◌, ℕ, List, length, Ok, Err}
+use Rattle.std.specs.Prelude.{◌≡◌, ◌⊎◌, ℕ, List, Ok, Err}
 use Rattle.std.specs.FinMap.{get}
-use Rattle.tree_spec.specs.declared.LimitName.TheVariants.{Map}
-use Rattle.tree_spec.specs.Limits.{limit_number}
 use Rattle.tree_spec.specs.States.{FolderState, SinkState}
 use Rattle.tree_spec.specs.Trees.{Tree, IsTree}
 use Rattle.import_map_spec.specs.ParsedMap.{ParsedMap}

@@ -1,4 +1,3 @@
-pub mod Readings
 pub mod Suffixes
 pub mod Tails
 pub mod TokenLaws
@@ -9,4 +8,3 @@ pub mod FormLaws
 pub mod OutlineLaws
 pub mod OutlineReadings
 pub mod examples
-pub mod PlainReadings

@@ -5,7 +5,6 @@ use Rattle.module_spec.specs.declared.token.Token.{Token}
 use Rattle.module_spec.specs.declared.token.LexFault.{LexFault}
 use Rattle.module_spec.specs.declared.token.Bracket.TheVariants.{Curly}
 use Rattle.module_spec.specs.declared.request.ModuleFault.{ModuleFault}
-use Rattle.module_spec.specs.PlainForm.{IsPlain}
 use Rattle.module_spec.specs.Sorts.{opens}
 use Rattle.module_spec.specs.Tokens.{Lexeme, Reaches, ReadsTokens, depth}
 use Rattle.module_spec.specs.Spans.{Stands}
@@ -16,10 +15,6 @@ use Rattle.module_spec.specs.Forms.Form.{wrong, alone, asks}
 use Rattle.module_spec.specs.Declarations.{ImportDeclaration, ExportFrom, ExportAlone, Begins, Asks}
 use Rattle.module_spec.specs.Outlines.{Outline, ReadsOutline}
 use Rattle.module_spec.specs.OutlineReading.{read_outline}
-
--- a text of the plain form asks for one list of specifiers
-abbrev pub OneReading : Type 0
-OneReading = (text : List ℕ) (some other : List (List ℕ)) → IsPlain text some → IsPlain text other → some ≡ other
 
 -- a text has one list of tokens or one first fault, and not both
 abbrev pub OneTokens : Type 0

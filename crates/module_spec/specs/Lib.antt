@@ -1,4 +1,3 @@
-pub mod PlainForm
 pub mod Characters
 pub mod Spellings
 pub mod Sorts

@@ -3,19 +3,13 @@
 #![tactic(auto)]
 
 ghost use Rattle.module_spec.specs.Examples.{ManyExamples, OutlineExamples, TokenExamples, ReadingExamples, ValueExamples};
-ghost use Rattle.module_spec.specs.Laws.{CurlyPartners, DepthCounts, FormsAreProductions, OneOutline, OnePartner, OneReach, OneReading, OneTokens, OutlineIsRead, TokensStand};
+ghost use Rattle.module_spec.specs.Laws.{CurlyPartners, DepthCounts, FormsAreProductions, OneOutline, OnePartner, OneReach, OneTokens, OutlineIsRead, TokensStand};
 
 mod request;
 mod token;
 
 pub use request::{ModuleFault, Request};
 pub use token::{Bracket, Kind, LexFault, LexKind, Mark, Sort, Token, Word};
-
-/// A text of the plain form is read in one way at most.
-#[tactic(auto, using(crate::proofs::Readings::one_reading))]
-pub fn one_reading()
-    ensures { OneReading }
-{}
 
 /// A text has at most one list of tokens or one first fault, and not both.
 #[tactic(auto, using(crate::proofs::TokenLaws::one_tokens))]

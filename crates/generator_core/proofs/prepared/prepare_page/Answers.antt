@@ -1,12 +1,29 @@
-use Rattle.std.proofs.Common.{subst}
-use Rattle.page_spec.specs.Injection.{KeepsMapsOut}
+use Rattle.std.proofs.Common.{sym, ◌∙◌, subst, IfSome}
+use Rattle.page_spec.specs.Injection.{KeepsMapsOut, TakesMaps}
+use Rattle.generator_spec.specs.Commands.{IsPage}
 use Rattle.generator_core.specs.Preparing.{FindsPage}
-use Rattle.generator_core.proofs.Preparings.{page_keeps_out}
+use Rattle.generator_core.proofs.Preparings.{page_refused, page_keeps_out, page_prepared}
 use Rattle.generator_core.proofs.prepared.prepare_page.Goals as goal
+
+pub returns-in-Err-clause-prepares : goal.returns-in-Err-clause-prepares
+returns-in-Err-clause-prepares g c =
+    let before = g.F.Folder.state c.args.folder.now in
+    let after = g.F.Folder.state c.page_of.new.folder in
+    page_refused c.args.config.now before after c.in-Err.stop (subst (λ r. FindsPage c.args.config.now before r after) c.in-Err.is c.page_of.ensures)
 
 pub returns-in-Err-site_of-clause-prepares : goal.returns-in-Err-site_of-clause-prepares
 returns-in-Err-site_of-clause-prepares g c =
     let before = g.F.Folder.state c.args.folder.now in
     let after = g.F.Folder.state c.page_of.new.folder in
-    page_keeps_out c.args.config.now before after c.in-Ok.page c.in-Err-site_of.fault c.without_page.result (subst (λ r. FindsPage c.args.config.now before r after) c.in-Ok.is c.page_of.ensures).found
+    page_keeps_out c.args.config.now before after c.in-Ok.page c.in-Err-site_of.fault c.without_page.result (subst (λ r. FindsPage c.args.config.now before r after) c.in-Ok.is c.page_of.ensures)
     (subst (λ b. KeepsMapsOut b c.in-Err-site_of.fault) c.as_slice.ensures c.in-Err-site_of.ensures.fault) c.without_page.ensures
+
+pub returns-clause-prepares : goal.returns-clause-prepares
+returns-clause-prepares g c =
+    let before = g.F.Folder.state c.args.folder.now in
+    let middle = g.F.Folder.state c.page_of.new.folder in
+    let after = g.F.Folder.state c.prepare_at.new.folder in
+    let same = c.in-Ok-site_of.ensures.page in
+    page_prepared c.args.config.now before middle after c.in-Ok.page c.prepare_at.result (subst (λ r. FindsPage c.args.config.now before r middle) c.in-Ok.is c.page_of.ensures) c.prepare_at.ensures.asked
+    (λ stands. c.prepare_at.ensures.prepares (subst TakesMaps (sym same) c.in-Ok-site_of.ensures.takes)
+    (subst (λ b. IfSome middle.holds (λ tree. IsPage tree c.args.config.now b)) (sym (same ∙ c.as_slice.ensures)) stands))

@@ -1,7 +1,8 @@
-use Rattle.std.proofs.Common.{subst}
+use Rattle.std.proofs.Common.{refl, subst}
 use Rattle.generator_spec.specs.declared.Command.TheVariants.{Inject}
 use Rattle.generator_core.specs.Preparing.{Prepares}
 use Rattle.generator_core.proofs.Endings.{stop_end, write_end, stop_not_done, spends_few}
+use Rattle.generator_core.proofs.Preparings.{still_few}
 use Rattle.generator_core.proofs.running.inject.Goals as goal
 
 pub returns-in-Ok-clause-end : goal.returns-in-Ok-clause-end
@@ -15,3 +16,6 @@ returns-in-Err-clause-end g c = λ words is_config. stop_end words Inject c.args
 
 pub returns-in-Err-clause-steps : goal.returns-in-Err-clause-steps
 returns-in-Err-clause-steps g c = λ zero. absurd (stop_not_done c.in-Err.stop _ _ _ c.close.ensures.tells zero)
+
+pub returns-in-Ok-clause-asked : goal.returns-in-Ok-clause-asked
+returns-in-Ok-clause-asked g c = still_few c.args.config.now.page _ _ (g.F.Folder.state c.prepare_page.new.folder) _ refl c.finish.ensures.asked c.prepare_page.ensures.prepares.asked
