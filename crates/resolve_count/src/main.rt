@@ -45,7 +45,9 @@ fn round<F: Folder, L: Ledger>(
         let Ok(parent) = Path::parse(alloc, parent) else {
             continue;
         };
-        match resolve(alloc, known, folder, &mut trail, &parent, specifier, conditions, steps) {
+        match resolve(
+            alloc, known, folder, &mut trail, &parent, specifier, conditions, steps,
+        ) {
             Ok(_) => counts.modules = counts.modules.saturating_add(1),
             Err(NodeFault::Refused(_)) => counts.refusals = counts.refusals.saturating_add(1),
             Err(fault) => return Err(fault),

@@ -3,3 +3,4 @@ pub mod Leading
 pub mod Kept
 pub mod Reaching
 pub mod Sound
+pub mod Differing

@@ -89,7 +89,7 @@ pub maps_serve : MapsServe
 maps_serve tree config all m traces page_is_file no_capture of_needs no_digests =
     text_serves tree config all traces page_is_file m no_capture of_needs no_digests (map_text m) refl
 
-by_file : (need : Need) → NamesFiles need → IsAskedByFile need
+pub by_file : (need : Need) → NamesFiles need → IsAskedByFile need
 by_file need names = record { referrer = names.referrer; is_file = names.referrer_is_file }
 
 module _ (tree : Tree) (config : Config) (all : Gathered) (traces : traced (get tree) config ≡ Ok all) (page_is_file : PageIsFile config) (m : ParsedMap) (agreed : IsAgreedLayout all.needs m) where

@@ -2,15 +2,17 @@
 --     MapsServe      a map that captures no need, and has no mappings but theirs, serves
 --     MapsReadBack      the text of such a map is read as that map
 --     AgreedMapsServe      the agreed layout of the trace's needs serves
+--     NothingDiffers      checked over the same tree, its text has no difference
 --     Soundness      what is generated serves
 --     MapsArePlain      what is generated holds no markup
 --     OneMapInPage      a page into which it is put has it as its one map
 use Rattle.std.specs.FinMap.{get, empty}
-use Rattle.std.specs.Prelude.{◌≡◌, ℕ, List, Ok, Contains}
+use Rattle.std.specs.Prelude.{◌≡◌, ℕ, List, [], Some, Ok, Contains}
 use Rattle.tree_spec.specs.Trees.{Tree}
 use Rattle.url_spec.specs.Parsing.{IsUrl}
 use Rattle.import_map_spec.specs.ParsedMap.{ParsedMap}
 use Rattle.import_map_spec.specs.Parsing.{ParsesMap}
+use Rattle.check_spec.specs.Differences.{differences}
 use Rattle.layout_spec.specs.AgreedLayout.{IsAgreedLayout}
 use Rattle.layout_spec.specs.Needs.{NamesFiles}
 use Rattle.layout_spec.specs.PrintedMap.{map_text}
@@ -20,8 +22,9 @@ use Rattle.page_spec.specs.ImportMaps.{IsOneMap}
 use Rattle.page_spec.specs.Injection.{Injection}
 use Rattle.page_spec.specs.Laws.{IsPlainMap}
 use Rattle.trace_spec.specs.Checks.{Gathered}
-use Rattle.trace_spec.specs.Modules.{Config}
+use Rattle.trace_spec.specs.Modules.{Config, web_name}
 use Rattle.trace_spec.specs.Traces.{traced}
+use Rattle.trace_spec.specs.Walking.{the_page}
 use Rattle.generator_spec.specs.Generation.{PageIsFile, Generates}
 use Rattle.generator_spec.specs.Serves.{Serves}
 
@@ -45,6 +48,14 @@ abbrev pub AgreedMapsServe : Type 0
 AgreedMapsServe =
     (tree : Tree) (config : Config) (all : Gathered) (m : ParsedMap) → traced (get tree) config ≡ Ok all
     → PageIsFile config → IsAgreedLayout all.needs m → Serves tree config (map_text m)
+
+-- own law: what the text of that layout is read as, against the page's URL, serves each of the trace's needs
+abbrev pub NothingDiffers : Type 0
+NothingDiffers =
+    (tree : Tree) (config : Config) (all : Gathered) (m parsed : ParsedMap) (base : List ℕ)
+    → traced (get tree) config ≡ Ok all → PageIsFile config → IsAgreedLayout all.needs m
+    → web_name config the_page ≡ Some base → ParsesMap base (map_text m) (Ok parsed)
+    → differences parsed all.needs ≡ []
 
 -- own law: what is generated serves
 abbrev pub Soundness : Type 0

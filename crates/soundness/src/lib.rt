@@ -4,7 +4,7 @@
 #![tactic(auto)]
 
 ghost use Rattle.soundness.specs.Soundness.{AgreedMapsServe, MapsArePlain, MapsReadBack, MapsServe};
-ghost use Rattle.soundness.specs.Soundness.{OneMapInPage, Soundness};
+ghost use Rattle.soundness.specs.Soundness.{NothingDiffers, OneMapInPage, Soundness};
 
 /// Wherever generation gives a map's text, this text serves: through it every request of the page
 /// and of each module that the page reaches leads to exactly the file that Node's resolver gives.
@@ -26,6 +26,11 @@ pub fn maps_read_back()
 /// So the agreed layout serves.
 pub fn agreed_maps_serve()
     ensures { AgreedMapsServe }
+{}
+
+/// Whoever checks that layout's text over the same tree, from the same page, finds no difference.
+pub fn nothing_differs()
+    ensures { NothingDiffers }
 {}
 
 /// A map's text that generation gives is UTF-8 and holds no `<`, so no tag of a page is read in it.

@@ -1,0 +1,54 @@
+-- Checked over the same tree, the text of the agreed layout has no difference.
+use Rattle.std.proofs.Common.{refl, sym, ap, ◌∙◌, subst}
+use Rattle.std.proofs.lemmas.Bool.{cond-true}
+use Rattle.std.proofs.lemmas.Slice.Eq.{bytes_eq-Decides}
+use Rattle.std.specs.FinMap.{get}
+use Rattle.std.specs.Prelude.{◌≡◌, ℕ, suc, true, List, [], ◌∷◌, Result, Ok, Contains}
+use Rattle.url_spec.proofs.KeptUrls.{kept_urls}
+use Rattle.import_map_spec.proofs.OneMap.{one_map}
+use Rattle.import_map_spec.specs.ParsedMap.{ParsedMap, MapFault}
+use Rattle.import_map_spec.specs.Resolving.{Resolved}
+use Rattle.check_spec.proofs.NeedLemmas.{specifiers_agree}
+use Rattle.check_spec.specs.Differences.{gets, is_url, differences, differences_from}
+use Rattle.layout_spec.proofs.AgreedLaws.{agreed_of_needs}
+use Rattle.layout_spec.proofs.Contained.{contains_here, contains_there}
+use Rattle.layout_spec.proofs.TextBack.{texts_read_back}
+use Rattle.layout_spec.proofs.Uncaptured.{agreed_layout_captures_nothing}
+use Rattle.layout_spec.specs.Needs.{NamesFiles}
+use Rattle.layout_spec.specs.PrintedMap.{map_text}
+use Rattle.layout_spec.specs.Serving.{NoCapture, OfNeeds}
+use Rattle.layout_spec.specs.declared.Need.{Need}
+use Rattle.trace_spec.proofs.Traces.{needs_are_requests}
+use Rattle.soundness.proofs.Kept.{map_kept}
+use Rattle.soundness.proofs.Leading.{need_leads}
+use Rattle.soundness.proofs.Reaching.{needs_name}
+use Rattle.soundness.proofs.Sound.{by_file}
+use Rattle.soundness.specs.Soundness.{NothingDiffers}
+
+served : (m : ParsedMap) (need : Need) → gets m need ≡ Resolved need.target → is_url (gets m need) need.target ≡ true
+served m need e = ap (λ r. is_url r need.target) e ∙ (bytes_eq-Decides need.target need.target).1 refl
+
+all_served : (m : ParsedMap) (number : ℕ) (needs : List Need) → ((need : Need) → Contains needs need → gets m need ≡ Resolved need.target) → differences_from m number needs ≡ []
+all_served m number [] gets_them = refl
+all_served m number (need ∷ more) gets_them =
+    cond-true _ _ _ (served m need (gets_them need (contains_here need more)))
+    ∙ all_served m (suc number) more (λ other c. gets_them other (contains_there other need more c))
+
+-- what a need asks for is its own normalized specifier, so the need gets what that leads to
+gets_target : (needs : List Need) (m : ParsedMap) → NoCapture needs m → OfNeeds needs m → ((need : Need) → Contains needs need → NamesFiles need) → (need : Need) → Contains needs need → gets m need ≡ Resolved need.target
+gets_target needs m no_capture of_needs files need c =
+    let asks = (files need c).asked.normal need.referrer in
+    sym (specifiers_agree m need need.asked asks) ∙ need_leads needs m no_capture of_needs files need need.asked c asks
+
+same_map : (m parsed : ParsedMap) → ◌≡◌ {A = Result ParsedMap MapFault} (Ok m) (Ok parsed) → m ≡ parsed
+same_map m parsed e = cc
+
+pub nothing_differs : NothingDiffers
+nothing_differs tree config all m parsed base traces page_is_file agreed named parses =
+    let files : (need : Need) → Contains all.needs need → NamesFiles need = needs_name tree config all traces page_is_file in
+    let no_capture : NoCapture all.needs m = agreed_layout_captures_nothing all.needs m (needs_are_requests (get tree) config all traces).no_clash (λ need c. by_file need (files need c)) agreed in
+    let of_needs : OfNeeds all.needs m = agreed_of_needs all.needs m agreed in
+    let kept = map_kept base (kept_urls.2 _ _ _ _ named) all.needs m of_needs files agreed.no_digests in
+    subst (λ (map : ParsedMap). differences map all.needs ≡ [])
+    (same_map m parsed (one_map base (map_text m) (Ok m) (Ok parsed) (texts_read_back base m kept) parses))
+    (all_served m 0 all.needs (gets_target all.needs m no_capture of_needs files))
