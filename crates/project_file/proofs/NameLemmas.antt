@@ -44,8 +44,7 @@ conditions_names names are = All-weaker IsCondition IsName condition_name names 
 
 pub name_if : (text : List ℕ) (found : Bool) → text ≢ [] → (found ≡ true → (k : ℕ) × (k < length text) × (get_or text k 0 ≡ 44)) × ((k : ℕ) → k < length text → get_or text k 0 ≡ 44 → found ≡ true) → IsTrue (not found) ↔ IsName text
 name_if text true some n = ((λ f. cc), (λ is. let at = n.0 refl in absurd (is.no_comma at.0 0 at.1 at.2)))
-name_if text false some n =
-    (
-      (λ f. record { nonempty = some; no_comma = All-from_get_or (λ b. b ≢ 44) text 0 (λ k below e. let wrong : false ≡ true = n.1 k below e in cc) }),
-      (λ is. refl),
-    )
+name_if text false some n = (
+  (λ f. record { nonempty = some; no_comma = All-from_get_or (λ b. b ≢ 44) text 0 (λ k below e. let wrong : false ≡ true = n.1 k below e in cc) }),
+  (λ is. refl),
+)

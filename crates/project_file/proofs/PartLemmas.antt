@@ -121,6 +121,10 @@ pub described : (value : Json) (written : Written) (found : Option Project) → 
 described value written None w none = λ config d. none config (fills value written config w d)
 described value written (Some project) w f = describes value written (shown project) w f
 
+pub all_described : {E : Type 0} (value : Json) (written : Written) (found : Result (Option Project) E) → IsWritten value written → IfOk found (IsFilled written.base.now written.page.now (items_of (values_of written.conditions.now)) (items_of (values_of written.entries.now))) → IfOk found (IsDescribed value)
+all_described value written (Ok found) w f = described value written found w f
+all_described value written (Err memory) w f = tt
+
 pub not_described : (value : Json) → NotWritten value → IsDescribed value None
 not_described value none =
     λ config d. none d.members d.object d.text config.page (strings config.conditions) (strings config.entries) d.parts
@@ -145,6 +149,10 @@ bad_names items names text e are is none = not_so items AreConditions names e (�
 pub good_names : (items : Items) (names found : List (List ℕ)) (text : List ℕ) → items ≡ strings names → All IsName names → text ≡ joined names → found ≡ names_in text → AreConditions found → HoldsStrings items AreConditions (Some found)
 good_names items names found text e are is read good = (e ∙ ap strings (sym (read ∙ same_names names text are is)), good)
 
+pub ruleset names_read = (no_list, not_names, bad_names, good_names)
+
+pub ruleset texts_read = (no_list, not_so)
+
 -- ---- what is filled in
 
 pub no_base : (base page : List ℕ) (conditions entries : Items) → base_of base ≡ None → IsFilled base page conditions entries None
@@ -158,6 +166,8 @@ no_conditions base page conditions entries none = λ config f. none config.condi
 
 pub no_entries : (base page : List ℕ) (conditions entries : Items) → HoldsStrings entries (IsDistinct bytes_eq) None → IsFilled base page conditions entries None
 no_entries base page conditions entries none = λ config f. none config.entries f.texts f.distinct
+
+pub ruleset unfilled = (no_base, no_page, no_conditions, no_entries)
 
 -- ---- the outcome
 

@@ -3,7 +3,7 @@ use Rattle.std.proofs.Common.{◌≡◌, ◌<◌, ◌≤◌, ◌+◌, ℕ, Bool,
 use Rattle.std.specs.List.{list_any, IsDistinct}
 use Rattle.std.specs.Prelude.{Option, Some, None, bytes_eq, option_map, slice_get}
 use Rattle.std.proofs.lemmas.Bool.{true≢false}
-use Rattle.std.proofs.lemmas.List.{drop_all, get_or-take, length-take-le}
+use Rattle.std.proofs.lemmas.List.{drop_all, take_all, get_or-take, length-take-le}
 use Rattle.std.proofs.lemmas.Option.{slice_get_cases}
 use Rattle.std.proofs.lemmas.List.Folds.{Any-from_list_any}
 use Rattle.std.proofs.lemmas.Map.Keys.{apart_from_distinct}
@@ -96,3 +96,6 @@ stands_twice texts i text below here there distinct =
     let first = subst (λ x. get_or texts found.0 x ≡ x) (sym same) (sym (get_or-take i texts found.0 found.1 before) ∙ found.3) in
     let apart = apart_from_distinct bytes_eq texts found.0 i text distinct before below in
     true≢false (sym ((bytes_eq-Decides (get_or texts found.0 text) (get_or texts i text)).1 (first ∙ sym here)) ∙ apart)
+
+pub seen_all : (texts keys : List (List ℕ)) (i : ℕ) → length texts ≤ i → keys ≡ take i texts → IsDistinct bytes_eq keys → IsDistinct bytes_eq texts
+seen_all texts keys i past are distinct = subst (IsDistinct bytes_eq) (are ∙ take_all i texts past) distinct

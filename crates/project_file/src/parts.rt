@@ -97,6 +97,7 @@ fn member<'a>(members: &'a Members, name: &str) -> Option<&'a Value>
 }
 
 /// The project whose parts are written so; None where one of them can't stand there.
+#[tactic(auto, using(crate::proofs::PartLemmas::unfilled))]
 pub fn filled(alloc: Global, written: &Written<'_>) -> Result<Option<Project>, Memory>
     ensures { IfOk result (IsFilled written.now.base.now written.now.page.now
         (items_of (values_of written.now.conditions.now)) (items_of (values_of written.now.entries.now))) }
@@ -150,6 +151,7 @@ fn page_in(alloc: Global, text: &str) -> Result<Option<Path>, Memory>
 }
 
 // The conditions that a list names. They are read from a text, in which commas part them.
+#[tactic(auto, using(crate::proofs::PartLemmas::names_read))]
 fn conditions_in(alloc: Global, items: &Items) -> Result<Option<Conditions>, Memory>
     ensures { IfOk result (HoldsStrings (items_of (values_of items.now)) AreConditions) }
 {
@@ -168,6 +170,7 @@ fn conditions_in(alloc: Global, items: &Items) -> Result<Option<Conditions>, Mem
 }
 
 // The entries of a list in which none stands twice.
+#[tactic(auto, using(crate::proofs::PartLemmas::texts_read))]
 fn entries_in(alloc: Global, items: &Items) -> Result<Option<Listed<Text>>, Memory>
     ensures { IfOk result (HoldsStrings (items_of (values_of items.now)) (IsDistinct bytes_eq)) }
 {

@@ -144,10 +144,12 @@ fn brackets(rt: HostRuntime) -> Result<(), Fail> {
 }
 
 /// A file in another order and layout, in which the page is written twice.
-static FREE: &str = "{ \"entries\": [\"./a\", \"\"], \"page\": 3,\"conditions\":[\"b\",\n\"a\"],\"base\":\"HTTPS://h\",\"page\":\"/i\" }";
+static FREE: &str =
+    "{ \"entries\": [\"./a\", \"\"], \"page\": 3,\"conditions\":[\"b\",\n\"a\"],\"base\":\"HTTPS://h\",\"page\":\"/i\" }";
 
 /// The same project, as it is printed.
-static PRINTED: &str = "{\n  \"base\": \"https://h/\",\n  \"page\": \"/i\",\n  \"conditions\": [\n    \"b\",\n    \"a\"\n  ],\n  \"entries\": [\n    \"./a\",\n    \"\"\n  ]\n}\n";
+static PRINTED: &str =
+    "{\n  \"base\": \"https://h/\",\n  \"page\": \"/i\",\n  \"conditions\": [\n    \"b\",\n    \"a\"\n  ],\n  \"entries\": [\n    \"./a\",\n    \"\"\n  ]\n}\n";
 
 #[test]
 fn read_and_printed(rt: HostRuntime) -> Result<(), Fail> {
@@ -160,22 +162,32 @@ fn read_and_printed(rt: HostRuntime) -> Result<(), Fail> {
     let bytes = print_project(alloc, &project)?;
     assert_eq!(rt; bytes.as_slice(), PRINTED.as_bytes());
     let again = read_project(alloc, bytes.as_slice())?;
-    assert_eq!(rt; print_project(alloc, &again)?.as_slice(), PRINTED.as_bytes());
+    assert_eq!(rt;
+        print_project(alloc, &again)?.as_slice(),
+        PRINTED.as_bytes()
+    );
     Ok(())
 }
 
 /// The project of a file without conditions and entries, as it is printed.
-static EMPTY: &str = "{\n  \"base\": \"https://h/\",\n  \"page\": \"/i\",\n  \"conditions\": [],\n  \"entries\": []\n}\n";
+static EMPTY: &str =
+    "{\n  \"base\": \"https://h/\",\n  \"page\": \"/i\",\n  \"conditions\": [],\n  \"entries\": []\n}\n";
 
 #[test]
 fn empty_lists(rt: HostRuntime) -> Result<(), Fail> {
     let alloc = rt.alloc();
     let text = file(alloc, "", "")?;
     let mut project = read_project(alloc, text.as_bytes())?;
-    assert_eq!(rt; print_project(alloc, &project)?.as_slice(), EMPTY.as_bytes());
+    assert_eq!(rt;
+        print_project(alloc, &project)?.as_slice(),
+        EMPTY.as_bytes()
+    );
     project.conditions = Conditions::parse(alloc, "b,a")?;
     project.entries.push(Text::of(alloc, "./a")?)?;
     project.entries.push(Text::of(alloc, "")?)?;
-    assert_eq!(rt; print_project(alloc, &project)?.as_slice(), PRINTED.as_bytes());
+    assert_eq!(rt;
+        print_project(alloc, &project)?.as_slice(),
+        PRINTED.as_bytes()
+    );
     Ok(())
 }

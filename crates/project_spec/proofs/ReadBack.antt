@@ -60,8 +60,7 @@ page_new conditions entries = (texts_differ (codes "page") (codes "conditions") 
 value_printable : (depth : ℕ) (config : Config) → IsProject config → IsUtf8 config.page → All IsUtf8 config.entries → IsPrintable (suc (suc depth)) (project_value config)
 unfolding project_value
 value_printable depth config is page entries =
-    let conditions = strings_printable depth config.conditions (All-weaker IsCondition IsUtf8 condition_utf8 config.conditions is.conditions.each) in
-    (
+    let conditions = strings_printable depth config.conditions (All-weaker IsCondition IsUtf8 condition_utf8 config.conditions is.conditions.each) in (
       (base_new (a_text config.page) (a_list (strings config.conditions)) (a_list (strings config.entries)), (page_new (a_list (strings config.conditions)) (a_list (strings config.entries)), ((texts_differ (codes "conditions") (codes "entries") refl, tt), (tt, tt)))),
       (names_utf8.0, base_utf8 config.base is.base, (names_utf8.1, page, (names_utf8.2, conditions, (names_utf8.3, strings_printable depth config.entries entries, tt)))),
     )

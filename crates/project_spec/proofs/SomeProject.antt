@@ -207,25 +207,24 @@ abbrev HasConfig : Json → Type 0
 HasConfig value = (config : Config) × Describes value config
 
 config_of : {value : Json} (object : Members) → value ≡ an_object object → (parts : Parts object) → ArePlain parts → HasConfig value
-config_of object is parts are =
-    (
-      record { base = are.base; page = parts.page; conditions = parts.conditions; entries = parts.entries },
-      record {
-        members = object;
-        text = parts.base;
-        object = is;
-        parts = parts.are;
-        gives = are.gives;
-        is_project =
-            record {
-              base = bases_stay parts.base are.base are.gives;
-              page = are.page;
-              no_root = are.no_root;
-              conditions = are.conditions;
-              distinct = are.distinct;
-            };
-      },
-    )
+config_of object is parts are = (
+  record { base = are.base; page = parts.page; conditions = parts.conditions; entries = parts.entries },
+  record {
+    members = object;
+    text = parts.base;
+    object = is;
+    parts = parts.are;
+    gives = are.gives;
+    is_project =
+        record {
+          base = bases_stay parts.base are.base are.gives;
+          page = are.page;
+          no_root = are.no_root;
+          conditions = are.conditions;
+          distinct = are.distinct;
+        };
+  },
+)
 
 own_parts : {value : Json} (object : Members) → value ≡ an_object object → HasConfig value → Parts object
 own_parts object is (config, d) = record {
