@@ -148,6 +148,19 @@ def measure_names(work, modules, slack, tries):
     say(run.memory <= 1024 * MIB, f"{label}: {run.memory / MIB:.1f} MiB, at most 1024 MiB")
 
 
+def measure_layout(work, modules, slack, tries):
+    """Measures modules that disagree on one specifier, at half of them and at all."""
+    for slashes in (0, 4000):
+        label = f"{modules} modules that disagree" + (f", with queries of {slashes} slashes" if slashes else "")
+        half = trees.disagreeing(os.path.join(work, f"half-{slashes}"), modules // 2, slashes)
+        whole = trees.disagreeing(os.path.join(work, f"whole-{slashes}"), modules, slashes)
+        once, twice = link(half, tries), link(whole, tries)
+        seconds = max(2 * slack * modules / 20000, NOISE)
+        say(twice.seconds <= seconds, f"{label}: {twice.seconds:.3f} s, at most {seconds:g} s")
+        ratio = twice.seconds / max(once.seconds, NOISE)
+        say(ratio <= 2.5, f"{label}: {ratio:.2f} times as long as for half of them, {once.seconds:.3f} s, at most 2.5")
+
+
 def main():
     smoke = sys.argv[1:] == ["smoke"]
     if sys.argv[1:] and not smoke:
@@ -164,9 +177,11 @@ def main():
         if smoke:
             measure_packages(work, 200, 10, 2, False)
             measure_names(work, 2000, 10, 2)
+            measure_layout(work, 2000, 10, 2)
         else:
             measure_packages(work, 2000, 1, 3, True)
             measure_names(work, 18000, 1, 2)
+            measure_layout(work, 19000, 1, 3)
     finally:
         shutil.rmtree(work)
     print(f"{failures} failed" if failures else "all passed")

@@ -126,3 +126,34 @@ def names(folder, modules):
         tree.add(f"node_modules/n{i}/index.mjs", [], "export {};\n")
     tree.mappings = wanted
     return tree
+
+
+def disagreeing(folder, modules, slashes=0):
+    """Modules in folders of one folder that all ask for `c`, of which every second one has a version of its own. Of
+    the others, as many as a twentieth of the modules are asked for with queries of so many slashes."""
+    tree = Tree(folder)
+    asking = modules * 2 // 3
+    hubs = -(-asking // MOST_REQUESTS)
+    tree.add("app.mjs", [f"./h{h}.mjs" for h in range(hubs)])
+    rest = modules // 20 if slashes else 0
+
+    def version(above):
+        tree.record(f"{above}/node_modules/c/package.json", '{"exports":"./index.mjs"}')
+        tree.add(f"{above}/node_modules/c/index.mjs", [])
+
+    version(".")
+    for h in range(hubs):
+        wanted = []
+        for i in range(h, asking, hubs):
+            query = ""
+            if i % 2 and rest:
+                query, rest = "?" + "/" * slashes + "x", rest - 1
+            wanted.append(f"./all/f{i}/m.mjs{query}")
+        tree.add(f"h{h}.mjs", wanted)
+    for i in range(asking):
+        tree.add(f"all/f{i}/m.mjs", ["c"])
+        if i % 2 == 0:
+            version(f"all/f{i}")
+    # Each module that asks has a mapping of its own: where it has a version, at its folder, and else at itself.
+    tree.mappings = asking
+    return tree
