@@ -1,4 +1,0 @@
-pub mod StringLists
-pub mod NameLemmas
-pub mod PartLemmas
-pub mod PrintLemmas

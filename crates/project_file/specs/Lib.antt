@@ -1,4 +1,0 @@
-pub mod Shown
-pub mod Parts
-pub mod Names
-pub mod Strings
