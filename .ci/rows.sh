@@ -87,7 +87,7 @@ MAP
 # The first condition of the object that applies, in the order of the object.
 cp -R "$kept/ui" "$kept/order" && rm -f "$kept/order/importmap.json"
 file order/node_modules/ui/package.json '{"name":"ui","type":"module","exports":{".":{"types":"./i.d.ts","default":"./n.js","browser":"./b.js"},"./x/*":"./x/*.js"}}'
-row order ./src/main.js 0 'ok: 5 modules, 6 requests, 3 mappings' <<'MAP'
+row order ./src/main.js 0 'ok: 5 modules, 5 requests, 3 mappings' <<'MAP'
 {
   "imports": {
     "@ui/core": "https://app.test/node_modules/ui/node_modules/@ui/core/lib/index.mjs",
