@@ -1,5 +1,5 @@
 use super::*;
-use package_record::PackageKind;
+use package_record::{Package, PackageKind};
 use std::alloc::Global;
 use std::rc::Rc;
 use std::test::Fail;
@@ -141,84 +141,145 @@ fn packages(rt: HostRuntime) -> Result<(), Fail> {
     Ok(())
 }
 
+fn is_scope(
+    alloc: Global,
+    known: &mut Known,
+    folder: &mut MemFolder,
+    trail: &mut Trail,
+    expected: &str,
+) -> Result<bool, Fail> {
+    let deep = Path::parse(alloc, "/lib/deep")?;
+    let scope = scope_of(alloc, known, folder, trail, &deep)?;
+    Ok(match &scope {
+        None => false,
+        Some(path) => path.as_str() == expected,
+    })
+}
+
+// How often the same scope is found by the same two paths.
+fn scopes_again(alloc: Global, known: &mut Known, folder: &mut MemFolder) -> Result<usize, Fail> {
+    let mut trail = Trail::new(alloc);
+    let mut count: usize = 0;
+    for _ in 0..3 {
+        if is_scope(alloc, known, folder, &mut trail, "/lib")? && trail.question().len() == 2 {
+            count = count.saturating_add(1);
+        }
+    }
+    Ok(count)
+}
+
+fn root_fails(alloc: Global, known: &mut Known, folder: &mut MemFolder) -> Result<bool, Fail> {
+    let mut trail = Trail::new(alloc);
+    let root = Path::parse(alloc, "/")?;
+    let scope = scope_of(alloc, known, folder, &mut trail, &root);
+    Ok(scope.err() == Some(LookupFault::ReadFault))
+}
+
 /// The look with number 3 fails: of a scope search two paths are looked at once, and a third one fails.
 #[test]
 fn looks_are_kept(rt: HostRuntime) -> Result<(), Fail> {
-    let alloc = rt.alloc();
-    let mut folder = folder(alloc, &[3])?;
-    let mut known = Known::new(alloc);
-    let mut trail = Trail::new(alloc);
-    let deep = Path::parse(alloc, "/lib/deep")?;
-    for _ in 0..3 {
-        let scope = scope_of(alloc, &mut known, &mut folder, &mut trail, &deep)?;
-        assert_eq!(rt; scope.ok_or("no scope")?.as_str(), "/lib");
-        assert_eq!(rt; trail.question().len(), 2);
-    }
-    trail.begin();
-    assert_eq!(rt; trail.question().len(), 0);
-    let root = Path::parse(alloc, "/")?;
-    let scope = scope_of(alloc, &mut known, &mut folder, &mut trail, &root);
-    assert_eq!(rt; scope.err(), Some(LookupFault::ReadFault));
+    let mut folder = folder(rt.alloc(), &[3])?;
+    let mut known = Known::new(rt.alloc());
+    assert_eq!(rt; scopes_again(rt.alloc(), &mut known, &mut folder)?, 3);
+    assert!(rt; root_fails(rt.alloc(), &mut known, &mut folder)?);
     Ok(())
 }
 
-/// A record is read once, and again where another file is laid over the first.
-#[test]
-fn records(rt: HostRuntime) -> Result<(), Fail> {
-    let alloc = rt.alloc();
-    let mut folder = folder(alloc, &[])?;
-    let mut known = Known::new(alloc);
+fn lib_record(
+    alloc: Global,
+    known: &mut Known,
+    folder: &mut MemFolder,
+) -> Result<Rc<Package>, Fail> {
     let mut trail = Trail::new(alloc);
     let lib = Path::parse(alloc, "/lib")?;
-    let first = record_of(alloc, &mut known, &mut folder, &mut trail, &lib)?.ok_or("none")?;
-    let again = record_of(alloc, &mut known, &mut folder, &mut trail, &lib)?.ok_or("none")?;
-    // One is kept, and two were given.
+    Ok(record_of(alloc, known, folder, &mut trail, &lib)?.ok_or("none")?)
+}
+
+/// A record is read once: one is kept, and two were given.
+#[test]
+fn records(rt: HostRuntime) -> Result<(), Fail> {
+    let mut folder = folder(rt.alloc(), &[])?;
+    let mut known = Known::new(rt.alloc());
+    let first = lib_record(rt.alloc(), &mut known, &mut folder)?;
+    let again = lib_record(rt.alloc(), &mut known, &mut folder)?;
     assert_eq!(rt; Rc::strong_count(&first), 3);
     assert!(rt; again.kind == PackageKind::CommonJs);
-    let mut over = Over::new(alloc);
-    let place = Path::parse(alloc, "/lib/package.json")?;
-    over.set(
-        alloc,
-        &place,
-        Look::File(primitives::Bytes::of(alloc, b"{")?),
-    )?;
-    let mut copy = over.copy(alloc)?;
-    known.lay(&mut copy);
-    let laid = record_of(alloc, &mut known, &mut folder, &mut trail, &lib);
-    assert_eq!(rt; laid.err(), Some(LookupFault::InvalidConfig));
-    known.lay(&mut copy);
-    let back = record_of(alloc, &mut known, &mut folder, &mut trail, &lib)?.ok_or("none")?;
-    assert_eq!(rt; Rc::strong_count(&back), 4);
     Ok(())
 }
 
-/// A file above the limit is kept as such, and so is one that is laid.
+fn lib_is_bad(alloc: Global, known: &mut Known, folder: &mut MemFolder) -> Result<bool, Fail> {
+    let mut trail = Trail::new(alloc);
+    let lib = Path::parse(alloc, "/lib")?;
+    let record = record_of(alloc, known, folder, &mut trail, &lib);
+    Ok(record.err() == Some(LookupFault::InvalidConfig))
+}
+
+// A copy of one look, at a record that isn't well formed.
+fn bad_record(alloc: Global) -> Result<Over, Fail> {
+    let mut over = Over::new(alloc);
+    let place = Path::parse(alloc, "/lib/package.json")?;
+    let bytes = primitives::Bytes::of(alloc, b"{")?;
+    over.set(alloc, &place, Look::File(bytes))?;
+    Ok(over.copy(alloc)?)
+}
+
+/// A record that is laid over another one is read while it is there, and the other one is still kept.
+#[test]
+fn laid_records(rt: HostRuntime) -> Result<(), Fail> {
+    let mut folder = folder(rt.alloc(), &[])?;
+    let mut known = Known::new(rt.alloc());
+    let first = lib_record(rt.alloc(), &mut known, &mut folder)?;
+    let mut over = bad_record(rt.alloc())?;
+    known.lay(&mut over);
+    assert!(rt; lib_is_bad(rt.alloc(), &mut known, &mut folder)?);
+    known.lay(&mut over);
+    let _back = lib_record(rt.alloc(), &mut known, &mut folder)?;
+    assert_eq!(rt; Rc::strong_count(&first), 3);
+    Ok(())
+}
+
+fn is_above_limit(
+    alloc: Global,
+    known: &mut Known,
+    folder: &mut MemFolder,
+    path: &str,
+) -> Result<bool, Fail> {
+    let mut trail = Trail::new(alloc);
+    let path = Path::parse(alloc, path)?;
+    let seen = known.look(alloc, folder, &path, &mut trail);
+    let limit = LookupFault::Limit {
+        which: LimitName::File,
+    };
+    Ok(seen.err() == Some(limit) && trail.question().len() == 0)
+}
+
+fn too_many(alloc: Global) -> Result<Vec<u8>, Fail> {
+    Ok(Vec::from_elem(alloc, b' ', MOST_FILE_BYTES as usize + 1)?)
+}
+
+/// A file above the limit is kept as such: the second look would fail.
 #[test]
 fn too_large(rt: HostRuntime) -> Result<(), Fail> {
     let alloc = rt.alloc();
     let mut folder = MemFolder::new(alloc, &[2], &[])?;
-    let path = Path::parse(alloc, "/large.mjs")?;
-    let bytes = Vec::from_elem(alloc, b' ', MOST_FILE_BYTES as usize + 1)?;
-    folder.put(&path, Some(bytes.as_slice()))?;
+    let bytes = too_many(alloc)?;
+    folder.put(&Path::parse(alloc, "/large.mjs")?, Some(bytes.as_slice()))?;
     let mut known = Known::new(alloc);
-    let mut trail = Trail::new(alloc);
-    let limit = LookupFault::Limit {
-        which: LimitName::File,
-    };
-    for _ in 0..2 {
-        let seen = known.look(alloc, &mut folder, &path, &mut trail);
-        assert_eq!(rt; seen.err(), Some(limit));
-    }
-    let other = Path::parse(alloc, "/other.mjs")?;
+    assert!(rt; is_above_limit(alloc, &mut known, &mut folder, "/large.mjs")?);
+    assert!(rt; is_above_limit(alloc, &mut known, &mut folder, "/large.mjs")?);
+    Ok(())
+}
+
+/// So is one that is laid.
+#[test]
+fn laid_too_large(rt: HostRuntime) -> Result<(), Fail> {
+    let alloc = rt.alloc();
+    let mut folder = folder(alloc, &[])?;
     let mut over = Over::new(alloc);
-    over.set(
-        alloc,
-        &other,
-        Look::File(primitives::Bytes::from_vec(bytes)),
-    )?;
+    let bytes = primitives::Bytes::from_vec(too_many(alloc)?);
+    over.set(alloc, &Path::parse(alloc, "/other.mjs")?, Look::File(bytes))?;
+    let mut known = Known::new(alloc);
     known.lay(&mut over);
-    let seen = known.look(alloc, &mut folder, &other, &mut trail);
-    assert_eq!(rt; seen.err(), Some(limit));
-    assert_eq!(rt; trail.question().len(), 0);
+    assert!(rt; is_above_limit(alloc, &mut known, &mut folder, "/other.mjs")?);
     Ok(())
 }
