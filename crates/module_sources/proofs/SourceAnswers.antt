@@ -7,7 +7,6 @@ use Rattle.std.proofs.lemmas.Bool.{cond-true, cond-false}
 use Rattle.std.proofs.lemmas.Str.{IsUtf8-from_is_utf8, is_utf8-from_IsUtf8}
 use Rattle.asking_spec.specs.Askings.{answered}
 use Rattle.tree_spec.specs.declared.Entry.{Entry}
-use Rattle.tree_spec.specs.declared.LimitName.{LimitName}
 use Rattle.tree_spec.specs.declared.LimitName.TheVariants.{Depth}
 use Rattle.tree_spec.specs.LookAskings.{look_at}
 use Rattle.module_spec.specs.declared.request.ModuleFault.{ModuleFault}
@@ -25,7 +24,7 @@ use Rattle.package_lookup.specs.Responses.{Response, given, fails, never, by_fau
 use Rattle.package_lookup.specs.declared.format.Format.{Format}
 use Rattle.package_lookup.specs.declared.format.Format.TheVariants.{Module, Detect, Not}
 use Rattle.package_lookup.specs.declared.fault.LookupFault.{LookupFault}
-use Rattle.package_lookup.proofs.Questions.{then_given, now_given, fault_on, looked_on, unfinished}
+use Rattle.package_lookup.proofs.Questions.{then_given, now_given, fault_on, looked_on}
 
 abbrev Found : Type 0
 Found = Result Source NoSource

@@ -7,12 +7,12 @@
 --     named_limit, limit_ends, look_ends      a limit that ends a walk
 use Rattle.std.proofs.Common.{◌≡◌, ℕ, List, Option, Some, None, Result, Ok, Err, IfSome, refl, sym, ap, ◌∙◌, subst}
 use Rattle.std.specs.Prelude.{◌≢◌, [], ◌∷◌, IfErr}
-use Rattle.asking_spec.specs.Askings.{Asking, answered, ask}
-use Rattle.asking_spec.specs.Evaluation.{Ended, ends, stopped, then_ended, Answers, evaluated}
+use Rattle.asking_spec.specs.Askings.{answered, ask}
+use Rattle.asking_spec.specs.Evaluation.{Ended, ends, then_ended, Answers, evaluated}
 use Rattle.tree_spec.specs.declared.LimitName.{LimitName}
 use Rattle.tree_spec.specs.declared.LimitName.TheVariants.{File, Bytes, Looks, Modules, ModuleRequests, Requests, Specifier, Entries, Brackets, Depth, Session, Map, Choices}
 use Rattle.tree_spec.specs.LookAskings.{Sights}
-use Rattle.tree_spec.specs.LookLimits.{Trail, begun, no_trail, look_limits, limited}
+use Rattle.tree_spec.specs.LookLimits.{Trail, begun, no_trail}
 use Rattle.tree_spec.specs.States.{FolderState}
 use Rattle.tree_spec.specs.Trees.{Tree}
 use Rattle.trace_spec.specs.declared.TraceFault.{TraceFault}
