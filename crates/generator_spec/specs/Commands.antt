@@ -2,8 +2,8 @@
 --     IsPage tree config page             the page's file, which has no more bytes than a file may
 --     RefusesPage tree config fault       there is no page to put a map into
 --     Opens tree config command           what the command needs before its trace is there
---     Refuses tree config command why     the command is refused: before its trace, by the first refusal of that, or for
---                                         the size of its map
+--     Refuses tree config command why     the command is refused: before its trace, by the first refusal of that, or
+--                                         for the size of its map
 --     IsRefusalOf config command why      it can be refused so, whatever the tree holds
 --     map_path                            the path of the map's file
 --     Writes tree config map command path file      with the map the command writes this file there

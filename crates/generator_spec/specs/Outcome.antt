@@ -25,4 +25,5 @@ pub data Outcome (words : List (List ℕ)) (tree : Tree) (status : ℕ) (line : 
   done :
       (command : Command) (config : Config) (map path file : List ℕ) → IsConfigOf words command config
       → (generates : Generates tree config map) → Writes tree config map command path file → status ≡ done_status
-      → line ≡ done_line generates.all generates.map → Places tree path (Stored file) after → Outcome words tree status line after
+      → line ≡ done_line generates.all generates.map → Places tree path (Stored file) after
+      → Outcome words tree status line after
