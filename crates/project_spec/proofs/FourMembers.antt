@@ -1,8 +1,8 @@
 -- The members of a project's file are four, in any order.
-use Rattle.std.proofs.Common.{◌≡◌, ◌≢◌, ◌+◌, ◌||◌, ℕ, suc, Bool, true, false, List, [], ◌∷◌, All, length, refl, sym, ap, subst, ◌∙◌, ⊎_elim, arith}
+use Rattle.std.proofs.Common.{◌≡◌, ◌≢◌, ◌||◌, ℕ, suc, true, false, List, [], ◌∷◌, All, length, refl, sym, ap, subst, ◌∙◌, ⊎_elim, arith}
 use Rattle.std.specs.List.{list_any, sum_by}
 use Rattle.std.specs.List.Sorted.{IsPermutation}
-use Rattle.std.specs.Prelude.{codes, bytes_eq, Option, Some, None}
+use Rattle.std.specs.Prelude.{codes, bytes_eq, Some}
 use Rattle.std.proofs.lemmas.Bool.{cases_Bool, cond-true, cond-false, true≢false}
 use Rattle.std.proofs.lemmas.List.Elements.{All-nil, All-cons, All-head, All-tail}
 use Rattle.std.proofs.lemmas.List.Sorted.{IsPermutation-refl, IsPermutation-cons, IsPermutation-sym, IsPermutation-trans, IsPermutation-middle, All-permutation, list_any-IsPermutation, sum_by-IsPermutation}

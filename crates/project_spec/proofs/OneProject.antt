@@ -1,6 +1,6 @@
 -- The bytes of a file have one outcome.
 use Rattle.std.proofs.Common.{◌≡◌, ◌≤◌, ◌<◌, ℕ, List, [], ◌∷◌, length, refl, sym, ap, ap₂, subst, ◌∙◌, arith}
-use Rattle.std.specs.Prelude.{Option, Some, Result, Ok, Err}
+use Rattle.std.specs.Prelude.{Option, Some, Result, Ok}
 use Rattle.tree_spec.specs.Limits.{limit_number}
 use Rattle.tree_spec.specs.declared.LimitName.TheVariants.{Entries}
 use Rattle.json_spec.proofs.OneJson.{one_json}
@@ -9,7 +9,7 @@ use Rattle.json_spec.specs.Value.{Json, a_text, a_list, an_object, Items, Member
 use Rattle.url_spec.specs.Bases.{base_of}
 use Rattle.trace_spec.specs.Modules.{Config}
 use Rattle.project_spec.specs.Laws.{OneProject}
-use Rattle.project_spec.specs.ProjectFiles.{strings, HasParts, Describes, Fault, PassesLimit, BadFile, Gives, a_project, many_entries, no_project, no_json, deep_json, ReadsProject, reads_project}
+use Rattle.project_spec.specs.ProjectFiles.{strings, HasParts, Describes, Fault, Gives, a_project, many_entries, no_project, no_json, deep_json, reads_project}
 
 pub same_strings : (some other : List (List ℕ)) → strings some ≡ strings other → some ≡ other
 same_strings [] [] e = refl
