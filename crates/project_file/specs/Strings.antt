@@ -26,7 +26,7 @@ list_in (a_bool b) = None
 list_in (a_number number) = None
 list_in (a_text text) = None
 list_in (a_list items) = Some items
-list_in (an_object members) = None
+list_in (an_object object) = None
 
 abbrev pub list_found : Option Json → Option Items
 list_found None = None

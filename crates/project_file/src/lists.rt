@@ -43,7 +43,11 @@ pub fn string_of(value: &Value) -> Option<&Text>
 {
     match value {
         Value::Text(text) => Some(text),
-        _ => None,
+        Value::Null => None,
+        Value::Bool(_) => None,
+        Value::Number(_) => None,
+        Value::List(_) => None,
+        Value::Object(_) => None,
     }
 }
 
@@ -53,7 +57,11 @@ pub fn list_of(value: &Value) -> Option<&Items>
 {
     match value {
         Value::List(items) => Some(items),
-        _ => None,
+        Value::Null => None,
+        Value::Bool(_) => None,
+        Value::Number(_) => None,
+        Value::Text(_) => None,
+        Value::Object(_) => None,
     }
 }
 

@@ -9,7 +9,7 @@ returns-in-None c =
 
 pub loop-index-preserved : goal.loop-index-preserved
 loop-index-preserved c =
-    taken_next (values_of c.args.items.now) c.loop-index.index c.loop-index.texts _ c.in-Some.text.now _ (string_here (values_of c.args.items.now) c.loop-index.index c.string_at.result c.in-Some.text c.string_at.ensures c.in-Some.is) c.in_ok-push.ensures c.in_ok-copy.ensures c.loop-index.invariant
+    taken_next (values_of c.args.items.now) c.loop-index.index c.loop-index.texts _ c.in-Some.text.now _ (string_here (values_of c.args.items.now) c.loop-index.index c.string_at.result c.in-Some.text c.string_at.ensures c.in-Some.is) c.in_ok-push-in-Some.ensures c.in_ok-copy-in-Some.ensures c.loop-index.invariant
 
 pub returns : goal.returns
 returns c = (taken_all (values_of c.args.items.now) c.loop-index.index c.loop-index.texts (search rules) c.loop-index.invariant, tt)
