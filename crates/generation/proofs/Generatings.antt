@@ -23,7 +23,7 @@ use Rattle.generator_spec.specs.Commands.{Refuses as refuses, IsRefusalOf as kin
 use Rattle.generation.specs.declared.generated.Generated.{Generated}
 use Rattle.generation.specs.declared.stop.Stop.{Stop}
 use Rattle.generation.specs.declared.stop.Stop.TheVariants.{Refused, ReadFault, Memory}
-use Rattle.generation.specs.Generating.{StopsAs, IsMapOf, HasLargeMap, IsGenerated, AsksNoPathTwice, Generating}
+use Rattle.generation.specs.Generating.{StopsAs, IsMapOf, HasLargeMap, IsGenerated, AsksNoPathTwice, Tracing, Generating}
 use Rattle.generation.specs.Generating.StopsAs.{failed_look, memory, refused}
 use Rattle.generator_spec.specs.declared.Refusal.TheVariants.{Limit}
 
@@ -64,9 +64,6 @@ of_trace config fault.Memory no_look no_memory is = absurd (no_memory refl)
 abbrev as_err : TraceFault → Result Gathered TraceFault
 as_err why = Err why
 
-abbrev as_stop : Stop → Result Generated Stop
-as_stop stop = Err stop
-
 module _ (config : Config) (before after : FolderState) (known later : Known) (fresh : IsFresh known) where
   abbrev IsTraced : Result Gathered TraceFault → Type 0
   IsTraced result = IfSome before.holds (λ tree. traced (get tree) config ≡ result)
@@ -77,29 +74,47 @@ module _ (config : Config) (before after : FolderState) (known later : Known) (f
   asks : (result : Result Gathered TraceFault) → Traces config before known result after later → IfSome before.asked (λ old. AsksNoPathTwice old after)
   asks result is = if_some before.asked (λ old once. record { more = once.more; asked = once.asked; once = once.once }) is.learns.asked
 
-  pub stopped : (why : TraceFault) (stop : Stop) → Traces config before known (Err why) after later → StopsAs why stop → Generating config before (Err stop) after
-  stopped why stop is (failed_look same) = record { generated = tt; refused = tt; kind = tt; asked = asks (Err why) is; looks = looks_as before after (λ e. ap as_err same) (λ e. refl) is.looks }
-  stopped why stop is (memory same) = record { generated = tt; refused = tt; kind = tt; asked = asks (Err why) is; looks = looks_as before after (λ e. absurd (cc)) (λ e. absurd (cc)) is.looks }
+  pub stopped : (why : TraceFault) (stop : Stop) → Traces config before known (Err why) after later → StopsAs why stop → Tracing config before (Err stop) after
+  stopped why stop is (failed_look same) = record { traces = tt; refused = tt; kind = tt; asked = asks (Err why) is; looks = looks_as before after (λ e. ap as_err same) (λ e. refl) is.looks }
+  stopped why stop is (memory same) = record { traces = tt; refused = tt; kind = tt; asked = asks (Err why) is; looks = looks_as before after (λ e. absurd (cc)) (λ e. absurd (cc)) is.looks }
   stopped why stop is (refused no_look no_memory) = record {
-    generated = tt;
+    traces = tt;
     refused = if_some before.holds (λ tree e command opened. refuses.trace command why opened e) (traced_so (Err why) is (λ e. no_look (cc), λ e. no_memory (cc)));
     kind = λ command. kind.trace command why (of_trace config why no_look no_memory is.kind);
     asked = asks (Err why) is;
     looks = looks_as before after (λ e. absurd (cc)) (λ e. absurd (no_look (cc))) is.looks;
   }
 
-  -- ---- what a trace comes to
+  pub traced_fresh : (all : Gathered) → Traces config before known (Ok all) after later → Tracing config before (Ok all) after
+  traced_fresh all is = record {
+    traces = traced_so (Ok all) is (λ e. absurd (cc), λ e. absurd (cc));
+    refused = tt;
+    kind = tt;
+    asked = asks (Ok all) is;
+    looks = looks_as before after (λ e. absurd (cc)) (λ e. absurd (cc)) is.looks;
+  }
 
-  module _ (all : Gathered) (is : Traces config before known (Ok all) after later) where
-    has_trace : IsTraced (Ok all)
-    has_trace = traced_so (Ok all) is (λ e. absurd (cc), λ e. absurd (cc))
+-- ---- what a trace comes to
 
+module _ (config : Config) (before after : FolderState) where
+  pub refused_so : (stop : Stop) → Tracing config before (Err stop) after → Generating config before (Err stop) after
+  refused_so (Refused why) is = record {
+    generated = tt;
+    refused = if_some before.holds (λ tree refuses_each command generating opened. refuses_each command opened) is.refused;
+    kind = λ command generating. is.kind command;
+    asked = is.asked;
+    looks = looks_as before after (λ e. absurd (cc)) (λ e. absurd (cc)) is.looks;
+  }
+  refused_so ReadFault is = record { generated = tt; refused = tt; kind = tt; asked = is.asked; looks = looks_as before after (λ e. refl) (λ e. refl) is.looks }
+  refused_so Memory is = record { generated = tt; refused = tt; kind = tt; asked = is.asked; looks = looks_as before after (λ e. absurd (cc)) (λ e. absurd (cc)) is.looks }
+
+  module _ (all : Gathered) (is : Tracing config before (Ok all) after) where
     pub generated : (found : Generated) → IsMapOf all found → Generating config before (Ok found) after
     generated found is_map = record {
-      generated = if_some before.holds (λ tree e. record { all = all; is_traced = e; is_map = is_map }) has_trace;
+      generated = if_some before.holds (λ tree e. record { all = all; is_traced = e; is_map = is_map }) is.traces;
       refused = tt;
       kind = tt;
-      asked = asks (Ok all) is;
+      asked = is.asked;
       looks = looks_as before after (λ e. absurd (cc)) (λ e. absurd (cc)) is.looks;
     }
 
@@ -108,11 +123,11 @@ module _ (config : Config) (before after : FolderState) (known later : Known) (f
         subst (λ s. Generating config before (Err s) after) (sym same)
         (record {
           generated = tt;
-          refused = if_some before.holds (λ tree e command opened. refuses.large_map command opened (record { all = all; is_traced = e; map = large.layout; agreed = large.agreed; large = large.large })) has_trace;
-          kind = λ command. kind.large_map command;
-          asked = asks (Ok all) is;
+          refused = if_some before.holds (λ tree e command generating opened. refuses.large_map command generating opened (record { all = all; is_traced = e; map = large.layout; agreed = large.agreed; large = large.large })) is.traces;
+          kind = λ command generating. kind.large_map command generating;
+          asked = is.asked;
           looks = looks_as before after (λ e. absurd (cc)) (λ e. absurd (cc)) is.looks;
         })
 
     pub lacks : Generating config before (Err Memory) after
-    lacks = record { generated = tt; refused = tt; kind = tt; asked = asks (Ok all) is; looks = looks_as before after (λ e. absurd (cc)) (λ e. absurd (cc)) is.looks }
+    lacks = record { generated = tt; refused = tt; kind = tt; asked = is.asked; looks = looks_as before after (λ e. absurd (cc)) (λ e. absurd (cc)) is.looks }
