@@ -20,7 +20,7 @@ use map_check::{Difference, Differences, check_map};
 use map_parse::{MapFault, ParsedMap, parse_map};
 use primitives::{Bytes, Memory, Steps, Text};
 use request_trace::{Config, Trace};
-use run_texts::{DIFFERENCES, DONE, differences_line, push_differs_line, served_line};
+use run_texts::{DIFFERENCES, DONE, differences_line, differs_line, served_line};
 use std::alloc::{AllocError, Global};
 use std::sync::ledger::Ledger;
 use trace_spec::TraceFault;
@@ -190,18 +190,24 @@ fn difference_text(alloc: Global, trace: &Trace, differences: &Differences) -> R
         let Some(difference) = differences.at(number) else {
             unreachable!();
         };
-        push_difference(&mut text, trace, difference)?;
+        push_difference(alloc, &mut text, trace, difference)?;
     }
     Ok(text)
 }
 
-fn push_difference(text: &mut Vec<u8>, trace: &Trace, difference: &Difference) -> Result<(), Memory>
+fn push_difference(
+    alloc: Global,
+    text: &mut Vec<u8>,
+    trace: &Trace,
+    difference: &Difference,
+) -> Result<(), Memory>
     ensures { OnOk result (text.new.items
         ≡ text.old.items ++ difference_line trace.now (shown difference.now)) }
 {
     let (referrer, specifier) = spelled(trace, difference.need);
     let wants = wanted(trace, difference.need);
-    push_differs_line(text, referrer, specifier, wants, &difference.got)
+    let line = differs_line(alloc, referrer, specifier, wants, &difference.got)?;
+    text.extend_from_slice(line.as_slice())
 }
 
 // How a need is first spelled: who asks, and the specifier.

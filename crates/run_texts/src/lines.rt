@@ -61,27 +61,27 @@ pub fn served_line(alloc: Global, needs: usize) -> Result<Vec<u8>, Memory>
     Ok(line.into_bytes())
 }
 
-/// Appends the line of a need that a map doesn't serve: who asks for it first, how, what it wants, and what it gets.
-pub fn push_differs_line(
-    text: &mut Vec<u8>,
+/// The line of a need that a map doesn't serve: who asks for it first, how, what it wants, and what it gets.
+pub fn differs_line(
+    alloc: Global,
     referrer: &str,
     specifier: &str,
     wants: &str,
     gets: &Got,
-) -> Result<(), Memory>
-    ensures { OnOk result (text.new.items ≡ text.old.items
-        ++ spec.differs_line referrer.now specifier.now wants.now (got_of gets.now)) }
+) -> Result<Vec<u8>, Memory>
+    ensures { IfOk result (λ line. line.items
+        ≡ spec.differs_line referrer.now specifier.now wants.now (got_of gets.now)) }
 {
-    text.extend_from_slice(b"differs: from ".as_slice())?;
-    print_text(text, referrer)?;
-    text.extend_from_slice(b" for ".as_slice())?;
-    print_text(text, specifier)?;
-    text.extend_from_slice(b" wants ".as_slice())?;
-    print_text(text, wants)?;
-    text.extend_from_slice(b" gets ".as_slice())?;
-    push_got(text, gets)?;
-    text.push(b'\n')?;
-    Ok(())
+    let mut line = Vec::from_slice(alloc, b"differs: from ".as_slice())?;
+    print_text(&mut line, referrer)?;
+    line.extend_from_slice(b" for ".as_slice())?;
+    print_text(&mut line, specifier)?;
+    line.extend_from_slice(b" wants ".as_slice())?;
+    print_text(&mut line, wants)?;
+    line.extend_from_slice(b" gets ".as_slice())?;
+    push_got(&mut line, gets)?;
+    line.push(b'\n')?;
+    Ok(line)
 }
 
 fn push_got(text: &mut Vec<u8>, got: &Got) -> Result<(), Memory>
