@@ -18,7 +18,7 @@ use Rattle.trace_spec.specs.Checks.{Gathered, Wanted, checked, led, followed_by,
 use Rattle.trace_spec.specs.Traces.{result_of, state_of}
 use Rattle.trace_walk.specs.declared.referrer.Referrer as code
 use Rattle.trace_walk.specs.declared.tables.Tables.{Tables}
-use Rattle.trace_walk.specs.Meeting.{AnswererState, fine, Met}
+use Rattle.trace_walk.specs.Meeting.{AnswererState, fine, IsAskedBy, Met}
 use Rattle.trace_walk.specs.Shown.{done}
 use Rattle.trace_walk.specs.Walking.{IsReferrer, IsGiven}
 use Rattle.trace_walk.proofs.FaultKinds.{handed}
@@ -26,16 +26,17 @@ use Rattle.trace_walk.proofs.Meetings.{failed, told_err, met_then, met_failed, m
 
 refused_first : (before : AnswererState) (config : Config) (tables : Gathered) (r : Referrer Module) (specifier : List ℕ) (want : Result Wanted TraceFault) (fault : TraceFault) → IsGiven want (Err fault) → Met {X = Gathered} before (followed_by config tables r specifier want) (Err fault) before
 refused_first before config tables r specifier want fault given = record {
-  comes = λ answers told is_told. (let is : want ≡ Err fault = given.given (told_err {X = Wanted} {Y = Gathered} fault is_told).1 in record {
-    is = ap (λ w. result_of (evaluated answers before.state (followed_by config tables r specifier w))) is;
-    leaves = ap (λ w. state_of (evaluated answers before.state (followed_by config tables r specifier w))) is;
+  comes = λ told tells is_told. (let is : want ≡ Err fault = given.given (told_err {X = Wanted} {Y = Gathered} fault is_told).1 in record {
+    is = ap (λ w. result_of (evaluated told.answers before.state (followed_by config tables r specifier w))) is;
+    leaves = ap (λ w. state_of (evaluated told.answers before.state (followed_by config tables r specifier w))) is;
   });
-  told = λ answers told. told;
+  told = λ told tells. tells;
   keeps = refl;
   later = omega arith;
   cause = λ e. absurd (given.no_look (let f : fault ≡ ReadFault = cc in ap Err f));
   quiet = λ ne. refl;
-  learns = learns_nothing before.looks (failed Gathered fault ≡ Err Memory);
+  learns = learns_nothing before.looks (failed Gathered fault ≡ Err Memory)
+      (IsAskedBy before (followed_by config tables r specifier want));
 }
 
 -- a check before Node is asked isn't passed
