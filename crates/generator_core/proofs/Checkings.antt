@@ -164,8 +164,8 @@ module _ (config : Config) (before middle after : FolderState) where
   }
 
   pub checks_behind : (text : List ℕ) (result : Result Report Stop) → FindsMapText before (Ok text) middle → ChecksBy config middle result after → Checks config before result after
-  checks_behind text (Ok report) found is = record { reported = earlier_report report found.found.looks is.reported; asked = own_then (map_path ∷ []) before.asked middle after found.asked is.asked; stopped = tt }
-  checks_behind text (Err stop) found is = record { reported = tt; asked = own_then (map_path ∷ []) before.asked middle after found.asked is.asked; stopped = earlier_end config before middle after Check stop found.found.looks is.stopped }
+  checks_behind text (Ok report) found is = record { reported = earlier_report report found.found.looks is.reported; asked = own_then config before.holds middle.holds (map_path ∷ []) before.asked middle after found.found.looks.tree found.asked is.asked is.footprint; stopped = tt }
+  checks_behind text (Err stop) found is = record { reported = tt; asked = own_then config before.holds middle.holds (map_path ∷ []) before.asked middle after found.found.looks.tree found.asked is.asked is.footprint; stopped = earlier_end config before middle after Check stop found.found.looks is.stopped }
 
 module _ (config : Config) (before after : FolderState) where
   -- the map's file is where it was
@@ -173,10 +173,10 @@ module _ (config : Config) (before after : FolderState) where
   text_still text parsed found reads = subst (λ held. IfSome held (λ tree. HoldsMap tree config parsed)) (sym found.found.looks.tree) (opens_map config before after text parsed found.found.is_text reads)
 
   pub text_refused : (stop : Stop) → FindsMapText before (Err stop) after → Checks config before (Err stop) after
-  text_refused stop found = record { reported = tt; asked = own_alone (map_path ∷ []) before.asked after found.asked; stopped = found.stopped config }
+  text_refused stop found = record { reported = tt; asked = own_alone config before.holds (map_path ∷ []) before.asked after found.asked; stopped = found.stopped config }
 
   pub map_refused : (text : List ℕ) (stop : Stop) → FindsMapText before (Ok text) after → IsMapStop config text stop → Checks config before (Err stop) after
-  map_refused text stop found why = record { reported = tt; asked = own_alone (map_path ∷ []) before.asked after found.asked; stopped = stops_map config before after text stop found.found why }
+  map_refused text stop found why = record { reported = tt; asked = own_alone config before.holds (map_path ∷ []) before.asked after found.asked; stopped = stops_map config before after text stop found.found why }
 
   -- ---- the trace
 
@@ -185,21 +185,22 @@ module _ (config : Config) (before after : FolderState) where
     trace_stops (Refused why) is = record {
       reported = tt;
       asked = is.asked;
+      footprint = is.footprint;
       stopped = record {
         refused = if_two before.holds (λ tree held refuses_each. refuses_each Check (opens.has_map parsed held)) holds is.refused;
         kind = is.kind Check;
         looks = looks_as before after (λ e. absurd (cc)) (λ e. absurd (cc)) is.looks;
       };
     }
-    trace_stops ReadFault is = record { reported = tt; asked = is.asked; stopped = record { refused = tt; kind = tt; looks = looks_as before after (λ e. refl) (λ e. refl) is.looks } }
-    trace_stops Memory is = record { reported = tt; asked = is.asked; stopped = record { refused = tt; kind = tt; looks = looks_as before after (λ e. absurd (cc)) (λ e. absurd (cc)) is.looks } }
+    trace_stops ReadFault is = record { reported = tt; asked = is.asked; footprint = is.footprint; stopped = record { refused = tt; kind = tt; looks = looks_as before after (λ e. refl) (λ e. refl) is.looks } }
+    trace_stops Memory is = record { reported = tt; asked = is.asked; footprint = is.footprint; stopped = record { refused = tt; kind = tt; looks = looks_as before after (λ e. absurd (cc)) (λ e. absurd (cc)) is.looks } }
 
     module _ (all : Gathered) (is : Tracing config before (Ok all) after) where
       quiet_looks : OnlyLooks before after ⊥
       quiet_looks = looks_as before after (λ e. absurd e) (λ e. absurd (cc)) is.looks
 
       pub no_report : ChecksBy config before (Err Memory) after
-      no_report = record { reported = tt; asked = is.asked; stopped = record { refused = tt; kind = tt; looks = looks_as before after (λ e. absurd (cc)) (λ e. absurd e) quiet_looks } }
+      no_report = record { reported = tt; asked = is.asked; footprint = is.footprint; stopped = record { refused = tt; kind = tt; looks = looks_as before after (λ e. absurd (cc)) (λ e. absurd e) quiet_looks } }
 
       pub reports : (report : Report) → IsReport parsed all report → ChecksBy config before (Ok report) after
       reports report is_report = record {
@@ -211,6 +212,7 @@ module _ (config : Config) (before after : FolderState) where
           looks = quiet_looks;
         };
         asked = is.asked;
+      footprint = is.footprint;
         stopped = tt;
       }
 

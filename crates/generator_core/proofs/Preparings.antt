@@ -3,13 +3,15 @@ use Rattle.std.proofs.Common.{◌≡◌, ◌≤◌, ◌⊎◌, ℕ, Bool, true, 
 use Rattle.std.proofs.lemmas.List.{append-nil}
 use Rattle.std.specs.FinMap.{get}
 use Rattle.std.specs.List.{IsDistinct}
-use Rattle.std.specs.Prelude.{bytes_eq}
+use Rattle.std.specs.Prelude.{bytes_eq, All, Contains}
+use Rattle.std.proofs.lemmas.List.Elements.{All-nil}
 use Rattle.tree_spec.specs.declared.Look.{Look}
 use Rattle.tree_spec.specs.declared.Look.TheVariants as look
 use Rattle.tree_spec.specs.declared.LookFault.TheVariants as look_fault
 use Rattle.tree_spec.specs.declared.LimitName.TheVariants.{File, Map}
 use Rattle.tree_spec.specs.Counts.{Rose}
 use Rattle.tree_spec.specs.Limits.{limit_number}
+use Rattle.tree_spec.specs.LookAskings.{footprint}
 use Rattle.tree_spec.specs.Looks.{asked_after}
 use Rattle.tree_spec.specs.States.{FolderState, OnlyLooks, IsLooked}
 use Rattle.tree_spec.specs.Trees.{Tree}
@@ -19,6 +21,7 @@ use Rattle.page_spec.specs.Injection as injection
 use Rattle.page_spec.specs.Injection.{TakesMaps}
 use Rattle.page_spec.proofs.KeptOut.{takes_or_keeps_out}
 use Rattle.trace_spec.specs.Modules.{Config}
+use Rattle.trace_spec.specs.Traces.{generation}
 use Rattle.generator_spec.specs.declared.Command.{Command}
 use Rattle.generator_spec.specs.declared.Command.TheVariants.{Link, Inject}
 use Rattle.generator_spec.specs.declared.PageFault.{PageFault}
@@ -31,7 +34,7 @@ use Rattle.generator_spec.specs.Commands.{IsOfPage, IsRefusalOf as kind, map_pat
 use Rattle.generation.specs.declared.generated.Generated.{Generated}
 use Rattle.generation.specs.declared.stop.Stop.{Stop}
 use Rattle.generation.specs.declared.stop.Stop.TheVariants.{Refused, ReadFault, Memory}
-use Rattle.generation.specs.Generating.{Generating, IsGenerated, AsksNoPathTwice}
+use Rattle.generation.specs.Generating.{Generating, IsGenerated, AsksNoPathTwice, AsksFootprint}
 use Rattle.generator_core.specs.declared.prepared.Prepared.{Prepared}
 use Rattle.generator_core.specs.Preparing.{own_file, AsksOwn, AsksFew, EndsBefore, IsPageFound, FindsPage, HasCounts, IsMapFile, IsPageFile, IsPrepared, IsReady, Prepares}
 
@@ -76,41 +79,56 @@ none_twice : IsDistinct bytes_eq []
 unfolding IsDistinct
 none_twice = tt
 
-pub asks_few : (own : List (List ℕ)) (told : Option (List (List ℕ))) (after : FolderState) → IfSome told (λ old. AsksNoPathTwice old after) → IfSome told (λ old. AsksFew own old after)
-asks_few own told after asks = if_some told (λ old is. record { first = []; is_own = inl refl; more = is.more; asked = is.asked; once = is.once }) asks
+pub asks_few : (config : Config) (holds : Option Tree) (own : List (List ℕ)) (told : Option (List (List ℕ))) (after : FolderState) → IfSome told (λ old. AsksNoPathTwice old after) → IfSome told (λ old. AsksFootprint config holds old after) → IfSome told (λ old. AsksFew config holds own old after)
+asks_few config holds own told after asks at = if_two told (λ old is looks. record { first = []; is_own = inl refl; more = is.more; asked = is.asked; once = is.once; of_footprint = looks is.more is.asked }) asks at
 
 pub own_asked : (own path : List ℕ) (b : Bool) (told : Option (List (List ℕ))) (after : FolderState) → path ≡ own → after.asked ≡ asked_after b path told → IfSome told (λ old. AsksOwn (own ∷ []) old after)
 own_asked own path b None after same is = tt
 own_asked own path true (Some old) after same is = record { first = own ∷ []; is_own = inr refl; asked = is ∙ ap (λ p. Some (old ++ p ∷ [])) same }
 own_asked own path false (Some old) after same is = record { first = []; is_own = inl refl; asked = is ∙ ap Some (sym (append-nil old)) }
 
-pub own_alone : (own : List (List ℕ)) (told : Option (List (List ℕ))) (after : FolderState) → IfSome told (λ old. AsksOwn own old after) → IfSome told (λ old. AsksFew own old after)
-own_alone own told after asks = if_some told (λ old is. record { first = is.first; is_own = is.is_own; more = []; asked = is.asked ∙ ap (λ first. Some (old ++ first)) (sym (append-nil is.first)); once = none_twice }) asks
+-- no paths are of each footprint
+no_more : (config : Config) (holds : Option Tree) → IfSome holds (λ tree. All (Contains (footprint (get tree) (generation config))) [])
+no_more config holds = if_all holds (λ tree. All-nil (Contains (footprint (get tree) (generation config))))
 
-pub own_then : (own : List (List ℕ)) (told : Option (List (List ℕ))) (middle after : FolderState) → IfSome told (λ old. AsksOwn own old middle) → IfSome middle.asked (λ old. AsksNoPathTwice old after) → IfSome told (λ old. AsksFew own old after)
-own_then own None middle after first later = tt
-own_then own (Some old) middle after first later =
+pub own_alone : (config : Config) (holds : Option Tree) (own : List (List ℕ)) (told : Option (List (List ℕ))) (after : FolderState) → IfSome told (λ old. AsksOwn own old after) → IfSome told (λ old. AsksFew config holds own old after)
+own_alone config holds own told after asks = if_some told (λ old is. record { first = is.first; is_own = is.is_own; more = []; asked = is.asked ∙ ap (λ first. Some (old ++ first)) (sym (append-nil is.first)); once = none_twice; of_footprint = no_more config holds }) asks
+
+pub own_then : (config : Config) (holds later_holds : Option Tree) (own : List (List ℕ)) (told : Option (List (List ℕ))) (middle after : FolderState) → later_holds ≡ holds → IfSome told (λ old. AsksOwn own old middle) → IfSome middle.asked (λ old. AsksNoPathTwice old after) → IfSome middle.asked (λ old. AsksFootprint config later_holds old after)
+    → IfSome told (λ old. AsksFew config holds own old after)
+own_then config holds later_holds own None middle after same first later at = tt
+own_then config holds later_holds own (Some old) middle after same first later at =
     let more : AsksNoPathTwice (old ++ first.first) after = subst (λ told. IfSome told (λ before. AsksNoPathTwice before after)) first.asked later in
-    record { first = first.first; is_own = first.is_own; more = more.more; asked = more.asked ∙ ap Some (append_assoc old first.first more.more); once = more.once }
+    let looks : AsksFootprint config later_holds (old ++ first.first) after = subst (λ told. IfSome told (λ before. AsksFootprint config later_holds before after)) first.asked at in
+    record {
+      first = first.first;
+      is_own = first.is_own;
+      more = more.more;
+      asked = more.asked ∙ ap Some (append_assoc old first.first more.more);
+      once = more.once;
+      of_footprint = subst (λ held. IfSome held (λ tree. All (Contains (footprint (get tree) (generation config))) more.more)) same (looks more.more more.asked);
+    }
 
 -- a write asks for nothing
-pub still_few : (own : List (List ℕ)) (told : Option (List (List ℕ))) (middle after : FolderState) → after.asked ≡ middle.asked → IfSome told (λ old. AsksFew own old middle) → IfSome told (λ old. AsksFew own old after)
-still_few own told middle after still asks =
-    if_some told (λ old is. record { first = is.first; is_own = is.is_own; more = is.more; asked = still ∙ is.asked; once = is.once }) asks
+pub still_few : (config : Config) (holds : Option Tree) (own : List (List ℕ)) (told : Option (List (List ℕ))) (middle after : FolderState) → after.asked ≡ middle.asked → IfSome told (λ old. AsksFew config holds own old middle) → IfSome told (λ old. AsksFew config holds own old after)
+still_few config holds own told middle after still asks =
+    if_some told (λ old is. record { first = is.first; is_own = is.is_own; more = is.more; asked = still ∙ is.asked; once = is.once; of_footprint = is.of_footprint }) asks
 
-pub asks_nothing : (own : List (List ℕ)) (state : FolderState) → IfSome state.asked (λ old. AsksFew own old state)
-asks_nothing own state = by state.asked refl
+pub asks_nothing : (config : Config) (holds : Option Tree) (own : List (List ℕ)) (state : FolderState) → IfSome state.asked (λ old. AsksFew config holds own old state)
+asks_nothing config holds own state = by state.asked refl
   where
-    by : (told : Option (List (List ℕ))) → state.asked ≡ told → IfSome told (λ old. AsksFew own old state)
+    by : (told : Option (List (List ℕ))) → state.asked ≡ told → IfSome told (λ old. AsksFew config holds own old state)
     by None e = tt
-    by (Some old) e = record { first = []; is_own = inl refl; more = []; asked = e ∙ ap Some (sym (append-nil old)); once = none_twice }
+    by (Some old) e = record { first = []; is_own = inl refl; more = []; asked = e ∙ ap Some (sym (append-nil old)); once = none_twice; of_footprint = no_more config holds }
 
 -- what the command asks for, by the words that give it
-pub asked_by : (words : List (List ℕ)) (command : Command) (config : Config) → IsConfigOf words command config → (exact : Command) → command ≡ exact → (told : Option (List (List ℕ))) (after : FolderState) → IfSome told (λ old. AsksFew (own_file exact config) old after)
-    → (other : Command) (second : Config) → IsConfigOf words other second → IfSome told (λ old. AsksFew (own_file other second) old after)
-asked_by words command config is exact e told after asks other second is_too =
+pub asked_by : (words : List (List ℕ)) (command : Command) (config : Config) → IsConfigOf words command config → (exact : Command) → command ≡ exact → (holds : Option Tree) (told : Option (List (List ℕ))) (after : FolderState) → IfSome told (λ old. AsksFew config holds (own_file exact config) old after)
+    → (other : Command) (second : Config) → IsConfigOf words other second → IfSome told (λ old. AsksFew second holds (own_file other second) old after)
+asked_by words command config is exact e holds told after asks other second is_too =
     let same = one_config words command other config second is is_too in
-    subst (λ own. IfSome told (λ old. AsksFew own old after)) ((λ i. own_file (sym e i) config) ∙ (λ i. own_file (same.one_command i) (same.one_config i))) asks
+    let commands : exact ≡ other = sym e ∙ same.one_command in
+    subst (λ (c : Config). IfSome told (λ old. AsksFew c holds (own_file other c) old after)) same.one_config
+    (subst (λ c. IfSome told (λ old. AsksFew config holds (own_file c config) old after)) commands asks)
 
 -- ---- generation
 
@@ -132,10 +150,10 @@ module _ (config : Config) (before after : FolderState) where
     stopped_as Memory is = record { refused = tt; kind = tt; looks = looks_as before after (λ e. absurd (cc)) (λ e. absurd (cc)) is.looks }
 
     pub stopped : (stop : Stop) → Generating config before (Err stop) after → Prepares command config before (Err stop) after
-    stopped stop is = record { ready = tt; asked = asks_few (own_file command config) before.asked after is.asked; stopped = stopped_as stop is }
+    stopped stop is = record { ready = tt; asked = asks_few config before.holds (own_file command config) before.asked after is.asked is.footprint; stopped = stopped_as stop is }
 
   pub lacks : (command : Command) (generated : Generated) → Generating config before (Ok generated) after → Prepares command config before (Err Memory) after
-  lacks command generated is = record { ready = tt; asked = asks_few (own_file command config) before.asked after is.asked; stopped = lacks_memory command (generated_looks generated is) }
+  lacks command generated is = record { ready = tt; asked = asks_few config before.holds (own_file command config) before.asked after is.asked is.footprint; stopped = lacks_memory command (generated_looks generated is) }
 
   prepared_of : (command : Command) (tree : Tree) (generated : Generated) (prepared : Prepared) → HasCounts generated prepared → Writes tree config generated.map.items command (new_file prepared.path prepared.file.items ∷ []) → IsGenerated tree config generated → IsPrepared command config tree prepared
   prepared_of command tree generated prepared counts wrote is = record {
@@ -156,7 +174,7 @@ module _ (config : Config) (before after : FolderState) where
       is_prepared = if_two before.holds (λ tree writes_so is_generated. prepared_of command tree generated prepared counts writes_so is_generated) wrote is.generated;
       looks = generated_looks generated is;
     };
-    asked = asks_few (own_file command config) before.asked after is.asked;
+    asked = asks_few config before.holds (own_file command config) before.asked after is.asked is.footprint;
     stopped = tt;
   }
 
@@ -198,17 +216,17 @@ module _ (config : Config) (before middle after : FolderState) where
   earlier_ready : (command : Command) (prepared : Prepared) → OnlyLooks before middle ⊥ → IsReady command config middle after prepared → IsReady command config before after prepared
   earlier_ready command prepared looks is = record { is_prepared = subst (λ held. IfSome held (λ tree. IsPrepared command config tree prepared)) looks.tree is.is_prepared; looks = then_looks before middle after looks is.looks }
 
-  module _ (command : Command) (looks : OnlyLooks before middle ⊥) (asked : IfSome before.asked (λ old. AsksOwn (own_file command config) old middle)) (later : IfSome middle.asked (λ old. AsksNoPathTwice old after)) where
+  module _ (command : Command) (looks : OnlyLooks before middle ⊥) (asked : IfSome before.asked (λ old. AsksOwn (own_file command config) old middle)) (later : IfSome middle.asked (λ old. AsksNoPathTwice old after)) (at : IfSome middle.asked (λ old. AsksFootprint config middle.holds old after)) where
     earlier : (result : Result Prepared Stop) → Prepares command config middle result after → Prepares command config before result after
-    earlier (Ok prepared) is = record { ready = earlier_ready command prepared looks is.ready; asked = own_then (own_file command config) before.asked middle after asked later; stopped = tt }
-    earlier (Err stop) is = record { ready = tt; asked = own_then (own_file command config) before.asked middle after asked later; stopped = earlier_end command stop looks is.stopped }
+    earlier (Ok prepared) is = record { ready = earlier_ready command prepared looks is.ready; asked = own_then config before.holds middle.holds (own_file command config) before.asked middle after looks.tree asked later at; stopped = tt }
+    earlier (Err stop) is = record { ready = tt; asked = own_then config before.holds middle.holds (own_file command config) before.asked middle after looks.tree asked later at; stopped = earlier_end command stop looks is.stopped }
 
   -- the page is where it was
   page_still : (page : List ℕ) → IsPageFound config before middle page → IfSome middle.holds (λ tree. IsPage tree config page)
   page_still page is = subst (λ held. IfSome held (λ tree. IsPage tree config page)) (sym is.looks.tree) is.is_page
 
-  pub page_prepared : (page : List ℕ) (result : Result Prepared Stop) → FindsPage config before (Ok page) middle → IfSome middle.asked (λ old. AsksNoPathTwice old after) → (IfSome middle.holds (λ tree. IsPage tree config page) → Prepares Inject config middle result after) → Prepares Inject config before result after
-  page_prepared page result is asks prepares = earlier Inject is.found.looks is.asked asks result (prepares (page_still page is.found))
+  pub page_prepared : (page : List ℕ) (result : Result Prepared Stop) → FindsPage config before (Ok page) middle → IfSome middle.asked (λ old. AsksNoPathTwice old after) → IfSome middle.asked (λ old. AsksFootprint config middle.holds old after) → (IfSome middle.holds (λ tree. IsPage tree config page) → Prepares Inject config middle result after) → Prepares Inject config before result after
+  page_prepared page result is asks at prepares = earlier Inject is.found.looks is.asked asks at result (prepares (page_still page is.found))
 
 -- ---- the look at the page
 
@@ -220,7 +238,7 @@ no_memory bytes inject.Memory keeps = takes_or_keeps_out.no_memory [] bytes (kee
 
 module _ (config : Config) (before after : FolderState) where
   pub page_refused : (stop : Stop) → FindsPage config before (Err stop) after → Prepares Inject config before (Err stop) after
-  page_refused stop is = record { ready = tt; asked = own_alone (config.page ∷ []) before.asked after is.asked; stopped = is.stopped }
+  page_refused stop is = record { ready = tt; asked = own_alone config before.holds (config.page ∷ []) before.asked after is.asked; stopped = is.stopped }
 
   page_ends : (why : PageFault) → OnlyLooks before after ⊥ → IfSome before.holds (λ tree. RefusesPage tree config why) → IsOfPage why → EndsBefore Inject config before after (Refused (Page why))
   page_ends why looks why_not of = record {
@@ -234,7 +252,7 @@ module _ (config : Config) (before after : FolderState) where
       subst (λ s. Prepares Inject config before (Err s) after) (sym same)
       (record {
         ready = tt;
-        asked = own_alone (config.page ∷ []) before.asked after is.asked;
+        asked = own_alone config before.holds (config.page ∷ []) before.asked after is.asked;
         stopped = page_ends (KeepsMapsOut why) is.found.looks (if_some before.holds (λ tree stands. refuses_page.keeps_out page why stands keeps) is.found.is_page) (no_memory page why keeps);
       })
 

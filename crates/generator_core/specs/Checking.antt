@@ -21,7 +21,7 @@ use Rattle.generator_spec.specs.Checking.{difference_lines, check_status, check_
 use Rattle.generator_spec.specs.Commands.{map_path, IsMapText, ReadsMap, HoldsMap, map_file_fault}
 use Rattle.generation.specs.declared.stop.Stop.{Stop}
 use Rattle.generation.specs.declared.stop.Stop.TheVariants.{Refused, Memory}
-use Rattle.generation.specs.Generating.{AsksNoPathTwice}
+use Rattle.generation.specs.Generating.{AsksNoPathTwice, AsksFootprint}
 use Rattle.generator_core.specs.declared.checking.Report.{Report}
 use Rattle.generator_core.specs.Preparing.{AsksOwn, AsksFew, EndsBefore}
 
@@ -79,10 +79,11 @@ pub record ChecksBy (config : Config) (before : FolderState) (result : Result Re
     (after : FolderState) : Type 0 where
   pub reported : IfOk result (λ report. IsReported config before after report)
   pub asked : IfSome before.asked (λ old. AsksNoPathTwice old after)
+  pub footprint : IfSome before.asked (λ old. AsksFootprint config before.holds old after)
   pub stopped : IfErr result (λ stop. EndsBefore Check config before after stop)
 
 pub record Checks (config : Config) (before : FolderState) (result : Result Report Stop)
     (after : FolderState) : Type 0 where
   pub reported : IfOk result (λ report. IsReported config before after report)
-  pub asked : IfSome before.asked (λ old. AsksFew (map_path ∷ []) old after)
+  pub asked : IfSome before.asked (λ old. AsksFew config before.holds (map_path ∷ []) old after)
   pub stopped : IfErr result (λ stop. EndsBefore Check config before after stop)

@@ -1,16 +1,18 @@
 -- How a command comes to what it writes.
 --     own_file command config      the path of the file that the command needs before its trace
 --     AsksOwn own old after      the folder was asked for these paths, or for nothing
---     AsksFew own old after      and then for further paths, for none of them twice
+--     AsksFew config holds own old after      and then for further paths, for none of them twice, which in a told tree
+--                              are of the generation's footprint
 --     FindsPage config before result after      the page is read, or it is told why not
 --     IsMapFile generated prepared      the file is the map that was generated
 --     IsPageFile config page generated prepared      the file is the page with that map
 --     Prepares command config before result after      the command has its file, or it is told why not
-use Rattle.std.specs.Prelude.{◌≡◌, ◌≤◌, ◌⊎◌, ◌++◌, [], ◌∷◌, ℕ, List, length, bytes_eq, Some, Result, Ok, IfOk, IfErr, IfSome}
+use Rattle.std.specs.Prelude.{◌≡◌, ◌≤◌, ◌⊎◌, ◌++◌, [], ◌∷◌, ℕ, List, length, bytes_eq, All, Contains, Option, Some, Result, Ok, IfOk, IfErr, IfSome}
 use Rattle.std.specs.FinMap.{get}
 use Rattle.std.specs.List.{IsDistinct}
 use Rattle.tree_spec.specs.declared.LimitName.TheVariants.{Map}
 use Rattle.tree_spec.specs.Limits.{limit_number}
+use Rattle.tree_spec.specs.LookAskings.{footprint}
 use Rattle.tree_spec.specs.States.{FolderState, OnlyLooks}
 use Rattle.tree_spec.specs.Trees.{Tree}
 use Rattle.page_spec.specs.Injection.{Injection}
@@ -20,7 +22,7 @@ use Rattle.layout_spec.specs.Counting.{mapping_count}
 use Rattle.layout_spec.specs.PrintedMap.{map_text}
 use Rattle.trace_spec.specs.Checks.{Gathered}
 use Rattle.trace_spec.specs.Modules.{Config}
-use Rattle.trace_spec.specs.Traces.{traced}
+use Rattle.trace_spec.specs.Traces.{traced, generation}
 use Rattle.generator_spec.specs.declared.Command.{Command}
 use Rattle.generator_spec.specs.declared.Command.TheVariants.{Link, Inject, Check}
 use Rattle.generator_spec.specs.Commands.{IsPage, Refuses, IsRefusalOf, map_path, new_file, Writes}
@@ -43,12 +45,14 @@ pub record AsksOwn (own old : List (List ℕ)) (after : FolderState) : Type 0 wh
   pub asked : after.asked ≡ Some (old ++ first)
 
 -- own: the command's own file may be among the further paths too
-pub record AsksFew (own old : List (List ℕ)) (after : FolderState) : Type 0 where
+pub record AsksFew (config : Config) (holds : Option Tree) (own old : List (List ℕ))
+    (after : FolderState) : Type 0 where
   pub first : List (List ℕ)
   pub is_own : (first ≡ []) ⊎ (first ≡ own)
   pub more : List (List ℕ)
   pub asked : after.asked ≡ Some (old ++ (first ++ more))
   pub once : IsDistinct bytes_eq more
+  pub of_footprint : IfSome holds (λ tree. All (Contains (footprint (get tree) (generation config))) more)
 
 -- ---- before the write
 
@@ -106,5 +110,5 @@ pub record IsReady (command : Command) (config : Config) (before after : FolderS
 pub record Prepares (command : Command) (config : Config) (before : FolderState) (result : Result Prepared Stop)
     (after : FolderState) : Type 0 where
   pub ready : IfOk result (λ prepared. IsReady command config before after prepared)
-  pub asked : IfSome before.asked (λ old. AsksFew (own_file command config) old after)
+  pub asked : IfSome before.asked (λ old. AsksFew config before.holds (own_file command config) old after)
   pub stopped : IfErr result (λ stop. EndsBefore command config before after stop)

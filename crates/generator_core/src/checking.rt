@@ -10,6 +10,7 @@ ghost use Rattle.map_check.specs.Shown.{shown};
 ghost use Rattle.generator_spec.specs.Checking as spec_at;
 ghost use Rattle.generator_spec.specs.Checking.{difference_line};
 ghost use Rattle.generator_spec.specs.Lines as spec;
+ghost use Rattle.generator_spec.specs.Commands as spec_files;
 ghost use Rattle.generator_spec.specs.Commands.{HoldsMap};
 ghost use Rattle.generator_core.specs.Checking.{Checks, ChecksBy, FindsMapText, FindsMap, IsNameless, IsReport};
 
@@ -24,7 +25,7 @@ use run_texts::{DIFFERENCES, DONE, differences_line, differs_line, served_line};
 use std::alloc::{AllocError, Global};
 use std::sync::ledger::Ledger;
 use trace_spec::TraceFault;
-use tree_model::{Folder, Look, LookFault};
+use tree_model::{Folder, Look, LookFault, Path};
 use tree_spec::MOST_MAP_BYTES;
 use web_url::{Suffix, WebFault, WebUrl, web_of};
 
@@ -58,10 +59,17 @@ pub fn checked<F: Folder, L: Ledger>(
 fn map_text<F: Folder>(alloc: Global, folder: &mut F) -> Result<Bytes, Stop>
     ensures { FindsMapText (F.state folder.old) result (F.state folder.new) }
 {
-    let Ok(path) = map_path(alloc) else {
-        return Err(Stop::Memory);
-    };
-    match folder.look(alloc, &path, MOST_MAP_BYTES as u64) {
+    match map_path(alloc) {
+        Ok(path) => text_at(alloc, folder, &path),
+        Err(_) => Err(Stop::Memory),
+    }
+}
+
+// The text of the map at its path.
+fn text_at<F: Folder>(alloc: Global, folder: &mut F, path: &Path) -> Result<Bytes, Stop>
+    ensures { path.now ≡ spec_files.map_path → FindsMapText (F.state folder.old) result (F.state folder.new) }
+{
+    match folder.look(alloc, path, MOST_MAP_BYTES as u64) {
         Ok(Look::Absent) => Err(without_map(MapFileFault::Absent)),
         Ok(Look::Folder) => Err(without_map(MapFileFault::Absent)),
         Ok(Look::TooLarge) => Err(without_map(MapFileFault::TooLarge)),

@@ -44,7 +44,8 @@ pub fn run<F: Folder, I: Source, O: Sink, L: Ledger>(
     ensures words { (why : Refusal) → RefusesWords (texts words.now) why → folder.new ≡ folder.old }
     ensures input { _input.new ≡ _input.old }
     ensures asked { (command : Commanded) (config : Configured) → IsConfigOf (texts words.now) command config
-        → IfSome (F.state folder.old).asked (λ old. AsksFew (own_file command config) old (F.state folder.new)) }
+        → IfSome (F.state folder.old).asked (λ old. AsksFew config (F.state folder.old).holds (own_file command config)
+        old (F.state folder.new)) }
     ensures steps { (command : Commanded) (config : Configured) → IsConfigOf (texts words.now) command config
         → IsGenerating command → result ≡ done_status
         → SpendsFew (O.state out.old) (O.state out.new) steps.old steps.new }
@@ -71,7 +72,8 @@ fn link<F: Folder, O: Sink, L: Ledger>(
     ensures end { (words : List (List ℕ)) → IsConfigOf words Link config.now
         → EndsAs words (F.state folder.old) (F.state folder.new) (O.state out.old) (O.state out.new) result }
     ensures asked { IfSome (F.state folder.old).asked
-        (λ old. AsksFew (own_file Link config.now) old (F.state folder.new)) }
+        (λ old. AsksFew config.now (F.state folder.old).holds (own_file Link config.now) old
+        (F.state folder.new)) }
     ensures steps { result ≡ done_status → SpendsFew (O.state out.old) (O.state out.new) steps.old steps.new }
     ensures bounded { steps.new ≤ steps.old + (limit_number Modules + limit_number Requests) }
 {
@@ -92,7 +94,8 @@ fn inject<F: Folder, O: Sink, L: Ledger>(
     ensures end { (words : List (List ℕ)) → IsConfigOf words Inject config.now
         → EndsAs words (F.state folder.old) (F.state folder.new) (O.state out.old) (O.state out.new) result }
     ensures asked { IfSome (F.state folder.old).asked
-        (λ old. AsksFew (own_file Inject config.now) old (F.state folder.new)) }
+        (λ old. AsksFew config.now (F.state folder.old).holds (own_file Inject config.now) old
+        (F.state folder.new)) }
     ensures steps { result ≡ done_status → SpendsFew (O.state out.old) (O.state out.new) steps.old steps.new }
     ensures bounded { steps.new ≤ steps.old + (limit_number Modules + limit_number Requests) }
 {
@@ -113,7 +116,8 @@ fn check<F: Folder, O: Sink, L: Ledger>(
     ensures end { (words : List (List ℕ)) → IsConfigOf words Check config.now
         → EndsAs words (F.state folder.old) (F.state folder.new) (O.state out.old) (O.state out.new) result }
     ensures asked { IfSome (F.state folder.old).asked
-        (λ old. AsksFew (own_file Check config.now) old (F.state folder.new)) }
+        (λ old. AsksFew config.now (F.state folder.old).holds (own_file Check config.now) old
+        (F.state folder.new)) }
     ensures bounded { steps.new ≤ steps.old + (limit_number Modules + limit_number Requests) }
 {
     match checked(alloc, folder, config, steps) {

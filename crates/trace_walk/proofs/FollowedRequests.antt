@@ -22,7 +22,7 @@ use Rattle.trace_walk.specs.Meeting.{AnswererState, fine, IsAskedBy, Met}
 use Rattle.trace_walk.specs.Shown.{done}
 use Rattle.trace_walk.specs.Walking.{IsReferrer, IsGiven}
 use Rattle.trace_walk.proofs.FaultKinds.{handed}
-use Rattle.trace_walk.proofs.Meetings.{failed, told_err, met_then, met_failed, met_now}
+use Rattle.trace_walk.proofs.Meetings.{failed, told_err, met_then, met_failed, met_lost, met_now}
 
 refused_first : (before : AnswererState) (config : Config) (tables : Gathered) (r : Referrer Module) (specifier : List ℕ) (want : Result Wanted TraceFault) (fault : TraceFault) → IsGiven want (Err fault) → Met {X = Gathered} before (followed_by config tables r specifier want) (Err fault) before
 refused_first before config tables r specifier want fault given = record {
@@ -61,6 +61,14 @@ follow_failed before after config tables r conditions path specifier want fault 
     subst (λ v. Met before (follows config tables r specifier) (done v code) after) (sym (handed result fault is))
     (subst (λ w. Met {X = Gathered} before (followed_by config tables r specifier w) (Err fault) after) (sym asks)
     (met_failed before after (fine (ask (of_request config.conditions (path_of config r) specifier) answered)) (by_answer config tables r specifier want) fault (put_so before after config r conditions path specifier (Err fault) on at met)))
+
+-- memory was wanting behind Node's answer
+pub follow_lost : (before after : AnswererState) (config : Config) (tables : Gathered) (r : Referrer Module) (conditions : List (List ℕ)) (path specifier : List ℕ) (want : Wanted) (found : Result Module Refusal) (result : Result (Unit {0}) TraceFault) (code : Tables) → conditions ≡ config.conditions → path_of config r ≡ path
+    → IsErrAnd result (λ f. f ≡ Memory) → checked config tables r specifier ≡ Ok want → Met {X = Result Module Refusal} before (fine (ask (of_request conditions path specifier) answered)) (Ok found) after → Met before (follows config tables r specifier) (done result code) after
+follow_lost before after config tables r conditions path specifier want found result code on at is asks met =
+    subst (λ v. Met before (follows config tables r specifier) (done v code) after) (sym (handed result Memory is))
+    (subst (λ w. Met {X = Gathered} before (followed_by config tables r specifier w) (Err Memory) after) (sym asks)
+    (met_lost before after (fine (ask (of_request config.conditions (path_of config r) specifier) answered)) (by_answer config tables r specifier want) found (put_so before after config r conditions path specifier (Ok found) on at met)))
 
 -- Node's answer decides
 pub follow_led : (before after : AnswererState) (config : Config) (tables : Gathered) (r : Referrer Module) (conditions : List (List ℕ)) (path specifier : List ℕ) (want : Wanted) (found : Result Module Refusal) (result : Result Gathered TraceFault) → conditions ≡ config.conditions → path_of config r ≡ path

@@ -109,6 +109,21 @@ met_failed {X = X} {Y = Y} before after part next fault first = record {
       (asked_first before part next) first.learns;
 }
 
+-- memory was wanting behind a part
+pub met_lost : {T Q : Type 0} {A : Q → Type 0} {X Y : Type 0} (before after : Outside T Q A) (part : Asking Q A (Result X TraceFault)) (next : X → Asking Q A (Result Y TraceFault)) (value : X)
+    → Met before part (Ok value) after → Met {X = Y} before (and_ok part next) (Err Memory) after
+met_lost {X = X} {Y = Y} before after part next value first = record {
+  comes = λ told tells is_told. absurd (is_told.1 refl);
+  told = first.told;
+  keeps = first.keeps;
+  later = first.later;
+  cause = λ e. absurd (cc);
+  quiet = λ ne. first.quiet (λ e. cc);
+  learns = learns_as before.looks after.looks (succeeded X value ≡ Err Memory) (failed Y Memory ≡ Err Memory)
+      (IsAskedBy before part) (IsAskedBy before (and_ok part next)) (λ e. refl) (asked_first before part next)
+      first.learns;
+}
+
 -- nothing is asked
 pub met_now : {T Q : Type 0} {A : Q → Type 0} {X : Type 0} (before : Outside T Q A) (value result : Result X TraceFault) → IsGiven value result → Met before (answered value) result before
 met_now before value result given = record {

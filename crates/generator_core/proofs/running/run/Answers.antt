@@ -24,16 +24,16 @@ returns-in-Err-Refused-clause-end g c =
     words_end (texts c.args.words.now) _ _ _ _ c.in-Err-Refused.why (c.config_of.ensures.refused c.in-Err-Refused.why (c.in-Err-Refused.is ∙ ap Err c.in-Err-Refused.field-0-is)) c.refuse.ensures.tells c.refuse.ensures.later
 
 pub returns-in-Ok-Link-default-clause-asked : goal.returns-in-Ok-Link-default-clause-asked
-returns-in-Ok-Link-default-clause-asked g c = asked_by (texts c.args.words.now) c.in-Ok-Link-default.field-0-0 c.in-Ok-Link-default.config c.in-Ok-Link-default.ensures.config Link c.in-Ok-Link-default.field-0-0-is _ _ c.link.ensures.asked
+returns-in-Ok-Link-default-clause-asked g c = asked_by (texts c.args.words.now) c.in-Ok-Link-default.field-0-0 c.in-Ok-Link-default.config c.in-Ok-Link-default.ensures.config Link c.in-Ok-Link-default.field-0-0-is (g.F.Folder.state c.args.folder.now).holds _ _ c.link.ensures.asked
 
 pub returns-in-Ok-Inject-default-clause-asked : goal.returns-in-Ok-Inject-default-clause-asked
-returns-in-Ok-Inject-default-clause-asked g c = asked_by (texts c.args.words.now) c.in-Ok-Inject-default.field-0-0 c.in-Ok-Inject-default.config c.in-Ok-Inject-default.ensures.config Inject c.in-Ok-Inject-default.field-0-0-is _ _ c.inject.ensures.asked
+returns-in-Ok-Inject-default-clause-asked g c = asked_by (texts c.args.words.now) c.in-Ok-Inject-default.field-0-0 c.in-Ok-Inject-default.config c.in-Ok-Inject-default.ensures.config Inject c.in-Ok-Inject-default.field-0-0-is (g.F.Folder.state c.args.folder.now).holds _ _ c.inject.ensures.asked
 
 pub returns-in-Ok-Check-default-clause-asked : goal.returns-in-Ok-Check-default-clause-asked
-returns-in-Ok-Check-default-clause-asked g c = asked_by (texts c.args.words.now) c.in-Ok-Check-default.field-0-0 c.in-Ok-Check-default.config c.in-Ok-Check-default.ensures.config Check c.in-Ok-Check-default.field-0-0-is _ _ c.check.ensures.asked
+returns-in-Ok-Check-default-clause-asked g c = asked_by (texts c.args.words.now) c.in-Ok-Check-default.field-0-0 c.in-Ok-Check-default.config c.in-Ok-Check-default.ensures.config Check c.in-Ok-Check-default.field-0-0-is (g.F.Folder.state c.args.folder.now).holds _ _ c.check.ensures.asked
 
 pub returns-in-Err-Refused-clause-asked : goal.returns-in-Err-Refused-clause-asked
-returns-in-Err-Refused-clause-asked g c = λ command config is. asks_nothing (own_file command config) (g.F.Folder.state c.args.folder.now)
+returns-in-Err-Refused-clause-asked g c = λ command config is. asks_nothing config (g.F.Folder.state c.args.folder.now).holds (own_file command config) (g.F.Folder.state c.args.folder.now)
 
 pub returns-in-Err-Memory-clause-asked : goal.returns-in-Err-Memory-clause-asked
-returns-in-Err-Memory-clause-asked g c = λ command config is. asks_nothing (own_file command config) (g.F.Folder.state c.args.folder.now)
+returns-in-Err-Memory-clause-asked g c = λ command config is. asks_nothing config (g.F.Folder.state c.args.folder.now).holds (own_file command config) (g.F.Folder.state c.args.folder.now)
