@@ -4,7 +4,7 @@ use Rattle.project_file.proofs.lists.are_distinct.Goals as goal
 
 pub returns-then-not-is_new : goal.returns-then-not-is_new
 returns-then-not-is_new c =
-    ((λ yes. absurd (search rules)), (λ distinct. stands_twice c.args.texts.now c.loop-text.text-index c.text-item.result (search rules) (search rules) (search rules) distinct))
+    ((λ yes. absurd (search rules)), (λ distinct. absurd (stands_twice c.args.texts.now c.loop-text.text-index c.text-item.result (search rules) (search rules) (search rules) distinct)))
 
 pub returns : goal.returns
 returns c =

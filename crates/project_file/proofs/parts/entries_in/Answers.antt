@@ -1,4 +1,4 @@
-use Rattle.std.proofs.Common.{rules, true, ◌≡◌, ⊥}
+use Rattle.std.proofs.Common.{rules, true, ◌≡◌}
 use Rattle.std.specs.List.{IsDistinct}
 use Rattle.std.specs.Prelude.{bytes_eq}
 use Rattle.ordered_json.specs.Lists.{values_of}
