@@ -14,7 +14,10 @@ static BAD_FILES: [(usize, &str); 62] = [
         "\u{feff}{\"base\":\"https://h/\",\"page\":\"/i\",\"conditions\":[],\"entries\":[]}",
     ),
     (1, r#"{"#),
-    (1, r#"{base:"https://h/","page":"/i","conditions":[],"entries":[]}"#),
+    (
+        1,
+        r#"{base:"https://h/","page":"/i","conditions":[],"entries":[]}"#,
+    ),
     (1, r#"{'base':'https://h/'}"#),
     (1, r#"{"base"#),
     (7, r#"{"base""#),
@@ -22,57 +25,162 @@ static BAD_FILES: [(usize, &str); 62] = [
     (21, r#"{"base":"https://h/","#),
     (21, r#"{"base":"https://h/",}"#),
     (21, r#"{"base":"https://h/" "page":"/i"}"#),
-    (27, r#"{"base":"https://h/","page"="/i","conditions":[],"entries":[]}"#),
-    (47, r#"{"base":"https://h/","page":"/i","conditions":[,],"entries":[]}"#),
-    (60, r#"{"base":"https://h/","page":"/i","conditions":[],"entries":["#),
-    (60, r#"{"base":"https://h/","page":"/i","conditions":[],"entries":["./a"#),
-    (61, r#"{"base":"https://h/","page":"/i","conditions":[],"entries":[]"#),
-    (62, r#"{"base":"https://h/","page":"/i","conditions":[],"entries":[]}]"#),
+    (
+        27,
+        r#"{"base":"https://h/","page"="/i","conditions":[],"entries":[]}"#,
+    ),
+    (
+        47,
+        r#"{"base":"https://h/","page":"/i","conditions":[,],"entries":[]}"#,
+    ),
+    (
+        60,
+        r#"{"base":"https://h/","page":"/i","conditions":[],"entries":["#,
+    ),
+    (
+        60,
+        r#"{"base":"https://h/","page":"/i","conditions":[],"entries":["./a"#,
+    ),
+    (
+        61,
+        r#"{"base":"https://h/","page":"/i","conditions":[],"entries":[]"#,
+    ),
+    (
+        62,
+        r#"{"base":"https://h/","page":"/i","conditions":[],"entries":[]}]"#,
+    ),
     // no object
     (0, "null"),
     (0, r#""https://h/""#),
     (0, r#"["https://h/","/i",[],[]]"#),
-    (0, r#"[{"base":"https://h/","page":"/i","conditions":[],"entries":[]}]"#),
+    (
+        0,
+        r#"[{"base":"https://h/","page":"/i","conditions":[],"entries":[]}]"#,
+    ),
     // other members
     (0, "{}"),
     (0, r#"{"page":"/i","conditions":[],"entries":[]}"#),
     (0, r#"{"base":"https://h/","conditions":[],"entries":[]}"#),
     (0, r#"{"base":"https://h/","page":"/i","entries":[]}"#),
     (0, r#"{"base":"https://h/","page":"/i","conditions":[]}"#),
-    (0, r#"{"base":"https://h/","page":"/i","page":"/i","entries":[]}"#),
-    (0, r#"{"Base":"https://h/","page":"/i","conditions":[],"entries":[]}"#),
-    (0, r#"{"base":"https://h/","page":"/i","conditions":[],"entries":[],"":0}"#),
+    (
+        0,
+        r#"{"base":"https://h/","page":"/i","page":"/i","entries":[]}"#,
+    ),
+    (
+        0,
+        r#"{"Base":"https://h/","page":"/i","conditions":[],"entries":[]}"#,
+    ),
+    (
+        0,
+        r#"{"base":"https://h/","page":"/i","conditions":[],"entries":[],"":0}"#,
+    ),
     // other kinds of values
     (0, r#"{"base":1,"page":"/i","conditions":[],"entries":[]}"#),
-    (0, r#"{"base":null,"page":"/i","conditions":[],"entries":[]}"#),
-    (0, r#"{"base":"https://h/","page":["/i"],"conditions":[],"entries":[]}"#),
-    (0, r#"{"base":"https://h/","page":"/i","conditions":"a","entries":[]}"#),
-    (0, r#"{"base":"https://h/","page":"/i","conditions":{"a":true},"entries":[]}"#),
-    (0, r#"{"base":"https://h/","page":"/i","conditions":["a",1],"entries":[]}"#),
-    (0, r#"{"base":"https://h/","page":"/i","conditions":[],"entries":true}"#),
-    (0, r#"{"base":"https://h/","page":"/i","conditions":[],"entries":"x"}"#),
-    (0, r#"{"base":"https://h/","page":"/i","conditions":[],"entries":["x",null]}"#),
-    (0, r#"{"base":"https://h/","page":"/i","conditions":[],"entries":[["x"]]}"#),
+    (
+        0,
+        r#"{"base":null,"page":"/i","conditions":[],"entries":[]}"#,
+    ),
+    (
+        0,
+        r#"{"base":"https://h/","page":["/i"],"conditions":[],"entries":[]}"#,
+    ),
+    (
+        0,
+        r#"{"base":"https://h/","page":"/i","conditions":"a","entries":[]}"#,
+    ),
+    (
+        0,
+        r#"{"base":"https://h/","page":"/i","conditions":{"a":true},"entries":[]}"#,
+    ),
+    (
+        0,
+        r#"{"base":"https://h/","page":"/i","conditions":["a",1],"entries":[]}"#,
+    ),
+    (
+        0,
+        r#"{"base":"https://h/","page":"/i","conditions":[],"entries":true}"#,
+    ),
+    (
+        0,
+        r#"{"base":"https://h/","page":"/i","conditions":[],"entries":"x"}"#,
+    ),
+    (
+        0,
+        r#"{"base":"https://h/","page":"/i","conditions":[],"entries":["x",null]}"#,
+    ),
+    (
+        0,
+        r#"{"base":"https://h/","page":"/i","conditions":[],"entries":[["x"]]}"#,
+    ),
     // no base
     (0, r#"{"base":"","page":"/i","conditions":[],"entries":[]}"#),
-    (0, r#"{"base":"h","page":"/i","conditions":[],"entries":[]}"#),
-    (0, r#"{"base":"ftp://h/","page":"/i","conditions":[],"entries":[]}"#),
-    (0, r#"{"base":"https://h/a","page":"/i","conditions":[],"entries":[]}"#),
-    (0, r#"{"base":"https://h/?q","page":"/i","conditions":[],"entries":[]}"#),
-    (0, r#"{"base":"https://u@h/","page":"/i","conditions":[],"entries":[]}"#),
+    (
+        0,
+        r#"{"base":"h","page":"/i","conditions":[],"entries":[]}"#,
+    ),
+    (
+        0,
+        r#"{"base":"ftp://h/","page":"/i","conditions":[],"entries":[]}"#,
+    ),
+    (
+        0,
+        r#"{"base":"https://h/a","page":"/i","conditions":[],"entries":[]}"#,
+    ),
+    (
+        0,
+        r#"{"base":"https://h/?q","page":"/i","conditions":[],"entries":[]}"#,
+    ),
+    (
+        0,
+        r#"{"base":"https://u@h/","page":"/i","conditions":[],"entries":[]}"#,
+    ),
     // no page
-    (0, r#"{"base":"https://h/","page":"/","conditions":[],"entries":[]}"#),
-    (0, r#"{"base":"https://h/","page":"","conditions":[],"entries":[]}"#),
-    (0, r#"{"base":"https://h/","page":"i","conditions":[],"entries":[]}"#),
-    (0, r#"{"base":"https://h/","page":"/a/","conditions":[],"entries":[]}"#),
-    (0, r#"{"base":"https://h/","page":"/a/../i","conditions":[],"entries":[]}"#),
+    (
+        0,
+        r#"{"base":"https://h/","page":"/","conditions":[],"entries":[]}"#,
+    ),
+    (
+        0,
+        r#"{"base":"https://h/","page":"","conditions":[],"entries":[]}"#,
+    ),
+    (
+        0,
+        r#"{"base":"https://h/","page":"i","conditions":[],"entries":[]}"#,
+    ),
+    (
+        0,
+        r#"{"base":"https://h/","page":"/a/","conditions":[],"entries":[]}"#,
+    ),
+    (
+        0,
+        r#"{"base":"https://h/","page":"/a/../i","conditions":[],"entries":[]}"#,
+    ),
     // no conditions
-    (0, r#"{"base":"https://h/","page":"/i","conditions":["default"],"entries":[]}"#),
-    (0, r#"{"base":"https://h/","page":"/i","conditions":["a","default"],"entries":[]}"#),
-    (0, r#"{"base":"https://h/","page":"/i","conditions":[""],"entries":[]}"#),
-    (0, r#"{"base":"https://h/","page":"/i","conditions":["a,b"],"entries":[]}"#),
-    (0, r#"{"base":"https://h/","page":"/i","conditions":["a b"],"entries":[]}"#),
-    (0, r#"{"base":"https://h/","page":"/i","conditions":["a","b","a"],"entries":[]}"#),
+    (
+        0,
+        r#"{"base":"https://h/","page":"/i","conditions":["default"],"entries":[]}"#,
+    ),
+    (
+        0,
+        r#"{"base":"https://h/","page":"/i","conditions":["a","default"],"entries":[]}"#,
+    ),
+    (
+        0,
+        r#"{"base":"https://h/","page":"/i","conditions":[""],"entries":[]}"#,
+    ),
+    (
+        0,
+        r#"{"base":"https://h/","page":"/i","conditions":["a,b"],"entries":[]}"#,
+    ),
+    (
+        0,
+        r#"{"base":"https://h/","page":"/i","conditions":["a b"],"entries":[]}"#,
+    ),
+    (
+        0,
+        r#"{"base":"https://h/","page":"/i","conditions":["a","b","a"],"entries":[]}"#,
+    ),
     (
         0,
         r#"{"base":"https://h/","page":"/i","conditions":["1","2","3","4","5","6","7","8","9","10","11","12","13","14","15",
@@ -84,8 +192,14 @@ static BAD_FILES: [(usize, &str); 62] = [
 "12345678901234567890123456789012345678901234567890123456789012345"],"entries":[]}"#,
     ),
     // an entry twice
-    (0, r#"{"base":"https://h/","page":"/i","conditions":[],"entries":["x","x"]}"#),
-    (0, r#"{"base":"https://h/","page":"/i","conditions":[],"entries":["x","y","\u0078"]}"#),
+    (
+        0,
+        r#"{"base":"https://h/","page":"/i","conditions":[],"entries":["x","x"]}"#,
+    ),
+    (
+        0,
+        r#"{"base":"https://h/","page":"/i","conditions":[],"entries":["x","y","\u0078"]}"#,
+    ),
 ];
 
 #[test]
