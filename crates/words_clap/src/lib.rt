@@ -4,8 +4,8 @@
 #![tactic(auto)]
 
 mod help;
-mod matches;
+mod matching;
 mod program;
 
-pub use matches::matches;
+pub use matching::matches;
 pub use program::command;

@@ -3,7 +3,8 @@
 --     top          the program without them
 --     link_command, unlink_command, measure_command      the commands that take words
 --     option_rule name, entries_rule, number_rule        their arguments
-use Rattle.clap.specs.Words.{App, Rule, Text, new_app, new_rule, on_top, with_rule, with_subcommand}
+use Rattle.clap.specs.Simple.{on_top}
+use Rattle.clap.specs.Words.{App, Rule, Text, new_app, new_rule, with_rule, with_subcommand}
 use Rattle.clap.specs.declared.builder.action.ArgAction.TheVariants.{Append}
 use Rattle.std.specs.Prelude.{codes, Some, true}
 

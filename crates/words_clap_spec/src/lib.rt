@@ -23,7 +23,7 @@ pub fn plain_words_are_held()
     ensures { PlainWordsAreHeld }
 {}
 
-/// Help is asked for by `--help`, `-h`, `help` and no words.
+/// Help is asked for by `--help`, `-h`, `help` and no words, and `clap` refuses these.
 #[tactic(auto, using(crate::proofs::PlainWords::help_is_asked_for))]
 pub fn help_is_asked_for()
     ensures { HelpIsAskedFor }

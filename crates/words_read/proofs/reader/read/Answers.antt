@@ -9,7 +9,7 @@ use Rattle.words_spec.proofs.ReadIsPlain.{read_is_plain}
 use Rattle.words_read.proofs.reader.read.Goals as goal
 
 as_read : (words : List (List ℕ)) (found : Option Command) → option_map shown found ≡ reading_of words → MatchOption found (AsksNothing words) (λ command. Asks words (shown command))
-as_read words None is asked plain = let bad : None ≡ Some asked = is ∙ plain_is_read plain in absurd cc
+as_read words None is = λ asked plain. absurd (let bad : None ≡ Some asked = is ∙ plain_is_read plain in cc)
 as_read words (Some command) is = read_is_plain words (shown command) (sym is)
 
 pub returns : goal.returns

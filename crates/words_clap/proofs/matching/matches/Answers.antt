@@ -4,7 +4,7 @@ use Rattle.std.proofs.lemmas.Result.{IfErr-weaker, IfOk-weaker}
 use Rattle.clap.specs.Words.{FailsBy, fault_of, is_simple, is_simple_and_free, subcommand_of, takes}
 use Rattle.words_clap_spec.specs.Holding.{Holds}
 use Rattle.words_clap_spec.proofs.PlainWords.{plain_words_are_held, plain_words_pass, program_is_simple}
-use Rattle.words_clap.proofs.matches.matches.Goals as goal
+use Rattle.words_clap.proofs.matching.matches.Goals as goal
 
 pub returns-clause-held : goal.returns-clause-held
 returns-clause-held c = λ asked plain.
