@@ -1,9 +1,9 @@
 -- Runs of bytes that leave a tokenizer's state as it is.
 use Rattle.std.specs.Char.{is_ascii_whitespace}
-use Rattle.std.proofs.Common.{◌≡◌, ℕ, ◌==◌, ◌&&◌, ◌||◌, List, [], ◌∷◌, Bool, true, false, Option, Some, None, if◌then◌else◌, refl, sym, ◌∙◌, ap}
+use Rattle.std.proofs.Common.{◌≡◌, ℕ, ◌==◌, ◌&&◌, ◌||◌, List, [], ◌∷◌, Bool, true, false, Some, if◌then◌else◌, refl, sym, ◌∙◌, ap}
 use Rattle.page_spec.specs.declared.kinds.State.{State}
 use Rattle.page_spec.specs.declared.kinds.State.TheVariants.{BogusComment, Comment, CommentEndDash, TagName, BeforeAttributeName, AttributeName, AfterAttributeName, BeforeAttributeValue, AttributeValueDoubleQuoted, AttributeValueSingleQuoted, AttributeValueUnquoted}
-use Rattle.page_spec.specs.Tokenizer.{may_end, is_last, next_state, behind_markup}
+use Rattle.page_spec.specs.Tokenizer.{is_last, next_state, behind_markup}
 use Rattle.page_spec.specs.Pieces.{ends_name}
 use Rattle.page_spec.specs.Attributes.{behind, ends_attribute_name, ends_unquoted}
 
