@@ -11,6 +11,8 @@ mod case;
 mod cases;
 mod endings;
 #[cfg(test)]
+mod escaped_page;
+#[cfg(test)]
 mod faults;
 #[cfg(test)]
 mod page_cases;
