@@ -66,10 +66,22 @@ checked() {
         echo 'ok: 4 needs served' | diff - "$kept/out"
 }
 
+# The page of the example with packages gets the same map with another base, in a copy.
+injected_packages() {
+    program=$PWD/build/salimgub
+    rm -rf "$kept/packages" &&
+        cp -R examples/packages "$kept/packages" &&
+        (cd "$kept/packages" &&
+            "$program" inject --base http://localhost:8000/packages/ ./app.js >"$kept/out") &&
+        echo 'ok: 9 modules, 11 requests, 8 mappings' | diff - "$kept/out" &&
+        diff examples/expected-packages.html "$kept/packages/index.html"
+}
+
 check "build.sh" ./build.sh
 check "the example" example
 check "the example with packages" packages
 check "the page of the examples" injected
+check "the page of packages" injected_packages
 check "the example with a map written by hand" checked
 check "rows on disk" .ci/rows.sh
 check "a program that must not compile" .ci/must_not_compile.sh

@@ -13,6 +13,8 @@ mod cases;
 mod check_cases;
 mod endings;
 #[cfg(test)]
+mod escaped_page;
+#[cfg(test)]
 mod faults;
 #[cfg(test)]
 mod page_cases;
