@@ -1,4 +1,4 @@
-ghost use Rattle.std.specs.Prelude.{◌≡◌, ◌<◌, ◌≤◌, ◌∷◌, ◌++◌, ◌↔◌, List, ℕ, length, Ok, Err, IfOk, OnOk, IsTrue, codes};
+ghost use Rattle.std.specs.Prelude.{◌≡◌, ◌<◌, ◌≤◌, ◌∷◌, ◌++◌, ◌↔◌, length, Err, IfOk, OnOk, IsTrue, codes};
 ghost use Rattle.tree_spec.specs.Limits.{limit_number};
 ghost use Rattle.tree_spec.specs.declared.LimitName.TheVariants.{Map};
 ghost use Rattle.map_print.specs.Sizes as sizes;
@@ -6,10 +6,10 @@ ghost use Rattle.json_spec.specs.PrintedString.{quoted};
 ghost use Rattle.json_spec.specs.Value.{a_text, an_object, no_members};
 ghost use Rattle.json_spec.specs.PrintedValue.{line, printed, printed_members, printed_text};
 ghost use Rattle.import_map_spec.specs.ParsedMap.{ParsedMap};
-ghost use Rattle.import_map_spec.specs.Parsing.{ParsesMap};
-ghost use Rattle.layout_spec.specs.PrintedMap.{IsKept, members_of, with_part, map_text};
+ghost use Rattle.layout_spec.specs.PrintedMap.{members_of, with_part, map_text};
 ghost use Rattle.scope_builder.specs.Lists.{Lists};
-ghost use Rattle.map_print.specs.PrintedLists.{HasNoMarkup, mappings_value, layout_value};
+ghost use Rattle.map_print.specs.Printed.{IsPrinted};
+ghost use Rattle.map_print.specs.PrintedLists.{mappings_value, layout_value};
 ghost use Rattle.map_print.specs.Appending.{Appends};
 
 use crate::size::map_size;
@@ -46,13 +46,7 @@ pub fn print_map(
     layout: &Layout,
     integrity: &Mappings,
 ) -> Result<Vec<u8>, PrintFault>
-    ensures text { IfOk result (λ bytes. (m : ParsedMap)
-        → Lists layout.now integrity.now m → bytes.items ≡ map_text m) }
-    ensures within { IfOk result (λ bytes. length bytes.items ≤ limit_number Map) }
-    ensures reads_back { IfOk result (λ bytes. (base : List ℕ) (m : ParsedMap)
-        → Lists layout.now integrity.now m → IsKept base m → ParsesMap base bytes.items (Ok m)) }
-    ensures plain { IfOk result (λ bytes. (base : List ℕ) (m : ParsedMap)
-        → Lists layout.now integrity.now m → IsKept base m → HasNoMarkup bytes.items) }
+    ensures printed { IfOk result (λ bytes. IsPrinted layout.now integrity.now bytes.items) }
     ensures too_large { result ≡ Err PrintFault.MapTooLarge
         → (m : ParsedMap) → Lists layout.now integrity.now m → limit_number Map < length (map_text m) }
 {
