@@ -1,2 +1,3 @@
 pub mod Preparings
 pub mod Endings
+pub mod Checkings

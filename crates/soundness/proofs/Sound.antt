@@ -5,9 +5,11 @@ use Rattle.std.specs.FinMap.{get, empty}
 use Rattle.std.specs.Prelude.{◌≡◌, ℕ, List, Some, Ok, Contains}
 use Rattle.tree_spec.specs.Trees.{Tree}
 use Rattle.url_spec.proofs.KeptUrls.{kept_urls}
+use Rattle.url_spec.specs.Specifiers.{normalized}
 use Rattle.import_map_spec.proofs.ResolvesByCases.{resolves_by_cases}
 use Rattle.import_map_spec.specs.ParsedMap.{ParsedMap}
 use Rattle.import_map_spec.specs.Parsing.{ParsesMap}
+use Rattle.import_map_spec.specs.LookUps.{resolve_in}
 use Rattle.import_map_spec.specs.Resolving as html
 use Rattle.layout_spec.proofs.AgreedLaws.{agreed_of_needs}
 use Rattle.layout_spec.proofs.TextBack.{texts_read_back, texts_are_plain}
@@ -33,10 +35,11 @@ use Rattle.soundness.proofs.Leading.{need_leads}
 use Rattle.soundness.proofs.Reaching.{reached, is_named, needs_name, asked_by_file}
 use Rattle.soundness.specs.Soundness.{NamesUrls, MapsServe, AgreedMapsServe, Soundness, MapsArePlain, OneMapInPage}
 
-module _ (tree : Tree) (config : Config) (all : Gathered) (is_traced : traced (get tree) config ≡ Ok all) (m : ParsedMap) (no_capture : NoCapture all.needs m) (of_needs : OfNeeds all.needs m) where
-  files : (need : Need) → Contains all.needs need → NamesUrls need
-  files = needs_name tree config all is_traced
+-- through a map each need is led to its target, whatever text it is asked for by
+abbrev pub AreLed : Gathered → ParsedMap → Type 0
+AreLed all m = (need : Need) (specifier : List ℕ) → Contains all.needs need → normalized need.referrer specifier ≡ need.asked → resolve_in m need.referrer specifier ≡ html.Resolved need.target
 
+module _ (tree : Tree) (config : Config) (all : Gathered) (is_traced : traced (get tree) config ≡ Ok all) (m : ParsedMap) (led : AreLed all m) where
   -- a request that passed leads to its file
   leads : (referrer : Referrer Module) (name specifier : List ℕ) → web_name config referrer ≡ Some name → Passes (get tree) config all referrer specifier → Leads tree config m referrer name specifier
   leads referrer name specifier named passes =
@@ -48,12 +51,12 @@ module _ (tree : Tree) (config : Config) (all : Gathered) (is_traced : traced (g
         node = sym passes.answers;
         web = passes.servable.name;
         html = subst (λ n. html.Resolves m n specifier (html.Resolved need.target)) same
-            ((resolves_by_cases m need.referrer specifier (html.Resolved need.target)).0 (need_leads all.needs m no_capture of_needs files need specifier passes.is_need (asks_normal need.referrer specifier need.asked passes.asks)));
+            ((resolves_by_cases m need.referrer specifier (html.Resolved need.target)).0 (led need specifier passes.is_need (asks_normal need.referrer specifier need.asked passes.asks)));
         served = passes.servable.back;
       }
 
-  all_lead : (referrer : Referrer Module) → Reachable tree config referrer → AllLead tree config m referrer
-  all_lead referrer reachable =
+  pub led_requests : (referrer : Referrer Module) → Reachable tree config referrer → AllLead tree config m referrer
+  led_requests referrer reachable =
       let is_reached = reached tree config all is_traced referrer reachable in
       let named = is_named tree config all is_traced referrer is_reached in
       let pass = requests_pass (get tree) config all is_traced referrer is_reached in
@@ -64,6 +67,15 @@ module _ (tree : Tree) (config : Config) (all : Gathered) (is_traced : traced (g
         asks = pass.asks;
         leads = λ specifier asked. leads referrer named.name specifier named.named (pass.pass specifier asked);
       }
+
+module _ (tree : Tree) (config : Config) (all : Gathered) (is_traced : traced (get tree) config ≡ Ok all) (m : ParsedMap) (no_capture : NoCapture all.needs m) (of_needs : OfNeeds all.needs m) where
+  files : (need : Need) → Contains all.needs need → NamesUrls need
+  files = needs_name tree config all is_traced
+
+  all_lead : (referrer : Referrer Module) → Reachable tree config referrer → AllLead tree config m referrer
+  all_lead =
+      led_requests tree config all is_traced m
+      (λ need specifier c asks. need_leads all.needs m no_capture of_needs files need specifier c asks)
 
   text_serves : m.integrity ≡ empty → (bytes : List ℕ) → bytes ≡ map_text m → Serves tree config bytes
   text_serves no_digests bytes text =

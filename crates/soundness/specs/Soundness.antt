@@ -4,6 +4,7 @@
 --     MapsReadBack      the text of such a map is read as that map
 --     AgreedMapsServe      the agreed layout of the trace's needs serves
 --     NothingDiffers      checked over the same tree, its text has no difference
+--     CheckedMapsServe      any text that is read as a map of which no need of the trace differs serves
 --     Soundness      what is generated serves
 --     MapsArePlain      what is generated holds no markup
 --     OneMapInPage      a page into which it is put has it as its one map
@@ -62,6 +63,14 @@ NothingDiffers =
     → traced (get tree) config ≡ Ok all → PageIsFile config → IsAgreedLayout all.needs m
     → web_name config the_page ≡ Some base → ParsesMap base (map_text m) (Ok parsed)
     → differences parsed all.needs ≡ []
+
+-- own law: a text serves, whoever wrote it, where what it is read as, against the page's URL, serves each of the
+-- trace's needs
+abbrev pub CheckedMapsServe : Type 0
+CheckedMapsServe =
+    (tree : Tree) (config : Config) (all : Gathered) (base bytes : List ℕ) (m : ParsedMap)
+    → traced (get tree) config ≡ Ok all → PageIsFile config → web_name config the_page ≡ Some base
+    → ParsesMap base bytes (Ok m) → differences m all.needs ≡ [] → Serves tree config bytes
 
 -- own law: what is generated serves
 abbrev pub Soundness : Type 0

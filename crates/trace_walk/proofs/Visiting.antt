@@ -156,13 +156,13 @@ not_read text (NotModule reason) e = cc
 not_read text (Above which) e = cc
 
 -- it has no source
-pub visit_sourceless : (before after : AnswererState) (config : Config) (tables : Gathered) (m : Module) (path suffix : List ℕ) (why : NoSource) (fault : TraceFault) → m.path ≡ path → m.suffix ≡ suffix → fault ≡ no_source_fault (path ++ suffix) why
+pub visit_sourceless : (before after : AnswererState) (config : Config) (tables : Gathered) (m : Module) (path shown : List ℕ) (why : NoSource) (fault : TraceFault) → m.path ≡ path → m.path ++ m.suffix ≡ shown → fault ≡ no_source_fault shown why
     → Met {X = Result spec.Source spec.NoSource} before (fine (ask (of_module path) answered)) (Ok (Err (no_source_of why))) after → Met {X = Gathered} before (visited (rules config) tables (a_module m)) (Err fault) after
-visit_sourceless before after config tables m path suffix why fault at tail is first =
+visit_sourceless before after config tables m path shown why fault at shows is first =
     met_then before after after (fine (ask (of_module m.path) answered)) (behind config tables m) (Err (no_source_of why)) (Err fault)
     (subst (λ p. Met {X = Result spec.Source spec.NoSource} before (fine (ask (of_module p) answered)) (Ok (Err (no_source_of why))) after) (sym at) first)
-    (subst (λ opened. Met {X = Gathered} after (on_ok (λ opened. followed (rules config) opened.after (a_module m) opened.specifiers) opened) (Err fault) after) (sym (sourceless config tables m why (path ++ suffix) (λ i. sym at i ++ sym tail i)))
-    (met_now after (Err (no_source_fault (path ++ suffix) why)) (Err fault) (record { given = λ ne. ap Err (sym is); no_look = λ e. (let f : fault ≡ ReadFault = cc in not_read (path ++ suffix) why (sym is ∙ f)) })))
+    (subst (λ opened. Met {X = Gathered} after (on_ok (λ opened. followed (rules config) opened.after (a_module m) opened.specifiers) opened) (Err fault) after) (sym (sourceless config tables m why shown (sym shows)))
+    (met_now after (Err (no_source_fault shown why)) (Err fault) (record { given = λ ne. ap Err (sym is); no_look = λ e. (let f : fault ≡ ReadFault = cc in not_read shown why (sym is ∙ f)) })))
 
 pub visit_done : (before middle after : AnswererState) (config : Config) (tables : Gathered) (opened : Gathered) (m : Module) (path : List ℕ) (source : spec.Source) (specifiers : List (List ℕ)) (result : Result Gathered TraceFault) → m.path ≡ path
     → opened ≡ with_source tables source → specifiers ≡ source.specifiers → Met {X = Result spec.Source spec.NoSource} before (fine (ask (of_module path) answered)) (Ok (Ok source)) middle → Met middle (followed (rules config) opened (a_module m) specifiers) result after
@@ -182,8 +182,8 @@ at_place config (other ∷ entries) zero m entry e f all =
 at_place config (other ∷ entries) (suc place) m entry e f all = at_place config entries place m entry e f (All-tail (λ (x : Module × Name). IsNamed config x.0 x.1) other entries all)
 
 pub is_referrer : (config : Config) (entries : List (Module × Name)) (place : ℕ) (m : Module) (entry : Module × Name) (referrer : Referrer) → slice_get (keys_of entries) place ≡ Some m → slice_get entries place ≡ Some entry → AllNamed config entries
-    → referrer.name ≡ entry.1.url → referrer.text ≡ entry.1.text → referrer.path ≡ entry.0.path → referrer.suffix ≡ entry.0.suffix → IsReferrer config (a_module m) referrer
-is_referrer config entries place m entry referrer e f all name text path suffix =
+    → referrer.name ≡ entry.1.url → referrer.text ≡ entry.1.text → referrer.path ≡ entry.0.path → referrer.shown ≡ entry.0.path ++ entry.0.suffix → IsReferrer config (a_module m) referrer
+is_referrer config entries place m entry referrer e f all name text path shown =
     let at = at_place config entries place m entry e f all in
     let parts = file_name_parts config entry.0 entry.1.url at.1.is in
     subst (λ (x : Module). IsReferrer config (a_module x) referrer) (sym at.0)
@@ -191,7 +191,7 @@ is_referrer config entries place m entry referrer e f all name text path suffix 
       named = parts.servable.name ∙ ap Some (sym name);
       text = text ∙ (at.1.text ∙ sym name);
       path = sym path;
-      suffix = sym suffix;
+      shown_so = sym shown;
     })
 
 -- ---- the table's next place

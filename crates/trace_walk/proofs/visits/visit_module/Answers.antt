@@ -26,4 +26,4 @@ returns-in_err-source-clause-met g c = λ m is all.
 
 pub returns-in_ok-no_source-in-Err-clause-met : goal.returns-in_ok-no_source-in-Err-clause-met
 returns-in_ok-no_source-in-Err-clause-met g c = λ m is all.
-    visit_sourceless _ _ c.args.config.now (before_of c.args.tables.now) m c.args.referrer.now.path c.args.referrer.now.suffix c.in-Err.why c.in_ok-no_source-in-Err.field-0 is.path is.suffix c.in_ok-no_source-in-Err.ensures (rw c.in-Err.is at c.in_ok-source.ensures.met)
+    visit_sourceless _ _ c.args.config.now (before_of c.args.tables.now) m c.args.referrer.now.path c.args.referrer.now.shown c.in-Err.why c.in_ok-no_source-in-Err.field-0 is.path is.shown_so c.in_ok-no_source-in-Err.ensures (rw c.in-Err.is at c.in_ok-source.ensures.met)
