@@ -24,8 +24,8 @@ pub struct Generated {
     pub mappings: usize,
 }
 
-/// The map of what stands in the folder, for the config. Nothing is written, and no path is looked at twice. A map takes
-/// at most one step for each module and for each request.
+/// The map of what stands in the folder, for the config. Nothing is written, and no path is looked at twice. A map
+/// takes at most one step for each module and for each request.
 pub fn generate<F: Folder, L: Ledger>(
     alloc: Global,
     folder: &mut F,

@@ -238,7 +238,8 @@ fn clash_line(
     second: &Text,
     second_to: &Text,
 ) -> Result<Vec<u8>, Memory>
-    ensures { IfOk result (λ line. line.items ≡ spec.clash_line referrer.now first.now first_to.now second.now second_to.now) }
+    ensures { IfOk result (λ line. line.items
+        ≡ spec.clash_line referrer.now first.now first_to.now second.now second_to.now) }
 {
     let mut line = Vec::from_slice(alloc, b"refused: Clash from ".as_slice())?;
     print_text(&mut line, referrer.as_str())?;

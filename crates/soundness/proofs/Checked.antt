@@ -34,6 +34,6 @@ checked_maps_serve tree config all base bytes m traces page_is_file named parses
   map = m;
   parses = parses;
   all_lead =
-      led_requests tree config all traces page_is_file m
+      led_requests tree config all traces m
       (λ need specifier c asks. specifiers_agree m need specifier asks ∙ all_get m 0 all.needs none need c);
 }
