@@ -146,7 +146,7 @@ fn checked_by<F: Folder, L: Ledger>(
 {
     match traced(alloc, folder, config, steps) {
         Err(stop) => Err(stop),
-        Ok(trace) => match report(alloc, &trace, parsed) {
+        Ok(trace) => match report_of(alloc, &trace, parsed) {
             Err(_) => Err(Stop::Memory),
             Ok(report) => Ok(report),
         },
@@ -154,7 +154,7 @@ fn checked_by<F: Folder, L: Ledger>(
 }
 
 // What the map doesn't serve of a trace's needs.
-fn report(alloc: Global, trace: &Trace, parsed: &ParsedMap) -> Result<Report, Memory>
+fn report_of(alloc: Global, trace: &Trace, parsed: &ParsedMap) -> Result<Report, Memory>
     ensures { IfOk result (IsReport parsed.now trace.now) }
 {
     let differences = check_map(alloc, trace.needs(), parsed)?;
