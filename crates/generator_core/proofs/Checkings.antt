@@ -212,7 +212,7 @@ module _ (config : Config) (before after : FolderState) where
           looks = quiet_looks;
         };
         asked = is.asked;
-      footprint = is.footprint;
+        footprint = is.footprint;
         stopped = tt;
       }
 

@@ -177,7 +177,8 @@ fn served(alloc: Global, needs: usize) -> Result<Report, Memory>
 fn differing(alloc: Global, trace: &Trace, differences: &Differences) -> Result<Report, Memory>
     ensures status { IfOk result (λ report. report.status ≡ 6) }
     ensures text { IfOk result (λ report. report.text.items
-        ≡ concat (map (λ d. difference_line trace.now (shown d)) differences.now) ++ spec.differences_line (length differences.now)) }
+        ≡ concat (map (λ d. difference_line trace.now (shown d)) differences.now)
+        ++ spec.differences_line (length differences.now)) }
 {
     let mut text = difference_text(alloc, trace, differences)?;
     let last = differences_line(alloc, differences.len())?;
@@ -189,7 +190,11 @@ fn differing(alloc: Global, trace: &Trace, differences: &Differences) -> Result<
 }
 
 // The line of each difference.
-fn difference_text(alloc: Global, trace: &Trace, differences: &Differences) -> Result<Vec<u8>, Memory>
+fn difference_text(
+    alloc: Global,
+    trace: &Trace,
+    differences: &Differences,
+) -> Result<Vec<u8>, Memory>
     ensures { IfOk result (λ text. text.items
         ≡ concat (map (λ d. difference_line trace.now (shown d)) differences.now)) }
 {
