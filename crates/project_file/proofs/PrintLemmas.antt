@@ -15,6 +15,16 @@ use Rattle.project_spec.proofs.ReadBack.{projects_read_back}
 use Rattle.project_spec.specs.ProjectFiles.{IsProject, ReadsProject, project_text, project_value, strings}
 use Rattle.project_file.specs.Outcomes.{IsReadBack}
 
+-- ---- the names, copied one after another
+
+pub one_more : (names all next : List (List ℕ)) (i : ℕ) (copy name : List ℕ) → names ≡ take i all → slice_get all i ≡ Some name → copy ≡ name → next ≡ names ++ copy ∷ [] → next ≡ take (i + 1) all
+one_more names all next i copy name so_far at same put =
+    let step = take_more all i name (slice_get_within all i name at) in
+    let here = get_or_from_slice_get all i name name at in
+    cc
+
+-- ---- a list of strings
+
 pub all_printed : {old now : List ℕ} {all : List ℕ → List ℕ} (n i : ℕ) (texts : List (List ℕ)) → length texts ≤ i → Completes old now all (printed_items n (strings (drop i texts))) → Appends old now all
 all_printed {now = now} n i texts past c = record { whole = λ rest. sym (ap (λ ts. now ++ printed_items n (strings ts) rest) (drop_all i texts past)) ∙ c.whole rest }
 
@@ -41,6 +51,8 @@ listed first lent more texts end split ends opens same one others closes =
     (λ rest. ap (λ (xs : List ℕ). 91 ∷ line 2 (quoted lent ++ printed_items 2 (strings more) xs)) (ends rest)
     ∙ (ap (λ t. printed 1 (a_list (strings (t ∷ more))) rest) same ∙ sym (ap (λ ts. printed 1 (a_list (strings ts)) rest) split)))
 
+-- ---- the whole file
+
 -- the line of a member, up to its value
 abbrev pub opened : List ℕ → List ℕ → List ℕ
 opened name rest = line 1 (quoted name ++ (codes ": " ++ rest))
@@ -60,14 +72,6 @@ whole_project config base page conditions entries end base_is page_is conditions
     ∙ ap (λ (xs : List ℕ). 44 ∷ opened (codes "page") (quoted config.page ++ xs)) (conditions_is _
     ∙ ap (λ (xs : List ℕ). 44 ∷ opened (codes "conditions") (names xs)) (entries_is _
     ∙ ap (λ (xs : List ℕ). 44 ∷ opened (codes "entries") (asked xs)) (end_is rest)))))
-
--- ---- the whole file
-
-pub one_more : (names all next : List (List ℕ)) (i : ℕ) (copy name : List ℕ) → names ≡ take i all → slice_get all i ≡ Some name → copy ≡ name → next ≡ names ++ copy ∷ [] → next ≡ take (i + 1) all
-one_more names all next i copy name so_far at same put =
-    let step = take_more all i name (slice_get_within all i name at) in
-    let here = get_or_from_slice_get all i name name at in
-    cc
 
 pub whole_text : {old new : List ℕ} (config : Config) → old ≡ [] → Appends old new (λ rest. printed 0 (project_value config) (10 ∷ rest)) → new ≡ project_text config
 unfolding project_text

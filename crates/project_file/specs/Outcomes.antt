@@ -2,7 +2,7 @@
 --     IsNoProject bytes fault     the bytes have this fault, unless no memory was found
 --     GivesNone value fault       the same of a JSON value
 --     IsDescribed value found     the value describes the config that was found, or none
---     IsReadBack config bytes     the bytes are read as the config, where a file can hold it
+--     IsReadBack config bytes     the bytes are read as the config, where a file can hold its entries
 use Rattle.std.specs.List.{IsDistinct}
 use Rattle.std.specs.Prelude.{◌≤◌, ℕ, List, ⊤, Option, Some, None, Ok, Err, bytes_eq, length}
 use Rattle.tree_spec.specs.Limits.{limit_number}
@@ -28,7 +28,7 @@ abbrev pub IsDescribed : Json → Option Config → Type 0
 IsDescribed value None = (config : Config) → Describes value config → ⊥
 IsDescribed value (Some config) = Describes value config
 
--- own: each config that is made has a base, a page and conditions as a file can hold them
+-- own: of a config that was made, the entries alone may keep it from a file; where they don't, the bytes are read as it
 abbrev pub IsReadBack : Config → List ℕ → Type 0
 IsReadBack config bytes =
     IsDistinct bytes_eq config.entries → length config.entries ≤ limit_number Entries → ReadsProject bytes (Ok config)
