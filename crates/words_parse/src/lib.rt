@@ -18,7 +18,6 @@ use std::alloc::Global;
 use std::fmt::Write;
 use words_clap::matches;
 use words_read::read;
-
 pub use words_read::{Command, LinkValues};
 
 /// Why words ask for nothing.

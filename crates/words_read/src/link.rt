@@ -39,7 +39,11 @@ fn entries_from<'a>(values: LinkValues<'a>, words: &'a [String]) -> Option<Comma
 }
 
 // None where the text can't be a value, and where the option is there already.
-fn one_more<'a>(values: LinkValues<'a>, option: LinkOption, value: &'a str) -> Option<LinkValues<'a>>
+fn one_more<'a>(
+    values: LinkValues<'a>,
+    option: LinkOption,
+    value: &'a str,
+) -> Option<LinkValues<'a>>
     ensures { option_map options_of result ≡ reading.one_more (options_of values.entry) option value.now }
 {
     if !is_value(value) {

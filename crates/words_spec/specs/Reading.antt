@@ -70,7 +70,7 @@ abbrev pub next_number : ℕ → ℕ → Option ℕ
 next_number number digit =
     if nat_lt digit 48 || nat_lt 57 digit then None
     else (if (number * 10 + (digit - 48)) == 0 || nat_lt 2000 (number * 10 + (digit - 48)) then None
-        else Some (number * 10 + (digit - 48)))
+    else Some (number * 10 + (digit - 48)))
 
 abbrev pub with_number : Option ℕ → (ℕ → Option ℕ) → Option ℕ
 with_number None next = None
