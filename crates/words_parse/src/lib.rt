@@ -34,8 +34,10 @@ pub enum WordsFault {
 /// What the words ask for.
 #[tactic(auto, using(crate::proofs::Explained::explained))]
 pub fn parse<'a>(alloc: Global, words: &'a [String]) -> Result<Command<'a>, WordsFault>
-    ensures plain { (asked : Asked) → Asks (map string_bytes words.now) asked → IfOk result (λ command. shown command ≡ asked) }
-    ensures memory { (asked : Asked) → Asks (map string_bytes words.now) asked → IfErr result (λ fault. fault ≡ WordsFault.Memory) }
+    ensures plain { (asked : Asked) → Asks (map string_bytes words.now) asked
+        → IfOk result (λ command. shown command ≡ asked) }
+    ensures memory { (asked : Asked) → Asks (map string_bytes words.now) asked
+        → IfErr result (λ fault. fault ≡ WordsFault.Memory) }
     ensures asks { IfOk result (λ command. Asks (map string_bytes words.now) (shown command)) }
     ensures faults { IfErr result (Explains (map string_bytes words.now)) }
 {
