@@ -12,6 +12,11 @@ pub(crate) const AFTER: &str = "Examples, in the folder of the site:
   salimgub refresh
       write the map anew after a file or a package has changed
 
+Options of link, before the entries, each at most once:
+  --base <URL>          the URL of this folder on the web, as https://app.test/; needed the first time
+  --page <PATH>         the page's path below this folder; at first /index.html
+  --conditions <NAMES>  the conditions of packages, with commas between them; at first browser,import
+
 Status:
   0  done
   1  refused: an import leads to no module, or the page has no place for the map

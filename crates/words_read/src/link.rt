@@ -9,7 +9,8 @@ use words_spec::LinkOption;
 
 /// What the words after `link` and these options ask for.
 pub(crate) fn link_from<'a>(values: LinkValues<'a>, words: &'a [String]) -> Option<Command<'a>>
-    ensures { option_map shown result ≡ reading.link_reading (map string_bytes words.now) None (options_of values.entry) }
+    ensures { option_map shown result
+        ≡ reading.link_reading (map string_bytes words.now) None (options_of values.entry) }
 {
     let Some((word, rest)) = words.split_first() else {
         return Some(Command::Link(values, words));
