@@ -52,10 +52,37 @@ injected() {
     [ "$before" = "$(cd "$kept/page" && find . | sort)" ]
 }
 
+# The map that was written by hand has the two differences that were typed by hand; the map that `link` writes in its
+# place has none, and a check writes nothing.
+checked() {
+    program=$PWD/build/salimgub
+    cp -R examples/checked "$kept/checked" || return 1
+    (cd "$kept/checked" && "$program" check --base https://app.test/ ./app.mjs >"$kept/out")
+    [ $? = 6 ] && diff examples/expected-check.txt "$kept/out" &&
+        diff -r examples/checked "$kept/checked" &&
+        (cd "$kept/checked" && "$program" link --base https://app.test/ ./app.mjs >"$kept/out") &&
+        echo 'ok: 4 modules, 4 requests, 3 mappings' | diff - "$kept/out" &&
+        (cd "$kept/checked" && "$program" check --base https://app.test/ ./app.mjs >"$kept/out") &&
+        echo 'ok: 4 needs served' | diff - "$kept/out"
+}
+
+# The page of the example with packages gets the same map with another base, in a copy.
+injected_packages() {
+    program=$PWD/build/salimgub
+    rm -rf "$kept/packages" &&
+        cp -R examples/packages "$kept/packages" &&
+        (cd "$kept/packages" &&
+            "$program" inject --base http://localhost:8000/packages/ ./app.js >"$kept/out") &&
+        echo 'ok: 9 modules, 11 requests, 8 mappings' | diff - "$kept/out" &&
+        diff examples/expected-packages.html "$kept/packages/index.html"
+}
+
 check "build.sh" ./build.sh
 check "the example" example
 check "the example with packages" packages
 check "the page of the examples" injected
+check "the page of packages" injected_packages
+check "the example with a map written by hand" checked
 check "rows on disk" .ci/rows.sh
 check "a program that must not compile" .ci/must_not_compile.sh
 check "values that are dropped once" .ci/drops.sh

@@ -195,4 +195,37 @@ page folder 7 'bad file: page absent' </dev/null
 mkdir "$kept/cut" && printf '<head' >"$kept/cut/index.html" && : >"$kept/cut/app.mjs"
 page cut 1 'refused: PageUnclear at 0' <"$kept/cut/index.html"
 
+# Checks the map of the folder $kept/NAME: checked NAME STATUS, and the lines on the standard input. Nothing may be written.
+checked() {
+    cat >"$kept/wanted"
+    before=$(cd "$kept/$1" && find . | sort)
+    (cd "$kept/$1" && "$program" check --base https://app.test/ ./app.mjs >"$kept/out")
+    status=$?
+    after=$(cd "$kept/$1" && find . | sort)
+    if [ "$status" = "$2" ] && diff "$kept/wanted" "$kept/out" && [ "$before" = "$after" ]; then
+        return
+    fi
+    echo "$1: status $status"
+    failed=1
+}
+
+mkdir "$kept/mapless" && echo 'import "./q.mjs";' >"$kept/mapless/app.mjs"
+echo 'bad file: map absent' | checked mapless 7
+
+mkdir -p "$kept/mapfolder/importmap.json" && : >"$kept/mapfolder/app.mjs"
+echo 'bad file: map absent' | checked mapfolder 7
+
+mkdir "$kept/largemap" && : >"$kept/largemap/app.mjs" && truncate -s 67108865 "$kept/largemap/importmap.json"
+echo 'limit: file above 67108864' | checked largemap 3
+truncate -s 67108864 "$kept/largemap/importmap.json"
+echo 'bad file: map at 0' | checked largemap 7
+rm -f "$kept/largemap/importmap.json"
+
+mkdir "$kept/wrongmap" && echo 'import "./b.mjs?x";' >"$kept/wrongmap/app.mjs" && : >"$kept/wrongmap/b.mjs" &&
+    echo '{"imports":{"/b.mjs?x":"/app.mjs","/b.mjs":"/app.mjs"}}' >"$kept/wrongmap/importmap.json"
+checked wrongmap 6 <<'LINES'
+differs: from "/app.mjs" for "./b.mjs?x" wants "https://app.test/b.mjs?x" gets "https://app.test/app.mjs"
+1 differences
+LINES
+
 exit "$failed"

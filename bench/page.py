@@ -91,6 +91,11 @@ def endless_script(size):
     return repeated("<script>", "</scrip ", "", size, "2 pieces", "PageUnclear at 8")
 
 
+def endless_tag(size):
+    """The start tag of a script without an end."""
+    return repeated("<script ", "a='b' ", "", size, "1 pieces", "PageUnclear at 0")
+
+
 def script_starts(size):
     """Start tags of scripts, all but the first in its text."""
     return repeated("", "<script>", "", size, "2 pieces", "PageUnclear at 8")
@@ -121,8 +126,8 @@ def words(size):
     return repeated("", "a ", "</head>", size, "2 pieces")
 
 
-HOSTILE = [less, open_comment, attribute, quotes, names, script_type, endless_script, script_starts, scripts,
-           near_comments, maps, tags, words]
+HOSTILE = [less, open_comment, attribute, quotes, names, script_type, endless_script, endless_tag,
+           script_starts, scripts, near_comments, maps, tags, words]
 
 
 def best(shape, size, folder):

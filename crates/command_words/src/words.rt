@@ -51,6 +51,9 @@ fn command_of(word: &str) -> Option<Command>
     if word == "inject" {
         return Some(Command::Inject);
     }
+    if word == "check" {
+        return Some(Command::Check);
+    }
     None
 }
 

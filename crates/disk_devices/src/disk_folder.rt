@@ -1,11 +1,12 @@
 //! A folder of the disk.
-ghost use Rattle.std.specs.Prelude.{◌≡◌, ◌≢◌, ◌≤◌, ◌<◌, ◌-◌, ◌^◌, ℕ, None, IfOk, IfSome, length};
+ghost use Rattle.std.specs.Prelude.{◌≡◌, ◌≢◌, ◌≤◌, ◌<◌, ◌-◌, ◌^◌, ◌⊎◌, ◌++◌, ℕ, None, Some, IfOk, IfSome, length, take};
+ghost use Rattle.std.specs.Io.KnownBytes.{Consumes, IsAtEnd, Keeps};
 ghost use Rattle.tree_spec.specs.Counts.{Rose};
 ghost use Rattle.disk_devices.specs.Contents.{IsContent};
 
 use crate::faults::one_more;
 use std::alloc::{AllocError, Global};
-use std::collections::HashSet;
+use std::collections::HashMap;
 use std::fs::OpenOptions;
 use std::io::{ErrorKind, Read, Write};
 use std::rt::Files;
@@ -17,8 +18,8 @@ const DRAFTS: u8 = 100;
 
 /// A folder of the disk with all below it. It tells nothing of what it holds.
 ///
-/// A link isn't followed: a look at one, or past one, fails. A folder on the way to a file is judged once, so a link
-/// that takes its place after that goes unseen.
+/// A link isn't followed: a look at one, or past one, fails. A folder on the way to a file is judged once between
+/// writes, so a link that takes its place after that goes unseen, and so does what is put where nothing stood.
 #[derive(Drop)]
 pub struct DiskFolder<'a, R> {
     disk: Disk<'a, R>,
@@ -34,7 +35,7 @@ impl<'a, R> DiskFolder<'a, R> {
                 rt,
                 alloc,
                 root,
-                judged: HashSet::new(alloc),
+                ways: HashMap::new(alloc),
             },
             look_faults: 0,
             write_faults: 0,
@@ -95,25 +96,29 @@ enum Standing {
     File(u64),
 }
 
-/// The files below one folder of the disk, with the names of the folders that were found to be no links.
+/// The files below one folder of the disk, and what was found on the way to them.
 #[derive(Drop)]
 struct Disk<'a, R> {
     rt: R,
     alloc: Global,
     root: &'a str,
-    judged: HashSet<String>,
+    /// Names below the root, and whether a folder stands there, and above it folders alone.
+    ways: HashMap<String, bool>,
 }
 
 impl<'a, R: Files> Disk<'a, R> {
     /// What stands at a path, where a file may have at most `limit` bytes.
     fn look(&mut self, alloc: Global, path: &str, limit: u64) -> io::Result<Look> {
         let name = self.name_of(alloc, path)?;
-        if !self.reaches(alloc, name.as_str())? {
+        if !self.reaches(above(name.as_str()))? {
             return Ok(Look::Absent);
         }
         match self.standing(name.as_str())? {
             Standing::Absent => Ok(Look::Absent),
-            Standing::Folder => Ok(Look::Folder),
+            Standing::Folder => {
+                self.ways.insert(name, true)?;
+                Ok(Look::Folder)
+            }
             Standing::File(size) => {
                 if size > limit {
                     return Ok(Look::TooLarge);
@@ -130,7 +135,10 @@ impl<'a, R: Files> Disk<'a, R> {
         let alloc = self.alloc;
         let goal = self.name_of(alloc, path)?;
         let above = above(goal.as_str());
-        if !self.reaches(alloc, goal.as_str())? {
+        // A write judges each folder on its way anew, and what it makes was absent before.
+        self.ways.clear();
+        if !self.reaches(above)? {
+            self.ways.clear();
             fs::create_dir_all(&self.rt, above)?;
         }
         if let Standing::Folder = self.standing(goal.as_str())? {
@@ -180,32 +188,22 @@ impl<'a, R: Files> Disk<'a, R> {
         }
     }
 
-    /// Whether all that stands above a name, from the root folder on, are folders.
-    fn reaches(&mut self, alloc: Global, name: &str) -> io::Result<bool> {
-        let above = above(name);
-        if above.len() <= self.root.len() || self.judged.contains(above) {
+    /// Whether a folder stands under a name, and above it, from the root folder on, folders alone.
+    fn reaches(&mut self, name: &str) -> io::Result<bool> {
+        if name.len() <= self.root.len() {
             return Ok(true);
         }
-        let mut place = String::from_str(alloc, self.root)?;
-        let Some(rest) = above.strip_prefix(self.root) else {
-            return Ok(true);
-        };
-        for segment in rest.split('/') {
-            if segment.is_empty() {
-                continue;
-            }
-            place.push_str("/")?;
-            place.push_str(segment)?;
-            if self.judged.contains(place.as_str()) {
-                continue;
-            }
-            match self.standing(place.as_str())? {
-                Standing::Folder => {}
-                Standing::Absent | Standing::File(_) => return Ok(false),
-            }
-            self.judged.insert(place.clone()?)?;
+        if let Some(is_reached) = self.ways.get(name) {
+            return Ok(*is_reached);
         }
-        Ok(true)
+        // Nothing is kept of a name below one that isn't reached, so a path leaves at most one such name.
+        if !self.reaches(above(name))? {
+            return Ok(false);
+        }
+        let is_reached = matches!(self.standing(name)?, Standing::Folder);
+        self.ways
+            .insert(String::from_str(self.alloc, name)?, is_reached)?;
+        Ok(is_reached)
     }
 
     /// A new file in a folder, with its name.
@@ -230,26 +228,76 @@ impl<'a, R: Files> Disk<'a, R> {
 }
 
 /// What stands before the last slash of a name.
-fn above(name: &str) -> &str {
+fn above(name: &str) -> &str
+    ensures { length result.now ≤ length name.now - 1 }
+{
     match name.rsplit_once('/') {
         None => "",
         Some((above, _)) => above,
     }
 }
 
-/// The content of a file of about `size` bytes, or too large where there are more than `limit`.
+/// The content of a file that told `size` bytes, or too large where there are more than `limit`.
 fn content<F: Read + Drop>(alloc: Global, file: F, size: u64, limit: u64) -> io::Result<Look>
     requires { limit < 2 ^ 64 - 1 }
-    ensures { IfOk result (λ look. IfSome (F.remaining file) (λ all. IsContent all limit look)) }
+    ensures { IfOk result (λ look. IfSome (F.remaining file)
+        (λ all. IsContent all limit look ⊎ IsContent (take size all) limit look)) }
 {
     let room = size.min(limit) + 1;
-    let mut bytes = Vec::with_capacity(alloc, room as usize)?;
     let mut front = file.take(limit + 1);
-    front.read_to_end(&mut bytes)?;
+    let bytes = all_of(alloc, &mut front, size, room as usize)?;
     if bytes.len() as u64 > limit {
         return Ok(Look::TooLarge);
     }
     Ok(Look::File(Bytes::from_vec(bytes)))
+}
+
+/// All that a file gives that told `size` bytes. A read of it that comes short of its room is taken for its end where
+/// it ends as was told, so that nothing more is asked for.
+fn all_of<F: Read>(alloc: Global, file: &mut F, size: u64, room: usize) -> io::Result<Vec<u8>>
+    requires { 0 < room }
+    ensures { IfOk result (λ bytes. IfSome (F.remaining file.old)
+        (λ all. (bytes.items ≡ all) ⊎ (bytes.items ≡ take size all))) }
+{
+    let mut bytes = vec![in alloc; 0; room]?;
+    match read_once(file, &mut bytes)? {
+        None => rest_of(file, bytes, 0),
+        Some(count) => {
+            if count == 0 || (count < room && count as u64 == size) {
+                bytes.truncate(count);
+                return Ok(bytes);
+            }
+            rest_of(file, bytes, count)
+        }
+    }
+}
+
+/// The first `count` of these bytes, and all that a file gives behind them.
+fn rest_of<F: Read>(file: &mut F, read: Vec<u8>, count: usize) -> io::Result<Vec<u8>>
+    ensures { IfOk result (λ bytes. IfSome (F.remaining file.old)
+        (λ rest. bytes.items ≡ take count read.items ++ rest)) }
+{
+    let mut bytes = read;
+    bytes.truncate(count);
+    file.read_to_end(&mut bytes)?;
+    Ok(bytes)
+}
+
+/// What one read gives, or none where a signal interrupts it.
+fn read_once<F: Read>(file: &mut F, into: &mut [u8]) -> io::Result<Option<usize>>
+    ensures within { IfOk result (λ found. IfSome found (λ count. count ≤ length into.new)) }
+    ensures none { IfOk result (λ found. found ≡ None → Keeps (F.remaining file.old) (F.remaining file.new)) }
+    ensures given { IfOk result (λ found. IfSome found (λ count.
+        Consumes (F.remaining file.old) (F.remaining file.new) (take count into.new))) }
+    ensures end { IfOk result (λ found. found ≡ Some 0 → 0 < length into.old → IsAtEnd (F.remaining file.new)) }
+{
+    match file.read(into) {
+        Ok(count) => Ok(Some(count)),
+        Err(fault) => match fault.kind() {
+            ErrorKind::Interrupted => Ok(None),
+            _ => Err(fault),
+        },
+    }
 }
 
 #[cfg(test)]
@@ -347,33 +395,58 @@ mod tests {
         Ok(())
     }
 
-    /// Whether a write at a path is answered, and what a look at it answers then.
+    /// What a file of five bytes told as its size, the limit, and what a look answers.
+    static SIZES: [(u64, u64, Seen); 8] = [
+        (5, 9, Seen::File(5)),
+        (5, 5, Seen::File(5)),
+        (0, 9, Seen::File(5)),
+        (3, 9, Seen::File(5)),
+        (9, 9, Seen::File(5)),
+        (0, 4, Seen::TooLarge),
+        (3, 4, Seen::TooLarge),
+        (4, 4, Seen::TooLarge),
+    ];
+
+    #[test]
+    fn a_file_that_grew_or_shrank(rt: HostRuntime) -> Result<(), Fail> {
+        for (size, limit, wanted) in SIZES {
+            let found = match content(rt.alloc(), b"12345".as_slice(), size, limit) {
+                Ok(look) => answered(Ok(look)),
+                Err(_) => Seen::Failed,
+            };
+            assert_eq!(rt; found, wanted, "{size} bytes told, {limit} allowed");
+        }
+        Ok(())
+    }
+
+    /// What a look at a path answers, whether a write there is answered, and what a look answers then.
     fn rewritten(
         alloc: Global,
         folder: &mut DiskFolder<'_, HostRuntime>,
         path: &str,
-    ) -> Result<(bool, Seen), Fail> {
+    ) -> Result<(Seen, bool, Seen), Fail> {
         let path = Path::parse(alloc, path)?;
+        let before = answered(folder.look(alloc, &path, 9));
         let is_written = folder.write(&path, b"written").is_ok();
-        Ok((is_written, answered(folder.look(alloc, &path, 9))))
+        Ok((before, is_written, answered(folder.look(alloc, &path, 9))))
     }
 
-    static WRITES: [(&str, bool, Seen); 6] = [
-        ("/new/deep/map", true, Seen::File(7)),
-        ("/folder/empty", true, Seen::File(7)),
-        ("/folder", false, Seen::Folder),
-        ("/folder/five/below", false, Seen::Absent),
-        ("/linked_file", false, Seen::Failed),
-        ("/linked_folder/new", false, Seen::Failed),
+    static WRITES: [(&str, Seen, bool, Seen); 6] = [
+        ("/new/deep/map", Seen::Absent, true, Seen::File(7)),
+        ("/folder/empty", Seen::File(0), true, Seen::File(7)),
+        ("/folder", Seen::Folder, false, Seen::Folder),
+        ("/folder/five/below", Seen::Absent, false, Seen::Absent),
+        ("/linked_file", Seen::Failed, false, Seen::Failed),
+        ("/linked_folder/new", Seen::Failed, false, Seen::Failed),
     ];
 
     #[test]
     fn writes(rt: HostRuntime) -> Result<(), Fail> {
         let root = made(&rt, "writes")?;
         let mut folder = DiskFolder::new(rt, rt.alloc(), root.as_str());
-        for (path, is_written, read) in WRITES {
+        for (path, before, is_written, after) in WRITES {
             let found = rewritten(rt.alloc(), &mut folder, path)?;
-            assert!(rt; found == (is_written, read));
+            assert!(rt; found == (before, is_written, after), "at {path}");
         }
         assert!(rt; folder.write_faults == 4);
         fs::remove_dir_all(&rt, root.as_str())?;
@@ -395,7 +468,7 @@ mod tests {
         take_drafts(&rt, root.as_str())?;
         let mut folder = DiskFolder::new(rt, rt.alloc(), root.as_str());
         let found = rewritten(rt.alloc(), &mut folder, "/folder/five")?;
-        assert!(rt; found == (false, Seen::File(5)));
+        assert!(rt; found == (Seen::File(5), false, Seen::File(5)));
         fs::remove_dir_all(&rt, root.as_str())?;
         Ok(())
     }
@@ -409,7 +482,7 @@ mod tests {
         let root = made(&rt, "long")?;
         let mut folder = DiskFolder::new(rt, rt.alloc(), root.as_str());
         let found = rewritten(rt.alloc(), &mut folder, LONG)?;
-        assert!(rt; found == (false, Seen::Absent));
+        assert!(rt; found == (Seen::Absent, false, Seen::Absent));
         // What the write made beside its goal is gone, so the folder can be taken away as an empty one.
         fs::remove_dir(&rt, format!(in rt.alloc(); "{root}/alone")?.as_str())?;
         fs::remove_dir_all(&rt, root.as_str())?;

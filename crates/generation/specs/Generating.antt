@@ -1,14 +1,18 @@
--- What the call that generates gives.
+-- What the calls that trace and generate give.
 --     StopsAs fault stop      a command ends so that has no trace
 --     IfRefused P stop      of a refusal, this
 --     IsMapOf all generated      the map's text and its counts are those of these tables
 --     HasLargeMap all      the text of the map of these tables is too large
---     Generating config before result after      what it gives for a folder, and what it leaves
-use Rattle.std.specs.Prelude.{◌≡◌, ◌≢◌, ◌≤◌, ◌<◌, ◌++◌, ⊤, ℕ, List, length, bytes_eq, Some, Result, Ok, Err, IfOk, IfErr, IfSome}
+--     AsksNoPathTwice old after      the folder was asked for further paths, for none of them twice
+--     AsksFootprint config holds old after      where a tree is told, all further paths are of its footprint
+--     Tracing config before result after      the trace of a folder, and what is left of that
+--     Generating config before result after      what the call that generates gives for a folder, and what it leaves
+use Rattle.std.specs.Prelude.{◌≡◌, ◌≢◌, ◌≤◌, ◌<◌, ◌++◌, ⊤, ℕ, List, length, bytes_eq, All, Contains, Option, Some, Result, Ok, Err, IfOk, IfErr, IfSome}
 use Rattle.std.specs.FinMap.{get}
 use Rattle.std.specs.List.{IsDistinct}
 use Rattle.tree_spec.specs.declared.LimitName.TheVariants.{Map}
 use Rattle.tree_spec.specs.Limits.{limit_number}
+use Rattle.tree_spec.specs.LookAskings.{footprint}
 use Rattle.tree_spec.specs.Trees.{Tree}
 use Rattle.tree_spec.specs.States.{FolderState, OnlyLooks}
 use Rattle.import_map_spec.specs.ParsedMap.{ParsedMap}
@@ -19,11 +23,11 @@ use Rattle.trace_spec.specs.declared.TraceFault.{TraceFault}
 use Rattle.trace_spec.specs.declared.TraceFault.TheVariants as fault
 use Rattle.trace_spec.specs.Modules.{Config}
 use Rattle.trace_spec.specs.Checks.{Gathered}
-use Rattle.trace_spec.specs.Traces.{traced}
+use Rattle.trace_spec.specs.Traces.{traced, generation}
 use Rattle.generator_spec.specs.declared.Command.{Command}
 use Rattle.generator_spec.specs.declared.Refusal.{Refusal}
 use Rattle.generator_spec.specs.declared.Refusal.TheVariants.{Trace}
-use Rattle.generator_spec.specs.Commands.{Opens, Refuses, IsRefusalOf}
+use Rattle.generator_spec.specs.Commands.{IsGenerating, Opens, Refuses, IsRefusalOf}
 use Rattle.generation.specs.declared.generated.Generated.{Generated}
 use Rattle.generation.specs.declared.stop.Stop.{Stop}
 use Rattle.generation.specs.declared.stop.Stop.TheVariants.{Refused, ReadFault, Memory}
@@ -66,14 +70,34 @@ pub record AsksNoPathTwice (old : List (List ℕ)) (after : FolderState) : Type 
   pub asked : after.asked ≡ Some (old ++ more)
   pub once : IsDistinct bytes_eq more
 
--- own: a told tree has the trace whose map this is, or refuses each command that is opened so; and whatever is told,
--- each can be refused so. What isn't refused is a look that failed and was counted, or want of memory
-pub record Generating (config : Config) (before : FolderState) (result : Result Generated Stop)
+-- own: whatever further paths it was asked for
+abbrev pub AsksFootprint : Config → Option Tree → List (List ℕ) → FolderState → Type 0
+AsksFootprint config holds old after =
+    (more : List (List ℕ)) → after.asked ≡ Some (old ++ more)
+    → IfSome holds (λ tree. All (Contains (footprint (get tree) (generation config))) more)
+
+-- own: a told tree has this trace, or refuses each command that is opened so; and whatever is told, each can be refused
+-- so. What isn't refused is a look that failed and was counted, or want of memory
+pub record Tracing (config : Config) (before : FolderState) (result : Result Gathered Stop)
     (after : FolderState) : Type 0 where
-  pub generated : IfOk result (λ found. IfSome before.holds (λ tree. IsGenerated tree config found))
+  pub traces : IfOk result (λ all. IfSome before.holds (λ tree. traced (get tree) config ≡ Ok all))
   pub refused :
       IfErr result (IfRefused (λ why. IfSome before.holds (λ tree. (command : Command) → Opens tree config command
       → Refuses tree config command why)))
   pub kind : IfErr result (IfRefused (λ why. (command : Command) → IsRefusalOf config command why))
   pub asked : IfSome before.asked (λ old. AsksNoPathTwice old after)
+  pub footprint : IfSome before.asked (λ old. AsksFootprint config before.holds old after)
+  pub looks : OnlyLooks before after (result ≡ Err ReadFault)
+
+-- own: a told tree has the trace whose map this is, or refuses each command that generates and is opened so; and the
+-- rest as for a trace
+pub record Generating (config : Config) (before : FolderState) (result : Result Generated Stop)
+    (after : FolderState) : Type 0 where
+  pub generated : IfOk result (λ found. IfSome before.holds (λ tree. IsGenerated tree config found))
+  pub refused :
+      IfErr result (IfRefused (λ why. IfSome before.holds (λ tree. (command : Command) → IsGenerating command
+      → Opens tree config command → Refuses tree config command why)))
+  pub kind : IfErr result (IfRefused (λ why. (command : Command) → IsGenerating command → IsRefusalOf config command why))
+  pub asked : IfSome before.asked (λ old. AsksNoPathTwice old after)
+  pub footprint : IfSome before.asked (λ old. AsksFootprint config before.holds old after)
   pub looks : OnlyLooks before after (result ≡ Err ReadFault)

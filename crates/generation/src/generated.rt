@@ -3,12 +3,12 @@ ghost use Rattle.tree_spec.specs.declared.LimitName.TheVariants.{Modules, Reques
 ghost use Rattle.tree_spec.specs.Limits.{limit_number};
 ghost use Rattle.generation.specs.Generating.{Generating, IsMapOf, HasLargeMap};
 
-use crate::stop::{Stop, stop_of, too_large};
+use crate::stop::{Stop, too_large};
+use crate::traced::traced;
 use map_flatten::{agreed, mappings};
 use map_print::{PrintFault, print_map};
-use package_lookup::Known;
 use primitives::Steps;
-use request_trace::{Config, Trace, trace};
+use request_trace::{Config, Trace};
 use scope_builder::Mappings;
 use std::alloc::Global;
 use std::sync::ledger::Ledger;
@@ -24,8 +24,8 @@ pub struct Generated {
     pub mappings: usize,
 }
 
-/// The map of what stands in the folder, for the config. Nothing is written, and no path is looked at twice. A map takes
-/// at most one step for each module and for each request.
+/// The map of what stands in the folder, for the config. Nothing is written, and no path is looked at twice. A map
+/// takes at most one step for each module and for each request.
 pub fn generate<F: Folder, L: Ledger>(
     alloc: Global,
     folder: &mut F,
@@ -36,9 +36,8 @@ pub fn generate<F: Folder, L: Ledger>(
     ensures steps { IfOk result (λ found. steps.new ≤ steps.old + (found.modules + found.requests)) }
     ensures bounded { steps.new ≤ steps.old + (limit_number Modules + limit_number Requests) }
 {
-    let mut known = Known::new(alloc);
-    match trace(alloc, folder, &mut known, config, steps) {
-        Err(fault) => Err(stop_of(fault)),
+    match traced(alloc, folder, config, steps) {
+        Err(stop) => Err(stop),
         Ok(trace) => match map_of(alloc, &trace) {
             Ok(generated) => Ok(generated),
             Err(PrintFault::MapTooLarge) => Err(too_large()),

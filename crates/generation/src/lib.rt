@@ -1,9 +1,11 @@
-//! Generation: the map of a folder and a config, or why there is none. It is one call, whose contract is the
-//! definition of generation.
+//! Generation: the map of a folder and a config, or why there is none; and its first step alone, the trace. Each is one
+//! call, whose contract is its definition.
 #![tactic(auto)]
 
 mod generated;
 mod stop;
+mod traced;
 
 pub use generated::{Generated, generate};
 pub use stop::Stop;
+pub use traced::traced;

@@ -1,6 +1,13 @@
 -- How a run ends.
-use Rattle.std.proofs.Common.{◌≡◌, ◌≢◌, ◌≤◌, ℕ, List, [], ◌++◌, Option, Some, None, IfSome, inl, inr, refl, sym, ap, ◌∙◌, subst, arith}
-use Rattle.std.specs.Prelude.{◌+◌, option_map}
+use Rattle.std.proofs.Common.{◌≡◌, ◌≢◌, ◌≤◌, ℕ, List, [], ◌∷◌, ◌++◌, length, Option, Some, None, Ok, IfSome, inl, inr, refl, sym, ap, ◌∙◌, subst, arith}
+use Rattle.std.specs.List.{concat}
+use Rattle.std.specs.Prelude.{◌+◌, option_map, Contains, map as each}
+use Rattle.std.specs.FinMap.{get}
+use Rattle.import_map_spec.specs.ParsedMap.{ParsedMap}
+use Rattle.check_spec.specs.Differences.{Difference, differences}
+use Rattle.layout_spec.proofs.Contained.{contains_here}
+use Rattle.trace_spec.specs.Checks.{Gathered}
+use Rattle.trace_spec.specs.Traces.{traced}
 use Rattle.tree_spec.specs.declared.Entry.TheVariants.{Stored}
 use Rattle.tree_spec.specs.Counts.{Rose}
 use Rattle.tree_spec.specs.States.{FolderState, SinkState}
@@ -11,20 +18,26 @@ use Rattle.trace_spec.specs.declared.TraceFault.{TraceFault}
 use Rattle.trace_spec.specs.declared.TraceFault.TheVariants as fault
 use Rattle.trace_spec.specs.Modules.{Config}
 use Rattle.generator_spec.specs.declared.Command.{Command}
+use Rattle.generator_spec.specs.declared.Command.TheVariants.{Check}
+use Rattle.generator_spec.specs.declared.MapFileFault.{MapFileFault}
+use Rattle.generator_spec.specs.declared.MapFileFault.TheVariants as map_file
 use Rattle.generator_spec.specs.declared.PageFault.{PageFault}
 use Rattle.generator_spec.specs.declared.PageFault.TheVariants.{Absent, TooLarge, KeepsMapsOut}
 use Rattle.generator_spec.specs.declared.Refusal.{Refusal}
 use Rattle.generator_spec.specs.declared.Refusal.TheVariants as refusal
 use Rattle.generator_spec.proofs.PageNames.{page_of_words_is_file}
 use Rattle.generator_spec.proofs.Refusals.{written_is_opened}
-use Rattle.generator_spec.specs.Commands.{Refuses, Writes, Writes as writes_file}
+use Rattle.generator_spec.proofs.Endings.{one_line_text}
+use Rattle.generator_spec.proofs.Outcomes.{writes_generate}
+use Rattle.generator_spec.specs.Commands.{IsGenerating, HoldsMap, Refuses, NewFile, new_file, Writes, Writes as writes_file}
+use Rattle.generator_spec.specs.Checking.{difference_line, difference_lines, check_status, check_lines}
 use Rattle.generator_spec.specs.Generation.{Generates}
 use Rattle.generator_spec.specs.Words.{IsConfigOf, RefusesWords}
-use Rattle.generator_spec.specs.Lines.{page_status, status_of, line_of, counts_line, memory_line, read_fault_line}
-use Rattle.generator_spec.specs.Outcome.{Outcome}
-use Rattle.generator_spec.specs.Outcome.Outcome.{words_refused, refused, done}
-use Rattle.generator_spec.specs.Ending.{IsFileWritten, IsGenerated, IsCarried, Linked, IsCounted, Says, Ends, EndsAs, TellsRefusal}
-use Rattle.generator_spec.specs.Ending.{Shaped as shaped, Says as says, Ends as ends}
+use Rattle.generator_spec.specs.Lines.{page_status, map_file_status, status_of, line_of, counts_line, memory_line, read_fault_line}
+use Rattle.generator_spec.specs.Outcome.{ComesTo, ComesTo as comes, FilesPlaced, Outcome}
+use Rattle.generator_spec.specs.Ending.{AreWritten, IsGenerated, IsCarried, Linked, IsDone, MapServes, IsCounted, StopsWriting, Says, Ends, EndsAs, TellsRefusal}
+use Rattle.generator_spec.specs.Ending.{IsDone as done, Shaped as shaped, Says as says, Ends as ends}
+use Rattle.soundness.proofs.Checked.{checked_maps_serve}
 use Rattle.soundness.proofs.Sound.{sound, one_map_in_page}
 use Rattle.generation.specs.declared.stop.Stop.{Stop}
 use Rattle.generation.specs.declared.stop.Stop.TheVariants as stops
@@ -34,11 +47,11 @@ use Rattle.generator_core.specs.Writing.{SaysWrite, TellsStop, Finishes, SpendsF
 use Rattle.generator_core.specs.Writing.{SaysWrite as writes}
 use Rattle.generator_core.proofs.Preparings.{if_some, if_two}
 
-pub written_is : (tree : Tree) (path bytes slice : List ℕ) (told : Option Tree) → ((after : Tree) × (told ≡ Some after) × Places tree path (Stored slice) after) → slice ≡ bytes → IsFileWritten tree path bytes told
+pub written_is : (tree : Tree) (path bytes slice : List ℕ) (told : Option Tree) → ((after : Tree) × (told ≡ Some after) × Places tree path (Stored slice) after) → slice ≡ bytes → AreWritten tree (new_file path bytes ∷ []) told
 written_is tree path bytes slice told written s = record {
   after = written.0;
   is_told = written.1;
-  placed = subst (λ b. Places tree path (Stored b) written.0) s written.2;
+  placed = (written.0, subst (λ b. Places tree path (Stored b) written.0) s written.2, refl);
 }
 
 -- ---- statuses
@@ -60,66 +73,108 @@ page_is_not_zero (KeepsMapsOut (inject.TwoMaps at)) = λ e. omega arith
 page_is_not_zero (KeepsMapsOut inject.NoPlace) = λ e. omega arith
 page_is_not_zero (KeepsMapsOut inject.Memory) = λ e. omega arith
 
+map_file_is_not_zero : (why : MapFileFault) → map_file_status why ≢ 0
+map_file_is_not_zero map_file.Absent = λ e. omega arith
+map_file_is_not_zero map_file.TooLarge = λ e. omega arith
+map_file_is_not_zero (map_file.NotJson at) = λ e. omega arith
+map_file_is_not_zero map_file.TooDeep = λ e. omega arith
+map_file_is_not_zero (map_file.NotObject which) = λ e. omega arith
+
 refusal_is_not_zero : (why : Refusal) → status_of why ≢ 0
 refusal_is_not_zero refusal.Words = λ e. omega arith
 refusal_is_not_zero (refusal.BadBase text) = λ e. omega arith
 refusal_is_not_zero (refusal.Limit which) = λ e. omega arith
 refusal_is_not_zero (refusal.Page why) = page_is_not_zero why
+refusal_is_not_zero (refusal.MapFile why) = map_file_is_not_zero why
 refusal_is_not_zero (refusal.Trace why) = trace_is_not_zero why
 
 -- ---- what was generated and written serves
 
-carried : (tree : Tree) (config : Config) (map : List ℕ) (command : Command) (path file : List ℕ) → Generates tree config map → Writes tree config map command path file → IsCarried command map file
-carried tree config map command path file generates writes_file.map_alone = refl
-carried tree config map command path file generates (writes_file.in_page page new is i) = one_map_in_page tree config map page new generates i
+record CarriedBy (command : Command) (map : List ℕ) (files : List NewFile) : Type 0 where
+  carrier : NewFile
+  is_written : Contains files carrier
+  is_carried : IsCarried command map carrier
 
-linked : (words : List (List ℕ)) (tree : Tree) (map line path file : List ℕ) (told : Option Tree) → (is : IsGenerated words tree map line) → Writes tree is.config map is.command path file → IsFileWritten tree path file told → Linked words tree told
-linked words tree map line path file told is wrote written = record {
-  map = map;
-  line = line;
-  generated = is;
-  serves = sound tree is.config map is.generates;
-  path = path;
-  file = file;
-  writes = wrote;
-  carried = carried tree is.config map is.command path file is.generates wrote;
-  written = written;
+carried : (tree : Tree) (config : Config) (map : List ℕ) (command : Command) (files : List NewFile) → Generates tree config map → Writes tree config map command files → CarriedBy command map files
+carried tree config map command files generates writes_file.map_alone = record { carrier = _; is_written = contains_here _ []; is_carried = refl }
+carried tree config map command files generates (writes_file.in_page page new is i) = record { carrier = _; is_written = contains_here (new_file config.page new) []; is_carried = one_map_in_page tree config map page new generates i }
+
+linked : (words : List (List ℕ)) (tree : Tree) (map line : List ℕ) (files : List NewFile) (told : Option Tree) → (is : IsGenerated words tree map line) → Writes tree is.config map is.command files → AreWritten tree files told → Linked words tree told
+linked words tree map line files told is wrote written =
+    let found = carried tree is.config map is.command files is.generates wrote in
+    record {
+      map = map;
+      line = line;
+      generated = is;
+      serves = sound tree is.config map is.generates;
+      files = files;
+      writes = wrote;
+      carrier = found.carrier;
+      is_written = found.is_written;
+      carried = found.is_carried;
+      written = written;
+    }
+
+-- ---- a check without a difference
+
+no_lines : (all : Gathered) (ds : List Difference) → check_status (each (difference_line all) ds) ≡ 0 → ds ≡ []
+no_lines all [] zero = refl
+no_lines all (d ∷ more) zero = absurd (omega (arith, zero))
+
+serves_where_done : (words : List (List ℕ)) (tree : Tree) (config : Config) (map : ParsedMap) (all : Gathered) → IsConfigOf words Check config → HoldsMap tree config map → traced (get tree) config ≡ Ok all → check_status (difference_lines map all) ≡ 0 → MapServes words tree
+serves_where_done words tree config map all is holds traces zero = record {
+  config = config;
+  is_config = is;
+  text = holds.text;
+  stands = holds.stands;
+  serves =
+      checked_maps_serve tree config all holds.reads.base holds.text map traces (page_of_words_is_file words Check config is) holds.reads.named holds.reads.parses
+      (no_lines all (differences map all.needs) zero);
 }
 
-outcome_links : (words : List (List ℕ)) (tree : Tree) (status : ℕ) (line : List ℕ) (later : Tree) (told : Option Tree) → Outcome words tree status line later → told ≡ Some later → status ≡ 0 → Linked words tree told
-outcome_links words tree status line later told (words_refused why refuses s l a) is zero = absurd (refusal_is_not_zero why (sym s ∙ zero))
-outcome_links words tree status line later told (refused command config why is_config is_refused s l a) is zero = absurd (refusal_is_not_zero why (sym s ∙ zero))
-outcome_links words tree status line later told (done command config map path file is_config generates wrote s l placed) is zero =
-    linked words tree map line path file told
-    (record { command = command; config = config; is_config = is_config; opens = written_is_opened tree config map path file command wrote; generates = generates; says = l }) wrote
-    (record { after = later; is_told = is; placed = placed })
+outcome_done : (words : List (List ℕ)) (tree : Tree) (status : ℕ) (lines : List (List ℕ)) (files : List NewFile) (later : Tree) (told : Option Tree) → ComesTo words tree status lines files → FilesPlaced tree files later → told ≡ Some later → status ≡ 0 → IsDone words tree told
+outcome_done words tree status lines files later told (comes.words_refused why refuses s l f) placed is zero = absurd (refusal_is_not_zero why (sym s ∙ zero))
+outcome_done words tree status lines files later told (comes.refused command config why is_config is_refused s l f) placed is zero = absurd (refusal_is_not_zero why (sym s ∙ zero))
+outcome_done words tree status lines files later told (comes.written command config map is_config generates wrote s l) placed is zero =
+    done.linked (linked words tree map _ files told
+    (record { command = command; config = config; is_config = is_config; opens = written_is_opened tree config map files command wrote; generates = generates; says = refl }) wrote
+    (record { after = later; is_told = is; placed = placed }))
+outcome_done words tree status lines files later told (comes.checked config map all is_config holds traces s l f) placed is zero =
+    done.served (serves_where_done words tree config map all is_config holds traces (sym s ∙ zero))
+    (is ∙ ap Some (subst (λ some. FilesPlaced tree some later) f placed))
 
 -- ---- an end that is said is the end of a run
 
-written_of : (words : List (List ℕ)) (before after : FolderState) (status : ℕ) (line : List ℕ) → Says words before after status line → status ≡ 0 → IfSome before.holds (λ tree. Linked words tree after.holds)
-written_of words before after status line (says.outcome shape told l w) zero = if_some before.holds (λ tree o. outcome_links words tree status line o.0 after.holds o.1 o.2 zero) told
-written_of words before after status line (says.memory s l h lk wr) zero = absurd (omega arith)
-written_of words before after status line (says.read_fault command config gives s l h rose wr) zero = absurd (omega arith)
-written_of words before after status line (says.write_fault bytes done_line counted generated s l h lk rose) zero = absurd (omega arith)
+written_of : (words : List (List ℕ)) (before after : FolderState) (status : ℕ) (lines : List (List ℕ)) → Says words before after status lines → status ≡ 0 → IfSome before.holds (λ tree. IsDone words tree after.holds)
+written_of words before after status lines (says.outcome shape told l w) zero = if_some before.holds (λ tree o. outcome_done words tree status lines o.1.files o.0 after.holds o.1.comes o.1.placed o.2 zero) told
+written_of words before after status lines (says.memory s l h lk wr) zero = absurd (omega arith)
+written_of words before after status lines (says.read_fault command config gives s l h rose wr) zero = absurd (omega arith)
+written_of words before after status lines (says.write_fault line counted stops s l lk rose) zero = absurd (omega arith)
 
 status_done : (status : ℕ) (line : List ℕ) (out out_after : SinkState) (result : ℕ) → Ends status line out out_after result → result ≡ 0 → status ≡ 0
 status_done status line out out_after result (ends.said is given quiet) zero = sym is ∙ zero
 status_done status line out out_after result (ends.output_fault is gives rose) zero = absurd (omega arith)
 
-pub ends_as : (words : List (List ℕ)) (before after : FolderState) (out out_after : SinkState) (result status : ℕ) (line : List ℕ) → (before.holds ≡ None → after.holds ≡ None) → Says words before after status line → Ends status line out out_after result
+pub ends_as : (words : List (List ℕ)) (before after : FolderState) (out out_after : SinkState) (result status : ℕ) (lines : List (List ℕ)) → (before.holds ≡ None → after.holds ≡ None) → Says words before after status lines → Ends status (concat lines) out out_after result
     → before.look_faults ≤ after.look_faults → before.write_faults ≤ after.write_faults → out.faults ≤ out_after.faults → EndsAs words before after out out_after result
-ends_as words before after out out_after result status line untold says_so ends_so looks writes output = record {
-  headline = λ zero. written_of words before after status line says_so (status_done status line out out_after result ends_so zero);
+ends_as words before after out out_after result status lines untold says_so ends_so looks writes output = record {
+  headline = λ zero. written_of words before after status lines says_so (status_done status (concat lines) out out_after result ends_so zero);
   status = status;
-  line = line;
+  lines = lines;
   says = says_so;
   ends = ends_so;
-  written = written_of words before after status line says_so;
+  written = written_of words before after status lines says_so;
   untold = untold;
   looks_later = looks;
   writes_later = writes;
   output_later = output;
 }
+
+-- the same where one line is said
+pub ends_by_line : (words : List (List ℕ)) (before after : FolderState) (out out_after : SinkState) (result status : ℕ) (line : List ℕ) → (before.holds ≡ None → after.holds ≡ None) → Says words before after status (line ∷ []) → Ends status line out out_after result
+    → before.look_faults ≤ after.look_faults → before.write_faults ≤ after.write_faults → out.faults ≤ out_after.faults → EndsAs words before after out out_after result
+ends_by_line words before after out out_after result status line untold says_so ends_so looks writes output =
+    ends_as words before after out out_after result status (line ∷ []) untold says_so (subst (λ text. Ends status text out out_after result) (sym (one_line_text line)) ends_so) looks writes output
 
 -- ---- steps
 
@@ -158,25 +213,25 @@ some_same : {A : Type 0} (told : Option A) (P : A → Type 0) → ((x : A) → t
 some_same None P f = tt
 some_same (Some x) P f = f x refl
 
-words_say : (words : List (List ℕ)) (state : FolderState) (why : Refusal) → RefusesWords words why → Says words state state (status_of why) (line_of why)
+words_say : (words : List (List ℕ)) (state : FolderState) (why : Refusal) → RefusesWords words why → Says words state state (status_of why) (line_of why ∷ [])
 words_say words state why refuses =
-    says.outcome (shaped.words_refused why refuses refl refl) (some_same state.holds _ (λ tree is. (tree, words_refused why refuses refl refl refl, is))) refl refl
+    says.outcome (shaped.words_refused why refuses refl refl) (some_same state.holds _ (λ tree is. (tree, record { files = []; comes = comes.words_refused why refuses refl refl refl; placed = refl }, is))) refl refl
 
 pub words_end : (words : List (List ℕ)) (state : FolderState) (out out_after : SinkState) (result : ℕ) (why : Refusal) → RefusesWords words why → TellsRefusal why out out_after result → out.faults ≤ out_after.faults → EndsAs words state state out out_after result
-words_end words state out out_after result why refuses (inl told) later = ends_as words state state out out_after result (status_of why) (line_of why) (λ e. e) (words_say words state why refuses) told (omega arith) (omega arith) later
-words_end words state out out_after result why refuses (inr memory) later = ends_as words state state out out_after result 8 memory_line (λ e. e) (says.memory refl refl refl refl refl) memory (omega arith) (omega arith) later
+words_end words state out out_after result why refuses (inl told) later = ends_by_line words state state out out_after result (status_of why) (line_of why) (λ e. e) (words_say words state why refuses) told (omega arith) (omega arith) later
+words_end words state out out_after result why refuses (inr memory) later = ends_by_line words state state out out_after result 8 memory_line (λ e. e) (says.memory refl refl refl refl refl) memory (omega arith) (omega arith) later
 
 pub memory_ends : (words : List (List ℕ)) (before after : FolderState) (out out_after : SinkState) (result : ℕ) → after.holds ≡ before.holds → after.look_faults ≡ before.look_faults → after.write_faults ≡ before.write_faults → Ends 8 memory_line out out_after result
     → out.faults ≤ out_after.faults → EndsAs words before after out out_after result
 memory_ends words before after out out_after result h l w memory later =
-    ends_as words before after out out_after result 8 memory_line (λ e. h ∙ e) (says.memory refl refl h l w) memory (omega (arith, l)) (omega (arith, w)) later
+    ends_by_line words before after out out_after result 8 memory_line (λ e. h ∙ e) (says.memory refl refl h l w) memory (omega (arith, l)) (omega (arith, w)) later
 
 -- ---- a command that is stopped before its write
 
 refused_told : (words : List (List ℕ)) (command : Command) (config : Config) (why : Refusal) (told after : Option Tree) → IsConfigOf words command config → after ≡ told → IfSome told (λ tree. Refuses tree config command why)
-    → IfSome told (λ tree. (later : Tree) × Outcome words tree (status_of why) (line_of why) later × (after ≡ Some later))
+    → IfSome told (λ tree. (later : Tree) × Outcome words tree (status_of why) (line_of why ∷ []) later × (after ≡ Some later))
 refused_told words command config why None after is_config same is = tt
-refused_told words command config why (Some tree) after is_config same is = (tree, refused command config why is_config is refl refl refl, same)
+refused_told words command config why (Some tree) after is_config same is = (tree, record { files = []; comes = comes.refused command config why is_config is refl refl refl; placed = refl }, same)
 
 module _ (words : List (List ℕ)) (command : Command) (config : Config) (is_config : IsConfigOf words command config) (before after : FolderState) (out out_after : SinkState) (result : ℕ) where
   untold : (stop : Stop) → EndsBefore command config before after stop → before.holds ≡ None → after.holds ≡ None
@@ -191,7 +246,7 @@ module _ (words : List (List ℕ)) (command : Command) (config : Config) (is_con
 
   refused_end : (why : Refusal) → EndsBefore command config before after (stops.Refused why) → TellsRefusal why out out_after result → out.faults ≤ out_after.faults → EndsAs words before after out out_after result
   refused_end why is (inl told) more =
-      ends_as words before after out out_after result (status_of why) (line_of why) (untold (stops.Refused why) is)
+      ends_by_line words before after out out_after result (status_of why) (line_of why) (untold (stops.Refused why) is)
       (says.outcome (shaped.refused command config why is_config is.kind refl refl) (refused_told words command config why before.holds after.holds is_config is.looks.tree is.refused) (apart (stops.Refused why) is (λ e. cc)) is.looks.writes)
       told is.looks.later (writes_later (stops.Refused why) is) more
   refused_end why is (inr lacks) more = memory_ends words before after out out_after result is.looks.tree (apart (stops.Refused why) is (λ e. cc)) is.looks.writes lacks more
@@ -199,12 +254,15 @@ module _ (words : List (List ℕ)) (command : Command) (config : Config) (is_con
   pub stop_end : (stop : Stop) → EndsBefore command config before after stop → TellsStop stop out out_after result → out.faults ≤ out_after.faults → EndsAs words before after out out_after result
   stop_end (stops.Refused why) is told more = refused_end why is told more
   stop_end stops.ReadFault is told more =
-      ends_as words before after out out_after result 4 read_fault_line (untold stops.ReadFault is) (says.read_fault command config is_config refl refl is.looks.tree (is.looks.cause refl) is.looks.writes) told is.looks.later (writes_later stops.ReadFault is) more
+      ends_by_line words before after out out_after result 4 read_fault_line (untold stops.ReadFault is) (says.read_fault command config is_config refl refl is.looks.tree (is.looks.cause refl) is.looks.writes) told is.looks.later (writes_later stops.ReadFault is) more
   stop_end stops.Memory is told more = memory_ends words before after out out_after result is.looks.tree (apart stops.Memory is (λ e. cc)) is.looks.writes told more
 
 -- ---- a file that is written
 
-module _ (words : List (List ℕ)) (command : Command) (config : Config) (is_config : IsConfigOf words command config) (before middle after : FolderState) (out out_after : SinkState) (result : ℕ) (prepared : Prepared) (is : IsReady command config before middle prepared) (wrote : Finishes prepared middle after out out_after result) where
+module _ (words : List (List ℕ)) (command : Command) (config : Config) (is_config : IsConfigOf words command config) (before middle after : FolderState) (out out_after : SinkState) (result : ℕ) (prepared : Prepared) (generating : IsGenerating command) (is : IsReady command config before middle prepared) (wrote : Finishes prepared middle after out out_after result) where
+  abbrev new_here : List NewFile
+  new_here = new_file prepared.path prepared.file.items ∷ []
+
   abbrev done_here : List ℕ
   done_here = counts_line prepared.modules prepared.requests prepared.mappings
 
@@ -215,45 +273,50 @@ module _ (words : List (List ℕ)) (command : Command) (config : Config) (is_con
   looks = wrote.looks ∙ quiet
 
   counted : IsCounted words done_here
-  counted = record { command = command; config = config; is_config = is_config; modules = prepared.modules; requests = prepared.requests; mappings = prepared.mappings; says = refl }
+  counted = record { command = command; config = config; is_config = is_config; generating = generating; modules = prepared.modules; requests = prepared.requests; mappings = prepared.mappings; says = refl }
 
   generated_of : (tree : Tree) → (ready : IsPrepared command config tree prepared) → IsGenerated words tree (map_text ready.layout) done_here
   generated_of tree ready = record {
     command = command;
     config = config;
     is_config = is_config;
-    opens = written_is_opened tree config (map_text ready.layout) prepared.path prepared.file.items command ready.writes;
+    opens = written_is_opened tree config (map_text ready.layout) new_here command ready.writes;
     generates = record { page_is_file = page_of_words_is_file words command config is_config; all = ready.all; is_traced = ready.is_traced; map = ready.layout; agreed = ready.agreed; text = refl; within = ready.within };
     says = λ i. counts_line (ready.modules i) (ready.requests i) (ready.mappings i);
   }
 
-  -- the map of a told tree
-  abbrev map_of : (held : Option Tree) → IfSome held (λ tree. IsPrepared command config tree prepared) → List ℕ
-  map_of None ready = []
-  map_of (Some tree) ready = map_text ready.layout
-
-  generated_told : (held : Option Tree) (ready : IfSome held (λ tree. IsPrepared command config tree prepared)) → IfSome held (λ tree. IsGenerated words tree (map_of held ready) done_here)
-  generated_told None ready = tt
-  generated_told (Some tree) ready = generated_of tree ready
-
-  written_told : (held told : Option Tree) → IfSome held (λ tree. IsPrepared command config tree prepared) → IfSome held (λ tree. IsFileWritten tree prepared.path prepared.file.items told)
-      → IfSome held (λ tree. (later : Tree) × Outcome words tree 0 done_here later × (told ≡ Some later))
+  written_told : (held told : Option Tree) → IfSome held (λ tree. IsPrepared command config tree prepared) → IfSome held (λ tree. AreWritten tree new_here told)
+      → IfSome held (λ tree. (later : Tree) × Outcome words tree 0 (done_here ∷ []) later × (told ≡ Some later))
   unfolding generated_of
   written_told held told ready written =
       if_two held (λ tree is_ready wrote_so.
       let so = generated_of tree is_ready in
-      (wrote_so.after, done command config (map_text is_ready.layout) prepared.path prepared.file.items is_config so.generates is_ready.writes refl so.says wrote_so.placed, wrote_so.is_told)) ready written
+      (wrote_so.after, record { files = new_here; comes = comes.written command config (map_text is_ready.layout) is_config so.generates is_ready.writes refl (ap (λ line. line ∷ []) so.says); placed = wrote_so.placed }, wrote_so.is_told)) ready written
 
-  write_says : (status : ℕ) (line : List ℕ) → SaysWrite middle after prepared.path prepared.file.items done_here status line → Says words before after status line
+  -- none of the files was written
+  stops_told : (held told : Option Tree) → told ≡ held → IfSome held (λ tree. IsPrepared command config tree prepared) → IfSome held (λ tree. StopsWriting words tree done_here told)
+  unfolding generated_of
+  stops_told None told same ready = tt
+  stops_told (Some tree) told same is_ready = record {
+    map = map_text is_ready.layout;
+    generated = generated_of tree is_ready;
+    files = new_here;
+    writes = is_ready.writes;
+    count = 0;
+    fewer = omega arith;
+    written = record { after = tree; is_told = same; placed = refl };
+  }
+
+  write_says : (status : ℕ) (line : List ℕ) → SaysWrite middle after prepared.path prepared.file.items done_here status line → Says words before after status (line ∷ [])
   write_says status line (writes.written s l placed w) =
-      subst (λ n. Says words before after n line) (sym s) (subst (λ t. Says words before after 0 t) (sym l)
-      (says.outcome (shaped.done refl counted)
-      (written_told before.holds after.holds is.is_prepared (subst (λ holds. IfSome holds (λ tree. IsFileWritten tree prepared.path prepared.file.items after.holds)) is.looks.tree placed)) looks (w ∙ is.looks.writes)))
+      subst (λ n. Says words before after n (line ∷ [])) (sym s) (subst (λ t. Says words before after 0 (t ∷ [])) (sym l)
+      (says.outcome (shaped.done done_here refl refl counted)
+      (written_told before.holds after.holds is.is_prepared (subst (λ holds. IfSome holds (λ tree. AreWritten tree new_here after.holds)) is.looks.tree placed)) looks (w ∙ is.looks.writes)))
   write_says status line (writes.write_fault s l h rose) =
-      says.write_fault (map_of before.holds is.is_prepared) done_here counted (generated_told before.holds is.is_prepared) s l (h ∙ is.looks.tree) looks (subst (λ n. Rose n after.write_faults) is.looks.writes rose)
-  write_says status line (writes.memory s l h w) = says.memory s l (h ∙ is.looks.tree) looks (w ∙ is.looks.writes)
+      says.write_fault done_here counted (stops_told before.holds after.holds (h ∙ is.looks.tree) is.is_prepared) s (ap (λ t. t ∷ []) l) looks (subst (λ n. Rose n after.write_faults) is.looks.writes rose)
+  write_says status line (writes.memory s l h w) = says.memory s (ap (λ t. t ∷ []) l) (h ∙ is.looks.tree) looks (w ∙ is.looks.writes)
 
   pub write_end : EndsAs words before after out out_after result
   write_end =
-      ends_as words before after out out_after result wrote.status wrote.line (λ none. wrote.untold (is.looks.tree ∙ none)) (write_says wrote.status wrote.line wrote.says) wrote.ends
+      ends_by_line words before after out out_after result wrote.status wrote.line (λ none. wrote.untold (is.looks.tree ∙ none)) (write_says wrote.status wrote.line wrote.says) wrote.ends
       (omega (arith, looks)) (subst (λ n. n ≤ after.write_faults) is.looks.writes wrote.writes) wrote.output

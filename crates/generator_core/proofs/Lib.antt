@@ -1,2 +1,4 @@
 pub mod Preparings
 pub mod Endings
+pub mod Checkings
+pub mod ReportLemmas

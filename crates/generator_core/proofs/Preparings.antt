@@ -3,13 +3,15 @@ use Rattle.std.proofs.Common.{◌≡◌, ◌≤◌, ◌⊎◌, ℕ, Bool, true, 
 use Rattle.std.proofs.lemmas.List.{append-nil}
 use Rattle.std.specs.FinMap.{get}
 use Rattle.std.specs.List.{IsDistinct}
-use Rattle.std.specs.Prelude.{bytes_eq}
+use Rattle.std.specs.Prelude.{bytes_eq, All, Contains}
+use Rattle.std.proofs.lemmas.List.Elements.{All-nil}
 use Rattle.tree_spec.specs.declared.Look.{Look}
 use Rattle.tree_spec.specs.declared.Look.TheVariants as look
 use Rattle.tree_spec.specs.declared.LookFault.TheVariants as look_fault
 use Rattle.tree_spec.specs.declared.LimitName.TheVariants.{File, Map}
 use Rattle.tree_spec.specs.Counts.{Rose}
 use Rattle.tree_spec.specs.Limits.{limit_number}
+use Rattle.tree_spec.specs.LookAskings.{footprint}
 use Rattle.tree_spec.specs.Looks.{asked_after}
 use Rattle.tree_spec.specs.States.{FolderState, OnlyLooks, IsLooked}
 use Rattle.tree_spec.specs.Trees.{Tree}
@@ -19,18 +21,22 @@ use Rattle.page_spec.specs.Injection as injection
 use Rattle.page_spec.specs.Injection.{TakesMaps}
 use Rattle.page_spec.proofs.KeptOut.{takes_or_keeps_out}
 use Rattle.trace_spec.specs.Modules.{Config}
+use Rattle.trace_spec.specs.Traces.{generation}
 use Rattle.generator_spec.specs.declared.Command.{Command}
 use Rattle.generator_spec.specs.declared.Command.TheVariants.{Link, Inject}
 use Rattle.generator_spec.specs.declared.PageFault.{PageFault}
 use Rattle.generator_spec.specs.declared.PageFault.TheVariants.{Absent, TooLarge, KeepsMapsOut}
 use Rattle.generator_spec.specs.declared.Refusal.TheVariants.{Page}
-use Rattle.generator_spec.specs.Commands.{IsPage, RefusesPage, RefusesPage as refuses_page, Opens, Opens as opens, Refuses, Refuses as refuses, IsOfPage, IsRefusalOf as kind, map_path, Writes, Writes as writes}
+use Rattle.generator_spec.proofs.Configs.{one_config}
+use Rattle.generator_spec.specs.Words.{IsConfigOf}
+use Rattle.generator_spec.specs.Commands.{IsGenerating, IsPage, RefusesPage, RefusesPage as refuses_page, Opens, Opens as opens, Refuses, Refuses as refuses}
+use Rattle.generator_spec.specs.Commands.{IsOfPage, IsRefusalOf as kind, map_path, NewFile, new_file, Writes, Writes as writes}
 use Rattle.generation.specs.declared.generated.Generated.{Generated}
 use Rattle.generation.specs.declared.stop.Stop.{Stop}
 use Rattle.generation.specs.declared.stop.Stop.TheVariants.{Refused, ReadFault, Memory}
-use Rattle.generation.specs.Generating.{Generating, IsGenerated, AsksNoPathTwice}
+use Rattle.generation.specs.Generating.{Generating, IsGenerated, AsksNoPathTwice, AsksFootprint}
 use Rattle.generator_core.specs.declared.prepared.Prepared.{Prepared}
-use Rattle.generator_core.specs.Preparing.{AsksPage, AsksFew, EndsBefore, IsPageFound, FindsPage, HasCounts, IsMapFile, IsPageFile, IsPrepared, IsReady, Prepares}
+use Rattle.generator_core.specs.Preparing.{own_file, AsksOwn, AsksFew, EndsBefore, IsPageFound, FindsPage, HasCounts, IsMapFile, IsPageFile, IsPrepared, IsReady, Prepares}
 
 pub if_some : {A : Type 0} {P Q : A → Type 0} (told : Option A) → ((x : A) → P x → Q x) → IfSome told P → IfSome told Q
 if_some None f h = h
@@ -40,7 +46,7 @@ pub if_two : {A : Type 0} {P Q R : A → Type 0} (told : Option A) → ((x : A) 
 if_two None f h k = h
 if_two (Some x) f h k = f x h k
 
-if_all : {A : Type 0} {P : A → Type 0} (told : Option A) → ((x : A) → P x) → IfSome told P
+pub if_all : {A : Type 0} {P : A → Type 0} (told : Option A) → ((x : A) → P x) → IfSome told P
 if_all None f = tt
 if_all (Some x) f = f x
 
@@ -58,7 +64,7 @@ then_looks before middle after first second =
       quiet = λ none. second.quiet none ∙ quiet;
     }
 
-looks_as : {P Q : Type 0} (before after : FolderState) → (Q → P) → (P → Q) → OnlyLooks before after P → OnlyLooks before after Q
+pub looks_as : {P Q : Type 0} (before after : FolderState) → (Q → P) → (P → Q) → OnlyLooks before after P → OnlyLooks before after Q
 looks_as before after back on looks = record {
   tree = looks.tree;
   writes = looks.writes;
@@ -73,34 +79,56 @@ none_twice : IsDistinct bytes_eq []
 unfolding IsDistinct
 none_twice = tt
 
-asks_few : (page : List ℕ) (told : Option (List (List ℕ))) (after : FolderState) → IfSome told (λ old. AsksNoPathTwice old after) → IfSome told (λ old. AsksFew page old after)
-asks_few page told after asks = if_some told (λ old is. record { first = []; is_page = inl refl; more = is.more; asked = is.asked; once = is.once }) asks
+pub asks_few : (config : Config) (holds : Option Tree) (own : List (List ℕ)) (told : Option (List (List ℕ))) (after : FolderState) → IfSome told (λ old. AsksNoPathTwice old after) → IfSome told (λ old. AsksFootprint config holds old after) → IfSome told (λ old. AsksFew config holds own old after)
+asks_few config holds own told after asks at = if_two told (λ old is looks. record { first = []; is_own = inl refl; more = is.more; asked = is.asked; once = is.once; of_footprint = looks is.more is.asked }) asks at
 
-page_asked : (page path : List ℕ) (b : Bool) (told : Option (List (List ℕ))) (after : FolderState) → path ≡ page → after.asked ≡ asked_after b path told → IfSome told (λ old. AsksPage page old after)
-page_asked page path b None after same is = tt
-page_asked page path true (Some old) after same is = record { first = page ∷ []; is_page = inr refl; asked = is ∙ ap (λ p. Some (old ++ p ∷ [])) same }
-page_asked page path false (Some old) after same is = record { first = []; is_page = inl refl; asked = is ∙ ap Some (sym (append-nil old)) }
+pub own_asked : (own path : List ℕ) (b : Bool) (told : Option (List (List ℕ))) (after : FolderState) → path ≡ own → after.asked ≡ asked_after b path told → IfSome told (λ old. AsksOwn (own ∷ []) old after)
+own_asked own path b None after same is = tt
+own_asked own path true (Some old) after same is = record { first = own ∷ []; is_own = inr refl; asked = is ∙ ap (λ p. Some (old ++ p ∷ [])) same }
+own_asked own path false (Some old) after same is = record { first = []; is_own = inl refl; asked = is ∙ ap Some (sym (append-nil old)) }
 
-page_alone : (page : List ℕ) (told : Option (List (List ℕ))) (after : FolderState) → IfSome told (λ old. AsksPage page old after) → IfSome told (λ old. AsksFew page old after)
-page_alone page told after asks = if_some told (λ old is. record { first = is.first; is_page = is.is_page; more = []; asked = is.asked ∙ ap (λ first. Some (old ++ first)) (sym (append-nil is.first)); once = none_twice }) asks
+-- no paths are of each footprint
+no_more : (config : Config) (holds : Option Tree) → IfSome holds (λ tree. All (Contains (footprint (get tree) (generation config))) [])
+no_more config holds = if_all holds (λ tree. All-nil (Contains (footprint (get tree) (generation config))))
 
-page_then : (page : List ℕ) (told : Option (List (List ℕ))) (middle after : FolderState) → IfSome told (λ old. AsksPage page old middle) → IfSome middle.asked (λ old. AsksNoPathTwice old after) → IfSome told (λ old. AsksFew page old after)
-page_then page None middle after first later = tt
-page_then page (Some old) middle after first later =
+pub own_alone : (config : Config) (holds : Option Tree) (own : List (List ℕ)) (told : Option (List (List ℕ))) (after : FolderState) → IfSome told (λ old. AsksOwn own old after) → IfSome told (λ old. AsksFew config holds own old after)
+own_alone config holds own told after asks = if_some told (λ old is. record { first = is.first; is_own = is.is_own; more = []; asked = is.asked ∙ ap (λ first. Some (old ++ first)) (sym (append-nil is.first)); once = none_twice; of_footprint = no_more config holds }) asks
+
+pub own_then : (config : Config) (holds later_holds : Option Tree) (own : List (List ℕ)) (told : Option (List (List ℕ))) (middle after : FolderState) → later_holds ≡ holds → IfSome told (λ old. AsksOwn own old middle) → IfSome middle.asked (λ old. AsksNoPathTwice old after) → IfSome middle.asked (λ old. AsksFootprint config later_holds old after)
+    → IfSome told (λ old. AsksFew config holds own old after)
+own_then config holds later_holds own None middle after same first later at = tt
+own_then config holds later_holds own (Some old) middle after same first later at =
     let more : AsksNoPathTwice (old ++ first.first) after = subst (λ told. IfSome told (λ before. AsksNoPathTwice before after)) first.asked later in
-    record { first = first.first; is_page = first.is_page; more = more.more; asked = more.asked ∙ ap Some (append_assoc old first.first more.more); once = more.once }
+    let looks : AsksFootprint config later_holds (old ++ first.first) after = subst (λ told. IfSome told (λ before. AsksFootprint config later_holds before after)) first.asked at in
+    record {
+      first = first.first;
+      is_own = first.is_own;
+      more = more.more;
+      asked = more.asked ∙ ap Some (append_assoc old first.first more.more);
+      once = more.once;
+      of_footprint = subst (λ held. IfSome held (λ tree. All (Contains (footprint (get tree) (generation config))) more.more)) same (looks more.more more.asked);
+    }
 
 -- a write asks for nothing
-pub still_few : (page other : List ℕ) (told : Option (List (List ℕ))) (middle after : FolderState) → page ≡ other → after.asked ≡ middle.asked → IfSome told (λ old. AsksFew page old middle) → IfSome told (λ old. AsksFew other old after)
-still_few page other told middle after same still asks =
-    if_some told (λ old is. record { first = is.first; is_page = subst (λ p. (is.first ≡ []) ⊎ (is.first ≡ p ∷ [])) same is.is_page; more = is.more; asked = still ∙ is.asked; once = is.once }) asks
+pub still_few : (config : Config) (holds : Option Tree) (own : List (List ℕ)) (told : Option (List (List ℕ))) (middle after : FolderState) → after.asked ≡ middle.asked → IfSome told (λ old. AsksFew config holds own old middle) → IfSome told (λ old. AsksFew config holds own old after)
+still_few config holds own told middle after still asks =
+    if_some told (λ old is. record { first = is.first; is_own = is.is_own; more = is.more; asked = still ∙ is.asked; once = is.once; of_footprint = is.of_footprint }) asks
 
-pub asks_nothing : (page : List ℕ) (state : FolderState) → IfSome state.asked (λ old. AsksFew page old state)
-asks_nothing page state = by state.asked refl
+pub asks_nothing : (config : Config) (holds : Option Tree) (own : List (List ℕ)) (state : FolderState) → IfSome state.asked (λ old. AsksFew config holds own old state)
+asks_nothing config holds own state = by state.asked refl
   where
-    by : (told : Option (List (List ℕ))) → state.asked ≡ told → IfSome told (λ old. AsksFew page old state)
+    by : (told : Option (List (List ℕ))) → state.asked ≡ told → IfSome told (λ old. AsksFew config holds own old state)
     by None e = tt
-    by (Some old) e = record { first = []; is_page = inl refl; more = []; asked = e ∙ ap Some (sym (append-nil old)); once = none_twice }
+    by (Some old) e = record { first = []; is_own = inl refl; more = []; asked = e ∙ ap Some (sym (append-nil old)); once = none_twice; of_footprint = no_more config holds }
+
+-- what the command asks for, by the words that give it
+pub asked_by : (words : List (List ℕ)) (command : Command) (config : Config) → IsConfigOf words command config → (exact : Command) → command ≡ exact → (holds : Option Tree) (told : Option (List (List ℕ))) (after : FolderState) → IfSome told (λ old. AsksFew config holds (own_file exact config) old after)
+    → (other : Command) (second : Config) → IsConfigOf words other second → IfSome told (λ old. AsksFew second holds (own_file other second) old after)
+asked_by words command config is exact e holds told after asks other second is_too =
+    let same = one_config words command other config second is is_too in
+    let commands : exact ≡ other = sym e ∙ same.one_command in
+    subst (λ (c : Config). IfSome told (λ old. AsksFew c holds (own_file other c) old after)) same.one_config
+    (subst (λ c. IfSome told (λ old. AsksFew config holds (own_file c config) old after)) commands asks)
 
 -- ---- generation
 
@@ -111,23 +139,23 @@ module _ (config : Config) (before after : FolderState) where
   lacks_memory : (command : Command) → OnlyLooks before after ⊥ → EndsBefore command config before after Memory
   lacks_memory command looks = record { refused = tt; kind = tt; looks = looks_as before after (λ e. absurd (cc)) (λ e. absurd e) looks }
 
-  module _ (command : Command) (opened : IfSome before.holds (λ tree. Opens tree config command)) where
+  module _ (command : Command) (generating : IsGenerating command) (opened : IfSome before.holds (λ tree. Opens tree config command)) where
     stopped_as : (stop : Stop) → Generating config before (Err stop) after → EndsBefore command config before after stop
     stopped_as (Refused why) is = record {
-      refused = if_two before.holds (λ tree opened_so refuses_so. refuses_so command opened_so) opened is.refused;
-      kind = is.kind command;
+      refused = if_two before.holds (λ tree opened_so refuses_so. refuses_so command generating opened_so) opened is.refused;
+      kind = is.kind command generating;
       looks = looks_as before after (λ e. absurd (cc)) (λ e. absurd (cc)) is.looks;
     }
     stopped_as ReadFault is = record { refused = tt; kind = tt; looks = looks_as before after (λ e. refl) (λ e. refl) is.looks }
     stopped_as Memory is = record { refused = tt; kind = tt; looks = looks_as before after (λ e. absurd (cc)) (λ e. absurd (cc)) is.looks }
 
     pub stopped : (stop : Stop) → Generating config before (Err stop) after → Prepares command config before (Err stop) after
-    stopped stop is = record { ready = tt; asked = asks_few config.page before.asked after is.asked; stopped = stopped_as stop is }
+    stopped stop is = record { ready = tt; asked = asks_few config before.holds (own_file command config) before.asked after is.asked is.footprint; stopped = stopped_as stop is }
 
   pub lacks : (command : Command) (generated : Generated) → Generating config before (Ok generated) after → Prepares command config before (Err Memory) after
-  lacks command generated is = record { ready = tt; asked = asks_few config.page before.asked after is.asked; stopped = lacks_memory command (generated_looks generated is) }
+  lacks command generated is = record { ready = tt; asked = asks_few config before.holds (own_file command config) before.asked after is.asked is.footprint; stopped = lacks_memory command (generated_looks generated is) }
 
-  prepared_of : (command : Command) (tree : Tree) (generated : Generated) (prepared : Prepared) → HasCounts generated prepared → Writes tree config generated.map.items command prepared.path prepared.file.items → IsGenerated tree config generated → IsPrepared command config tree prepared
+  prepared_of : (command : Command) (tree : Tree) (generated : Generated) (prepared : Prepared) → HasCounts generated prepared → Writes tree config generated.map.items command (new_file prepared.path prepared.file.items ∷ []) → IsGenerated tree config generated → IsPrepared command config tree prepared
   prepared_of command tree generated prepared counts wrote is = record {
     all = is.all;
     is_traced = is.is_traced;
@@ -137,16 +165,16 @@ module _ (config : Config) (before after : FolderState) where
     modules = counts.modules ∙ is.is_map.modules;
     requests = counts.requests ∙ is.is_map.requests;
     mappings = counts.mappings ∙ is.is_map.mappings;
-    writes = subst (λ map. Writes tree config map command prepared.path prepared.file.items) is.is_map.map wrote;
+    writes = subst (λ map. Writes tree config map command (new_file prepared.path prepared.file.items ∷ [])) is.is_map.map wrote;
   }
 
-  pub ready : (command : Command) (generated : Generated) (prepared : Prepared) → Generating config before (Ok generated) after → HasCounts generated prepared → IfSome before.holds (λ tree. Writes tree config generated.map.items command prepared.path prepared.file.items) → Prepares command config before (Ok prepared) after
+  pub ready : (command : Command) (generated : Generated) (prepared : Prepared) → Generating config before (Ok generated) after → HasCounts generated prepared → IfSome before.holds (λ tree. Writes tree config generated.map.items command (new_file prepared.path prepared.file.items ∷ [])) → Prepares command config before (Ok prepared) after
   ready command generated prepared is counts wrote = record {
     ready = record {
       is_prepared = if_two before.holds (λ tree writes_so is_generated. prepared_of command tree generated prepared counts writes_so is_generated) wrote is.generated;
       looks = generated_looks generated is;
     };
-    asked = asks_few config.page before.asked after is.asked;
+    asked = asks_few config before.holds (own_file command config) before.asked after is.asked is.footprint;
     stopped = tt;
   }
 
@@ -155,8 +183,8 @@ module _ (config : Config) (before after : FolderState) where
   pub link_opens : IfSome before.holds (λ tree. Opens tree config Link)
   link_opens = if_all before.holds (λ tree. opens.nothing)
 
-  map_writes : (tree : Tree) (map path file : List ℕ) → path ≡ map_path → file ≡ map → Writes tree config map Link path file
-  map_writes tree map path file p f = subst (λ q. Writes tree config map Link q file) (sym p) (subst (λ g. Writes tree config map Link map_path g) (sym f) writes.map_alone)
+  map_writes : (tree : Tree) (map path file : List ℕ) → path ≡ map_path → file ≡ map → Writes tree config map Link (new_file path file ∷ [])
+  map_writes tree map path file p f = subst (λ files. Writes tree config map Link files) (λ i. new_file (sym p i) (sym f i) ∷ []) writes.map_alone
 
   pub map_ready : (generated : Generated) (prepared : Prepared) → Generating config before (Ok generated) after → IsMapFile generated prepared → Prepares Link config before (Ok prepared) after
   map_ready generated prepared is file = ready Link generated prepared is file.counts (if_all before.holds (λ tree. map_writes tree generated.map.items prepared.path prepared.file.items file.path file.file))
@@ -167,12 +195,12 @@ module _ (config : Config) (before after : FolderState) where
     page_opens : IfSome before.holds (λ tree. Opens tree config Inject)
     page_opens = if_some before.holds (λ tree is. opens.page page is takes) stands
 
-    page_writes : (generated : Generated) (prepared : Prepared) → IsPageFile config page generated prepared → IfSome before.holds (λ tree. Writes tree config generated.map.items Inject prepared.path prepared.file.items)
+    page_writes : (generated : Generated) (prepared : Prepared) → IsPageFile config page generated prepared → IfSome before.holds (λ tree. Writes tree config generated.map.items Inject (new_file prepared.path prepared.file.items ∷ []))
     page_writes generated prepared file =
-        if_some before.holds (λ tree is. subst (λ p. Writes tree config generated.map.items Inject p prepared.file.items) (sym file.path) (writes.in_page page prepared.file.items is file.injected)) stands
+        if_some before.holds (λ tree is. subst (λ p. Writes tree config generated.map.items Inject (new_file p prepared.file.items ∷ [])) (sym file.path) (writes.in_page page prepared.file.items is file.injected)) stands
 
     pub page_stopped : (stop : Stop) → Generating config before (Err stop) after → Prepares Inject config before (Err stop) after
-    page_stopped stop is = stopped Inject page_opens stop is
+    page_stopped stop is = stopped Inject tt page_opens stop is
 
     pub page_ready : (generated : Generated) (prepared : Prepared) → Generating config before (Ok generated) after → IsPageFile config page generated prepared → Prepares Inject config before (Ok prepared) after
     page_ready generated prepared is file = ready Inject generated prepared is file.counts (page_writes generated prepared file)
@@ -180,7 +208,7 @@ module _ (config : Config) (before after : FolderState) where
 -- ---- behind the look at the page
 
 module _ (config : Config) (before middle after : FolderState) where
-  earlier_end : (command : Command) (stop : Stop) → OnlyLooks before middle ⊥ → EndsBefore command config middle after stop → EndsBefore command config before after stop
+  pub earlier_end : (command : Command) (stop : Stop) → OnlyLooks before middle ⊥ → EndsBefore command config middle after stop → EndsBefore command config before after stop
   earlier_end command (Refused why) looks is = record { refused = subst (λ held. IfSome held (λ tree. Refuses tree config command why)) looks.tree is.refused; kind = is.kind; looks = then_looks before middle after looks is.looks }
   earlier_end command ReadFault looks is = record { refused = tt; kind = tt; looks = then_looks before middle after looks is.looks }
   earlier_end command Memory looks is = record { refused = tt; kind = tt; looks = then_looks before middle after looks is.looks }
@@ -188,17 +216,17 @@ module _ (config : Config) (before middle after : FolderState) where
   earlier_ready : (command : Command) (prepared : Prepared) → OnlyLooks before middle ⊥ → IsReady command config middle after prepared → IsReady command config before after prepared
   earlier_ready command prepared looks is = record { is_prepared = subst (λ held. IfSome held (λ tree. IsPrepared command config tree prepared)) looks.tree is.is_prepared; looks = then_looks before middle after looks is.looks }
 
-  module _ (command : Command) (looks : OnlyLooks before middle ⊥) (asked : IfSome before.asked (λ old. AsksPage config.page old middle)) (later : IfSome middle.asked (λ old. AsksNoPathTwice old after)) where
+  module _ (command : Command) (looks : OnlyLooks before middle ⊥) (asked : IfSome before.asked (λ old. AsksOwn (own_file command config) old middle)) (later : IfSome middle.asked (λ old. AsksNoPathTwice old after)) (at : IfSome middle.asked (λ old. AsksFootprint config middle.holds old after)) where
     earlier : (result : Result Prepared Stop) → Prepares command config middle result after → Prepares command config before result after
-    earlier (Ok prepared) is = record { ready = earlier_ready command prepared looks is.ready; asked = page_then config.page before.asked middle after asked later; stopped = tt }
-    earlier (Err stop) is = record { ready = tt; asked = page_then config.page before.asked middle after asked later; stopped = earlier_end command stop looks is.stopped }
+    earlier (Ok prepared) is = record { ready = earlier_ready command prepared looks is.ready; asked = own_then config before.holds middle.holds (own_file command config) before.asked middle after looks.tree asked later at; stopped = tt }
+    earlier (Err stop) is = record { ready = tt; asked = own_then config before.holds middle.holds (own_file command config) before.asked middle after looks.tree asked later at; stopped = earlier_end command stop looks is.stopped }
 
   -- the page is where it was
   page_still : (page : List ℕ) → IsPageFound config before middle page → IfSome middle.holds (λ tree. IsPage tree config page)
   page_still page is = subst (λ held. IfSome held (λ tree. IsPage tree config page)) (sym is.looks.tree) is.is_page
 
-  pub page_prepared : (page : List ℕ) (result : Result Prepared Stop) → FindsPage config before (Ok page) middle → IfSome middle.asked (λ old. AsksNoPathTwice old after) → (IfSome middle.holds (λ tree. IsPage tree config page) → Prepares Inject config middle result after) → Prepares Inject config before result after
-  page_prepared page result is asks prepares = earlier Inject is.found.looks is.asked asks result (prepares (page_still page is.found))
+  pub page_prepared : (page : List ℕ) (result : Result Prepared Stop) → FindsPage config before (Ok page) middle → IfSome middle.asked (λ old. AsksNoPathTwice old after) → IfSome middle.asked (λ old. AsksFootprint config middle.holds old after) → (IfSome middle.holds (λ tree. IsPage tree config page) → Prepares Inject config middle result after) → Prepares Inject config before result after
+  page_prepared page result is asks at prepares = earlier Inject is.found.looks is.asked asks at result (prepares (page_still page is.found))
 
 -- ---- the look at the page
 
@@ -210,7 +238,7 @@ no_memory bytes inject.Memory keeps = takes_or_keeps_out.no_memory [] bytes (kee
 
 module _ (config : Config) (before after : FolderState) where
   pub page_refused : (stop : Stop) → FindsPage config before (Err stop) after → Prepares Inject config before (Err stop) after
-  page_refused stop is = record { ready = tt; asked = page_alone config.page before.asked after is.asked; stopped = is.stopped }
+  page_refused stop is = record { ready = tt; asked = own_alone config before.holds (config.page ∷ []) before.asked after is.asked; stopped = is.stopped }
 
   page_ends : (why : PageFault) → OnlyLooks before after ⊥ → IfSome before.holds (λ tree. RefusesPage tree config why) → IsOfPage why → EndsBefore Inject config before after (Refused (Page why))
   page_ends why looks why_not of = record {
@@ -224,7 +252,7 @@ module _ (config : Config) (before after : FolderState) where
       subst (λ s. Prepares Inject config before (Err s) after) (sym same)
       (record {
         ready = tt;
-        asked = page_alone config.page before.asked after is.asked;
+        asked = own_alone config before.holds (config.page ∷ []) before.asked after is.asked;
         stopped = page_ends (KeepsMapsOut why) is.found.looks (if_some before.holds (λ tree stands. refuses_page.keeps_out page why stands keeps) is.found.is_page) (no_memory page why keeps);
       })
 
@@ -233,7 +261,7 @@ module _ (config : Config) (path : List ℕ) (is_page : path ≡ config.page) (b
   looked found is = record { tree = is.tree; writes = is.writes; later = is.later; cause = λ e. absurd e; quiet = λ e. is.quiet (λ same. cc) }
 
   no_page : (found : Look) (why : PageFault) → IsLooked before path (limit_number File) (Ok found) after → IfSome before.holds (λ tree. RefusesPage tree config why) → IsOfPage why → FindsPage config before (Err (Refused (Page why))) after
-  no_page found why is why_not of = record { found = tt; asked = page_asked config.page path true before.asked after is_page is.asked; stopped = page_ends config before after why (looked found is) why_not of }
+  no_page found why is why_not of = record { found = tt; asked = own_asked config.page path true before.asked after is_page is.asked; stopped = page_ends config before after why (looked found is) why_not of }
 
   pub page_absent : IsLooked before path (limit_number File) (Ok look.Absent) after → FindsPage config before (Err (Refused (Page Absent))) after
   page_absent is = no_page look.Absent Absent is (if_some before.holds (λ tree e. refuses_page.absent (ap (get tree) (sym is_page) ∙ e)) is.entry) tt
@@ -248,12 +276,12 @@ module _ (config : Config) (path : List ℕ) (is_page : path ≡ config.page) (b
   page_stands bytes is = if_some before.holds (λ tree e. record { stands = ap (get tree) (sym is_page) ∙ e.0; small = e.1 }) is.entry
 
   pub page_found : (bytes : List ℕ) → IsLooked before path (limit_number File) (Ok (look.File bytes)) after → FindsPage config before (Ok bytes) after
-  page_found bytes is = record { found = record { is_page = page_stands bytes is; looks = looked (look.File bytes) is }; asked = page_asked config.page path true before.asked after is_page is.asked; stopped = tt }
+  page_found bytes is = record { found = record { is_page = page_stands bytes is; looks = looked (look.File bytes) is }; asked = own_asked config.page path true before.asked after is_page is.asked; stopped = tt }
 
   pub page_fault : IsLooked before path (limit_number File) (Err look_fault.Failed) after → FindsPage config before (Err ReadFault) after
   page_fault is = record {
     found = tt;
-    asked = page_asked config.page path false before.asked after is_page is.asked;
+    asked = own_asked config.page path false before.asked after is_page is.asked;
     stopped = record {
       refused = tt;
       kind = tt;
@@ -264,7 +292,7 @@ module _ (config : Config) (path : List ℕ) (is_page : path ≡ config.page) (b
   pub page_memory : IsLooked before path (limit_number File) (Err look_fault.Memory) after → FindsPage config before (Err Memory) after
   page_memory is = record {
     found = tt;
-    asked = page_asked config.page path false before.asked after is_page is.asked;
+    asked = own_asked config.page path false before.asked after is_page is.asked;
     stopped = record {
       refused = tt;
       kind = tt;

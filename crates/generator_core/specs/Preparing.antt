@@ -1,15 +1,18 @@
 -- How a command comes to what it writes.
---     AsksPage page old after      the folder was asked for the page, or for nothing
---     AsksFew page old after      and then for further paths, for none of them twice
+--     own_file command config      the path of the file that the command needs before its trace
+--     AsksOwn own old after      the folder was asked for these paths, or for nothing
+--     AsksFew config holds own old after      and then for further paths, for none of them twice, which in a told tree
+--                              are of the generation's footprint
 --     FindsPage config before result after      the page is read, or it is told why not
 --     IsMapFile generated prepared      the file is the map that was generated
 --     IsPageFile config page generated prepared      the file is the page with that map
 --     Prepares command config before result after      the command has its file, or it is told why not
-use Rattle.std.specs.Prelude.{◌≡◌, ◌≤◌, ◌⊎◌, ◌++◌, [], ◌∷◌, ℕ, List, length, bytes_eq, Some, Result, Ok, IfOk, IfErr, IfSome}
+use Rattle.std.specs.Prelude.{◌≡◌, ◌≤◌, ◌⊎◌, ◌++◌, [], ◌∷◌, ℕ, List, length, bytes_eq, All, Contains, Option, Some, Result, Ok, IfOk, IfErr, IfSome}
 use Rattle.std.specs.FinMap.{get}
 use Rattle.std.specs.List.{IsDistinct}
 use Rattle.tree_spec.specs.declared.LimitName.TheVariants.{Map}
 use Rattle.tree_spec.specs.Limits.{limit_number}
+use Rattle.tree_spec.specs.LookAskings.{footprint}
 use Rattle.tree_spec.specs.States.{FolderState, OnlyLooks}
 use Rattle.tree_spec.specs.Trees.{Tree}
 use Rattle.page_spec.specs.Injection.{Injection}
@@ -19,10 +22,10 @@ use Rattle.layout_spec.specs.Counting.{mapping_count}
 use Rattle.layout_spec.specs.PrintedMap.{map_text}
 use Rattle.trace_spec.specs.Checks.{Gathered}
 use Rattle.trace_spec.specs.Modules.{Config}
-use Rattle.trace_spec.specs.Traces.{traced}
+use Rattle.trace_spec.specs.Traces.{traced, generation}
 use Rattle.generator_spec.specs.declared.Command.{Command}
-use Rattle.generator_spec.specs.declared.Command.TheVariants.{Inject}
-use Rattle.generator_spec.specs.Commands.{IsPage, Refuses, IsRefusalOf, map_path, Writes}
+use Rattle.generator_spec.specs.declared.Command.TheVariants.{Link, Inject, Check}
+use Rattle.generator_spec.specs.Commands.{IsPage, Refuses, IsRefusalOf, map_path, new_file, Writes}
 use Rattle.generation.specs.declared.generated.Generated.{Generated}
 use Rattle.generation.specs.declared.stop.Stop.{Stop}
 use Rattle.generation.specs.declared.stop.Stop.TheVariants.{ReadFault}
@@ -31,18 +34,25 @@ use Rattle.generator_core.specs.declared.prepared.Prepared.{Prepared}
 
 -- ---- what is asked of the folder
 
-pub record AsksPage (page : List ℕ) (old : List (List ℕ)) (after : FolderState) : Type 0 where
+abbrev pub own_file : Command → Config → List (List ℕ)
+own_file Link config = []
+own_file Inject config = config.page ∷ []
+own_file Check config = map_path ∷ []
+
+pub record AsksOwn (own old : List (List ℕ)) (after : FolderState) : Type 0 where
   pub first : List (List ℕ)
-  pub is_page : (first ≡ []) ⊎ (first ≡ page ∷ [])
+  pub is_own : (first ≡ []) ⊎ (first ≡ own)
   pub asked : after.asked ≡ Some (old ++ first)
 
--- own: the page may be among the further paths too
-pub record AsksFew (page : List ℕ) (old : List (List ℕ)) (after : FolderState) : Type 0 where
+-- own: the command's own file may be among the further paths too
+pub record AsksFew (config : Config) (holds : Option Tree) (own old : List (List ℕ))
+    (after : FolderState) : Type 0 where
   pub first : List (List ℕ)
-  pub is_page : (first ≡ []) ⊎ (first ≡ page ∷ [])
+  pub is_own : (first ≡ []) ⊎ (first ≡ own)
   pub more : List (List ℕ)
   pub asked : after.asked ≡ Some (old ++ (first ++ more))
   pub once : IsDistinct bytes_eq more
+  pub of_footprint : IfSome holds (λ tree. All (Contains (footprint (get tree) (generation config))) more)
 
 -- ---- before the write
 
@@ -61,7 +71,7 @@ pub record IsPageFound (config : Config) (before after : FolderState) (page : Li
 pub record FindsPage (config : Config) (before : FolderState) (result : Result (List ℕ) Stop)
     (after : FolderState) : Type 0 where
   pub found : IfOk result (λ page. IsPageFound config before after page)
-  pub asked : IfSome before.asked (λ old. AsksPage config.page old after)
+  pub asked : IfSome before.asked (λ old. AsksOwn (config.page ∷ []) old after)
   pub stopped : IfErr result (λ stop. EndsBefore Inject config before after stop)
 
 -- ---- the file
@@ -91,7 +101,7 @@ pub record IsPrepared (command : Command) (config : Config) (tree : Tree) (prepa
   pub modules : prepared.modules ≡ length all.modules
   pub requests : prepared.requests ≡ all.requests
   pub mappings : prepared.mappings ≡ mapping_count layout
-  pub writes : Writes tree config (map_text layout) command prepared.path prepared.file.items
+  pub writes : Writes tree config (map_text layout) command (new_file prepared.path prepared.file.items ∷ [])
 
 pub record IsReady (command : Command) (config : Config) (before after : FolderState) (prepared : Prepared) : Type 0 where
   pub is_prepared : IfSome before.holds (λ tree. IsPrepared command config tree prepared)
@@ -100,5 +110,5 @@ pub record IsReady (command : Command) (config : Config) (before after : FolderS
 pub record Prepares (command : Command) (config : Config) (before : FolderState) (result : Result Prepared Stop)
     (after : FolderState) : Type 0 where
   pub ready : IfOk result (λ prepared. IsReady command config before after prepared)
-  pub asked : IfSome before.asked (λ old. AsksFew config.page old after)
+  pub asked : IfSome before.asked (λ old. AsksFew config before.holds (own_file command config) old after)
   pub stopped : IfErr result (λ stop. EndsBefore command config before after stop)

@@ -4,12 +4,13 @@
 --     SpendsFew out out_after before after      the line of a map went out, with so many modules and requests that they
 --                                               are no fewer than the steps
 --     Finishes prepared before after out out_after result      the file is written or not, and what is said went out
-use Rattle.std.specs.Prelude.{◌≡◌, ◌≤◌, ◌+◌, ◌++◌, ℕ, List, None, IfSome, option_map}
+use Rattle.std.specs.Prelude.{◌≡◌, ◌≤◌, ◌+◌, ◌++◌, ℕ, List, [], ◌∷◌, None, IfSome, option_map}
 use Rattle.tree_spec.specs.Counts.{Rose}
 use Rattle.tree_spec.specs.States.{FolderState, SinkState}
 use Rattle.generator_spec.specs.Statuses.{done_status, read_fault_status, write_fault_status, memory_status}
 use Rattle.generator_spec.specs.Lines.{counts_line, memory_line, read_fault_line, write_fault_line}
-use Rattle.generator_spec.specs.Ending.{IsFileWritten, Ends, TellsRefusal}
+use Rattle.generator_spec.specs.Commands.{new_file}
+use Rattle.generator_spec.specs.Ending.{AreWritten, Ends, TellsRefusal}
 use Rattle.generation.specs.declared.stop.Stop.{Stop}
 use Rattle.generation.specs.declared.stop.Stop.TheVariants.{Refused, ReadFault, Memory}
 use Rattle.generator_core.specs.declared.prepared.Prepared.{Prepared}
@@ -17,7 +18,7 @@ use Rattle.generator_core.specs.declared.prepared.Prepared.{Prepared}
 pub data SaysWrite (before after : FolderState) (path file done : List ℕ) (status : ℕ)
     (line : List ℕ) : Type 0 where
   written :
-      status ≡ done_status → line ≡ done → IfSome before.holds (λ tree. IsFileWritten tree path file after.holds)
+      status ≡ done_status → line ≡ done → IfSome before.holds (λ tree. AreWritten tree (new_file path file ∷ []) after.holds)
       → after.write_faults ≡ before.write_faults → SaysWrite before after path file done status line
   write_fault :
       status ≡ write_fault_status → line ≡ write_fault_line → after.holds ≡ before.holds

@@ -2,6 +2,8 @@
 //! does what the words say, tells of it, and answers the exit status.
 #![tactic(auto)]
 
+mod checking;
+mod paths;
 mod prepared;
 mod running;
 

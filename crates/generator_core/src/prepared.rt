@@ -6,21 +6,19 @@ ghost use Rattle.tree_spec.specs.Limits.{limit_number};
 ghost use Rattle.page_spec.specs.Injection.{TakesMaps};
 ghost use Rattle.generator_spec.specs.declared.Command.TheVariants.{Link, Inject};
 ghost use Rattle.generator_spec.specs.Commands.{IsPage};
-ghost use Rattle.generation.specs.Generating.{AsksNoPathTwice};
+ghost use Rattle.generation.specs.Generating.{AsksFootprint, AsksNoPathTwice};
 ghost use Rattle.generator_core.specs.Preparing.{FindsPage, IsMapFile, IsPageFile, Prepares};
 
+use crate::paths::map_path;
 use generation::{Generated, Stop, generate};
 use generator_spec::{PageFault, Refusal};
 use html_inject::{PageSite, inject_at, site_of};
 use primitives::{Bytes, Memory, Steps};
 use request_trace::Config;
-use std::alloc::{AllocError, Global};
+use std::alloc::Global;
 use std::sync::ledger::Ledger;
-use tree_model::{Folder, Look, LookFault, Path, PathFault};
+use tree_model::{Folder, Look, LookFault, Path};
 use tree_spec::MOST_FILE_BYTES;
-
-/// Where the map is written.
-const MAP_PATH: &str = "/importmap.json";
 
 /// A file with the map, where it is to be written, and the counts that are told of the map.
 #[derive(Drop)]
@@ -55,11 +53,7 @@ pub fn prepare_map<F: Folder, L: Ledger>(
 fn map_file(alloc: Global, generated: Generated) -> Result<Prepared, Memory>
     ensures { IfOk result (IsMapFile generated) }
 {
-    let path = match Path::parse(alloc, MAP_PATH) {
-        Ok(path) => path,
-        Err(PathFault::Memory) => return Err(AllocError),
-        Err(PathFault::BadPath) => unreachable!(),
-    };
+    let path = map_path(alloc)?;
     let Generated {
         map,
         modules,
@@ -129,6 +123,8 @@ fn prepare_at<F: Folder, L: Ledger>(
         → IfSome (F.state folder.old).holds (λ tree. IsPage tree config.now site.now)
         → Prepares Inject config.now (F.state folder.old) result (F.state folder.new) }
     ensures asked { IfSome (F.state folder.old).asked (λ old. AsksNoPathTwice old (F.state folder.new)) }
+    ensures footprint { IfSome (F.state folder.old).asked
+        (λ old. AsksFootprint config.now (F.state folder.old).holds old (F.state folder.new)) }
     ensures steps { IfOk result (λ prepared. steps.new ≤ steps.old + (prepared.modules + prepared.requests)) }
     ensures bounded { steps.new ≤ steps.old + (limit_number Modules + limit_number Requests) }
 {

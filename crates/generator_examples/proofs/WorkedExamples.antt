@@ -36,7 +36,9 @@ use Rattle.generator_spec.specs.Commands.Opens.{nothing}
 use Rattle.generator_spec.specs.Commands.Refuses.{page, trace}
 use Rattle.generator_spec.specs.Commands.RefusesPage.{absent}
 use Rattle.generator_spec.specs.Commands.Writes.{map_alone, in_page}
-use Rattle.generator_spec.specs.Outcome.Outcome.{words_refused, refused, done}
+use Rattle.generator_spec.specs.Commands.{NewFile, new_file}
+use Rattle.generator_spec.specs.Outcome.{ComesTo, FilesPlaced, Outcome}
+use Rattle.generator_spec.specs.Outcome.ComesTo.{words_refused, refused, written}
 use Rattle.generator_spec.specs.Words.{IsConfigOf, page_path}
 use Rattle.page_spec.specs.Attributes.{attribute}
 use Rattle.page_spec.specs.ImportMaps.{is_map_start}
@@ -197,13 +199,13 @@ no_page = ap (λ (f : Sights). f page_path) (get_map_of missing) ∙ refl
 end_examples : EndExamples
 unfolding digits
 end_examples = record {
-  two_spellings = done Link _ spelling_map map_path spelling_map app_gives spelling_generates map_alone refl (sym (ap (counts_line 2 2) spelling_mappings)) (placed spelling spelling_map trees.of_spelling refl);
-  of_site = done Link _ site_map map_path site_map app_gives site_generates map_alone refl (sym (ap (counts_line 5 8) site_mappings)) (placed site site_map trees.of_site refl);
-  in_page = done Inject _ spelling_map page_path page_after paged_gives paged_generates (in_page page_text page_after page_stands page_takes) refl (sym (ap (counts_line 2 2) spelling_mappings)) page_placed;
-  no_page = refused Inject _ (Page Absent) no_page_gives (page Absent (absent no_page)) refl refl refl;
-  second_entry = refused Link _ (Trace _) missing_gives (trace Link _ nothing missing_traced) refl refl refl;
-  two_targets = refused Link _ (Trace _) clashing_gives (trace Link _ nothing clashing_traced) refl refl refl;
-  no_base = λ tree. words_refused (BadBase (codes "ftp://h/")) (bad_base Link (codes "ftp://h/") _ (is_call Link _ "ftp://h/" ("./app.mjs" ∷ []) refl refl) ftp_is_none) refl refl refl;
+  two_spellings = record { files = new_file map_path spelling_map ∷ []; comes = written Link _ spelling_map app_gives spelling_generates map_alone refl (sym (ap (λ n. counts_line 2 2 n ∷ []) spelling_mappings)); placed = (_, placed spelling spelling_map trees.of_spelling refl, refl) };
+  of_site = record { files = new_file map_path site_map ∷ []; comes = written Link _ site_map app_gives site_generates map_alone refl (sym (ap (λ n. counts_line 5 8 n ∷ []) site_mappings)); placed = (_, placed site site_map trees.of_site refl, refl) };
+  in_page = record { files = new_file page_path page_after ∷ []; comes = written Inject _ spelling_map paged_gives paged_generates (in_page page_text page_after page_stands page_takes) refl (sym (ap (λ n. counts_line 2 2 n ∷ []) spelling_mappings)); placed = (_, page_placed, refl) };
+  no_page = record { files = []; comes = refused Inject _ (Page Absent) no_page_gives (page Absent (absent no_page)) refl refl refl; placed = refl };
+  second_entry = record { files = []; comes = refused Link _ (Trace _) missing_gives (trace Link _ nothing missing_traced) refl refl refl; placed = refl };
+  two_targets = record { files = []; comes = refused Link _ (Trace _) clashing_gives (trace Link _ nothing clashing_traced) refl refl refl; placed = refl };
+  no_base = λ tree. record { files = []; comes = words_refused (BadBase (codes "ftp://h/")) (bad_base Link (codes "ftp://h/") _ (is_call Link _ "ftp://h/" ("./app.mjs" ∷ []) refl refl) ftp_is_none) refl refl refl; placed = refl };
 }
 
 pub worked_examples : WorkedExamples

@@ -31,7 +31,7 @@ pub record IsMapped (files : Files) (config : Config) (text : List ℕ) : Type 0
 
 -- own: the command of these words ends so, and leaves these files
 abbrev pub Ends : Files → List (List ℕ) → ℕ → String → Files → Type 0
-Ends files words status line after = Outcome words (tree_of files) status (codes line) (tree_of after)
+Ends files words status line after = Outcome words (tree_of files) status (codes line ∷ []) (tree_of after)
 
 -- the files make trees: their paths are paths, and their parents are folders
 pub record Trees : Type 0 where
@@ -79,7 +79,7 @@ pub record EndExamples : Type 0 where
   -- whatever the tree
   pub no_base :
       (tree : Tree)
-      → Outcome (links "ftp://h/" ("./app.mjs" ∷ [])) tree 2 (codes "words: BadBase \"ftp://h/\"\n") tree
+      → Outcome (links "ftp://h/" ("./app.mjs" ∷ [])) tree 2 (codes "words: BadBase \"ftp://h/\"\n" ∷ []) tree
 
 abbrev pub WorkedExamples : Type 0
 WorkedExamples = Trees × TraceExamples × MapExamples × EndExamples × TracedExamples

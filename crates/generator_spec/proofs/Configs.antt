@@ -10,7 +10,7 @@ use Rattle.tree_spec.proofs.ByteLists.{number_same_or_not, text_same_or_not}
 use Rattle.url_spec.specs.Bases.{base_of}
 use Rattle.trace_spec.specs.Modules.{Config}
 use Rattle.generator_spec.specs.declared.Command.{Command}
-use Rattle.generator_spec.specs.declared.Command.TheVariants.{Link, Inject}
+use Rattle.generator_spec.specs.declared.Command.TheVariants.{Link, Inject, Check}
 use Rattle.generator_spec.specs.declared.Refusal.TheVariants.{Words, BadBase, Limit}
 use Rattle.generator_spec.specs.Words.{word_of, IsEntry, IsCall, once_onto, page_path, link_conditions}
 use Rattle.generator_spec.specs.Words.RefusesWords.{no_call, bad_base, too_many_entries}
@@ -22,8 +22,13 @@ use Rattle.generator_spec.specs.Laws.{HasConfig, AreRefused, SomeConfig}
 one_word : (some other : Command) → word_of some ≡ word_of other → some ≡ other
 one_word Link Link e = refl
 one_word Link Inject e = absurd (cc)
+one_word Link Check e = absurd (cc)
 one_word Inject Link e = absurd (cc)
 one_word Inject Inject e = refl
+one_word Inject Check e = absurd (cc)
+one_word Check Link e = absurd (cc)
+one_word Check Inject e = absurd (cc)
+one_word Check Check e = refl
 
 record SameCall (some other : Command) (base second : List ℕ) (entries others : List (List ℕ)) : Type 0 where
   commands : some ≡ other
@@ -138,9 +143,10 @@ record HasCommand (word : List ℕ) : Type 0 where
 abbrev NoCommand : List ℕ → Type 0
 NoCommand word = (command : Command) → word ≢ word_of command
 
-neither : (word : List ℕ) → word ≢ codes "link" → word ≢ codes "inject" → NoCommand word
-neither word no_link no_inject Link = no_link
-neither word no_link no_inject Inject = no_inject
+none_of : (word : List ℕ) → word ≢ codes "link" → word ≢ codes "inject" → word ≢ codes "check" → NoCommand word
+none_of word no_link no_inject no_check Link = no_link
+none_of word no_link no_inject no_check Inject = no_inject
+none_of word no_link no_inject no_check Check = no_check
 
 command_or_not : (word : List ℕ) → HasCommand word ⊎ NoCommand word
 command_or_not word =
@@ -148,7 +154,10 @@ command_or_not word =
       | inl is ↦ inl (record { command = Link; is = is })
       | inr no_link ↦ elim (text_same_or_not word (codes "inject")) [
         | inl is ↦ inl (record { command = Inject; is = is })
-        | inr no_inject ↦ inr (neither word no_link no_inject)
+        | inr no_inject ↦ elim (text_same_or_not word (codes "check")) [
+          | inl is ↦ inl (record { command = Check; is = is })
+          | inr no_check ↦ inr (none_of word no_link no_inject no_check)
+        ]
       ]
     ]
 

@@ -1,10 +1,13 @@
 -- A command over a tree is refused in one way, or can be done.
-use Rattle.std.proofs.Common.{◌≡◌, ◌<◌, ◌⊎◌, ℕ, List, [], length, Option, Some, None, Result, Ok, Err, refl, sym, ap, ◌∙◌, subst, inl, inr, arith}
+use Rattle.std.proofs.Common.{◌≡◌, ◌<◌, ◌⊎◌, ℕ, List, [], ◌∷◌, length, Option, Some, None, Result, Ok, Err, refl, sym, ap, ◌∙◌, subst, inl, inr, arith}
 use Rattle.std.specs.FinMap.{get}
 use Rattle.std.proofs.lemmas.Bool.{cases_lt}
 use Rattle.tree_spec.specs.declared.Entry.{Entry}
 use Rattle.tree_spec.specs.declared.Entry.TheVariants.{Stored, Directory}
 use Rattle.tree_spec.specs.declared.LimitName.TheVariants.{File}
+use Rattle.import_map_spec.specs.ParsedMap.{ParsedMap, MapFault}
+use Rattle.import_map_spec.proofs.OneMap.{one_map, some_map}
+use Rattle.import_map_spec.specs.Parsing.{ParsesMap}
 use Rattle.tree_spec.specs.Limits.{limit_number}
 use Rattle.tree_spec.specs.Trees.{Tree}
 use Rattle.page_spec.specs.declared.kinds.InjectFault.{InjectFault}
@@ -14,16 +17,20 @@ use Rattle.page_spec.specs.Laws.{AreKeptOut}
 use Rattle.page_spec.proofs.Injections.{one_injection}
 use Rattle.page_spec.proofs.KeptOut.{takes_or_keeps_out}
 use Rattle.trace_spec.specs.declared.TraceFault.{TraceFault}
-use Rattle.trace_spec.specs.Modules.{Config}
+use Rattle.trace_spec.specs.Modules.{Config, web_name}
+use Rattle.trace_spec.specs.Walking.{the_page}
 use Rattle.trace_spec.specs.Checks.{Gathered}
 use Rattle.trace_spec.specs.Traces.{traced}
 use Rattle.generator_spec.specs.declared.Command.{Command}
-use Rattle.generator_spec.specs.declared.Command.TheVariants.{Link, Inject}
+use Rattle.generator_spec.specs.declared.Command.TheVariants.{Link, Inject, Check}
+use Rattle.generator_spec.specs.declared.MapFileFault.{MapFileFault}
+use Rattle.generator_spec.specs.declared.MapFileFault.TheVariants as map_file
 use Rattle.generator_spec.specs.declared.PageFault.{PageFault}
 use Rattle.generator_spec.specs.declared.PageFault.TheVariants.{Absent, TooLarge, KeepsMapsOut}
 use Rattle.generator_spec.specs.declared.Refusal.{Refusal}
-use Rattle.generator_spec.specs.declared.Refusal.TheVariants.{Page}
-use Rattle.generator_spec.specs.Commands.{IsPage, RefusesPage, Opens, Refuses, Writes}
+use Rattle.generator_spec.specs.declared.Refusal.TheVariants.{Page, MapFile}
+use Rattle.generator_spec.specs.Commands.{IsPage, RefusesPage, map_path, map_file_limit, IsMapText, ReadsMap, HoldsMap, map_file_fault}
+use Rattle.generator_spec.specs.Commands.{RefusesMapFile, RefusesMapFile as refuses_map, Opens, Refuses, NewFile, new_file, Writes}
 use Rattle.generator_spec.specs.Commands.{RefusesPage as refuses_page, Opens as opens, Refuses as refuses, Writes as writes}
 use Rattle.generator_spec.specs.Generation.{Generates, IsTooLarge}
 use Rattle.generator_spec.proofs.Generations.{nothing_refused}
@@ -50,6 +57,12 @@ no_way_in : (text page other new : List ℕ) (fault : InjectFault) → page ≡ 
 no_way_in text page other new fault same keeps i =
     let e : Err fault ≡ Ok new = one_injection text page (Err fault) (Ok new) (keeps text) (subst (λ p. Injection text p (Ok new)) (sym same) i) in
     absurd (cc)
+
+abbrev as_reading : MapFault → Result ParsedMap MapFault
+as_reading fault = Err fault
+
+abbrev as_map : ParsedMap → Result ParsedMap MapFault
+as_map map = Ok map
 
 module _ (tree : Tree) (config : Config) where
   abbrev found : Option Entry
@@ -92,6 +105,76 @@ module _ (tree : Tree) (config : Config) where
   refused_or_opened : (fault : PageFault) → RefusesPage tree config fault → Opens tree config Inject → ⊥
   refused_or_opened fault refused (opens.page page is takes) = let put = takes [] in refused_takes_none fault [] page put.new refused is put.injection
 
+  -- ---- the map's file
+
+  abbrev map_found : Option Entry
+  map_found = get tree map_path
+
+  few_or_many : (text other : List ℕ) → IsMapText tree text → map_found ≡ Some (Stored other) → map_file_limit < length other → ⊥
+  few_or_many text other is e large =
+      let same = same_stored map_found text other is.stands e in
+      let n : length text ≡ length other = ap length same in
+      let small = is.small in
+      absurd (omega (arith, small, large, n))
+
+  -- a text is read in one way
+  one_reading : (text other : List ℕ) (some more : Result ParsedMap MapFault) → IsMapText tree text → IsMapText tree other → ReadsMap config text some → ReadsMap config other more → some ≡ more
+  one_reading text other some more is too reads reads_too =
+      let texts = same_stored map_found text other is.stands too.stands in
+      let bases : Some reads.base ≡ Some reads_too.base = sym reads.named ∙ reads_too.named in
+      let base : reads_too.base ≡ reads.base = cc in
+      one_map reads.base text some more reads.parses
+      (subst (λ b. ParsesMap b text more) base (subst (λ t. ParsesMap reads_too.base t more) (sym texts) reads_too.parses))
+
+  one_map_file_fault : (some other : MapFileFault) → RefusesMapFile tree config some → RefusesMapFile tree config other → some ≡ other
+  one_map_file_fault some other (refuses_map.absent e s) (refuses_map.absent f t) = s ∙ sym t
+  one_map_file_fault some other (refuses_map.absent e s) (refuses_map.folder f t) = s ∙ sym t
+  one_map_file_fault some other (refuses_map.folder e s) (refuses_map.absent f t) = s ∙ sym t
+  one_map_file_fault some other (refuses_map.folder e s) (refuses_map.folder f t) = s ∙ sym t
+  one_map_file_fault some other (refuses_map.absent e s) (refuses_map.too_large text f large t) = absurd (no_file map_found text (inl e) f)
+  one_map_file_fault some other (refuses_map.folder e s) (refuses_map.too_large text f large t) = absurd (no_file map_found text (inr e) f)
+  one_map_file_fault some other (refuses_map.absent e s) (refuses_map.no_map text fault is reads t) = absurd (no_file map_found text (inl e) is.stands)
+  one_map_file_fault some other (refuses_map.folder e s) (refuses_map.no_map text fault is reads t) = absurd (no_file map_found text (inr e) is.stands)
+  one_map_file_fault some other (refuses_map.too_large text f large s) (refuses_map.absent e t) = absurd (no_file map_found text (inl e) f)
+  one_map_file_fault some other (refuses_map.too_large text f large s) (refuses_map.folder e t) = absurd (no_file map_found text (inr e) f)
+  one_map_file_fault some other (refuses_map.too_large text f large s) (refuses_map.too_large text_too g large_too t) = s ∙ sym t
+  one_map_file_fault some other (refuses_map.too_large text f large s) (refuses_map.no_map text_too fault is reads t) = absurd (few_or_many text_too text is f large)
+  one_map_file_fault some other (refuses_map.no_map text fault is reads s) (refuses_map.absent e t) = absurd (no_file map_found text (inl e) is.stands)
+  one_map_file_fault some other (refuses_map.no_map text fault is reads s) (refuses_map.folder e t) = absurd (no_file map_found text (inr e) is.stands)
+  one_map_file_fault some other (refuses_map.no_map text fault is reads s) (refuses_map.too_large text_too f large t) = absurd (few_or_many text text_too is f large)
+  one_map_file_fault some other (refuses_map.no_map text fault is reads s) (refuses_map.no_map text_too fault_too is_too reads_too t) =
+      let same : as_reading fault ≡ as_reading fault_too = one_reading text text_too (Err fault) (Err fault_too) is is_too reads reads_too in
+      let faults : fault ≡ fault_too = cc in
+      s ∙ (ap map_file_fault faults ∙ sym t)
+
+  -- what is refused is no map
+  no_map_text : (fault : MapFileFault) (text : List ℕ) (map : ParsedMap) → RefusesMapFile tree config fault → IsMapText tree text → ReadsMap config text (Ok map) → ⊥
+  no_map_text fault text map (refuses_map.absent e s) is reads = no_file map_found text (inl e) is.stands
+  no_map_text fault text map (refuses_map.folder e s) is reads = no_file map_found text (inr e) is.stands
+  no_map_text fault text map (refuses_map.too_large other e large s) is reads = few_or_many text other is e large
+  no_map_text fault text map (refuses_map.no_map other why is_too reads_too s) is reads =
+      let same : Err why ≡ Ok map = one_reading other text (Err why) (Ok map) is_too is reads_too reads in
+      absurd (cc)
+
+  -- without a base nothing is read
+  no_base_text : (fault : MapFileFault) (text : List ℕ) → RefusesMapFile tree config fault → IsMapText tree text → web_name config the_page ≡ None → ⊥
+  no_base_text fault text (refuses_map.absent e s) is nameless = no_file map_found text (inl e) is.stands
+  no_base_text fault text (refuses_map.folder e s) is nameless = no_file map_found text (inr e) is.stands
+  no_base_text fault text (refuses_map.too_large other e large s) is nameless = few_or_many text other is e large
+  no_base_text fault text (refuses_map.no_map other why is_too reads s) is nameless =
+      let same : None ≡ Some reads.base = sym nameless ∙ reads.named in
+      absurd (cc)
+
+  map_refused_or_opened : (fault : MapFileFault) → RefusesMapFile tree config fault → Opens tree config Check → ⊥
+  map_refused_or_opened fault refused (opens.has_map map holds) = no_map_text fault holds.text map refused holds.stands holds.reads
+  map_refused_or_opened fault refused (opens.no_base text is nameless) = no_base_text fault text refused is nameless
+
+  -- a map's file is read as one map
+  pub one_held : (map other : ParsedMap) → HoldsMap tree config map → HoldsMap tree config other → map ≡ other
+  one_held map other holds too =
+      let same : as_map map ≡ as_map other = one_reading holds.text too.text (Ok map) (Ok other) holds.stands too.stands holds.reads too.reads in
+      cc
+
   refused_or_traced : (fault : TraceFault) → IsTooLarge tree config → traced (get tree) config ≡ Err fault → ⊥
   refused_or_traced fault large e =
       let traces : traced (get tree) config ≡ Ok large.all = large.is_traced in
@@ -102,62 +185,92 @@ module _ (tree : Tree) (config : Config) where
   one_refusal command why because (refuses.page fault is) (refuses.page other too) = ap Page (one_page_fault fault other is too)
   one_refusal command why because (refuses.page fault is) (refuses.trace same other opened e) = absurd (refused_or_opened fault is opened)
   one_refusal command why because (refuses.trace same fault opened e) (refuses.page other too) = absurd (refused_or_opened other too opened)
+  one_refusal command why because (refuses.map_file fault is) (refuses.map_file other too) = ap MapFile (one_map_file_fault fault other is too)
+  one_refusal command why because (refuses.map_file fault is) (refuses.trace same other opened e) = absurd (map_refused_or_opened fault is opened)
+  one_refusal command why because (refuses.map_file fault is) (refuses.large_map same generating opened large) = absurd generating
+  one_refusal command why because (refuses.trace same fault opened e) (refuses.map_file other too) = absurd (map_refused_or_opened other too opened)
+  one_refusal command why because (refuses.large_map same generating opened large) (refuses.map_file other too) = absurd generating
   one_refusal command why because (refuses.trace same fault opened e) (refuses.trace same_too other opened_too f) =
       let faults : ◌≡◌ {A = Result Gathered TraceFault} (Err fault) (Err other) = sym e ∙ f in
       cc
-  one_refusal command why because (refuses.page fault is) (refuses.large_map same opened large) = absurd (refused_or_opened fault is opened)
-  one_refusal command why because (refuses.large_map same opened large) (refuses.page other too) = absurd (refused_or_opened other too opened)
-  one_refusal command why because (refuses.trace same fault opened e) (refuses.large_map same_too opened_too large) = absurd (refused_or_traced fault large e)
-  one_refusal command why because (refuses.large_map same opened large) (refuses.trace same_too other opened_too f) = absurd (refused_or_traced other large f)
-  one_refusal command why because (refuses.large_map same opened large) (refuses.large_map same_too opened_too large_too) = refl
+  one_refusal command why because (refuses.page fault is) (refuses.large_map same generating opened large) = absurd (refused_or_opened fault is opened)
+  one_refusal command why because (refuses.large_map same generating opened large) (refuses.page other too) = absurd (refused_or_opened other too opened)
+  one_refusal command why because (refuses.trace same fault opened e) (refuses.large_map same_too generating opened_too large) = absurd (refused_or_traced fault large e)
+  one_refusal command why because (refuses.large_map same generating opened large) (refuses.trace same_too other opened_too f) = absurd (refused_or_traced other large f)
+  one_refusal command why because (refuses.large_map same generating opened large) (refuses.large_map same_too generating_too opened_too large_too) = refl
 
   -- what is refused isn't done
   pub refused_or_opened_and_generated : (command : Command) (why : Refusal) (map : List ℕ) → Refuses tree config command why → Opens tree config command → Generates tree config map → ⊥
   refused_or_opened_and_generated command why map (refuses.page fault is) opened generates = refused_or_opened fault is opened
+  refused_or_opened_and_generated command why map (refuses.map_file fault is) opened generates = map_refused_or_opened fault is opened
   refused_or_opened_and_generated command why map (refuses.trace same fault before e) opened generates = (nothing_refused tree config map generates).0 fault e
-  refused_or_opened_and_generated command why map (refuses.large_map same before large) opened generates = (nothing_refused tree config map generates).1 large
+  refused_or_opened_and_generated command why map (refuses.large_map same generating before large) opened generates = (nothing_refused tree config map generates).1 large
+
+  pub refused_or_checked : (why : Refusal) (map : ParsedMap) (all : Gathered) → Refuses tree config Check why → HoldsMap tree config map → traced (get tree) config ≡ Ok all → ⊥
+  refused_or_checked why map all (refuses.map_file fault is) holds traces = no_map_text fault holds.text map is holds.stands holds.reads
+  refused_or_checked why map all (refuses.trace same fault before e) holds traces =
+      let both : Ok all ≡ Err fault = sym traces ∙ e in
+      absurd (cc)
+  refused_or_checked why map all (refuses.large_map same generating before large) holds traces = generating
 
   -- a command that writes was opened
-  pub written_is_opened : (map path file : List ℕ) (command : Command) → Writes tree config map command path file → Opens tree config command
-  written_is_opened map path file command writes.map_alone = opens.nothing
-  written_is_opened map path file command (writes.in_page page new is i) = opens.page page is (by (takes_or_keeps_out.either page))
+  pub written_is_opened : (map : List ℕ) (files : List NewFile) (command : Command) → Writes tree config map command files → Opens tree config command
+  written_is_opened map files command writes.map_alone = opens.nothing
+  written_is_opened map files command (writes.in_page page new is i) = opens.page page is (by (takes_or_keeps_out.either page))
     where
       by : TakesMaps page ⊎ AreKeptOut page → TakesMaps page
       by (inl takes) = takes
       by (inr out) = absurd (no_way_in map page page new out.fault refl out.keeps i)
 
-  -- ---- a page, or a refusal of it
+  -- ---- what a command needs, or a refusal of that
 
   pub record Refused (command : Command) : Type 0 where
-    pub why : PageFault
-    pub is_command : command ≡ Inject
-    pub refuses : RefusesPage tree config why
+    pub why : Refusal
+    pub refuses : Refuses tree config command why
 
   by_page : (page : List ℕ) → IsPage tree config page → Opens tree config Inject ⊎ Refused Inject
   by_page page is =
       elim (takes_or_keeps_out.either page) [
         | inl takes ↦ inl (opens.page page is takes)
-        | inr out ↦ inr (record { why = KeepsMapsOut out.fault; is_command = refl; refuses = refuses_page.keeps_out page out.fault is out.keeps })
+        | inr out ↦ inr (record { why = Page (KeepsMapsOut out.fault); refuses = refuses.page (KeepsMapsOut out.fault) (refuses_page.keeps_out page out.fault is out.keeps) })
       ]
 
   by_entry : (entry : Option Entry) → found ≡ entry → Opens tree config Inject ⊎ Refused Inject
-  by_entry None e = inr (record { why = Absent; is_command = refl; refuses = refuses_page.absent e })
-  by_entry (Some Directory) e = inr (record { why = Absent; is_command = refl; refuses = refuses_page.folder e })
+  by_entry None e = inr (record { why = Page Absent; refuses = refuses.page Absent (refuses_page.absent e) })
+  by_entry (Some Directory) e = inr (record { why = Page Absent; refuses = refuses.page Absent (refuses_page.folder e) })
   by_entry (Some (Stored page)) e =
       elim (cases_lt (limit_number File) (length page)) [
-        | inl large ↦ inr (record { why = TooLarge; is_command = refl; refuses = refuses_page.too_large page e large })
+        | inl large ↦ inr (record { why = Page TooLarge; refuses = refuses.page TooLarge (refuses_page.too_large page e large) })
         | inr small ↦ by_page page (record { stands = e; small = small })
+      ]
+
+  map_refused : (fault : MapFileFault) → RefusesMapFile tree config fault → Refused Check
+  map_refused fault is = record { why = MapFile fault; refuses = refuses.map_file fault is }
+
+  by_outcome : (text base : List ℕ) → IsMapText tree text → web_name config the_page ≡ Some base → (out : Result ParsedMap MapFault) → ParsesMap base text out → Opens tree config Check ⊎ Refused Check
+  by_outcome text base is named (Ok map) parses = inl (opens.has_map map (record { text = text; stands = is; reads = record { base = base; named = named; parses = parses } }))
+  by_outcome text base is named (Err fault) parses =
+      inr (map_refused (map_file_fault fault) (refuses_map.no_map text fault is (record { base = base; named = named; parses = parses }) refl))
+
+  by_name : (text : List ℕ) → IsMapText tree text → (name : Option (List ℕ)) → web_name config the_page ≡ name → Opens tree config Check ⊎ Refused Check
+  by_name text is None nameless = inl (opens.no_base text is nameless)
+  by_name text is (Some base) named = let read = some_map base text in by_outcome text base is named read.0 read.1
+
+  by_map_entry : (entry : Option Entry) → map_found ≡ entry → Opens tree config Check ⊎ Refused Check
+  by_map_entry None e = inr (map_refused map_file.Absent (refuses_map.absent e refl))
+  by_map_entry (Some Directory) e = inr (map_refused map_file.Absent (refuses_map.folder e refl))
+  by_map_entry (Some (Stored text)) e =
+      elim (cases_lt map_file_limit (length text)) [
+        | inl large ↦ inr (map_refused map_file.TooLarge (refuses_map.too_large text e large refl))
+        | inr small ↦ by_name text (record { stands = e; small = small }) (web_name config the_page) refl
       ]
 
   pub opened_or_refused : (command : Command) → Opens tree config command ⊎ Refused command
   opened_or_refused Link = inl opens.nothing
   opened_or_refused Inject = by_entry found refl
+  opened_or_refused Check = by_map_entry map_found refl
 
 -- ---- what is written
-
-pub record SameWrite (path other file another : List ℕ) : Type 0 where
-  pub one_path : path ≡ other
-  pub one_file : file ≡ another
 
 abbrev as_page : List ℕ → Result (List ℕ) InjectFault
 as_page page = Ok page
@@ -167,7 +280,8 @@ one_page map page other new another same i j =
     let e : as_page new ≡ as_page another = one_injection map page (Ok new) (Ok another) i (subst (λ p. Injection map p (Ok another)) (sym same) j) in
     cc
 
-pub one_write : (tree : Tree) (config : Config) (map : List ℕ) (command : Command) (path other file another : List ℕ) → Writes tree config map command path file → Writes tree config map command other another → SameWrite path other file another
-one_write tree config map command path other file another writes.map_alone writes.map_alone = record { one_path = refl; one_file = refl }
-one_write tree config map command path other file another (writes.in_page page new is i) (writes.in_page page_too new_too is_too j) =
-    record { one_path = refl; one_file = one_page map page page_too new new_too (same_stored (get tree config.page) page page_too is.stands is_too.stands) i j }
+pub one_write : (tree : Tree) (config : Config) (map : List ℕ) (command : Command) (files others : List NewFile) → Writes tree config map command files → Writes tree config map command others → files ≡ others
+one_write tree config map command files others writes.map_alone writes.map_alone = refl
+one_write tree config map command files others (writes.in_page page new is i) (writes.in_page page_too new_too is_too j) =
+    ap (λ bytes. new_file config.page bytes ∷ [])
+    (one_page map page page_too new new_too (same_stored (get tree config.page) page page_too is.stands is_too.stands) i j)

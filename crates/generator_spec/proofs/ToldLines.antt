@@ -1,20 +1,27 @@
--- No byte of the line of a command that was done goes out unless its map was written.
+-- No byte of the line of a command that was done goes out unless it was.
 use Rattle.std.proofs.Common.{◌≡◌, ◌≢◌, ◌≤◌, ◌⊎◌, ⊎_elim, ℕ, zero, suc, List, [], ◌∷◌, ◌++◌, length, take, Option, Some, IfSome, inl, inr, refl, sym, ap, ◌∙◌, subst, arith}
-use Rattle.std.specs.Prelude.{option_map}
+use Rattle.std.specs.Prelude.{option_map, All}
+use Rattle.std.specs.List.{concat}
 use Rattle.std.proofs.Math.Seq.{take-length}
 use Rattle.std.proofs.lemmas.List.{append_cancel_left}
+use Rattle.std.proofs.lemmas.List.Elements.{All-head}
 use Rattle.tree_spec.specs.States.{FolderState, SinkState}
 use Rattle.page_spec.specs.declared.kinds.InjectFault.TheVariants.{PageUnclear, TwoMaps, NoPlace}
 use Rattle.page_spec.specs.declared.kinds.InjectFault.TheVariants as page
 use Rattle.trace_spec.specs.declared.TraceFault.{TraceFault}
 use Rattle.trace_spec.specs.declared.TraceFault.TheVariants as fault
+use Rattle.generator_spec.specs.declared.MapFileFault.{MapFileFault}
+use Rattle.generator_spec.specs.declared.MapFileFault.TheVariants as map_file
 use Rattle.generator_spec.specs.declared.PageFault.{PageFault}
 use Rattle.generator_spec.specs.declared.PageFault.TheVariants.{Absent, TooLarge, KeepsMapsOut}
 use Rattle.generator_spec.specs.declared.Refusal.{Refusal}
 use Rattle.generator_spec.specs.declared.Refusal.TheVariants as refusal
-use Rattle.generator_spec.specs.Lines.{page_line, trace_line, line_of, counts_line, memory_line, read_fault_line, write_fault_line}
-use Rattle.generator_spec.specs.Ending.{Linked, Gives, Shaped, Says, Ends, Shaped as shaped, Says as says, Ends as ends}
+use Rattle.generator_spec.specs.Lines.{page_line, map_file_line, trace_line, line_of, counts_line, served_line, differences_line}
+use Rattle.generator_spec.specs.Lines.{memory_line, read_fault_line, write_fault_line}
+use Rattle.generator_spec.specs.Ending.{IsDone, IsDifference, IsChecked, Gives, Shaped, Says, Ends, Shaped as shaped, Says as says, Ends as ends}
+use Rattle.generator_spec.specs.Checking.{check_status, check_lines}
 use Rattle.generator_spec.specs.Promises.{Tells}
+use Rattle.generator_spec.proofs.Endings.{one_line_text}
 
 -- ---- lines by their first byte
 
@@ -52,12 +59,21 @@ page_is_another (KeepsMapsOut (TwoMaps at)) =
 page_is_another (KeepsMapsOut NoPlace) = other_line 114 (page_line (KeepsMapsOut NoPlace)) refl (λ e. omega arith)
 page_is_another (KeepsMapsOut page.Memory) = other_line 109 memory_line refl (λ e. omega arith)
 
+map_file_is_another : (why : MapFileFault) → IsAnother (map_file_line why)
+map_file_is_another map_file.Absent = other_line 98 (map_file_line map_file.Absent) refl (λ e. omega arith)
+map_file_is_another map_file.TooLarge = other_line 108 (map_file_line map_file.TooLarge) refl (λ e. omega arith)
+map_file_is_another (map_file.NotJson at) = other_line 98 (map_file_line (map_file.NotJson at)) refl (λ e. omega arith)
+map_file_is_another map_file.TooDeep = other_line 108 (map_file_line map_file.TooDeep) refl (λ e. omega arith)
+map_file_is_another (map_file.NotObject which) =
+    other_line 98 (map_file_line (map_file.NotObject which)) refl (λ e. omega arith)
+
 refusal_is_another : (why : Refusal) → IsAnother (line_of why)
 refusal_is_another refusal.Words = other_line 110 (line_of refusal.Words) refl (λ e. omega arith)
 refusal_is_another (refusal.BadBase text) = other_line 119 (line_of (refusal.BadBase text)) refl (λ e. omega arith)
 refusal_is_another (refusal.Limit which) =
     other_line 108 (line_of (refusal.Limit which)) refl (λ e. omega arith)
 refusal_is_another (refusal.Page why) = page_is_another why
+refusal_is_another (refusal.MapFile why) = map_file_is_another why
 refusal_is_another (refusal.Trace why) = trace_is_another why
 
 -- a front that begins so is of a line that does
@@ -72,20 +88,21 @@ first_of_counts :
 first_of_counts modules requests mappings zero some = absurd (omega arith)
 first_of_counts modules requests mappings (suc count) some = refl
 
--- a front of another line, and a byte of that of a command that was done, don't both go out
+first_of_served : (needs count : ℕ) → 1 ≤ count → first_byte (take count (served_line needs)) ≡ 111
+first_of_served needs zero some = absurd (omega arith)
+first_of_served needs (suc count) some = refl
+
+-- a front of another text, and a byte of that of a command that was done, don't both go out
 no_byte :
-    (line : List ℕ) (out out_after : Option (List ℕ)) (front : List ℕ) (modules requests mappings count : ℕ)
-    → IsAnother line
-    → Gives out out_after line → out ≡ Some front → 1 ≤ count
-    → out_after ≡ Some (front ++ take count (counts_line modules requests mappings)) → ⊥
-no_byte line out out_after front modules requests mappings count another gives told some given =
-    let one : out_after ≡ Some (front ++ take gives.count line) =
-    gives.given ∙ ap (option_map (λ before. before ++ take gives.count line)) told in
-    let same : front ++ take gives.count line ≡ front ++ take count (counts_line modules requests mappings) = cc in
-    let fronts =
-    append_cancel_left front (take gives.count line) (take count (counts_line modules requests mappings)) same in
-    another
-    (first_of_front gives.count line (ap first_byte fronts ∙ first_of_counts modules requests mappings count some))
+    (text done : List ℕ) (out out_after : Option (List ℕ)) (front : List ℕ) (count : ℕ)
+    → IsAnother text → Gives out out_after text → out ≡ Some front → first_byte (take count done) ≡ 111
+    → out_after ≡ Some (front ++ take count done) → ⊥
+no_byte text done out out_after front count another gives told first given =
+    let one : out_after ≡ Some (front ++ take gives.count text) =
+    gives.given ∙ ap (option_map (λ before. before ++ take gives.count text)) told in
+    let same : front ++ take gives.count text ≡ front ++ take count done = cc in
+    let fronts = append_cancel_left front (take gives.count text) (take count done) same in
+    another (first_of_front gives.count text (ap first_byte fronts ∙ first))
 
 -- ---- what goes out
 
@@ -101,36 +118,62 @@ gives_of :
 gives_of status line out out_after result (ends.said is given quiet) = whole_given out.got out_after.got line given
 gives_of status line out out_after result (ends.output_fault is gives rose) = gives
 
-module _ (words : List (List ℕ)) (before after : FolderState) (status : ℕ) (line : List ℕ)
-    (linked : status ≡ 0 → IfSome before.holds (λ tree. Linked words tree after.holds)) where
-  abbrev IsLinked : Type 0
-  IsLinked = IfSome before.holds (λ tree. Linked words tree after.holds)
+-- the text of one line that isn't that of a command that was done
+other_text : (line : List ℕ) (lines : List (List ℕ)) → lines ≡ line ∷ [] → IsAnother line → IsAnother (concat lines)
+other_text line lines l another = subst IsAnother (sym (ap concat l ∙ one_line_text line)) another
 
-  shaped_line : Shaped words status line → IsAnother line ⊎ IsLinked
-  shaped_line (shaped.words_refused why refuses s l) = inl (subst IsAnother (sym l) (refusal_is_another why))
-  shaped_line (shaped.refused command config why is of s l) = inl (subst IsAnother (sym l) (refusal_is_another why))
-  shaped_line (shaped.done s counted) = inr (linked s)
+first_of_appended : (line rest : List ℕ) (first : ℕ) → first_byte line ≡ suc first → first_byte (line ++ rest) ≡ suc first
+first_of_appended [] rest first e = absurd (omega (arith, e))
+first_of_appended (b ∷ line) rest first e = e
 
-  said_line : Says words before after status line → IsAnother line ⊎ IsLinked
+difference_first : (line : List ℕ) → IsDifference line → first_byte line ≡ 100
+difference_first line is = ap first_byte is.says
+
+-- a check is done, or its text begins with a difference
+checked_text :
+    (differing : List (List ℕ)) (needs : ℕ) → All IsDifference differing
+    → (check_status differing ≡ 0) ⊎ IsAnother (concat (check_lines needs differing))
+checked_text [] needs all = inl refl
+checked_text (line ∷ more) needs all =
+    let first = first_of_appended line (concat (more ++ differences_line (length (line ∷ more)) ∷ [])) 99 (difference_first line (All-head IsDifference line more all)) in
+    inr (λ e. let n : 100 ≡ 111 = sym first ∙ e in absurd (omega (arith, n)))
+
+module _ (words : List (List ℕ)) (before after : FolderState) (status : ℕ) (lines : List (List ℕ))
+    (done : status ≡ 0 → IfSome before.holds (λ tree. IsDone words tree after.holds)) where
+  abbrev WasDone : Type 0
+  WasDone = IfSome before.holds (λ tree. IsDone words tree after.holds)
+
+  checked_line : IsChecked words status lines → IsAnother (concat lines) ⊎ WasDone
+  checked_line is =
+      ⊎_elim (λ zero. inr (done (is.ends ∙ zero))) (λ another. inl (subst (λ all. IsAnother (concat all)) (sym is.says) another))
+      (checked_text is.differing is.needs is.are_differences)
+
+  shaped_line : Shaped words status lines → IsAnother (concat lines) ⊎ WasDone
+  shaped_line (shaped.words_refused why refuses s l) = inl (other_text (line_of why) lines l (refusal_is_another why))
+  shaped_line (shaped.refused command config why is of s l) = inl (other_text (line_of why) lines l (refusal_is_another why))
+  shaped_line (shaped.done line s l counted) = inr (done s)
+  shaped_line (shaped.checked is) = checked_line is
+
+  said_line : Says words before after status lines → IsAnother (concat lines) ⊎ WasDone
   said_line (says.outcome shape o l w) = shaped_line shape
-  said_line (says.memory s t k l w) = inl (subst IsAnother (sym t) (other_line 109 memory_line refl (λ e. omega arith)))
+  said_line (says.memory s t k l w) = inl (other_text memory_line lines t (other_line 109 memory_line refl (λ e. omega arith)))
   said_line (says.read_fault command config is_config s t k rose w) =
-      inl (subst IsAnother (sym t) (other_line 102 read_fault_line refl (λ e. omega arith)))
-  said_line (says.write_fault map done counted generated s t k l rose) =
-      inl (subst IsAnother (sym t) (other_line 102 write_fault_line refl (λ e. omega arith)))
+      inl (other_text read_fault_line lines t (other_line 102 read_fault_line refl (λ e. omega arith)))
+  said_line (says.write_fault line counted stops s t l rose) =
+      inl (other_text write_fault_line lines t (other_line 102 write_fault_line refl (λ e. omega arith)))
 
   pub end_tells :
-      (out out_after : SinkState) (result : ℕ) → Says words before after status line
-      → Ends status line out out_after result → Tells out.got out_after.got IsLinked
+      (out out_after : SinkState) (result : ℕ) → Says words before after status lines
+      → Ends status (concat lines) out out_after result → Tells out.got out_after.got WasDone
   end_tells out out_after result s ended =
-      let gives = gives_of status line out out_after result ended in
+      let gives = gives_of status (concat lines) out out_after result ended in
+      let only = λ (text front : List ℕ) (count : ℕ) (told : out.got ≡ Some front) (first : first_byte (take count text) ≡ 111) (given : out_after.got ≡ Some (front ++ take count text)).
+      ⊎_elim (λ another. absurd (no_byte (concat lines) text out.got out_after.got front count another gives told first given)) (λ written. written) (said_line s) in
       record {
-        line = line;
+        text = concat lines;
         gives = gives;
         only_where_done = λ front modules requests mappings count told some given.
-            ⊎_elim
-            (λ another.
-            absurd
-            (no_byte line out.got out_after.got front modules requests mappings count another gives told some given))
-            (λ written. written) (said_line s);
+            only (counts_line modules requests mappings) front count told (first_of_counts modules requests mappings count some) given;
+        only_where_served = λ front needs count told some given.
+            only (served_line needs) front count told (first_of_served needs count some) given;
       }

@@ -1,33 +1,54 @@
 -- What a command needs before its trace, why it is refused, and what it writes.
+--     IsGenerating command                the command generates a map
 --     IsPage tree config page             the page's file, which has no more bytes than a file may
 --     RefusesPage tree config fault       there is no page to put a map into
+--     map_path, map_file_limit            the path of the map's file, and how many bytes that may have
+--     IsMapText tree text                 the map's file
+--     ReadsMap config text outcome        what the text is read as, against the page's URL
+--     HoldsMap tree config map            the map's file is read as this map
+--     RefusesMapFile tree config fault    there is no map to check
 --     Opens tree config command           what the command needs before its trace is there
 --     Refuses tree config command why     the command is refused: before its trace, by the first refusal of that, or for
 --                                         the size of its map
 --     IsRefusalOf config command why      it can be refused so, whatever the tree holds
---     map_path                            the path of the map's file
---     Writes tree config map command path file      with the map the command writes this file there
-use Rattle.std.specs.Prelude.{◌≡◌, ◌≤◌, ◌<◌, ⊤, ℕ, List, length, Some, None, Ok, Err, codes}
+--     NewFile                             a file that is written: its path and its bytes
+--     Writes tree config map command files      with the map the command writes these files, in this order
+use Rattle.std.specs.Prelude.{◌≡◌, ◌≤◌, ◌<◌, ⊤, ℕ, List, [], ◌∷◌, length, Some, None, Result, Ok, Err, codes}
 use Rattle.std.specs.FinMap.{get}
 use Rattle.tree_spec.specs.declared.Entry.TheVariants.{Stored, Directory}
 use Rattle.tree_spec.specs.declared.LimitName.TheVariants.{File, Map}
 use Rattle.tree_spec.specs.Limits.{limit_number}
 use Rattle.tree_spec.specs.Trees.{Tree}
+use Rattle.json_spec.specs.Grammar as json
 use Rattle.page_spec.specs.declared.kinds.InjectFault.{InjectFault}
 use Rattle.page_spec.specs.declared.kinds.InjectFault.TheVariants.{PageUnclear, TwoMaps, NoPlace, Memory}
 use Rattle.page_spec.specs.Injection as injection
 use Rattle.page_spec.specs.Injection.{Injection, TakesMaps}
+use Rattle.import_map_spec.specs.ParsedMap as parsed
+use Rattle.import_map_spec.specs.ParsedMap.{ParsedMap, MapFault}
+use Rattle.import_map_spec.specs.Parsing.{ParsesMap}
 use Rattle.trace_spec.specs.declared.TraceFault.{TraceFault}
 use Rattle.trace_spec.specs.Kinds.{IsOfTrace}
-use Rattle.trace_spec.specs.Modules.{Config}
+use Rattle.trace_spec.specs.Modules.{Config, web_name}
 use Rattle.trace_spec.specs.Traces.{traced}
+use Rattle.trace_spec.specs.Walking.{the_page}
 use Rattle.generator_spec.specs.declared.Command.{Command}
-use Rattle.generator_spec.specs.declared.Command.TheVariants.{Link, Inject}
+use Rattle.generator_spec.specs.declared.Command.TheVariants.{Link, Inject, Check}
+use Rattle.generator_spec.specs.declared.MapFileFault.{MapFileFault}
+use Rattle.generator_spec.specs.declared.MapFileFault.TheVariants as map_fault
 use Rattle.generator_spec.specs.declared.PageFault.{PageFault}
 use Rattle.generator_spec.specs.declared.PageFault.TheVariants.{Absent, TooLarge, KeepsMapsOut}
 use Rattle.generator_spec.specs.declared.Refusal.{Refusal}
-use Rattle.generator_spec.specs.declared.Refusal.TheVariants.{Page, Trace, Limit}
+use Rattle.generator_spec.specs.declared.Refusal.TheVariants.{Page, MapFile, Trace, Limit}
 use Rattle.generator_spec.specs.Generation.{IsTooLarge}
+
+-- own: `check` traces, and generates nothing
+abbrev pub IsGenerating : Command → Type 0
+IsGenerating Link = ⊤
+IsGenerating Inject = ⊤
+IsGenerating Check = ⊥
+
+-- ---- the page
 
 -- own: a file of at most 16,777,216 bytes
 pub record IsPage (tree : Tree) (config : Config) (page : List ℕ) : Type 0 where
@@ -45,19 +66,67 @@ pub data RefusesPage (tree : Tree) (config : Config) : PageFault → Type 0 wher
       (page : List ℕ) (fault : InjectFault) → IsPage tree config page → injection.KeepsMapsOut page fault
       → RefusesPage tree config (KeepsMapsOut fault)
 
--- own: `link` needs nothing, and `inject` a page that takes maps
+-- ---- the map's file
+
+abbrev pub map_path : List ℕ
+map_path = codes "/importmap.json"
+
+-- own: as many bytes as a map that is written
+abbrev pub map_file_limit : ℕ
+map_file_limit = limit_number Map
+
+-- own: a file of at most 67,108,864 bytes
+pub record IsMapText (tree : Tree) (text : List ℕ) : Type 0 where
+  pub stands : get tree map_path ≡ Some (Stored text)
+  pub small : length text ≤ map_file_limit
+
+-- HTML, import maps, parse an import map string: against the page's URL
+pub record ReadsMap (config : Config) (text : List ℕ) (outcome : Result ParsedMap MapFault) : Type 0 where
+  pub base : List ℕ
+  pub named : web_name config the_page ≡ Some base
+  pub parses : ParsesMap base text outcome
+
+pub record HoldsMap (tree : Tree) (config : Config) (map : ParsedMap) : Type 0 where
+  pub text : List ℕ
+  pub stands : IsMapText tree text
+  pub reads : ReadsMap config text (Ok map)
+
+abbrev pub map_file_fault : MapFault → MapFileFault
+map_file_fault (parsed.NoJson (json.NotJson at)) = map_fault.NotJson at
+map_file_fault (parsed.NoJson (json.TooDeep at)) = map_fault.TooDeep
+map_file_fault (parsed.NotObject part) = map_fault.NotObject part
+
+-- own: nothing or a folder stands there, or too large a file, or a text that is no import map
+pub data RefusesMapFile (tree : Tree) (config : Config) (why : MapFileFault) : Type 0 where
+  absent : get tree map_path ≡ None → why ≡ map_fault.Absent → RefusesMapFile tree config why
+  folder : get tree map_path ≡ Some Directory → why ≡ map_fault.Absent → RefusesMapFile tree config why
+  too_large :
+      (text : List ℕ) → get tree map_path ≡ Some (Stored text) → map_file_limit < length text
+      → why ≡ map_fault.TooLarge → RefusesMapFile tree config why
+  no_map :
+      (text : List ℕ) (fault : MapFault) → IsMapText tree text → ReadsMap config text (Err fault)
+      → why ≡ map_file_fault fault → RefusesMapFile tree config why
+
+-- ---- before the trace
+
+-- own: `link` needs nothing, `inject` a page that takes maps, and `check` a map; a page without a URL gives it no map
+-- base, and is refused by the trace
 pub data Opens (tree : Tree) (config : Config) : Command → Type 0 where
   nothing : Opens tree config Link
   page : (page : List ℕ) → IsPage tree config page → TakesMaps page → Opens tree config Inject
+  has_map : (map : ParsedMap) → HoldsMap tree config map → Opens tree config Check
+  no_base : (text : List ℕ) → IsMapText tree text → web_name config the_page ≡ None → Opens tree config Check
 
--- own: the page comes before the trace, and the size of the map behind it
+-- own: the command's file comes before the trace, and the size of the map behind it
 pub data Refuses (tree : Tree) (config : Config) : Command → Refusal → Type 0 where
   page : (fault : PageFault) → RefusesPage tree config fault → Refuses tree config Inject (Page fault)
+  map_file : (fault : MapFileFault) → RefusesMapFile tree config fault → Refuses tree config Check (MapFile fault)
   trace :
       (command : Command) (fault : TraceFault) → Opens tree config command → traced (get tree) config ≡ Err fault
       → Refuses tree config command (Trace fault)
   large_map :
-      (command : Command) → Opens tree config command → IsTooLarge tree config → Refuses tree config command (Limit Map)
+      (command : Command) → IsGenerating command → Opens tree config command → IsTooLarge tree config
+      → Refuses tree config command (Limit Map)
 
 -- ---- whatever the tree holds
 
@@ -72,18 +141,23 @@ IsOfPage (KeepsMapsOut Memory) = ⊥
 
 pub data IsRefusalOf (config : Config) : Command → Refusal → Type 0 where
   page : (fault : PageFault) → IsOfPage fault → IsRefusalOf config Inject (Page fault)
+  map_file : (fault : MapFileFault) → IsRefusalOf config Check (MapFile fault)
   trace :
       (command : Command) (fault : TraceFault) → IsOfTrace config fault → IsRefusalOf config command (Trace fault)
-  large_map : (command : Command) → IsRefusalOf config command (Limit Map)
+  large_map : (command : Command) → IsGenerating command → IsRefusalOf config command (Limit Map)
 
 -- ---- what is written
 
-abbrev pub map_path : List ℕ
-map_path = codes "/importmap.json"
+pub record NewFile : Type 0 where
+  pub path : List ℕ
+  pub bytes : List ℕ
+
+abbrev pub new_file : List ℕ → List ℕ → NewFile
+new_file path bytes = record { path = path; bytes = bytes }
 
 -- own: `link` writes the map, and `inject` the page with the map in it
-pub data Writes (tree : Tree) (config : Config) (map : List ℕ) : Command → List ℕ → List ℕ → Type 0 where
-  map_alone : Writes tree config map Link map_path map
+pub data Writes (tree : Tree) (config : Config) (map : List ℕ) : Command → List NewFile → Type 0 where
+  map_alone : Writes tree config map Link (new_file map_path map ∷ [])
   in_page :
       (page new : List ℕ) → IsPage tree config page → Injection map page (Ok new)
-      → Writes tree config map Inject config.page new
+      → Writes tree config map Inject (new_file config.page new ∷ [])

@@ -87,23 +87,23 @@ NothingRefused =
 
 -- ---- outcomes
 
-pub record SameOutcome (status other : ℕ) (line another : List ℕ) (after last : Tree) : Type 0 where
+pub record SameOutcome (status other : ℕ) (lines others : List (List ℕ)) (after last : Tree) : Type 0 where
   pub one_status : status ≡ other
-  pub one_line : line ≡ another
+  pub same_lines : lines ≡ others
   pub one_tree : after ≡ last
 
 -- a command over a tree has one outcome at most
 abbrev pub OneOutcome : Type 0
 OneOutcome =
-    (words : List (List ℕ)) (tree : Tree) (status other : ℕ) (line another : List ℕ) (after last : Tree)
-    → Outcome words tree status line after → Outcome words tree other another last
-    → SameOutcome status other line another after last
+    (words : List (List ℕ)) (tree : Tree) (status other : ℕ) (lines others : List (List ℕ)) (after last : Tree)
+    → Outcome words tree status lines after → Outcome words tree other others last
+    → SameOutcome status other lines others after last
 
 pub record HasOutcome (words : List (List ℕ)) (tree : Tree) : Type 0 where
   pub status : ℕ
-  pub line : List ℕ
+  pub lines : List (List ℕ)
   pub after : Tree
-  pub outcome : Outcome words tree status line after
+  pub outcome : Outcome words tree status lines after
 
 -- a command over a tree has an outcome
 abbrev pub SomeOutcome : Type 0

@@ -4,6 +4,7 @@ pub mod Commands
 pub mod Generation
 pub mod Serves
 pub mod Lines
+pub mod Checking
 pub mod Outcome
 pub mod Ending
 pub mod Promises

@@ -2,10 +2,12 @@
 --     status_of why, line_of why      those of a refusal
 --     counts_line modules requests mappings      the line of a map that is written
 --     done_line all map               the same for a trace and its map
+--     differs_line referrer specifier wants gets      the line of a need that a map doesn't serve
+--     served_line needs, differences_line count       the last line of a check
 use Rattle.std.specs.Prelude.{ℕ, List, [], ◌∷◌, ◌++◌, length, codes, unwrap_or}
 use Rattle.std.specs.Fmt.{decimal}
 use Rattle.tree_spec.specs.declared.LimitName.{LimitName}
-use Rattle.tree_spec.specs.declared.LimitName.TheVariants.{File}
+use Rattle.tree_spec.specs.declared.LimitName.TheVariants.{File, Depth}
 use Rattle.tree_spec.specs.Limits.{limit_number, limit_name}
 use Rattle.json_spec.specs.PrintedString.{quoted}
 use Rattle.node_spec.specs.declared.Reason.{Reason}
@@ -14,6 +16,9 @@ use Rattle.page_spec.specs.declared.kinds.InjectFault.{InjectFault}
 use Rattle.page_spec.specs.declared.kinds.InjectFault.TheVariants.{PageUnclear, TwoMaps, NoPlace}
 use Rattle.page_spec.specs.declared.kinds.InjectFault.TheVariants as page
 use Rattle.import_map_spec.specs.ParsedMap.{ParsedMap}
+use Rattle.import_map_spec.specs.Resolving.{Resolution, Resolved, Blocked, Bare, Backtrack, BadRest}
+use Rattle.import_map_spec.specs.declared.MapPart.{MapPart}
+use Rattle.import_map_spec.specs.declared.MapPart.TheVariants as part
 use Rattle.layout_spec.specs.Counting.{mapping_count}
 use Rattle.trace_spec.specs.declared.AskCause.{AskCause}
 use Rattle.trace_spec.specs.declared.AskCause.TheVariants as cause
@@ -21,11 +26,14 @@ use Rattle.trace_spec.specs.declared.TraceFault.{TraceFault}
 use Rattle.trace_spec.specs.declared.TraceFault.TheVariants.{Unservable, Refused, Clash, NotModule, Limit, ReadFault}
 use Rattle.trace_spec.specs.declared.TraceFault.TheVariants.{Memory}
 use Rattle.trace_spec.specs.Checks.{Gathered}
+use Rattle.generator_spec.specs.declared.MapFileFault.{MapFileFault}
+use Rattle.generator_spec.specs.declared.MapFileFault.TheVariants as map_file
 use Rattle.generator_spec.specs.declared.PageFault.{PageFault}
 use Rattle.generator_spec.specs.declared.PageFault.TheVariants.{Absent, TooLarge, KeepsMapsOut}
 use Rattle.generator_spec.specs.declared.Refusal.{Refusal}
-use Rattle.generator_spec.specs.declared.Refusal.TheVariants.{Words, BadBase, Page, Trace}
+use Rattle.generator_spec.specs.declared.Refusal.TheVariants.{Words, BadBase, Page, MapFile, Trace}
 use Rattle.generator_spec.specs.declared.Refusal.TheVariants as refusal
+use Rattle.generator_spec.specs.Commands.{map_file_limit}
 use Rattle.generator_spec.specs.Statuses.{refused_status, words_status, limit_status, read_fault_status, file_status}
 use Rattle.generator_spec.specs.Statuses.{memory_status, not_built_status}
 
@@ -50,11 +58,19 @@ page_status Absent = file_status
 page_status TooLarge = limit_status
 page_status (KeepsMapsOut fault) = inject_status fault
 
+abbrev pub map_file_status : MapFileFault → ℕ
+map_file_status map_file.Absent = file_status
+map_file_status map_file.TooLarge = limit_status
+map_file_status (map_file.NotJson at) = file_status
+map_file_status map_file.TooDeep = limit_status
+map_file_status (map_file.NotObject which) = file_status
+
 abbrev pub status_of : Refusal → ℕ
 status_of Words = not_built_status
 status_of (BadBase text) = words_status
 status_of (refusal.Limit which) = limit_status
 status_of (Page fault) = page_status fault
+status_of (MapFile fault) = map_file_status fault
 status_of (Trace fault) = trace_status fault
 
 abbrev pub end_of_line : List ℕ
@@ -96,9 +112,12 @@ read_fault_line = codes "fault: read" ++ end_of_line
 abbrev pub write_fault_line : List ℕ
 write_fault_line = codes "fault: write" ++ end_of_line
 
+-- own: the name of a limit and its number
+abbrev pub above_line : List ℕ → ℕ → List ℕ
+above_line name number = codes "limit: " ++ (name ++ (codes " above " ++ (decimal number ++ end_of_line)))
+
 abbrev pub limit_line : LimitName → List ℕ
-limit_line which =
-    codes "limit: " ++ (limit_name which ++ (codes " above " ++ (decimal (limit_number which) ++ end_of_line)))
+limit_line which = above_line (limit_name which) (limit_number which)
 
 -- own: two requests of one referrer, with what each leads to
 abbrev pub clash_line : List ℕ → List ℕ → List ℕ → List ℕ → List ℕ → List ℕ
@@ -132,11 +151,26 @@ page_line Absent = codes "bad file: page absent" ++ end_of_line
 page_line TooLarge = limit_line File
 page_line (KeepsMapsOut fault) = inject_line fault
 
+abbrev pub part_name : MapPart → List ℕ
+part_name part.Top = codes "Top"
+part_name part.Imports = codes "Imports"
+part_name part.Scopes = codes "Scopes"
+part_name part.Scope = codes "Scope"
+part_name part.Integrity = codes "Integrity"
+
+abbrev pub map_file_line : MapFileFault → List ℕ
+map_file_line map_file.Absent = codes "bad file: map absent" ++ end_of_line
+map_file_line map_file.TooLarge = above_line (limit_name File) map_file_limit
+map_file_line (map_file.NotJson at) = codes "bad file: map at " ++ (decimal at ++ end_of_line)
+map_file_line map_file.TooDeep = limit_line Depth
+map_file_line (map_file.NotObject which) = codes "bad file: map " ++ (part_name which ++ end_of_line)
+
 abbrev pub line_of : Refusal → List ℕ
 line_of Words = codes "not built: words" ++ end_of_line
 line_of (BadBase text) = codes "words: BadBase " ++ (quoted text ++ end_of_line)
 line_of (refusal.Limit which) = limit_line which
 line_of (Page fault) = page_line fault
+line_of (MapFile fault) = map_file_line fault
 line_of (Trace fault) = trace_line fault
 
 -- own: so many modules, requests and mappings
@@ -148,3 +182,25 @@ counts_line modules requests mappings =
 -- own: the modules of the trace without the page, its requests with the entries, and the mappings of the map
 abbrev pub done_line : Gathered → ParsedMap → List ℕ
 done_line all map = counts_line (length all.modules) all.requests (mapping_count map)
+
+-- ---- what a check says
+
+-- own: a URL, or why there is none
+abbrev pub got_text : Resolution → List ℕ
+got_text (Resolved url) = quoted url
+got_text Blocked = codes "Blocked"
+got_text Bare = codes "Bare"
+got_text Backtrack = codes "Backtrack"
+got_text BadRest = codes "BadRest"
+
+-- own: who asks first, how it spells what it asks for, the URL that has to come of it, and what comes
+abbrev pub differs_line : List ℕ → List ℕ → List ℕ → Resolution → List ℕ
+differs_line referrer specifier wants gets =
+    codes "differs: from " ++ (quoted referrer ++ (codes " for " ++ (quoted specifier ++ (codes " wants "
+    ++ (quoted wants ++ (codes " gets " ++ (got_text gets ++ end_of_line)))))))
+
+abbrev pub served_line : ℕ → List ℕ
+served_line needs = codes "ok: " ++ (decimal needs ++ (codes " needs served" ++ end_of_line))
+
+abbrev pub differences_line : ℕ → List ℕ
+differences_line count = decimal count ++ (codes " differences" ++ end_of_line)

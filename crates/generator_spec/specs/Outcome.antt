@@ -1,28 +1,54 @@
 -- How a command ends where no fault and no want of memory comes between.
---     Outcome words tree status line after      the exit status, what it says, and the tree that it leaves
-use Rattle.std.specs.Prelude.{◌≡◌, ℕ, List}
+--     ComesTo words tree status lines files      the exit status, what the command says, and the files that it writes
+--     FilesPlaced tree files after               the files are written, one after another
+--     Outcome words tree status lines after      what it comes to, and the tree that it leaves
+use Rattle.std.specs.Prelude.{◌≡◌, ℕ, List, [], ◌∷◌, Ok, length}
+use Rattle.std.specs.FinMap.{get}
 use Rattle.tree_spec.specs.declared.Entry.TheVariants.{Stored}
 use Rattle.tree_spec.specs.Trees.{Tree, Places}
+use Rattle.import_map_spec.specs.ParsedMap.{ParsedMap}
+use Rattle.trace_spec.specs.Checks.{Gathered}
 use Rattle.trace_spec.specs.Modules.{Config}
+use Rattle.trace_spec.specs.Traces.{traced}
 use Rattle.generator_spec.specs.declared.Command.{Command}
+use Rattle.generator_spec.specs.declared.Command.TheVariants.{Check}
 use Rattle.generator_spec.specs.declared.Refusal.{Refusal}
-use Rattle.generator_spec.specs.Commands.{Refuses, Writes}
+use Rattle.generator_spec.specs.Checking.{difference_lines, check_status, check_lines}
+use Rattle.generator_spec.specs.Commands.{HoldsMap, Refuses, NewFile, Writes}
 use Rattle.generator_spec.specs.Generation.{Generates}
 use Rattle.generator_spec.specs.Statuses.{done_status}
 use Rattle.generator_spec.specs.Words.{IsConfigOf, RefusesWords}
 use Rattle.generator_spec.specs.Lines.{status_of, line_of, done_line}
 
--- own: a refusal comes of the words, or else of what the command needs, or else it is the first one of the trace; it
--- leaves the tree as it was. Where nothing is refused, the command's file is written, with the map that is generated
-pub data Outcome (words : List (List ℕ)) (tree : Tree) (status : ℕ) (line : List ℕ) (after : Tree) : Type 0 where
+-- own: a refusal comes of the words, or else of what the command needs, or else it is the first one of the trace, or
+-- that of a map that is too large; it writes nothing. Where nothing is refused, the command's files are written, with
+-- the map that is generated; or it is said which of the trace's needs the map that is there doesn't serve
+pub data ComesTo (words : List (List ℕ)) (tree : Tree) (status : ℕ) (lines : List (List ℕ))
+    (files : List NewFile) : Type 0 where
   words_refused :
-      (why : Refusal) → RefusesWords words why → status ≡ status_of why → line ≡ line_of why → after ≡ tree
-      → Outcome words tree status line after
+      (why : Refusal) → RefusesWords words why → status ≡ status_of why → lines ≡ line_of why ∷ [] → files ≡ []
+      → ComesTo words tree status lines files
   refused :
       (command : Command) (config : Config) (why : Refusal) → IsConfigOf words command config
-      → Refuses tree config command why → status ≡ status_of why → line ≡ line_of why → after ≡ tree
-      → Outcome words tree status line after
-  done :
-      (command : Command) (config : Config) (map path file : List ℕ) → IsConfigOf words command config
-      → (generates : Generates tree config map) → Writes tree config map command path file → status ≡ done_status
-      → line ≡ done_line generates.all generates.map → Places tree path (Stored file) after → Outcome words tree status line after
+      → Refuses tree config command why → status ≡ status_of why → lines ≡ line_of why ∷ [] → files ≡ []
+      → ComesTo words tree status lines files
+  written :
+      (command : Command) (config : Config) (map : List ℕ) → IsConfigOf words command config
+      → (generates : Generates tree config map) → Writes tree config map command files → status ≡ done_status
+      → lines ≡ done_line generates.all generates.map ∷ [] → ComesTo words tree status lines files
+  checked :
+      (config : Config) (map : ParsedMap) (all : Gathered) → IsConfigOf words Check config → HoldsMap tree config map
+      → traced (get tree) config ≡ Ok all → status ≡ check_status (difference_lines map all)
+      → lines ≡ check_lines (length all.needs) (difference_lines map all) → files ≡ []
+      → ComesTo words tree status lines files
+
+abbrev pub FilesPlaced : Tree → List NewFile → Tree → Type 0
+FilesPlaced tree [] after = after ≡ tree
+FilesPlaced tree (file ∷ files) after =
+    (middle : Tree) × Places tree file.path (Stored file.bytes) middle × FilesPlaced middle files after
+
+pub record Outcome (words : List (List ℕ)) (tree : Tree) (status : ℕ) (lines : List (List ℕ))
+    (after : Tree) : Type 0 where
+  pub files : List NewFile
+  pub comes : ComesTo words tree status lines files
+  pub placed : FilesPlaced tree files after

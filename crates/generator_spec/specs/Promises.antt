@@ -1,33 +1,37 @@
 -- What follows from how a run ends, as its caller asks for it.
---     Tells out out_after written    a line went out, that of a command that was done only where this holds
+--     Tells out out_after done       a text went out, that of a command that was done only where this holds
 --     Quiet before after out out_after             no count of faults rose
---     Stands status line held after out out_after result          this was answered, said and left
+--     Stands status text held after out out_after result          this was answered, said and left
 --     Finishes words tree before after out out_after result       it ended as an outcome says, or with `memory`
---     Completes status line later before after out out_after result       the same, with this outcome
+--     Completes status lines later before after out out_after result      the same, with this outcome
 --     Meets words tree before after out out_after result          what it has to do with the outcome that is defined
 --     Shows before after out out_after result      which counts of faults show in the status, and how
 --     Untouched before after         nothing of the folder changed, and no call of it failed
 --     Promises words before after out out_after result            all of this
 use Rattle.std.specs.Prelude.{◌≡◌, ◌≢◌, ◌≤◌, ◌⊎◌, ◌++◌, ℕ, List, Option, Some, None, IfSome, option_map, take}
+use Rattle.std.specs.List.{concat}
 use Rattle.tree_spec.specs.Counts.{Rose}
 use Rattle.tree_spec.specs.States.{FolderState, SinkState}
 use Rattle.tree_spec.specs.Trees.{Tree}
 use Rattle.generator_spec.specs.declared.Refusal.{Refusal}
 use Rattle.generator_spec.specs.declared.Refusal.TheVariants.{BadBase}
-use Rattle.generator_spec.specs.Statuses.{IsRefusalStatus, done_status, words_status, read_fault_status}
+use Rattle.generator_spec.specs.Statuses.{LeavesTree, done_status, words_status, read_fault_status}
 use Rattle.generator_spec.specs.Statuses.{write_fault_status, memory_status}
 use Rattle.generator_spec.specs.Words.{RefusesWords}
-use Rattle.generator_spec.specs.Lines.{counts_line, memory_line}
+use Rattle.generator_spec.specs.Lines.{counts_line, served_line, memory_line}
 use Rattle.generator_spec.specs.Outcome.{Outcome}
-use Rattle.generator_spec.specs.Ending.{Linked, Gives, TellsRefusal}
+use Rattle.generator_spec.specs.Ending.{IsDone, Gives, TellsRefusal}
 
--- own: a front of one line went out; and a byte of the line of a command that was done only where its map was written
-pub record Tells (out out_after : Option (List ℕ)) (written : Type 0) : Type 0 where
-  pub line : List ℕ
-  pub gives : Gives out out_after line
+-- own: a front of one text went out; and a byte of the line of a command that was done only where it was
+pub record Tells (out out_after : Option (List ℕ)) (done : Type 0) : Type 0 where
+  pub text : List ℕ
+  pub gives : Gives out out_after text
   pub only_where_done :
       (front : List ℕ) (modules requests mappings count : ℕ) → out ≡ Some front → 1 ≤ count
-      → out_after ≡ Some (front ++ take count (counts_line modules requests mappings)) → written
+      → out_after ≡ Some (front ++ take count (counts_line modules requests mappings)) → done
+  pub only_where_served :
+      (front : List ℕ) (needs count : ℕ) → out ≡ Some front → 1 ≤ count
+      → out_after ≡ Some (front ++ take count (served_line needs)) → done
 
 -- own: no count of faults rose
 pub record Quiet (before after : FolderState) (out out_after : SinkState) : Type 0 where
@@ -35,29 +39,29 @@ pub record Quiet (before after : FolderState) (out out_after : SinkState) : Type
   pub writes : Rose before.write_faults after.write_faults → ⊥
   pub output : Rose out.faults out_after.faults → ⊥
 
--- own: this status was answered, this line went out, and the folder tells this
-pub record Stands (status : ℕ) (line : List ℕ) (held : Option Tree) (after : FolderState) (out out_after : SinkState)
+-- own: this status was answered, this text went out, and the folder tells this
+pub record Stands (status : ℕ) (text : List ℕ) (held : Option Tree) (after : FolderState) (out out_after : SinkState)
     (result : ℕ) : Type 0 where
   pub answered : result ≡ status
-  pub given : out_after.got ≡ option_map (λ front. front ++ line) out.got
+  pub given : out_after.got ≡ option_map (λ front. front ++ text) out.got
   pub told : after.holds ≡ held
 
--- own: the command ended with this status, line and tree; or with `memory`, and the tree is as it was
-pub data Completes (status : ℕ) (line : List ℕ) (later : Tree) (before after : FolderState)
+-- own: the command ended with this status, these lines and this tree; or with `memory`, and the tree is as it was
+pub data Completes (status : ℕ) (lines : List (List ℕ)) (later : Tree) (before after : FolderState)
     (out out_after : SinkState) (result : ℕ) : Type 0 where
   complete :
-      Stands status line (Some later) after out out_after result
-      → Completes status line later before after out out_after result
+      Stands status (concat lines) (Some later) after out out_after result
+      → Completes status lines later before after out out_after result
   memory :
       Stands memory_status memory_line before.holds after out out_after result
-      → Completes status line later before after out out_after result
+      → Completes status lines later before after out out_after result
 
 -- own: the command ended as an outcome says that is defined; or with `memory`, and the tree is as it was
 pub data Finishes (words : List (List ℕ)) (tree : Tree) (before after : FolderState) (out out_after : SinkState)
     (result : ℕ) : Type 0 where
   finished :
-      (status : ℕ) (line : List ℕ) (later : Tree) → Outcome words tree status line later
-      → Stands status line (Some later) after out out_after result
+      (status : ℕ) (lines : List (List ℕ)) (later : Tree) → Outcome words tree status lines later
+      → Stands status (concat lines) (Some later) after out out_after result
       → Finishes words tree before after out out_after result
   memory :
       Stands memory_status memory_line before.holds after out out_after result
@@ -65,19 +69,19 @@ pub data Finishes (words : List (List ℕ)) (tree : Tree) (before after : Folder
 
 -- own: where no fault was counted, the command ended as an outcome says that is defined, or with `memory`. Where the
 -- words and the tree have an outcome, the answer is its status, or 8, or 4 or 5 for a fault; where no fault was
--- counted, the command ended so; and where that outcome has no map, no write failed
+-- counted, the command ended so; and where that outcome isn't that of a command that is done, no write failed
 pub record Meets (words : List (List ℕ)) (tree : Tree) (before after : FolderState) (out out_after : SinkState)
     (result : ℕ) : Type 0 where
   pub ended : Quiet before after out out_after → Finishes words tree before after out out_after result
   pub exactly :
-      (status : ℕ) (line : List ℕ) (later : Tree) → Outcome words tree status line later
+      (status : ℕ) (lines : List (List ℕ)) (later : Tree) → Outcome words tree status lines later
       → (result ≡ status) ⊎ (result ≡ memory_status) ⊎ (result ≡ read_fault_status) ⊎ (result ≡ write_fault_status)
   pub complete :
-      (status : ℕ) (line : List ℕ) (later : Tree) → Outcome words tree status line later
+      (status : ℕ) (lines : List (List ℕ)) (later : Tree) → Outcome words tree status lines later
       → Quiet before after out out_after
-      → Completes status line later before after out out_after result
+      → Completes status lines later before after out out_after result
   pub unwritten :
-      (status : ℕ) (line : List ℕ) (later : Tree) → Outcome words tree status line later → status ≢ done_status
+      (status : ℕ) (lines : List (List ℕ)) (later : Tree) → Outcome words tree status lines later → status ≢ done_status
       → after.write_faults ≡ before.write_faults
 
 -- own: a count that changed shows in the status: that of looks in 4, or in 5 where the output failed too; 4 comes
@@ -100,16 +104,16 @@ pub record Untouched (before after : FolderState) : Type 0 where
 -- own: what each status says of the folder, of the output and of the faults
 pub record Promises (words : List (List ℕ)) (before after : FolderState) (out out_after : SinkState)
     (result : ℕ) : Type 0 where
-  pub statuses : (result ≡ done_status) ⊎ (result ≡ write_fault_status) ⊎ IsRefusalStatus result
-  pub kept : IsRefusalStatus result → after.holds ≡ before.holds
-  pub done : result ≡ done_status → IfSome before.holds (λ tree. Linked words tree after.holds)
+  pub statuses : (result ≡ done_status) ⊎ (result ≡ write_fault_status) ⊎ LeavesTree result
+  pub kept : LeavesTree result → after.holds ≡ before.holds
+  pub done : result ≡ done_status → IfSome before.holds (λ tree. IsDone words tree after.holds)
   pub write_fault :
       result ≡ write_fault_status
-      → (after.holds ≡ before.holds) ⊎ IfSome before.holds (λ tree. Linked words tree after.holds)
+      → (after.holds ≡ before.holds) ⊎ IfSome before.holds (λ tree. IsDone words tree after.holds)
   pub read : result ≡ read_fault_status → Rose before.look_faults after.look_faults
   pub write :
       result ≡ write_fault_status → Rose before.write_faults after.write_faults ⊎ Rose out.faults out_after.faults
-  pub told : Tells out.got out_after.got (IfSome before.holds (λ tree. Linked words tree after.holds))
+  pub told : Tells out.got out_after.got (IfSome before.holds (λ tree. IsDone words tree after.holds))
   pub meets : IfSome before.holds (λ tree. Meets words tree before after out out_after result)
   pub shows : Shows before after out out_after result
   pub looks_later : before.look_faults ≤ after.look_faults

@@ -1,14 +1,15 @@
 -- The exit statuses.
---     done_status               the map is written
+--     done_status               the map is written, or it serves each need
 --     refused_status            a request or the page is refused
 --     words_status              the words are wrong
 --     limit_status              a limit is passed
 --     read_fault_status         a look failed
 --     write_fault_status        the write failed, or the output did
---     file_status               a file that the command needs isn't there
+--     differences_status        a need isn't served
+--     file_status               a file that the command needs isn't there, or isn't of its form
 --     memory_status             want of memory
 --     not_built_status          what is asked for isn't built
---     IsRefusalStatus status    an end before the first write has this status
+--     LeavesTree status         with this status the tree is as it was; with that of success it may be too
 use Rattle.std.specs.Prelude.{◌≡◌, ◌⊎◌, ℕ}
 
 abbrev pub done_status : ℕ
@@ -29,6 +30,9 @@ read_fault_status = 4
 abbrev pub write_fault_status : ℕ
 write_fault_status = 5
 
+abbrev pub differences_status : ℕ
+differences_status = 6
+
 abbrev pub file_status : ℕ
 file_status = 7
 
@@ -38,7 +42,7 @@ memory_status = 8
 abbrev pub not_built_status : ℕ
 not_built_status = 9
 
-abbrev pub IsRefusalStatus : ℕ → Type 0
-IsRefusalStatus status =
+abbrev pub LeavesTree : ℕ → Type 0
+LeavesTree status =
     (status ≡ refused_status) ⊎ (status ≡ words_status) ⊎ (status ≡ limit_status) ⊎ (status ≡ read_fault_status)
-    ⊎ (status ≡ file_status) ⊎ (status ≡ memory_status) ⊎ (status ≡ not_built_status)
+    ⊎ (status ≡ differences_status) ⊎ (status ≡ file_status) ⊎ (status ≡ memory_status) ⊎ (status ≡ not_built_status)

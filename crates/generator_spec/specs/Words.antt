@@ -11,13 +11,14 @@ use Rattle.tree_spec.specs.Limits.{limit_number}
 use Rattle.url_spec.specs.Bases.{base_of}
 use Rattle.trace_spec.specs.Modules.{Config}
 use Rattle.generator_spec.specs.declared.Command.{Command}
-use Rattle.generator_spec.specs.declared.Command.TheVariants.{Link, Inject}
+use Rattle.generator_spec.specs.declared.Command.TheVariants.{Link, Inject, Check}
 use Rattle.generator_spec.specs.declared.Refusal.{Refusal}
 use Rattle.generator_spec.specs.declared.Refusal.TheVariants.{Words, BadBase, Limit}
 
 abbrev pub word_of : Command → List ℕ
 word_of Link = codes "link"
 word_of Inject = codes "inject"
+word_of Check = codes "check"
 
 -- own: an entry isn't empty and doesn't begin with `-`
 pub record IsEntry (text : List ℕ) : Type 0 where

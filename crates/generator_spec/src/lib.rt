@@ -6,6 +6,7 @@ ghost use Rattle.generator_spec.specs.Laws.{OneConfig, OneWordsRefusal, RefusedO
 ghost use Rattle.generator_spec.specs.Laws.{PageOfWordsIsFile, OneGeneration, SomeGeneration, NothingRefused};
 ghost use Rattle.generator_spec.specs.Laws.{OneOutcome, SomeOutcome, EndsKeepPromises};
 
+use import_map_spec::MapPart;
 use page_spec::InjectFault;
 use primitives::Text;
 use trace_spec::TraceFault;
@@ -18,6 +19,8 @@ pub enum Command {
     Link,
     /// The page, with the map in it.
     Inject,
+    /// Which needs the map that is there doesn't serve.
+    Check,
 }
 
 /// Why there is no page to put a map into.
@@ -31,6 +34,21 @@ pub enum PageFault {
     KeepsMapsOut { fault: InjectFault },
 }
 
+/// Why there is no map to check. A place is an offset in the file, in bytes.
+#[derive(Clone, Copy, Debug, PartialEq, Eq)]
+pub enum MapFileFault {
+    /// No file stands there.
+    Absent,
+    /// The file has more bytes than a map may.
+    TooLarge,
+    /// It is no JSON text (RFC 8259).
+    NotJson { at: usize },
+    /// More brackets of it are open than are read.
+    TooDeep,
+    /// What must be an object is none (HTML, import maps).
+    NotObject { which: MapPart },
+}
+
 /// Why a command ends before its first write, with what is shown of it.
 #[derive(Debug, Drop)]
 pub enum Refusal {
@@ -42,6 +60,8 @@ pub enum Refusal {
     Limit { which: LimitName },
     /// There is no page to put the map into.
     Page { fault: PageFault },
+    /// There is no map to check.
+    MapFile { fault: MapFileFault },
     /// There is no trace.
     Trace { fault: TraceFault },
 }

@@ -5,7 +5,7 @@ use Rattle.page_spec.specs.declared.kinds.InjectFault.{InjectFault}
 use Rattle.page_spec.specs.declared.kinds.InjectFault.TheVariants.{PageUnclear, TwoMaps}
 use Rattle.page_spec.specs.Pieces.{Part}
 use Rattle.page_spec.specs.Attributes.{attribute_text}
-use Rattle.page_spec.specs.ImportMaps.{is_broken, is_start_of, is_script, is_map_type, is_map_start, raw_behind}
+use Rattle.page_spec.specs.ImportMaps.{is_broken, is_start_of, is_script, is_map_start, raw_behind}
 use Rattle.page_spec.specs.Faults.{holds_ampersand, raw_fault, fault_at}
 use Rattle.html_inject.specs.Search.{plain_fault}
 

@@ -82,23 +82,31 @@ fn has_source(text: &str, piece: Piece) -> bool
     }
 }
 
+// `script`: whether the piece is the start tag of a script, here and below.
 #[tactic(auto, unfolding(page_spec::specs::ImportMaps::is_map_start))]
-fn is_map_start(text: &str, piece: Piece) -> bool
-    requires { IsPieceOf text.now piece }
+fn is_map_start(text: &str, piece: Piece, script: bool) -> bool
+    requires piece { IsPieceOf text.now piece }
+    requires script { script ≡ is_script (part_at text.now piece) }
     ensures { result ≡ is_map_start (part_at text.now piece) }
 {
-    is_script(text, piece) && has_map_type(text, piece)
+    script && has_map_type(text, piece)
 }
 
 /// Where the raw text of the import map element stands that begins with the piece; None where none does.
-pub(crate) fn map_at(text: &str, piece: Piece, next: Option<Piece>) -> Option<(usize, usize)>
-    requires { AreNext text.now piece next }
+pub(crate) fn map_at(
+    text: &str,
+    piece: Piece,
+    next: Option<Piece>,
+    script: bool,
+) -> Option<(usize, usize)>
+    requires next { AreNext text.now piece next }
+    requires script { script ≡ is_script (part_at text.now piece) }
     ensures { result ≡ map_at text.now piece next }
 {
     match next {
         None => None,
         Some(behind) => {
-            if is_map_start(text, piece) {
+            if is_map_start(text, piece, script) {
                 match behind.kind {
                     PieceKind::Raw => Some((behind.from, behind.to)),
                     _ => None,
@@ -111,11 +119,12 @@ pub(crate) fn map_at(text: &str, piece: Piece, next: Option<Piece>) -> Option<(u
 }
 
 /// Whether an import map element begins with the piece.
-pub(crate) fn begins_map(text: &str, piece: Piece, next: Option<Piece>) -> bool
-    requires { AreNext text.now piece next }
+pub(crate) fn begins_map(text: &str, piece: Piece, next: Option<Piece>, script: bool) -> bool
+    requires next { AreNext text.now piece next }
+    requires script { script ≡ is_script (part_at text.now piece) }
     ensures { result ≡ begins_map (part_at text.now piece) (parts_behind text.now next) }
 {
-    map_at(text, piece, next).is_some()
+    map_at(text, piece, next, script).is_some()
 }
 
 /// Whether the piece is the start tag of a `base`.
@@ -126,7 +135,7 @@ pub(crate) fn is_base(text: &str, piece: Piece) -> bool
     is_start_of(text, piece, b"base".as_slice())
 }
 
-pub fn is_broken(piece: Piece) -> bool
+pub(crate) fn is_broken(piece: Piece) -> bool
     ensures { result ≡ is_broken piece.kind }
 {
     match piece.kind {
@@ -136,31 +145,34 @@ pub fn is_broken(piece: Piece) -> bool
 }
 
 /// Whether the piece makes the page unclear.
-pub(crate) fn is_unclear(text: &str, piece: Piece, next: Option<Piece>) -> bool
-    requires { AreNext text.now piece next }
+pub(crate) fn is_unclear(text: &str, piece: Piece, next: Option<Piece>, script: bool) -> bool
+    requires next { AreNext text.now piece next }
+    requires script { script ≡ is_script (part_at text.now piece) }
     ensures { result ≡ is_unclear (part_at text.now piece) (parts_behind text.now next) }
 {
     is_broken(piece)
         || is_base(text, piece)
-        || is_script(text, piece) && has_unclear_type(text, piece)
-        || begins_map(text, piece, next) && has_source(text, piece)
+        || script && has_unclear_type(text, piece)
+        || begins_map(text, piece, next, script) && has_source(text, piece)
 }
 
-fn is_place(text: &str, piece: Piece) -> bool
-    requires { IsPieceOf text.now piece }
+fn is_place(text: &str, piece: Piece, script: bool) -> bool
+    requires piece { IsPieceOf text.now piece }
+    requires script { script ≡ is_script (part_at text.now piece) }
     ensures { result ≡ is_place (part_at text.now piece) }
 {
-    is_script(text, piece)
+    script
         || is_start_of(text, piece, b"link".as_slice())
         || is_end_of(text, piece, b"head".as_slice())
 }
 
 /// Where the piece begins, where a map may be put before it.
-pub(crate) fn place_at(text: &str, piece: Piece) -> Option<usize>
-    requires { IsPieceOf text.now piece }
+pub(crate) fn place_at(text: &str, piece: Piece, script: bool) -> Option<usize>
+    requires piece { IsPieceOf text.now piece }
+    requires script { script ≡ is_script (part_at text.now piece) }
     ensures { result ≡ place_at text.now piece }
 {
-    if is_place(text, piece) {
+    if is_place(text, piece, script) {
         Some(piece.from)
     } else {
         None

@@ -1,7 +1,7 @@
 ghost use Rattle.std.specs.Prelude.{◌≡◌, ℕ, None, Some, Ok, Err, false, is_some};
 ghost use Rattle.page_spec.specs.Places.{IsPieceOf, part_at};
 ghost use Rattle.page_spec.specs.Faults.{raw_fault, fault_at};
-ghost use Rattle.page_spec.specs.ImportMaps.{raw_behind};
+ghost use Rattle.page_spec.specs.ImportMaps.{is_script, raw_behind};
 ghost use Rattle.html_inject.specs.Search.{IsBehind, AreNext, parts_behind, map_at, plain_fault, found_more, sooner, chosen, IsSite};
 
 use crate::comments::comment_at;
@@ -54,17 +54,24 @@ fn plain_fault(text: &str, piece: Piece) -> Option<InjectFault>
     }
 }
 
-// The fault of a piece; `seen`: an import map element came before.
-fn fault_at(text: &str, piece: Piece, next: Option<Piece>, seen: bool) -> Option<InjectFault>
-    requires { AreNext text.now piece next }
+// The fault of a piece; `script`: it is the start tag of a script; `seen`: an import map element came before.
+fn fault_at(
+    text: &str,
+    piece: Piece,
+    next: Option<Piece>,
+    script: bool,
+    seen: bool,
+) -> Option<InjectFault>
+    requires next { AreNext text.now piece next }
+    requires script { script ≡ is_script (part_at text.now piece) }
     ensures { result ≡ fault_at piece.from seen (part_at text.now piece) (parts_behind text.now next) }
 {
-    if !is_script(text, piece) {
+    if !script {
         return plain_fault(text, piece);
     }
-    if is_unclear(text, piece, next) {
+    if is_unclear(text, piece, next, script) {
         Some(InjectFault::PageUnclear { at: piece.from })
-    } else if seen && begins_map(text, piece, next) {
+    } else if seen && begins_map(text, piece, next, script) {
         Some(InjectFault::TwoMaps { at: piece.from })
     } else {
         raw_fault(text, piece.to, next)
@@ -72,17 +79,18 @@ fn fault_at(text: &str, piece: Piece, next: Option<Piece>, seen: bool) -> Option
 }
 
 impl Found {
-    // What is found with a piece as well.
-    fn more(self, text: &str, piece: Piece, next: Option<Piece>) -> Found
-        requires { AreNext text.now piece next }
+    // What is found with a piece as well; `script`: it is the start tag of a script.
+    fn more(self, text: &str, piece: Piece, next: Option<Piece>, script: bool) -> Found
+        requires next { AreNext text.now piece next }
+        requires script { script ≡ is_script (part_at text.now piece) }
         ensures { result ≡ found_more text.now self piece next }
     {
         let map = match self.map {
-            None => map_at(text, piece, next),
+            None => map_at(text, piece, next, script),
             Some(map) => Some(map),
         };
         let place = match self.place {
-            None => place_at(text, piece),
+            None => place_at(text, piece, script),
             Some(place) => Some(place),
         };
         Found { map, place }
@@ -113,8 +121,9 @@ pub(crate) fn site_in(text: &str) -> Result<Site, InjectFault>
     let mut next = scanner.next();
     while let Some(piece) = next {
         next = scanner.next();
-        match fault_at(text, piece, next, found.map.is_some()) {
-            None => found = found.more(text, piece, next),
+        let script = is_script(text, piece);
+        match fault_at(text, piece, next, script, found.map.is_some()) {
+            None => found = found.more(text, piece, next, script),
             Some(fault) => return Err(fault),
         }
     }

@@ -4,7 +4,7 @@ use std::test::Fail;
 
 /// Pages, and what comes of them and the map `{}`: the new page, in which `@` stands for the map's element and its line
 /// end, or the fault that decides. Typed by hand.
-static PAGES: [(&str, &str); 66] = [
+static PAGES: [(&str, &str); 78] = [
     ("<head></head>\n", "<head>@</head>\n"),
     ("", "NoPlace"),
     ("<p>", "NoPlace"),
@@ -151,6 +151,24 @@ static PAGES: [(&str, &str); 66] = [
     ("<![CDATA[<link>]]></head>", "<![CDATA[<link>]]>@</head>"),
     ("</ head></head>", "</ head>@</head>"),
     ("\u{feff}</head>", "\u{feff}@</head>"),
+    (" \n\t\r\u{c}", "NoPlace"),
+    ("日本</head>語", "日本@</head>語"),
+    ("<!--><link>-->", "<!-->@<link>-->"),
+    ("<!---><link>-->", "<!--->@<link>-->"),
+    ("<!--a--!><link>", "<!--a--!>@<link>"),
+    ("<!--a--!b><link>--><base>", "PageUnclear at 19"),
+    ("<?xml version='1'?><link>", "<?xml version='1'?>@<link>"),
+    ("<xmp><base></xmp></head>", "<xmp><base></xmp>@</head>"),
+    (
+        "<iframe></head></iframe></head>",
+        "<iframe></head></iframe>@</head>",
+    ),
+    ("<noembed><link></noembed>", "NoPlace"),
+    (
+        "<noframes><script></noframes></head>",
+        "<noframes><script></noframes>@</head>",
+    ),
+    ("<p title=<link>x</head>", "<p title=<link>x@</head>"),
     (
         "<head>\n  <meta charset=utf-8>\n</head>",
         "<head>\n  <meta charset=utf-8>\n@</head>",
@@ -232,6 +250,67 @@ fn truncations(rt: HostRuntime) -> Result<(), Fail> {
     for (length, wanted) in CUTS {
         if let Some(page) = "<head></head>\n".get(..length) {
             assert!(rt; comes(rt.alloc(), page.as_bytes(), wanted)?, "{length}");
+        }
+    }
+    Ok(())
+}
+
+/// A page with a map. Its element begins at 6, its map at 31, its end tag at 102, and the head's end tag at 112.
+static MAPPED: &str = "<head><script type=\"importmap\">{
+  \"imports\": {
+    \"#\\u003c/script>\": \"https://app.test/x.mjs\"
+  }
+}
+</script>
+</head>
+";
+
+/// What comes of the first bytes of the page with a map, from one number of them to another; `@`: their map gives way
+/// to the new one.
+static RANGES: [(usize, usize, &str); 8] = [
+    (0, 1, "NoPlace"),
+    (2, 5, "PageUnclear at 0"),
+    (6, 7, "NoPlace"),
+    (8, 30, "PageUnclear at 6"),
+    (31, 110, "PageUnclear at 31"),
+    (111, 114, "@"),
+    (115, 118, "PageUnclear at 112"),
+    (119, 120, "@"),
+];
+
+fn range_of(length: usize) -> &'static str {
+    for (from, to, wanted) in RANGES {
+        if from <= length && length <= to {
+            return wanted;
+        }
+    }
+    ""
+}
+
+/// The page with `{}` in place of its map.
+fn with_map(alloc: Global, page: &str) -> Result<String, Fail> {
+    let mut out = String::new(alloc);
+    out.push_str(page.get(..31).unwrap_or(""))?;
+    out.push_str("{}")?;
+    out.push_str(page.get(102..).unwrap_or(""))?;
+    Ok(out)
+}
+
+fn cut_comes(alloc: Global, page: &str) -> Result<bool, Fail> {
+    let wanted = range_of(page.len());
+    if wanted == "@" {
+        comes(alloc, page.as_bytes(), with_map(alloc, page)?.as_str())
+    } else {
+        comes(alloc, page.as_bytes(), wanted)
+    }
+}
+
+#[test]
+fn truncations_of_a_map(rt: HostRuntime) -> Result<(), Fail> {
+    assert_eq!(rt; MAPPED.len(), 120);
+    for length in 0..=MAPPED.len() {
+        if let Some(page) = MAPPED.get(..length) {
+            assert!(rt; cut_comes(rt.alloc(), page)?, "{length}");
         }
     }
     Ok(())

@@ -1,3 +1,5 @@
 pub mod Calls
 pub mod Spans
 pub mod Listed
+pub mod Passing
+pub mod Letters

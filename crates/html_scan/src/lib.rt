@@ -8,6 +8,7 @@
 mod front;
 mod markup;
 mod names;
+mod runs;
 mod scanner;
 mod tags;
 #[cfg(test)]

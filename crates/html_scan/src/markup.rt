@@ -1,9 +1,10 @@
-ghost use Rattle.std.specs.Prelude.{◌≡◌, ◌<◌, ◌==◌, ◌&&◌, ◌||◌, false, true, [], ◌∷◌, None, Some, length, MatchOption, if◌then◌else◌};
+ghost use Rattle.std.specs.Prelude.{◌≡◌, ◌≤◌, ◌<◌, ◌==◌, ◌&&◌, ◌||◌, false, true, [], ◌∷◌, None, Some, length, MatchOption, if◌then◌else◌};
 ghost use Rattle.std.specs.Char.{is_ascii_alphabetic, is_ascii_whitespace};
 ghost use Rattle.page_spec.specs.declared.kinds.State.TheVariants.{TagOpen, BogusComment, Comment, BeforeAttributeName, AttributeName, BeforeAttributeValue};
 ghost use Rattle.page_spec.specs.Tokenizer.{may_end, is_last, next_state, behind_markup};
 
 use crate::names::{is_letter, is_whitespace};
+use crate::runs::{End, behind};
 use page_spec::State;
 
 fn may_end(state: State) -> bool
@@ -143,13 +144,30 @@ pub fn next_state(state: State, b: u8) -> State
     }
 }
 
+// What is left behind bytes that leave the state as it is: runs of them are most of a page's markup.
+fn pass_run(state: State, bytes: &[u8]) -> &[u8]
+    ensures same { behind_markup state result.now ≡ behind_markup state bytes.now }
+    ensures shorter { length result.now ≤ length bytes.now }
+{
+    match state {
+        State::BogusComment => behind(End::At(b'>'), bytes),
+        State::Comment => behind(End::At(b'-'), bytes),
+        State::TagName => behind(End::TagName, bytes),
+        State::AttributeName => behind(End::Name, bytes),
+        State::AttributeValueDoubleQuoted => behind(End::At(b'"'), bytes),
+        State::AttributeValueSingleQuoted => behind(End::At(b'\''), bytes),
+        State::AttributeValueUnquoted => behind(End::Unquoted, bytes),
+        _ => bytes,
+    }
+}
+
 /// What is left behind the markup behind whose `<` the bytes stand; None where they end before it does.
 pub fn behind_markup(bytes: &[u8]) -> Option<&[u8]>
     ensures { let rest = behind_markup TagOpen bytes.now in MatchOption result (rest ≡ None) (λ r. rest ≡ Some r.now) }
 {
     let mut state = State::TagOpen;
     let mut rest = bytes;
-    while let Some((b, more)) = rest.split_first() {
+    while let Some((b, more)) = pass_run(state, rest).split_first() {
         if is_last(state, *b) {
             return Some(more);
         }

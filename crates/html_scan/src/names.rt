@@ -1,4 +1,4 @@
-ghost use Rattle.std.specs.Prelude.{◌≡◌, not, ◌==◌, ◌||◌, ◌&&◌, false, [], ◌∷◌, None, Some, length, codes, bytes_eq, option_map};
+ghost use Rattle.std.specs.Prelude.{◌≡◌, IsFalse, not, ◌==◌, ◌||◌, ◌&&◌, false, [], ◌∷◌, None, Some, length, codes, bytes_eq, option_map};
 ghost use Rattle.std.specs.Char.{is_ascii_alphabetic, is_ascii_whitespace, to_ascii_lowercase};
 ghost use Rattle.page_spec.specs.Attributes.{skip_whitespace};
 ghost use Rattle.page_spec.specs.Pieces.{ends_name, tag_name, is_name, name_of, raw_element, closes};
@@ -38,8 +38,21 @@ pub fn ends_name(b: u8) -> bool
     is_whitespace(b) || b == b'/' || b == b'>'
 }
 
-/// Whether a whole tag name stands at the front, and is the wanted one, which is in lower case.
-pub fn is_named(wanted: &[u8], bytes: &[u8]) -> bool
+// Whether the first bytes are the same, but for ASCII case. It costs less than the whole names.
+#[tactic(auto, using(crate::proofs::Letters::other_name))]
+fn may_be_named(wanted: &[u8], bytes: &[u8]) -> bool
+    ensures { IsFalse result → is_name wanted.now (tag_name bytes.now) ≡ false }
+{
+    match wanted.split_first() {
+        None => true,
+        Some((w, _)) => match bytes.split_first() {
+            None => false,
+            Some((b, _)) => b.to_ascii_lowercase() == *w,
+        },
+    }
+}
+
+fn is_whole_name(wanted: &[u8], bytes: &[u8]) -> bool
     ensures { result ≡ is_name wanted.now (tag_name bytes.now) }
 {
     let mut left = wanted;
@@ -60,6 +73,13 @@ pub fn is_named(wanted: &[u8], bytes: &[u8]) -> bool
         rest = more;
     }
     false
+}
+
+/// Whether a whole tag name stands at the front, and is the wanted one, which is in lower case.
+pub fn is_named(wanted: &[u8], bytes: &[u8]) -> bool
+    ensures { result ≡ is_name wanted.now (tag_name bytes.now) }
+{
+    may_be_named(wanted, bytes) && is_whole_name(wanted, bytes)
 }
 
 fn name_of(element: RawElement) -> &'static [u8]

@@ -6,50 +6,16 @@ ghost use Rattle.page_spec.specs.Tokenizer.{lowered};
 ghost use Rattle.html_scan.specs.Fronts.{test_of, value_of, value_if_named};
 
 use crate::markup::{is_last, next_state};
-use crate::names::{ends_name, is_whitespace, skip_whitespace};
+use crate::names::skip_whitespace;
+use crate::runs::{End, behind};
 use crate::tags::text_of;
 use page_spec::{Piece, PieceKind, State};
-
-/// The bytes that end a part of an attribute.
-#[derive(Clone, Copy)]
-enum End {
-    /// What ends a name, behind its first byte.
-    Name,
-    /// The closing quote of a value.
-    Quote(u8),
-    /// What ends a value without quotes.
-    Unquoted,
-}
 
 /// An attribute's value: its text, and the tag's bytes from the value's begin on.
 #[derive(Clone, Copy)]
 struct Value<'a> {
     text: &'a [u8],
     tail: &'a [u8],
-}
-
-fn ends(end: End, b: u8) -> bool
-    ensures { result ≡ test_of end b }
-{
-    match end {
-        End::Name => ends_name(b) || b == b'=',
-        End::Quote(quote) => b == quote,
-        End::Unquoted => is_whitespace(b) || b == b'>',
-    }
-}
-
-// The bytes from their end on.
-fn behind(end: End, bytes: &[u8]) -> &[u8]
-    ensures { result.now ≡ behind (test_of end) bytes.now }
-{
-    let mut rest = bytes;
-    while let Some((b, more)) = rest.split_first() {
-        if ends(end, *b) {
-            return rest;
-        }
-        rest = more;
-    }
-    rest
 }
 
 // The bytes before those that are left.
@@ -79,7 +45,7 @@ fn value_at<'a>(bytes: &'a [u8]) -> Value<'a>
         Some((b, rest)) => {
             if *b == b'"' || *b == b'\'' {
                 Value {
-                    text: before(End::Quote(*b), rest),
+                    text: before(End::At(*b), rest),
                     tail: rest,
                 }
             } else {

@@ -8,6 +8,7 @@ ghost use Rattle.json_spec.specs.PrintedValue.{line, printed, printed_members, p
 ghost use Rattle.import_map_spec.specs.ParsedMap.{ParsedMap};
 ghost use Rattle.layout_spec.specs.PrintedMap.{members_of, with_part, map_text};
 ghost use Rattle.scope_builder.specs.Lists.{Lists};
+ghost use Rattle.map_print.specs.Printed.{IsPrinted};
 ghost use Rattle.map_print.specs.PrintedLists.{mappings_value, layout_value};
 ghost use Rattle.map_print.specs.Appending.{Appends};
 
@@ -45,9 +46,7 @@ pub fn print_map(
     layout: &Layout,
     integrity: &Mappings,
 ) -> Result<Vec<u8>, PrintFault>
-    ensures text { IfOk result (λ bytes. (m : ParsedMap)
-        → Lists layout.now integrity.now m → bytes.items ≡ map_text m) }
-    ensures within { IfOk result (λ bytes. length bytes.items ≤ limit_number Map) }
+    ensures printed { IfOk result (λ bytes. IsPrinted layout.now integrity.now bytes.items) }
     ensures too_large { result ≡ Err PrintFault.MapTooLarge
         → (m : ParsedMap) → Lists layout.now integrity.now m → limit_number Map < length (map_text m) }
 {

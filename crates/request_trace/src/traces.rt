@@ -7,7 +7,7 @@ ghost use Rattle.trace_walk.specs.Walking.{IsWhole};
 
 use need_table::Needs;
 use std::marker::Model;
-use trace_walk::Tables;
+use trace_walk::{Spelling, Tables};
 use tree_model::Path;
 
 /// What a trace holds: the modules in trace order, the source of each, the needs, and how many requests were followed.
@@ -44,6 +44,13 @@ impl Trace {
         ensures clear { NoClash self.now.needs }
     {
         &self.tables.needs
+    }
+
+    /// How the need with this number, counted from 0, is first spelled.
+    pub fn spelling(&self, number: usize) -> Option<&Spelling>
+        ensures { option_copied result ≡ slice_get self.now.spellings number }
+    {
+        self.tables.spellings.get(number)
     }
 
     /// The number of modules.

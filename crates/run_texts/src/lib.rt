@@ -6,5 +6,8 @@ mod statuses;
 #[cfg(test)]
 mod tests;
 
-pub use lines::{done_line, line_of, memory_line, read_fault_line, write_fault_line};
-pub use statuses::{DONE, MEMORY, READ_FAULT, WRITE_FAULT, status_of};
+pub use lines::{
+    differences_line, differs_line, done_line, line_of, memory_line, read_fault_line, served_line,
+    write_fault_line,
+};
+pub use statuses::{DIFFERENCES, DONE, MEMORY, READ_FAULT, WRITE_FAULT, status_of};

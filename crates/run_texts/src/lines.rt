@@ -1,10 +1,14 @@
 ghost use Rattle.std.specs.Prelude.{◌≡◌, ◌++◌, [], IfOk, OnOk};
 ghost use Rattle.json_spec.specs.PrintedString.{quoted};
+ghost use Rattle.tree_spec.specs.Limits.{limit_name, limit_number};
 ghost use Rattle.trace_spec.specs.declared.TraceFault.TheVariants as fault;
 ghost use Rattle.generator_spec.specs.Lines as spec;
 ghost use Rattle.generator_spec.specs.Lines.{end_of_line};
+ghost use Rattle.map_check.specs.Shown.{got_of};
 
-use generator_spec::{PageFault, Refusal};
+use generator_spec::{MapFileFault, PageFault, Refusal};
+use import_map_spec::MapPart;
+use map_check::Got;
 use node_spec::Reason;
 use ordered_json::print_text;
 use page_spec::InjectFault;
@@ -49,6 +53,57 @@ pub fn done_line(
     Ok(line.into_bytes())
 }
 
+/// The line of a check of a map that serves this number of needs.
+pub fn served_line(alloc: Global, needs: usize) -> Result<Vec<u8>, Memory>
+    ensures { IfOk result (λ line. line.items ≡ spec.served_line needs) }
+{
+    let line = format!(in alloc; "ok: {needs} needs served\n")?;
+    Ok(line.into_bytes())
+}
+
+/// The line of a need that a map doesn't serve: who asks for it first, how, what it wants, and what it gets.
+pub fn differs_line(
+    alloc: Global,
+    referrer: &str,
+    specifier: &str,
+    wants: &str,
+    gets: &Got,
+) -> Result<Vec<u8>, Memory>
+    ensures { IfOk result (λ line. line.items
+        ≡ spec.differs_line referrer.now specifier.now wants.now (got_of gets.now)) }
+{
+    let mut line = Vec::from_slice(alloc, b"differs: from ".as_slice())?;
+    print_text(&mut line, referrer)?;
+    line.extend_from_slice(b" for ".as_slice())?;
+    print_text(&mut line, specifier)?;
+    line.extend_from_slice(b" wants ".as_slice())?;
+    print_text(&mut line, wants)?;
+    line.extend_from_slice(b" gets ".as_slice())?;
+    push_got(&mut line, gets)?;
+    line.push(b'\n')?;
+    Ok(line)
+}
+
+fn push_got(text: &mut Vec<u8>, got: &Got) -> Result<(), Memory>
+    ensures { OnOk result (text.new.items ≡ text.old.items ++ spec.got_text (got_of got.now)) }
+{
+    match got {
+        Got::Url(url) => print_text(text, url.as_str()),
+        Got::Blocked => text.extend_from_slice(b"Blocked".as_slice()),
+        Got::Bare => text.extend_from_slice(b"Bare".as_slice()),
+        Got::Backtrack => text.extend_from_slice(b"Backtrack".as_slice()),
+        Got::BadRest => text.extend_from_slice(b"BadRest".as_slice()),
+    }
+}
+
+/// The last line of a check that found this number of differences.
+pub fn differences_line(alloc: Global, count: usize) -> Result<Vec<u8>, Memory>
+    ensures { IfOk result (λ line. line.items ≡ spec.differences_line count) }
+{
+    let line = format!(in alloc; "{count} differences\n")?;
+    Ok(line.into_bytes())
+}
+
 /// The line that tells of a refusal.
 pub fn line_of(alloc: Global, refusal: &Refusal) -> Result<Vec<u8>, Memory>
     ensures { IfOk result (λ line. line.items ≡ spec.line_of refusal.now) }
@@ -58,6 +113,7 @@ pub fn line_of(alloc: Global, refusal: &Refusal) -> Result<Vec<u8>, Memory>
         Refusal::BadBase { text } => named_line(alloc, "words: BadBase ", text.as_str()),
         Refusal::Limit { which } => limit_line(alloc, *which),
         Refusal::Page { fault } => page_line(alloc, *fault),
+        Refusal::MapFile { fault } => map_file_line(alloc, *fault),
         Refusal::Trace { fault } => trace_line(alloc, fault),
     }
 }
@@ -69,6 +125,37 @@ fn page_line(alloc: Global, fault: PageFault) -> Result<Vec<u8>, Memory>
         PageFault::Absent => Vec::from_slice(alloc, b"bad file: page absent\n".as_slice()),
         PageFault::TooLarge => limit_line(alloc, LimitName::File),
         PageFault::KeepsMapsOut { fault } => inject_line(alloc, fault),
+    }
+}
+
+fn map_file_line(alloc: Global, fault: MapFileFault) -> Result<Vec<u8>, Memory>
+    ensures { IfOk result (λ line. line.items ≡ spec.map_file_line fault) }
+{
+    match fault {
+        MapFileFault::Absent => Vec::from_slice(alloc, b"bad file: map absent\n".as_slice()),
+        MapFileFault::TooLarge => above_line(alloc, LimitName::File, LimitName::Map),
+        MapFileFault::NotJson { at } => {
+            let line = format!(in alloc; "bad file: map at {at}\n")?;
+            Ok(line.into_bytes())
+        }
+        MapFileFault::TooDeep => limit_line(alloc, LimitName::Depth),
+        MapFileFault::NotObject { which } => {
+            let name = part_name(which);
+            let line = format!(in alloc; "bad file: map {name}\n")?;
+            Ok(line.into_bytes())
+        }
+    }
+}
+
+fn part_name(part: MapPart) -> &'static str
+    ensures { result.now ≡ spec.part_name part }
+{
+    match part {
+        MapPart::Top => "Top",
+        MapPart::Imports => "Imports",
+        MapPart::Scopes => "Scopes",
+        MapPart::Scope => "Scope",
+        MapPart::Integrity => "Integrity",
     }
 }
 
@@ -151,7 +238,8 @@ fn clash_line(
     second: &Text,
     second_to: &Text,
 ) -> Result<Vec<u8>, Memory>
-    ensures { IfOk result (λ line. line.items ≡ spec.clash_line referrer.now first.now first_to.now second.now second_to.now) }
+    ensures { IfOk result (λ line. line.items
+        ≡ spec.clash_line referrer.now first.now first_to.now second.now second_to.now) }
 {
     let mut line = Vec::from_slice(alloc, b"refused: Clash from ".as_slice())?;
     print_text(&mut line, referrer.as_str())?;
@@ -194,8 +282,15 @@ fn push_reason(alloc: Global, line: &mut Vec<u8>, reason: Reason) -> Result<(), 
 fn limit_line(alloc: Global, which: LimitName) -> Result<Vec<u8>, Memory>
     ensures { IfOk result (λ line. line.items ≡ spec.limit_line which) }
 {
-    let name = which.name();
-    let number = which.number();
+    above_line(alloc, which, which)
+}
+
+// The name of a limit, and the number of the same or another one.
+fn above_line(alloc: Global, named: LimitName, counted: LimitName) -> Result<Vec<u8>, Memory>
+    ensures { IfOk result (λ line. line.items ≡ spec.above_line (limit_name named) (limit_number counted)) }
+{
+    let name = named.name();
+    let number = counted.number();
     let line = format!(in alloc; "limit: {name} above {number}\n")?;
     Ok(line.into_bytes())
 }

@@ -1,16 +1,18 @@
 ghost use Rattle.std.specs.Prelude.{◌≡◌};
 ghost use Rattle.generator_spec.specs.Lines as spec;
 
-use generator_spec::{PageFault, Refusal};
+use generator_spec::{MapFileFault, PageFault, Refusal};
 use page_spec::InjectFault;
 use trace_spec::TraceFault;
 
-/// The map is written.
+/// The map is written, or it serves each need.
 pub const DONE: u8 = 0;
 /// A look failed.
 pub const READ_FAULT: u8 = 4;
 /// The map wasn't written, or the line didn't go out.
 pub const WRITE_FAULT: u8 = 5;
+/// A need isn't served.
+pub const DIFFERENCES: u8 = 6;
 /// Want of memory.
 pub const MEMORY: u8 = 8;
 
@@ -20,7 +22,7 @@ const REFUSED: u8 = 1;
 const BAD_WORDS: u8 = 2;
 /// A limit is passed.
 const LIMIT: u8 = 3;
-/// A file that the command needs isn't there.
+/// A file that the command needs isn't there, or isn't of its form.
 const BAD_FILE: u8 = 7;
 /// What is asked for isn't built.
 const NOT_BUILT: u8 = 9;
@@ -34,6 +36,7 @@ pub fn status_of(refusal: &Refusal) -> u8
         Refusal::BadBase { text: _ } => BAD_WORDS,
         Refusal::Limit { which: _ } => LIMIT,
         Refusal::Page { fault } => page_status(*fault),
+        Refusal::MapFile { fault } => map_file_status(*fault),
         Refusal::Trace { fault } => trace_status(fault),
     }
 }
@@ -45,6 +48,18 @@ fn page_status(fault: PageFault) -> u8
         PageFault::Absent => BAD_FILE,
         PageFault::TooLarge => LIMIT,
         PageFault::KeepsMapsOut { fault } => inject_status(fault),
+    }
+}
+
+fn map_file_status(fault: MapFileFault) -> u8
+    ensures { result ≡ spec.map_file_status fault }
+{
+    match fault {
+        MapFileFault::Absent => BAD_FILE,
+        MapFileFault::TooLarge => LIMIT,
+        MapFileFault::NotJson { at: _ } => BAD_FILE,
+        MapFileFault::TooDeep => LIMIT,
+        MapFileFault::NotObject { which: _ } => BAD_FILE,
     }
 }
 

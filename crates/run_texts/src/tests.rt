@@ -1,5 +1,10 @@
-use crate::{done_line, line_of, memory_line, read_fault_line, status_of, write_fault_line};
-use generator_spec::{PageFault, Refusal};
+use crate::{
+    differences_line, differs_line, done_line, line_of, memory_line, read_fault_line, served_line,
+    status_of, write_fault_line,
+};
+use generator_spec::{MapFileFault, PageFault, Refusal};
+use import_map_spec::MapPart;
+use map_check::Got;
 use node_spec::Reason;
 use page_spec::InjectFault;
 use primitives::{Memory, Text};
@@ -366,5 +371,75 @@ fn counts(rt: HostRuntime) -> Result<(), Fail> {
         line.as_slice(),
         b"ok: 50 modules, 200000 requests, 0 mappings\n".as_slice()
     );
+    Ok(())
+}
+
+/// What is wrong with a map's file, and its status and line.
+static MAP_FILES: [(MapFileFault, u8, &str); 9] = [
+    (MapFileFault::Absent, 7, "bad file: map absent\n"),
+    (MapFileFault::TooLarge, 3, "limit: file above 67108864\n"),
+    (MapFileFault::NotJson { at: 17 }, 7, "bad file: map at 17\n"),
+    (MapFileFault::TooDeep, 3, "limit: depth above 128\n"),
+    (
+        MapFileFault::NotObject {
+            which: MapPart::Top,
+        },
+        7,
+        "bad file: map Top\n",
+    ),
+    (
+        MapFileFault::NotObject {
+            which: MapPart::Imports,
+        },
+        7,
+        "bad file: map Imports\n",
+    ),
+    (
+        MapFileFault::NotObject {
+            which: MapPart::Scopes,
+        },
+        7,
+        "bad file: map Scopes\n",
+    ),
+    (
+        MapFileFault::NotObject {
+            which: MapPart::Scope,
+        },
+        7,
+        "bad file: map Scope\n",
+    ),
+    (
+        MapFileFault::NotObject {
+            which: MapPart::Integrity,
+        },
+        7,
+        "bad file: map Integrity\n",
+    ),
+];
+
+#[test]
+fn map_files(rt: HostRuntime) -> Result<(), Fail> {
+    for (fault, status, line) in &MAP_FILES {
+        let refusal = Refusal::MapFile { fault: *fault };
+        assert!(rt; says(rt.alloc(), &refusal, *status, line)?, "{line}");
+    }
+    Ok(())
+}
+
+fn differs(alloc: Global, got: &Got, line: &str) -> Result<bool, Memory> {
+    let text = differs_line(alloc, "/app.mjs?x", "ui", "https://app.test/ui.mjs", got)?;
+    Ok(text.as_slice() == line.as_bytes())
+}
+
+#[test]
+fn differences(rt: HostRuntime) -> Result<(), Fail> {
+    let alloc = rt.alloc();
+    let wrong = Got::Url(Text::of(alloc, "https://app.test/\"x\"")?);
+    assert!(rt; differs(alloc, &wrong, "differs: from \"/app.mjs?x\" for \"ui\" wants \
+        \"https://app.test/ui.mjs\" gets \"https://app.test/\\\"x\\\"\"\n")?);
+    assert!(rt; differs(alloc, &Got::Bare, "differs: from \"/app.mjs?x\" for \"ui\" wants \
+        \"https://app.test/ui.mjs\" gets Bare\n")?);
+    assert!(rt; served_line(alloc, 4)?.as_slice() == b"ok: 4 needs served\n".as_slice());
+    assert!(rt; differences_line(alloc, 2)?.as_slice() == b"2 differences\n".as_slice());
     Ok(())
 }

@@ -14,16 +14,14 @@ use Rattle.layout_spec.proofs.AgreedLaws.{agreed_of_needs}
 use Rattle.layout_spec.proofs.Contained.{contains_here, contains_there}
 use Rattle.layout_spec.proofs.TextBack.{texts_read_back}
 use Rattle.layout_spec.proofs.Uncaptured.{agreed_layout_captures_nothing}
-use Rattle.layout_spec.specs.Needs.{NamesFiles}
 use Rattle.layout_spec.specs.PrintedMap.{map_text}
 use Rattle.layout_spec.specs.Serving.{NoCapture, OfNeeds}
 use Rattle.layout_spec.specs.declared.Need.{Need}
 use Rattle.trace_spec.proofs.Traces.{needs_are_requests}
 use Rattle.soundness.proofs.Kept.{map_kept}
 use Rattle.soundness.proofs.Leading.{need_leads}
-use Rattle.soundness.proofs.Reaching.{needs_name}
-use Rattle.soundness.proofs.Sound.{by_file}
-use Rattle.soundness.specs.Soundness.{NothingDiffers}
+use Rattle.soundness.proofs.Reaching.{needs_name, asked_by_file}
+use Rattle.soundness.specs.Soundness.{NamesUrls, NothingDiffers}
 
 served : (m : ParsedMap) (need : Need) → gets m need ≡ Resolved need.target → is_url (gets m need) need.target ≡ true
 served m need e = ap (λ r. is_url r need.target) e ∙ (bytes_eq-Decides need.target need.target).1 refl
@@ -35,7 +33,7 @@ all_served m number (need ∷ more) gets_them =
     ∙ all_served m (suc number) more (λ other c. gets_them other (contains_there other need more c))
 
 -- what a need asks for is its own normalized specifier, so the need gets what that leads to
-gets_target : (needs : List Need) (m : ParsedMap) → NoCapture needs m → OfNeeds needs m → ((need : Need) → Contains needs need → NamesFiles need) → (need : Need) → Contains needs need → gets m need ≡ Resolved need.target
+gets_target : (needs : List Need) (m : ParsedMap) → NoCapture needs m → OfNeeds needs m → ((need : Need) → Contains needs need → NamesUrls need) → (need : Need) → Contains needs need → gets m need ≡ Resolved need.target
 gets_target needs m no_capture of_needs files need c =
     let asks = (files need c).asked.normal need.referrer in
     sym (specifiers_agree m need need.asked asks) ∙ need_leads needs m no_capture of_needs files need need.asked c asks
@@ -45,8 +43,8 @@ same_map m parsed e = cc
 
 pub nothing_differs : NothingDiffers
 nothing_differs tree config all m parsed base traces page_is_file agreed named parses =
-    let files : (need : Need) → Contains all.needs need → NamesFiles need = needs_name tree config all traces page_is_file in
-    let no_capture : NoCapture all.needs m = agreed_layout_captures_nothing all.needs m (needs_are_requests (get tree) config all traces).no_clash (λ need c. by_file need (files need c)) agreed in
+    let files : (need : Need) → Contains all.needs need → NamesUrls need = needs_name tree config all traces in
+    let no_capture : NoCapture all.needs m = agreed_layout_captures_nothing all.needs m (needs_are_requests (get tree) config all traces).no_clash (asked_by_file tree config all traces page_is_file) agreed in
     let of_needs : OfNeeds all.needs m = agreed_of_needs all.needs m agreed in
     let kept = map_kept base (kept_urls.2 _ _ _ _ named) all.needs m of_needs files agreed.no_digests in
     subst (λ (map : ParsedMap). differences map all.needs ≡ [])

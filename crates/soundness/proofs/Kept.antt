@@ -13,12 +13,11 @@ use Rattle.import_map_spec.proofs.Entries.{get_nowhere}
 use Rattle.import_map_spec.specs.ParsedMap.{Texts, Addresses, ParsedMap}
 use Rattle.import_map_spec.specs.Parsing.{is_empty, fitting}
 use Rattle.layout_spec.proofs.TextBack.{texts_read_back}
-use Rattle.layout_spec.specs.Needs.{NamesFiles}
 use Rattle.layout_spec.specs.PrintedMap.{IsKeptAddress, IsKeptKey, IsKeptScope, IsKept}
 use Rattle.layout_spec.specs.Serving.{held, OfNeeds}
 use Rattle.layout_spec.specs.declared.Need.{Need}
 use Rattle.soundness.proofs.Leading.{scope_url}
-use Rattle.soundness.specs.Soundness.{MapsReadBack}
+use Rattle.soundness.specs.Soundness.{MapsReadBack, NamesUrls}
 
 not_empty : (text : List ℕ) → text ≢ [] → is_empty text ≡ false
 not_empty [] some = absurd (some refl)
@@ -28,7 +27,7 @@ not_empty (b ∷ rest) some = refl
 address_stands : (base key target : List ℕ) → ends_in_slash key ≡ false → IsUrl target → IsKeptAddress base key (Some target)
 address_stands base key target is_file is = (ap (fitting key) (own_urls.0 base target is) ∙ cond-false _ _ _ (and_left _ _ is_file), utf8_url target is)
 
-need_kept : (base : List ℕ) (need : Need) → NamesFiles need → IsKeptKey base need.asked (Some need.target)
+need_kept : (base : List ℕ) (need : Need) → NamesUrls need → IsKeptKey base need.asked (Some need.target)
 need_kept base need names = record {
   not_empty = not_empty need.asked names.asked.nonempty;
   normal = names.asked.normal base;
@@ -36,7 +35,7 @@ need_kept base need names = record {
   stands = address_stands base need.asked need.target names.asked.no_folder names.target;
 }
 
-module _ (base : List ℕ) (is_base : IsUrl base) (needs : List Need) (m : ParsedMap) (of_needs : OfNeeds needs m) (files : (need : Need) → Contains needs need → NamesFiles need) where
+module _ (base : List ℕ) (is_base : IsUrl base) (needs : List Need) (m : ParsedMap) (of_needs : OfNeeds needs m) (files : (need : Need) → Contains needs need → NamesUrls need) where
   key_kept : (place key : List ℕ) (address : Option (List ℕ)) → held m key place ≡ Some address → IsKeptKey base key address
   key_kept place key address e =
       let found = of_needs.only place key address e in

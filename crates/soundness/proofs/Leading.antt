@@ -16,10 +16,10 @@ use Rattle.import_map_spec.specs.LookUps.{first_answer, answer_or, unmatched, ex
 use Rattle.import_map_spec.specs.ParsedMap.{Addresses, ParsedMap}
 use Rattle.import_map_spec.specs.Resolving.{Resolved}
 use Rattle.layout_spec.proofs.PlaceLemmas.{folder_from_test, folder_test, place_url}
-use Rattle.layout_spec.specs.Needs.{NamesFiles}
 use Rattle.layout_spec.specs.Places.{is_folder, folders, places}
 use Rattle.layout_spec.specs.Serving.{addresses_at, held, first_of, NoCapture, OfNeeds}
 use Rattle.layout_spec.specs.declared.Need.{Need}
+use Rattle.soundness.specs.Soundness.{NamesUrls}
 
 -- ---- first answers
 
@@ -47,7 +47,7 @@ first_over answer (p ∷ ps) last = ap (first_answer (answer p)) (first_over ans
 
 -- ---- what scopes and imports answer
 
-module _ (needs : List Need) (m : ParsedMap) (of_needs : OfNeeds needs m) (files : (need : Need) → Contains needs need → NamesFiles need) where
+module _ (needs : List Need) (m : ParsedMap) (of_needs : OfNeeds needs m) (files : (need : Need) → Contains needs need → NamesUrls need) where
   no_folder_key : (place key : List ℕ) → ends_in_slash key ≡ true → held m key place ≡ None
   no_folder_key place key slash =
       elim (cases_option (held m key place)) [
@@ -151,7 +151,7 @@ url_of_target referrer specifier target None e same is = absurd (none-some _ (sy
 url_of_target referrer specifier target (Some url) e same is = ap Some same
 
 -- where no need is captured, each need leads to its target, whatever text it is asked for by
-pub need_leads : (needs : List Need) (m : ParsedMap) → NoCapture needs m → OfNeeds needs m → ((need : Need) → Contains needs need → NamesFiles need) → (need : Need) (specifier : List ℕ) → Contains needs need → normalized need.referrer specifier ≡ need.asked → resolve_in m need.referrer specifier ≡ Resolved need.target
+pub need_leads : (needs : List Need) (m : ParsedMap) → NoCapture needs m → OfNeeds needs m → ((need : Need) → Contains needs need → NamesUrls need) → (need : Need) (specifier : List ℕ) → Contains needs need → normalized need.referrer specifier ≡ need.asked → resolve_in m need.referrer specifier ≡ Resolved need.target
 unfolding resolve_in normalized
 need_leads needs m no_capture of_needs files need specifier c asks =
     let url = as_url need.referrer specifier in

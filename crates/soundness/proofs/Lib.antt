@@ -4,3 +4,4 @@ pub mod Kept
 pub mod Reaching
 pub mod Sound
 pub mod Differing
+pub mod Checked

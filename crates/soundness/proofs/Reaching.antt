@@ -11,7 +11,7 @@ use Rattle.url_spec.proofs.KeptUrls.{kept_urls}
 use Rattle.url_spec.specs.Specifiers.{ends_in_slash}
 use Rattle.node_spec.specs.EsmResolve.{Resolves}
 use Rattle.layout_spec.proofs.Contained.{contains_given, given_from}
-use Rattle.layout_spec.specs.Needs.{NamesFiles}
+use Rattle.layout_spec.specs.Needs.{IsAskedByFile}
 use Rattle.layout_spec.specs.declared.Need.{Need}
 use Rattle.trace_spec.proofs.Steps.{traced_outcome, served_parts, file_name_parts}
 use Rattle.trace_spec.proofs.Traces.{requests_pass, needs_are_requests}
@@ -25,12 +25,13 @@ use Rattle.trace_spec.specs.Walking.{Referrer, the_page, a_module, Opened, follo
 use Rattle.generator_spec.specs.Generation.{PageIsFile}
 use Rattle.generator_spec.specs.Serves.{Reachable, page, requested}
 use Rattle.soundness.proofs.Asking.{is_asked}
+use Rattle.soundness.specs.Soundness.{NamesUrls}
 
--- a web name that is no folder's
+-- a web name, which is no folder's where that of the page isn't
 pub record IsNamed (config : Config) (referrer : Referrer Module) : Type 0 where
   pub name : List ℕ
   pub named : web_name config referrer ≡ Some name
-  pub is_file : ends_in_slash name ≡ false
+  pub is_file : PageIsFile config → ends_in_slash name ≡ false
 
 module _ (tree : Tree) (config : Config) (all : Gathered) (is_traced : traced (get tree) config ≡ Ok all) where
   -- what a referrer asks for is a request that passes
@@ -52,38 +53,46 @@ module _ (tree : Tree) (config : Config) (all : Gathered) (is_traced : traced (g
 
   -- ---- names
 
-  page_named : PageIsFile config → IsNamed config the_page
-  page_named page_is_file =
+  page_named : IsNamed config the_page
+  page_named =
       let walk = ok_parts (always (get tree)) (visited (rules config) nothing_gathered the_page) (λ after. walked (rules config) (suc (limit_number Modules)) after 0) all (traced_outcome (get tree) config all is_traced) in
       let visit = ok_parts (always (get tree)) (opens config nothing_gathered the_page) (λ (opened : Opened Gathered). followed (rules config) opened.after the_page opened.specifiers) walk.value walk.first_is in
       by (served_at config the_page) visit.value refl visit.first_is
     where
       by : (found : Option (List ℕ)) (opened : Opened Gathered) → served_at config the_page ≡ found → page_opened config nothing_gathered found ≡ Ok opened → IsNamed config the_page
       by None opened is e = absurd (cc)
-      by (Some name) opened is e = let named = (served_parts config.base config.page (web_name config the_page) name is).0 in record { name = name; named = named; is_file = page_is_file name named }
+      by (Some name) opened is e = let named = (served_parts config.base config.page (web_name config the_page) name is).0 in record { name = name; named = named; is_file = λ page_is_file. page_is_file name named }
 
   target_named : (referrer : Referrer Module) (specifier : List ℕ) (target : Module) → Passes (get tree) config all referrer specifier → leads (get tree) config referrer specifier ≡ Some target → IsNamed config (a_module target)
   target_named referrer specifier target passes led =
       let same = same_Some passes.target target (sym (ap if_ok passes.answers) ∙ led) in
       let need = (needs_are_requests (get tree) config all is_traced).each passes.need passes.is_need in
-      record { name = passes.need.target; named = subst (λ m. web_name config (a_module m) ≡ Some passes.need.target) same passes.servable.name; is_file = (file_name_parts config need.target passes.need.target need.is_name).is_file }
+      record { name = passes.need.target; named = subst (λ m. web_name config (a_module m) ≡ Some passes.need.target) same passes.servable.name; is_file = λ page_is_file. (file_name_parts config need.target passes.need.target need.is_name).is_file }
 
-  pub is_named : PageIsFile config → (referrer : Referrer Module) → IsReached (get tree) config referrer → IsNamed config referrer
-  is_named page_is_file the_page _ = page_named page_is_file
-  is_named page_is_file (a_module target) (is_requested {referrer} before c) =
+  pub is_named : (referrer : Referrer Module) → IsReached (get tree) config referrer → IsNamed config referrer
+  is_named the_page _ = page_named
+  is_named (a_module target) (is_requested {referrer} before c) =
       let given = given_from (leads (get tree) config referrer) target (specifiers (get tree) config referrer) c in
       let pass = requests_pass (get tree) config all is_traced referrer before in
       let at : Contains pass.specifiers given.item = subst (λ o. Contains (unwrap_or o []) given.item) pass.asks given.is_item in
       target_named referrer given.item target (pass.pass given.item at) given.gives
 
-  pub needs_name : PageIsFile config → (need : Need) → Contains all.needs need → NamesFiles need
-  needs_name page_is_file need c =
+  pub needs_name : (need : Need) → Contains all.needs need → NamesUrls need
+  needs_name need c =
       let is = (needs_are_requests (get tree) config all is_traced).each need c in
       let file = file_name_parts config is.target need.target is.is_name in
-      let referrer = is_named page_is_file is.referrer is.reached in
       record {
         referrer = kept_urls.2 _ _ _ _ is.named;
         asked = is_asked need.referrer is.specifier need.asked is.utf8 is.asks;
         target = kept_urls.2 _ _ _ _ file.servable.name;
-        referrer_is_file = subst (λ name. ends_in_slash name ≡ false) (same_Some referrer.name need.referrer (sym referrer.named ∙ is.named)) referrer.is_file;
+      }
+
+  -- where the page is a file, whoever asks is one
+  pub asked_by_file : PageIsFile config → (need : Need) → Contains all.needs need → IsAskedByFile need
+  asked_by_file page_is_file need c =
+      let is = (needs_are_requests (get tree) config all is_traced).each need c in
+      let referrer = is_named is.referrer is.reached in
+      record {
+        referrer = kept_urls.2 _ _ _ _ is.named;
+        is_file = subst (λ name. ends_in_slash name ≡ false) (same_Some referrer.name need.referrer (sym referrer.named ∙ is.named)) (referrer.is_file page_is_file);
       }

@@ -5,15 +5,16 @@ use Rattle.std.specs.FinMap.{get, empty}
 use Rattle.std.specs.Prelude.{◌≡◌, ℕ, List, Some, Ok, Contains}
 use Rattle.tree_spec.specs.Trees.{Tree}
 use Rattle.url_spec.proofs.KeptUrls.{kept_urls}
+use Rattle.url_spec.specs.Specifiers.{normalized}
 use Rattle.import_map_spec.proofs.ResolvesByCases.{resolves_by_cases}
 use Rattle.import_map_spec.specs.ParsedMap.{ParsedMap}
 use Rattle.import_map_spec.specs.Parsing.{ParsesMap}
+use Rattle.import_map_spec.specs.LookUps.{resolve_in}
 use Rattle.import_map_spec.specs.Resolving as html
 use Rattle.layout_spec.proofs.AgreedLaws.{agreed_of_needs}
 use Rattle.layout_spec.proofs.TextBack.{texts_read_back, texts_are_plain}
 use Rattle.layout_spec.proofs.Uncaptured.{agreed_layout_captures_nothing}
 use Rattle.layout_spec.specs.AgreedLayout.{IsAgreedLayout}
-use Rattle.layout_spec.specs.Needs.{IsAskedByFile, NamesFiles}
 use Rattle.layout_spec.specs.PrintedMap.{map_text}
 use Rattle.layout_spec.specs.Serving.{NoCapture, OfNeeds}
 use Rattle.layout_spec.specs.declared.Need.{Need}
@@ -31,13 +32,14 @@ use Rattle.generator_spec.specs.Serves.{Reachable, Leads, AllLead, Serves}
 use Rattle.soundness.proofs.Asking.{asks_normal}
 use Rattle.soundness.proofs.Kept.{map_kept}
 use Rattle.soundness.proofs.Leading.{need_leads}
-use Rattle.soundness.proofs.Reaching.{reached, is_named, needs_name}
-use Rattle.soundness.specs.Soundness.{MapsServe, AgreedMapsServe, Soundness, MapsArePlain, OneMapInPage}
+use Rattle.soundness.proofs.Reaching.{reached, is_named, needs_name, asked_by_file}
+use Rattle.soundness.specs.Soundness.{NamesUrls, MapsServe, AgreedMapsServe, Soundness, MapsArePlain, OneMapInPage}
 
-module _ (tree : Tree) (config : Config) (all : Gathered) (is_traced : traced (get tree) config ≡ Ok all) (page_is_file : PageIsFile config) (m : ParsedMap) (no_capture : NoCapture all.needs m) (of_needs : OfNeeds all.needs m) where
-  files : (need : Need) → Contains all.needs need → NamesFiles need
-  files = needs_name tree config all is_traced page_is_file
+-- through a map each need is led to its target, whatever text it is asked for by
+abbrev pub AreLed : Gathered → ParsedMap → Type 0
+AreLed all m = (need : Need) (specifier : List ℕ) → Contains all.needs need → normalized need.referrer specifier ≡ need.asked → resolve_in m need.referrer specifier ≡ html.Resolved need.target
 
+module _ (tree : Tree) (config : Config) (all : Gathered) (is_traced : traced (get tree) config ≡ Ok all) (m : ParsedMap) (led : AreLed all m) where
   -- a request that passed leads to its file
   leads : (referrer : Referrer Module) (name specifier : List ℕ) → web_name config referrer ≡ Some name → Passes (get tree) config all referrer specifier → Leads tree config m referrer name specifier
   leads referrer name specifier named passes =
@@ -49,14 +51,14 @@ module _ (tree : Tree) (config : Config) (all : Gathered) (is_traced : traced (g
         node = sym passes.answers;
         web = passes.servable.name;
         html = subst (λ n. html.Resolves m n specifier (html.Resolved need.target)) same
-            ((resolves_by_cases m need.referrer specifier (html.Resolved need.target)).0 (need_leads all.needs m no_capture of_needs files need specifier passes.is_need (asks_normal need.referrer specifier need.asked passes.asks)));
+            ((resolves_by_cases m need.referrer specifier (html.Resolved need.target)).0 (led need specifier passes.is_need (asks_normal need.referrer specifier need.asked passes.asks)));
         served = passes.servable.back;
       }
 
-  all_lead : (referrer : Referrer Module) → Reachable tree config referrer → AllLead tree config m referrer
-  all_lead referrer reachable =
+  pub led_requests : (referrer : Referrer Module) → Reachable tree config referrer → AllLead tree config m referrer
+  led_requests referrer reachable =
       let is_reached = reached tree config all is_traced referrer reachable in
-      let named = is_named tree config all is_traced page_is_file referrer is_reached in
+      let named = is_named tree config all is_traced referrer is_reached in
       let pass = requests_pass (get tree) config all is_traced referrer is_reached in
       record {
         name = named.name;
@@ -66,9 +68,18 @@ module _ (tree : Tree) (config : Config) (all : Gathered) (is_traced : traced (g
         leads = λ specifier asked. leads referrer named.name specifier named.named (pass.pass specifier asked);
       }
 
+module _ (tree : Tree) (config : Config) (all : Gathered) (is_traced : traced (get tree) config ≡ Ok all) (m : ParsedMap) (no_capture : NoCapture all.needs m) (of_needs : OfNeeds all.needs m) where
+  files : (need : Need) → Contains all.needs need → NamesUrls need
+  files = needs_name tree config all is_traced
+
+  all_lead : (referrer : Referrer Module) → Reachable tree config referrer → AllLead tree config m referrer
+  all_lead =
+      led_requests tree config all is_traced m
+      (λ need specifier c asks. need_leads all.needs m no_capture of_needs files need specifier c asks)
+
   text_serves : m.integrity ≡ empty → (bytes : List ℕ) → bytes ≡ map_text m → Serves tree config bytes
   text_serves no_digests bytes text =
-      let page = is_named tree config all is_traced page_is_file the_page page_is_reached in
+      let page = is_named tree config all is_traced the_page page_is_reached in
       let kept = map_kept page.name (kept_urls.2 _ _ _ _ page.named) all.needs m of_needs files no_digests in
       record {
         map_base = page.name;
@@ -80,31 +91,28 @@ module _ (tree : Tree) (config : Config) (all : Gathered) (is_traced : traced (g
 
   text_is_plain : m.integrity ≡ empty → (bytes : List ℕ) → bytes ≡ map_text m → IsPlainMap bytes
   text_is_plain no_digests bytes text =
-      let page = is_named tree config all is_traced page_is_file the_page page_is_reached in
+      let page = is_named tree config all is_traced the_page page_is_reached in
       let kept = map_kept page.name (kept_urls.2 _ _ _ _ page.named) all.needs m of_needs files no_digests in
       let plain = texts_are_plain page.name m kept in
       subst IsPlainMap (sym text) (record { utf8 = plain.0; no_markup = plain.1 })
 
 pub maps_serve : MapsServe
-maps_serve tree config all m traces page_is_file no_capture of_needs no_digests =
-    text_serves tree config all traces page_is_file m no_capture of_needs no_digests (map_text m) refl
-
-pub by_file : (need : Need) → NamesFiles need → IsAskedByFile need
-by_file need names = record { referrer = names.referrer; is_file = names.referrer_is_file }
+maps_serve tree config all m traces no_capture of_needs no_digests =
+    text_serves tree config all traces m no_capture of_needs no_digests (map_text m) refl
 
 module _ (tree : Tree) (config : Config) (all : Gathered) (traces : traced (get tree) config ≡ Ok all) (page_is_file : PageIsFile config) (m : ParsedMap) (agreed : IsAgreedLayout all.needs m) where
   captures_none : NoCapture all.needs m
   captures_none =
       agreed_layout_captures_nothing all.needs m (needs_are_requests (get tree) config all traces).no_clash
-      (λ need c. by_file need (needs_name tree config all traces page_is_file need c)) agreed
+      (asked_by_file tree config all traces page_is_file) agreed
 
   agreed_text_serves : (bytes : List ℕ) → bytes ≡ map_text m → Serves tree config bytes
   agreed_text_serves bytes text =
-      text_serves tree config all traces page_is_file m captures_none (agreed_of_needs all.needs m agreed) agreed.no_digests bytes text
+      text_serves tree config all traces m captures_none (agreed_of_needs all.needs m agreed) agreed.no_digests bytes text
 
   agreed_text_is_plain : (bytes : List ℕ) → bytes ≡ map_text m → IsPlainMap bytes
   agreed_text_is_plain bytes text =
-      text_is_plain tree config all traces page_is_file m captures_none (agreed_of_needs all.needs m agreed) agreed.no_digests bytes text
+      text_is_plain tree config all traces m captures_none (agreed_of_needs all.needs m agreed) agreed.no_digests bytes text
 
 pub agreed_maps_serve : AgreedMapsServe
 agreed_maps_serve tree config all m traces page_is_file agreed =

@@ -1,8 +1,10 @@
 -- The theorems of this project, and what they rest on.
+--     NamesUrls need      referrer and target are URLs, and what is asked for stands for itself
 --     MapsServe      a map that captures no need, and has no mappings but theirs, serves
 --     MapsReadBack      the text of such a map is read as that map
 --     AgreedMapsServe      the agreed layout of the trace's needs serves
 --     NothingDiffers      checked over the same tree, its text has no difference
+--     CheckedMapsServe      any text that is read as a map of which no need of the trace differs serves
 --     Soundness      what is generated serves
 --     MapsArePlain      what is generated holds no markup
 --     OneMapInPage      a page into which it is put has it as its one map
@@ -14,7 +16,7 @@ use Rattle.import_map_spec.specs.ParsedMap.{ParsedMap}
 use Rattle.import_map_spec.specs.Parsing.{ParsesMap}
 use Rattle.check_spec.specs.Differences.{differences}
 use Rattle.layout_spec.specs.AgreedLayout.{IsAgreedLayout}
-use Rattle.layout_spec.specs.Needs.{NamesFiles}
+use Rattle.layout_spec.specs.Needs.{IsAsked}
 use Rattle.layout_spec.specs.PrintedMap.{map_text}
 use Rattle.layout_spec.specs.Serving.{NoCapture, OfNeeds}
 use Rattle.layout_spec.specs.declared.Need.{Need}
@@ -33,15 +35,20 @@ use Rattle.generator_spec.specs.Serves.{Serves}
 abbrev pub MapsServe : Type 0
 MapsServe =
     (tree : Tree) (config : Config) (all : Gathered) (m : ParsedMap) → traced (get tree) config ≡ Ok all
-    → PageIsFile config → NoCapture all.needs m → OfNeeds all.needs m → m.integrity ≡ empty
-    → Serves tree config (map_text m)
+    → NoCapture all.needs m → OfNeeds all.needs m → m.integrity ≡ empty → Serves tree config (map_text m)
 
--- own law: the text of a map that has no mappings but those of needs of files, read against a map base, is that map:
--- no mapping is dropped, replaced or made null
+-- own: referrer and target of the need are URLs, and what is asked for stands for itself and is no folder's
+pub record NamesUrls (need : Need) : Type 0 where
+  pub referrer : IsUrl need.referrer
+  pub asked : IsAsked need.asked
+  pub target : IsUrl need.target
+
+-- own law: the text of a map that has no mappings but those of such needs, read against a map base, is that map: no
+-- mapping is dropped, replaced or made null
 abbrev pub MapsReadBack : Type 0
 MapsReadBack =
     (base : List ℕ) (needs : List Need) (m : ParsedMap) → IsUrl base → OfNeeds needs m
-    → ((need : Need) → Contains needs need → NamesFiles need) → m.integrity ≡ empty → ParsesMap base (map_text m) (Ok m)
+    → ((need : Need) → Contains needs need → NamesUrls need) → m.integrity ≡ empty → ParsesMap base (map_text m) (Ok m)
 
 -- own law: the text of the agreed layout of the trace's needs serves
 abbrev pub AgreedMapsServe : Type 0
@@ -56,6 +63,14 @@ NothingDiffers =
     → traced (get tree) config ≡ Ok all → PageIsFile config → IsAgreedLayout all.needs m
     → web_name config the_page ≡ Some base → ParsesMap base (map_text m) (Ok parsed)
     → differences parsed all.needs ≡ []
+
+-- own law: a text serves, whoever wrote it, where what it is read as, against the page's URL, serves each of the
+-- trace's needs
+abbrev pub CheckedMapsServe : Type 0
+CheckedMapsServe =
+    (tree : Tree) (config : Config) (all : Gathered) (base bytes : List ℕ) (m : ParsedMap)
+    → traced (get tree) config ≡ Ok all → PageIsFile config → web_name config the_page ≡ Some base
+    → ParsesMap base bytes (Ok m) → differences m all.needs ≡ [] → Serves tree config bytes
 
 -- own law: what is generated serves
 abbrev pub Soundness : Type 0

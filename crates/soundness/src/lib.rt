@@ -3,7 +3,7 @@
 //! It rests on what any map owes to needs, and not on where this layout puts its mappings.
 #![tactic(auto)]
 
-ghost use Rattle.soundness.specs.Soundness.{AgreedMapsServe, MapsArePlain, MapsReadBack, MapsServe};
+ghost use Rattle.soundness.specs.Soundness.{AgreedMapsServe, CheckedMapsServe, MapsArePlain, MapsReadBack, MapsServe};
 ghost use Rattle.soundness.specs.Soundness.{NothingDiffers, OneMapInPage, Soundness};
 
 /// Wherever generation gives a map's text, this text serves: through it every request of the page
@@ -31,6 +31,11 @@ pub fn agreed_maps_serve()
 /// Whoever checks that layout's text over the same tree, from the same page, finds no difference.
 pub fn nothing_differs()
     ensures { NothingDiffers }
+{}
+
+/// And whatever text has no difference serves, whoever wrote it.
+pub fn checked_maps_serve()
+    ensures { CheckedMapsServe }
 {}
 
 /// A map's text that generation gives is UTF-8 and holds no `<`, so no tag of a page is read in it.

@@ -122,11 +122,12 @@ module _ (sights : Sights) (config : Config) where
         served : served_at config (a_module target) ≡ Some url
         is_file : ends_in_slash url ≡ false
         clashes_so : Clashes (record { referrer = want.referrer; asked = want.asked; target = url })
-            (record { specifier = specifier; target = target })
+            (record { referrer = shown config referrer; specifier = specifier; target = target })
 
       named_clash : (want : Wanted) (target : Module) (name : Option (List ℕ))
           → served_at config (a_module target) ≡ name
-          → named config before referrer want (record { specifier = specifier; target = target }) name ≡ Err clash
+          → named config before referrer want
+          (record { referrer = shown config referrer; specifier = specifier; target = target }) name ≡ Err clash
           → Led want (Ok target)
       named_clash want target None is e = absurd (cc)
       named_clash want target (Some url) is e = by (ends_in_slash url) refl e
@@ -135,7 +136,7 @@ module _ (sights : Sights) (config : Config) where
               → (if slash
               then Err (refused_by config referrer specifier TrailingSlash)
               else needed config before referrer (record { referrer = want.referrer; asked = want.asked; target = url })
-              (record { specifier = specifier; target = target })) ≡ Err clash
+              (record { referrer = shown config referrer; specifier = specifier; target = target })) ≡ Err clash
               → Led want (Ok target)
           by true slash f = absurd (cc)
           by false file f = record {
@@ -183,11 +184,13 @@ module _ (sights : Sights) (config : Config) where
           let check = checked_parts config before referrer specifier want is in
           let parts = led_clash want (resolution sights config referrer specifier) e in
           let need : Need = record { referrer = want.referrer; asked = want.asked; target = parts.url } in
-          let spelling : Spelling = record { specifier = specifier; target = parts.target } in
+          let spelling : Spelling =
+          record { referrer = shown config referrer; specifier = specifier; target = parts.target } in
           let earlier =
           clashing_is sights config need before.needs before.spellings stands.spelled parts.clashes_so.clashing_so in
           let shown_is = parts.clashes_so.shown_so in
           let seconds : specifier ≡ second = cc in
+          let shows : shown_by ≡ shown config referrer = cc in
           record {
             earlier = earlier.spelled.referrer;
             later = referrer;
@@ -198,6 +201,7 @@ module _ (sights : Sights) (config : Config) where
             one = earlier.spelled.leads_for;
             two = record {
               named = check.wants.named;
+              shown_so = shows;
               is_request = subst (Contains (specifiers sights config referrer)) seconds is_request;
               asks = subst (λ s. AsksFor want.referrer s want.asked) seconds
                   (asks_for sights config referrer specifier want parts.target check.wants parts.answers_so);
@@ -208,7 +212,7 @@ module _ (sights : Sights) (config : Config) where
             same_referrer = earlier.same_referrer;
             same_asked = earlier.same_asked;
             apart = earlier.apart;
-            shown_referrer = (let p : shown_by ≡ shown config referrer = cc in p);
+            shown_referrer = shows;
             shown_first = (let p : first ≡ (clashing need before.needs before.spellings).specifier = cc in p);
             shown_first_to =
                 (let p : first_to ≡ shown config (a_module (clashing need before.needs before.spellings).target) = cc in p);

@@ -34,7 +34,7 @@ use Rattle.trace_spec.specs.declared.AskCause.TheVariants.{TrailingSlash}
 use Rattle.trace_spec.specs.declared.TraceFault.{TraceFault}
 use Rattle.trace_spec.specs.declared.TraceFault.TheVariants.{Limit}
 use Rattle.trace_spec.specs.Walking.{Referrer, the_page, a_module}
-use Rattle.trace_spec.specs.Modules.{Config, Module, served_at}
+use Rattle.trace_spec.specs.Modules.{Config, Module, served_at, shown}
 use Rattle.trace_spec.specs.Questions.{Source, NoSource, not_module, above, Question, of_module, Answer, by_outline}
 use Rattle.trace_spec.specs.Questions.{by_bytes, by_entry, by_format, put, answers, always}
 use Rattle.trace_spec.specs.Checks.{Gathered, Spelling, page_opened, module_opened, opens, Wanted, wanted, refused_by}
@@ -226,7 +226,8 @@ module _ (sights : Sights) (config : Config) where
   led_kind before referrer specifier want short (Err (by_cause cause)) = short
   led_kind before referrer specifier want short (Err too_deep) = tt
   led_kind before referrer specifier want short (Ok target) =
-      named_kind before referrer want (record { specifier = specifier; target = target })
+      named_kind before referrer want
+      (record { referrer = shown config referrer; specifier = specifier; target = target })
       (served_at config (a_module target)) refl short
 
   followed_kind : (before : Gathered) (referrer : Referrer Module) (specifier : List ℕ)

@@ -31,7 +31,7 @@ use Rattle.trace_spec.specs.declared.TraceFault.{TraceFault}
 use Rattle.trace_spec.specs.declared.TraceFault.TheVariants.{Limit}
 use Rattle.trace_spec.specs.Walking.{Referrer, the_page, a_module, Opened}
 use Rattle.trace_spec.specs.Modules.{Config, Module, path_of, web_name, IsServable, served_name, served_at}
-use Rattle.trace_spec.specs.Modules.{not_folder, file_name}
+use Rattle.trace_spec.specs.Modules.{not_folder, shown, file_name}
 use Rattle.trace_spec.specs.Questions.{Source, NoSource, not_module, above, Question, of_module, Answer, answers, always, put}
 use Rattle.trace_spec.specs.Checks.{Gathered, Spelling, page_opened, with_source, module_opened, opens, Wanted}
 use Rattle.trace_spec.specs.Checks.{url_wanted, text_wanted, wanted_by, wanted, refused_by, wants, checked}
@@ -325,7 +325,7 @@ pub record Follows (sights : Sights) (config : Config) (before : Gathered) (refe
   pub url : List ℕ
   pub is_name : file_name config target ≡ Some url
   pub fits : Fits before (record { referrer = want.referrer; asked = want.asked; target = url })
-      (record { specifier = specifier; target = target }) after
+      (record { referrer = shown config referrer; specifier = specifier; target = target }) after
   pub questions : questions (always sights) (follows config before referrer specifier)
       ≡ asking_at config referrer specifier ∷ []
 
@@ -337,10 +337,11 @@ module _ (sights : Sights) (config : Config) (before : Gathered) (referrer : Ref
     url : List ℕ
     is_name : file_name config target ≡ Some url
     fits : Fits before (record { referrer = want.referrer; asked = want.asked; target = url })
-        (record { specifier = specifier; target = target }) after
+        (record { referrer = shown config referrer; specifier = specifier; target = target }) after
 
   led_named : (want : Wanted) (target : Module) (name : Option (List ℕ)) → served_at config (a_module target) ≡ name
-      → named config before referrer want (record { specifier = specifier; target = target }) name ≡ Ok after
+      → named config before referrer want
+      (record { referrer = shown config referrer; specifier = specifier; target = target }) name ≡ Ok after
       → Led want (Ok target)
   led_named want target None is e = absurd (cc)
   led_named want target (Some url) is e = by (ends_in_slash url) refl e
@@ -349,7 +350,7 @@ module _ (sights : Sights) (config : Config) (before : Gathered) (referrer : Ref
           → (if slash
           then Err (refused_by config referrer specifier TrailingSlash)
           else needed config before referrer (record { referrer = want.referrer; asked = want.asked; target = url })
-          (record { specifier = specifier; target = target })) ≡ Ok after
+          (record { referrer = shown config referrer; specifier = specifier; target = target })) ≡ Ok after
           → Led want (Ok target)
       by true slash f = absurd (cc)
       by false file f = record {

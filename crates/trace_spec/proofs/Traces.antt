@@ -24,7 +24,7 @@ use Rattle.trace_spec.specs.declared.TraceFault.TheVariants.{Limit}
 use Rattle.trace_spec.specs.Walking.{Referrer, the_page, a_module, new_modules}
 use Rattle.trace_spec.specs.Levels.{page}
 use Rattle.trace_spec.specs.FirstRefusals.{Failure, refused, halted, failed}
-use Rattle.trace_spec.specs.Modules.{Config, Module, is_module, web_name, file_name}
+use Rattle.trace_spec.specs.Modules.{Config, Module, is_module, web_name, shown, file_name}
 use Rattle.trace_spec.specs.Questions.{Source, answers, always}
 use Rattle.trace_spec.specs.Checks.{Gathered, Spelling, opens, asking_at, follows, with_request, has_room}
 use Rattle.trace_spec.specs.Checks.{nothing_gathered, rules}
@@ -148,9 +148,14 @@ module _ (sights : Sights) (config : Config) where
 
   spelling_is : (before : Gathered) (referrer : Referrer Module) (specifier : List ℕ) (after : Gathered)
       (is : Follows sights config before referrer specifier after)
-      → spelling_of sights config referrer specifier ≡ record { specifier = specifier; target = is.target }
+      → spelling_of sights config referrer specifier
+      ≡ record { referrer = shown config referrer; specifier = specifier; target = is.target }
   spelling_is before referrer specifier after is =
-      λ i. record { specifier = specifier; target = target_is before referrer specifier after is i }
+      λ i. record {
+        referrer = shown config referrer;
+        specifier = specifier;
+        target = target_is before referrer specifier after is i;
+      }
 
   pub put_in : PutsBy (always sights) (rules config) (specifiers sights config) (leads sights config) opening
       (asking_at config) (opening_put sights) put_request request_of
@@ -287,6 +292,7 @@ module _ (sights : Sights) (config : Config) where
           referrer = referrer;
           leads_for = record {
             named = own.named;
+            shown_so = refl;
             is_request = asked_for;
             asks = own.asks;
             leads_there = own.leads_to;

@@ -27,8 +27,9 @@ use Rattle.trace_spec.specs.Walking.{Referrer, the_page, a_module, new_modules, 
 use Rattle.trace_spec.specs.Modules.{Config, Module, is_module, path_of, web_name, shown, served_at}
 use Rattle.trace_spec.specs.Questions.{Source, NoSource, not_module, above, Question, of_module, of_request, Answer}
 
--- own: how a need is first spelled: the specifier, and the module that it leads to
+-- own: how a need is first spelled: who asks, as shown to a user, the specifier, and the module that it leads to
 pub record Spelling : Type 0 where
+  pub referrer : List ℕ
   pub specifier : List ℕ
   pub target : Module
 
@@ -119,7 +120,7 @@ checked config before referrer specifier =
 -- ---- what is checked by Node's answer
 
 abbrev pub no_spelling : Spelling
-no_spelling = record { specifier = []; target = record { path = []; suffix = [] } }
+no_spelling = record { referrer = []; specifier = []; target = record { path = []; suffix = [] } }
 
 -- how the first of these needs that clashes with this one was spelled
 abbrev pub clashing : Need → List Need → List Spelling → Spelling
@@ -177,7 +178,8 @@ led config before referrer specifier want (Err (by_cause cause)) =
     Err (refused_by config referrer specifier (ask_cause cause))
 led config before referrer specifier want (Err too_deep) = Err (Limit Depth)
 led config before referrer specifier want (Ok target) =
-    named config before referrer want (record { specifier = specifier; target = target })
+    named config before referrer want
+    (record { referrer = shown config referrer; specifier = specifier; target = target })
     (served_at config (a_module target))
 
 -- ---- all checks of a request

@@ -140,7 +140,11 @@ need_of sights config referrer specifier =
 -- how it is spelled
 abbrev pub spelling_of : Sights → Config → Referrer Module → List ℕ → Spelling
 spelling_of sights config referrer specifier =
-    record { specifier = specifier; target = target_of sights config referrer specifier }
+    record {
+      referrer = shown config referrer;
+      specifier = specifier;
+      target = target_of sights config referrer specifier;
+    }
 
 -- a request is put into the tables
 abbrev pub request_put : Sights → Config → Gathered → Referrer Module → List ℕ → Gathered
@@ -338,10 +342,12 @@ pub record IsNeed (sights : Sights) (config : Config) (need : Need) : Type 0 whe
   pub leads_there : leads sights config referrer specifier ≡ Some target
   pub is_name : file_name config target ≡ Some need.target
 
--- by this specifier a referrer with this web name asks for this, and it leads to this module, which has this web name
+-- by this specifier a referrer with this web name, which is shown so, asks for this, and it leads to this module, which
+-- has this web name
 pub record LeadsFor (sights : Sights) (config : Config) (referrer : Referrer Module) (need : Need)
     (spelling : Spelling) : Type 0 where
   pub named : web_name config referrer ≡ Some need.referrer
+  pub shown_so : spelling.referrer ≡ shown config referrer
   pub is_request : Contains (specifiers sights config referrer) spelling.specifier
   pub asks : AsksFor need.referrer spelling.specifier need.asked
   pub leads_there : leads sights config referrer spelling.specifier ≡ Some spelling.target
@@ -383,7 +389,7 @@ pub record IsClash (sights : Sights) (config : Config) (referrer first first_to 
   pub spelling : Spelling
   pub target : Module
   pub one : LeadsFor sights config earlier need spelling
-  pub two : LeadsFor sights config later other (record { specifier = second; target = target })
+  pub two : LeadsFor sights config later other (record { referrer = referrer; specifier = second; target = target })
   pub same_referrer : need.referrer ≡ other.referrer
   pub same_asked : need.asked ≡ other.asked
   pub apart : need.target ≢ other.target

@@ -132,9 +132,6 @@ is_clash referrer needs need spellings spelling found first fault at stands is =
 
 -- ---- what a part gives
 
-pub shown_is : (config : Config) (r : walking.Referrer Module) (referrer : Referrer) → IsReferrer config r referrer → shown config r ≡ referrer.path ++ referrer.suffix
-shown_is config r referrer is = λ i. is.path i ++ is.suffix i
-
 pub handed_given : (definition : Result Gathered TraceFault) (fault : TraceFault) (result : Result (Unit {0}) TraceFault) (tables : Tables) → IsErrAnd result (λ f. f ≡ fault) → (fault ≢ Memory → definition ≡ Err fault) → (fault ≢ Memory → fault ≢ ReadFault) → IsGiven definition (done result tables)
 handed_given definition fault (Ok unit) tables is given no_look = absurd is
 handed_given definition fault (Err other) tables is given no_look = record {
@@ -148,7 +145,7 @@ memory_given definition result tables is = handed_given definition Memory result
 
 -- its target isn't served, or as a folder
 pub given_misnamed : (config : Config) (r : walking.Referrer Module) (referrer : Referrer) (before : Gathered) (want : Wanted) (specifier : List ℕ) (target : Module) (fault : TraceFault) (result : Result (Unit {0}) TraceFault) (tables : Tables) → IsReferrer config r referrer → IsErrAnd result (λ f. f ≡ fault)
-    → (fault ≢ Memory → IsMisnamed config referrer specifier target fault) → IsGiven (named config before r want (record { specifier = specifier; target = target }) (served_at config (a_module target))) (done result tables)
+    → (fault ≢ Memory → IsMisnamed config referrer specifier target fault) → IsGiven (named config before r want (record { referrer = shown config r; specifier = specifier; target = target }) (served_at config (a_module target))) (done result tables)
 given_misnamed config r referrer before want specifier target fault result tables is handed misnamed =
-    handed_given (named config before r want (record { specifier = specifier; target = target }) (served_at config (a_module target))) fault result tables handed
+    handed_given (named config before r want (record { referrer = shown config r; specifier = specifier; target = target }) (served_at config (a_module target))) fault result tables handed
     (λ ne. (misnamed ne).refuses r before want is) (λ ne. (misnamed ne).no_look)

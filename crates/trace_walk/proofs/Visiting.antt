@@ -32,7 +32,7 @@ use Rattle.trace_walk.specs.Refusing.{no_source_fault}
 use Rattle.trace_walk.specs.Walking.{IsReferrer, IsNamed, AllNamed, AreBeside, IsGiven, Grows, IsWhole, IsUnserved}
 use Rattle.trace_walk.proofs.TableLemmas.{keys_of-length}
 use Rattle.trace_walk.proofs.FaultKinds.{handed}
-use Rattle.trace_walk.proofs.Meetings.{met_then, met_failed, met_now, Left}
+use Rattle.trace_walk.proofs.Meetings.{met_then, met_failed, met_lost, met_now, Left}
 
 -- ---- how the tables grow
 
@@ -147,6 +147,13 @@ visit_failed before after config tables m path fault result code at is first =
     subst (λ v. Met before (visited (rules config) tables (a_module m)) (done v code) after) (sym (handed result fault is))
     (met_failed before after (fine (ask (of_module m.path) answered)) (behind config tables m) fault (subst (λ p. Met {X = Result spec.Source spec.NoSource} before (fine (ask (of_module p) answered)) (Err fault) after) (sym at) first))
 
+-- memory was wanting behind the answer
+pub visit_lost : (before after : AnswererState) (config : Config) (tables : Gathered) (m : Module) (path : List ℕ) (found : Result spec.Source spec.NoSource) (result : Result (Unit {0}) TraceFault) (code : Tables) → m.path ≡ path → IsErrAnd result (λ f. f ≡ Memory)
+    → Met {X = Result spec.Source spec.NoSource} before (fine (ask (of_module path) answered)) (Ok found) after → Met before (visited (rules config) tables (a_module m)) (done result code) after
+visit_lost before after config tables m path found result code at is first =
+    subst (λ v. Met before (visited (rules config) tables (a_module m)) (done v code) after) (sym (handed result Memory is))
+    (met_lost before after (fine (ask (of_module m.path) answered)) (behind config tables m) found (subst (λ p. Met {X = Result spec.Source spec.NoSource} before (fine (ask (of_module p) answered)) (Ok found) after) (sym at) first))
+
 sourceless : (config : Config) (tables : Gathered) (m : Module) (why : NoSource) (text : List ℕ) → text ≡ m.path ++ m.suffix → module_opened config tables m (Err (no_source_of why)) ≡ Err (no_source_fault text why)
 sourceless config tables m (NotModule reason) text is = ap (λ shown. Err (refused.NotModule shown reason)) (sym is)
 sourceless config tables m (Above which) text is = refl
@@ -156,13 +163,13 @@ not_read text (NotModule reason) e = cc
 not_read text (Above which) e = cc
 
 -- it has no source
-pub visit_sourceless : (before after : AnswererState) (config : Config) (tables : Gathered) (m : Module) (path suffix : List ℕ) (why : NoSource) (fault : TraceFault) → m.path ≡ path → m.suffix ≡ suffix → fault ≡ no_source_fault (path ++ suffix) why
+pub visit_sourceless : (before after : AnswererState) (config : Config) (tables : Gathered) (m : Module) (path shown : List ℕ) (why : NoSource) (fault : TraceFault) → m.path ≡ path → m.path ++ m.suffix ≡ shown → fault ≡ no_source_fault shown why
     → Met {X = Result spec.Source spec.NoSource} before (fine (ask (of_module path) answered)) (Ok (Err (no_source_of why))) after → Met {X = Gathered} before (visited (rules config) tables (a_module m)) (Err fault) after
-visit_sourceless before after config tables m path suffix why fault at tail is first =
+visit_sourceless before after config tables m path shown why fault at shows is first =
     met_then before after after (fine (ask (of_module m.path) answered)) (behind config tables m) (Err (no_source_of why)) (Err fault)
     (subst (λ p. Met {X = Result spec.Source spec.NoSource} before (fine (ask (of_module p) answered)) (Ok (Err (no_source_of why))) after) (sym at) first)
-    (subst (λ opened. Met {X = Gathered} after (on_ok (λ opened. followed (rules config) opened.after (a_module m) opened.specifiers) opened) (Err fault) after) (sym (sourceless config tables m why (path ++ suffix) (λ i. sym at i ++ sym tail i)))
-    (met_now after (Err (no_source_fault (path ++ suffix) why)) (Err fault) (record { given = λ ne. ap Err (sym is); no_look = λ e. (let f : fault ≡ ReadFault = cc in not_read (path ++ suffix) why (sym is ∙ f)) })))
+    (subst (λ opened. Met {X = Gathered} after (on_ok (λ opened. followed (rules config) opened.after (a_module m) opened.specifiers) opened) (Err fault) after) (sym (sourceless config tables m why shown (sym shows)))
+    (met_now after (Err (no_source_fault shown why)) (Err fault) (record { given = λ ne. ap Err (sym is); no_look = λ e. (let f : fault ≡ ReadFault = cc in not_read shown why (sym is ∙ f)) })))
 
 pub visit_done : (before middle after : AnswererState) (config : Config) (tables : Gathered) (opened : Gathered) (m : Module) (path : List ℕ) (source : spec.Source) (specifiers : List (List ℕ)) (result : Result Gathered TraceFault) → m.path ≡ path
     → opened ≡ with_source tables source → specifiers ≡ source.specifiers → Met {X = Result spec.Source spec.NoSource} before (fine (ask (of_module path) answered)) (Ok (Ok source)) middle → Met middle (followed (rules config) opened (a_module m) specifiers) result after
@@ -182,8 +189,8 @@ at_place config (other ∷ entries) zero m entry e f all =
 at_place config (other ∷ entries) (suc place) m entry e f all = at_place config entries place m entry e f (All-tail (λ (x : Module × Name). IsNamed config x.0 x.1) other entries all)
 
 pub is_referrer : (config : Config) (entries : List (Module × Name)) (place : ℕ) (m : Module) (entry : Module × Name) (referrer : Referrer) → slice_get (keys_of entries) place ≡ Some m → slice_get entries place ≡ Some entry → AllNamed config entries
-    → referrer.name ≡ entry.1.url → referrer.text ≡ entry.1.text → referrer.path ≡ entry.0.path → referrer.suffix ≡ entry.0.suffix → IsReferrer config (a_module m) referrer
-is_referrer config entries place m entry referrer e f all name text path suffix =
+    → referrer.name ≡ entry.1.url → referrer.text ≡ entry.1.text → referrer.path ≡ entry.0.path → referrer.shown ≡ entry.0.path ++ entry.0.suffix → IsReferrer config (a_module m) referrer
+is_referrer config entries place m entry referrer e f all name text path shown =
     let at = at_place config entries place m entry e f all in
     let parts = file_name_parts config entry.0 entry.1.url at.1.is in
     subst (λ (x : Module). IsReferrer config (a_module x) referrer) (sym at.0)
@@ -191,7 +198,7 @@ is_referrer config entries place m entry referrer e f all name text path suffix 
       named = parts.servable.name ∙ ap Some (sym name);
       text = text ∙ (at.1.text ∙ sym name);
       path = sym path;
-      suffix = sym suffix;
+      shown_so = sym shown;
     })
 
 -- ---- the table's next place

@@ -11,7 +11,7 @@ use Rattle.trace_spec.specs.declared.TraceFault.{TraceFault}
 use Rattle.trace_spec.specs.declared.TraceFault.TheVariants as fault
 use Rattle.trace_spec.specs.declared.AskCause.{AskCause}
 use Rattle.trace_spec.specs.Checks.{Gathered, Spelling, Wanted, wanted_by, clashing, named}
-use Rattle.trace_spec.specs.Modules.{Config, Module, served_at}
+use Rattle.trace_spec.specs.Modules.{Config, Module, shown, served_at}
 use Rattle.trace_spec.specs.Walking as spec
 use Rattle.module_sources.specs.declared.source.NoSource.{NoSource}
 use Rattle.module_sources.specs.declared.source.NoSource.TheVariants.{NotModule, Above}
@@ -28,20 +28,20 @@ shown_of m = m.path ++ m.suffix
 -- by how the first need that clashes with it is spelled, and how it is itself
 abbrev pub clash_by : Referrer → Spelling → Spelling → TraceFault
 clash_by referrer first second =
-    fault.Clash (referrer.path ++ referrer.suffix) first.specifier (shown_of first.target) second.specifier
-    (shown_of second.target)
+    fault.Clash referrer.shown first.specifier (shown_of first.target) second.specifier (shown_of second.target)
 
 pub record IsUnwanted (referrer : Referrer) (specifier : List ℕ) (refusal : TraceFault) : Type 0 where
   pub cause : AskCause
   pub unwanted : wanted_by specifier (Some referrer.name) ≡ Err cause
-  pub is : refusal ≡ fault.Refused (referrer.path ++ referrer.suffix) specifier cause
+  pub is : refusal ≡ fault.Refused referrer.shown specifier cause
 
 -- whatever came before and whatever it asks for
 pub record IsMisnamed (config : Config) (referrer : Referrer) (specifier : List ℕ) (target : Module)
     (refusal : TraceFault) : Type 0 where
   pub refuses :
       (r : spec.Referrer Module) (before : Gathered) (want : Wanted) → IsReferrer config r referrer
-      → named config before r want (record { specifier = specifier; target = target })
+      → named config before r want
+      (record { referrer = shown config r; specifier = specifier; target = target })
       (served_at config (spec.a_module target)) ≡ Err refusal
   pub no_look : refusal ≢ fault.ReadFault
 

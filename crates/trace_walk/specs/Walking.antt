@@ -22,7 +22,7 @@ use Rattle.trace_spec.specs.declared.TraceFault.{TraceFault}
 use Rattle.trace_spec.specs.declared.TraceFault.TheVariants.{Unservable, ReadFault, Memory}
 use Rattle.trace_spec.specs.Checks.{Gathered, Wanted, Spelling, with_spelling}
 use Rattle.trace_spec.specs.Walking as spec
-use Rattle.trace_spec.specs.Modules.{Config, Module, path_of, suffix_of, web_name, served_name, file_name}
+use Rattle.trace_spec.specs.Modules.{Config, Module, path_of, web_name, shown, served_name, file_name}
 use Rattle.url_spec.specs.WebNames.{web}
 use Rattle.trace_walk.specs.declared.referrer.Referrer.{Referrer}
 use Rattle.trace_walk.specs.declared.tables.Name.{Name}
@@ -32,7 +32,7 @@ pub record IsReferrer (config : Config) (referrer : spec.Referrer Module) (value
   pub named : web_name config referrer ≡ Some value.name
   pub text : value.text ≡ value.name
   pub path : path_of config referrer ≡ value.path
-  pub suffix : suffix_of referrer ≡ value.suffix
+  pub shown_so : shown config referrer ≡ value.shown
 
 pub record IsNamed (config : Config) (m : Module) (name : Name) : Type 0 where
   pub is : file_name config m ≡ Some name.url

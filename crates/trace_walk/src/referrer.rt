@@ -1,13 +1,13 @@
 use primitives::Text;
 use tree_model::Path;
-use web_url::{Suffix, WebUrl};
+use web_url::WebUrl;
 
 /// The page or a module as it makes requests: its web name, the text of that, which its needs share, its path, and
-/// its suffix.
+/// its path and suffix as they are shown to a user, which their spellings share.
 #[derive(Drop)]
 pub struct Referrer {
     pub name: WebUrl,
     pub text: Text,
     pub path: Path,
-    pub suffix: Suffix,
+    pub shown: Text,
 }

@@ -12,8 +12,8 @@ use trace_spec::{AskCause, TraceFault};
 use tree_model::Path;
 use web_url::{Suffix, WebUrl};
 
-// A path and a suffix as they are shown to a user.
-fn shown(alloc: Global, path: &Path, suffix: &Suffix) -> Result<Text, Memory>
+/// A path and a suffix as they are shown to a user.
+pub fn shown(alloc: Global, path: &Path, suffix: &Suffix) -> Result<Text, Memory>
     ensures { IfOk result (λ text. text ≡ path.now ++ suffix.now) }
 {
     let mut shown = String::from_str(alloc, path.as_str())?;
@@ -21,7 +21,8 @@ fn shown(alloc: Global, path: &Path, suffix: &Suffix) -> Result<Text, Memory>
     Ok(Text::from_string(alloc, shown)?)
 }
 
-fn shown_target(alloc: Global, target: &Module) -> Result<Text, Memory>
+/// A module as it is shown to a user.
+pub fn shown_target(alloc: Global, target: &Module) -> Result<Text, Memory>
     ensures { IfOk result (λ text. text ≡ target.now.path ++ target.now.suffix) }
 {
     shown(alloc, target.path(), target.suffix())
@@ -35,10 +36,10 @@ pub fn refusal(
     cause: AskCause,
 ) -> Result<TraceFault, Memory>
     ensures { IfOk result (λ fault. fault
-        ≡ TraceFault.Refused (referrer.now.path ++ referrer.now.suffix) specifier.now cause) }
+        ≡ TraceFault.Refused referrer.now.shown specifier.now cause) }
 {
     Ok(TraceFault::Refused {
-        referrer: shown(alloc, &referrer.path, &referrer.suffix)?,
+        referrer: referrer.shown.copy(alloc)?,
         specifier: specifier.copy(alloc)?,
         cause,
     })
@@ -75,12 +76,12 @@ pub fn clash(
     first: &Spelling,
     second: &Spelling,
 ) -> Result<TraceFault, Memory>
-    ensures { IfOk result (λ fault. fault ≡ TraceFault.Clash (referrer.now.path ++ referrer.now.suffix)
+    ensures { IfOk result (λ fault. fault ≡ TraceFault.Clash referrer.now.shown
         first.now.specifier (first.now.target.path ++ first.now.target.suffix)
         second.now.specifier (second.now.target.path ++ second.now.target.suffix)) }
 {
     Ok(TraceFault::Clash {
-        referrer: shown(alloc, &referrer.path, &referrer.suffix)?,
+        referrer: referrer.shown.copy(alloc)?,
         first: first.specifier().copy(alloc)?,
         first_to: shown_target(alloc, first.target())?,
         second: second.specifier().copy(alloc)?,
@@ -90,11 +91,11 @@ pub fn clash(
 
 /// The refusal of a module that has no source.
 pub fn no_source(alloc: Global, referrer: &Referrer, why: NoSource) -> Result<TraceFault, Memory>
-    ensures { IfOk result (λ fault. fault ≡ no_source_fault (referrer.now.path ++ referrer.now.suffix) why) }
+    ensures { IfOk result (λ fault. fault ≡ no_source_fault referrer.now.shown why) }
 {
     match why {
         NoSource::NotModule { reason } => Ok(TraceFault::NotModule {
-            path: shown(alloc, &referrer.path, &referrer.suffix)?,
+            path: referrer.shown.copy(alloc)?,
             reason,
         }),
         NoSource::Above { which } => Ok(TraceFault::Limit { which }),

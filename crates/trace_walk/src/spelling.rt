@@ -4,9 +4,10 @@ use crate::module::Module;
 use primitives::Text;
 use std::marker::Model;
 
-/// How a need is first spelled: the specifier, and the module that it leads to.
+/// How a need is first spelled: who asks, as shown to a user, the specifier, and the module that it leads to.
 #[derive(Drop)]
 pub struct Spelling {
+    referrer: Text,
     specifier: Text,
     target: Module,
 }
@@ -16,15 +17,26 @@ impl Model for Spelling {
 
     ghost Value = { spec.Spelling };
 
-    ghost view = { λ s. record { specifier = s.specifier; target = s.target } };
+    ghost view = { λ s. record { referrer = s.referrer; specifier = s.specifier; target = s.target } };
 }
 
 impl Spelling {
-    pub(crate) fn new(specifier: Text, target: Module) -> Spelling
+    pub(crate) fn new(referrer: Text, specifier: Text, target: Module) -> Spelling
+        ensures referrer { result.referrer ≡ referrer }
         ensures specifier { result.specifier ≡ specifier }
         ensures target { result.target ≡ target }
     {
-        Spelling { specifier, target }
+        Spelling {
+            referrer,
+            specifier,
+            target,
+        }
+    }
+
+    pub fn referrer(&self) -> &Text
+        ensures { result.now ≡ self.now.referrer }
+    {
+        &self.referrer
     }
 
     pub fn specifier(&self) -> &Text

@@ -113,12 +113,13 @@ impl Tables {
         ensures put { (r : Referring spec.Module) → IsReferrer config.now r referrer.now
             → IsGiven (needed config.now (before_of self.old) r
             (record { referrer = referrer.now.text; asked = asked; target = text })
-            (record { specifier = specifier.now; target = target.now })) (done result self.new) }
+            (record { referrer = referrer.now.shown; specifier = specifier.now; target = target.now }))
+            (done result self.new) }
         ensures grows { OnOk result (Grows config.now 0 self.old self.new) }
         ensures counts { OnOk result (self.new.requests ≡ self.old.requests + 1) }
         ensures kind { IfErr result (IsOfWalk config.now) }
     {
-        let spelling = spelling_of(alloc, specifier, target)?;
+        let spelling = spelling_of(alloc, referrer, specifier, target)?;
         let need = need_of(alloc, referrer, asked, text)?;
         put_need(
             alloc,
@@ -151,12 +152,13 @@ impl Tables {
         ensures put { (r : Referring spec.Module) → IsReferrer config.now r referrer.now
             → IsGiven (needed config.now (before_of self.old) r
             (record { referrer = referrer.now.text; asked = asked; target = name.text })
-            (record { specifier = specifier.now; target = target })) (done result self.new) }
+            (record { referrer = referrer.now.shown; specifier = specifier.now; target = target }))
+            (done result self.new) }
         ensures grows { OnOk result (Grows config.now 0 self.old self.new) }
         ensures counts { OnOk result (self.new.requests ≡ self.old.requests + 1) }
         ensures kind { IfErr result (IsOfWalk config.now) }
     {
-        let spelling = spelling_of(alloc, specifier, &target)?;
+        let spelling = spelling_of(alloc, referrer, specifier, &target)?;
         let text = name.text.copy(alloc)?;
         let need = need_of(alloc, referrer, asked, text)?;
         put_need(
@@ -174,10 +176,20 @@ impl Tables {
 }
 
 // How a request spells its need.
-fn spelling_of(alloc: Global, specifier: &Text, target: &Module) -> Result<Spelling, Memory>
-    ensures { IfOk result (λ spelling. spelling ≡ record { specifier = specifier.now; target = target.now }) }
+fn spelling_of(
+    alloc: Global,
+    referrer: &Referrer,
+    specifier: &Text,
+    target: &Module,
+) -> Result<Spelling, Memory>
+    ensures { IfOk result (λ spelling. spelling
+        ≡ record { referrer = referrer.now.shown; specifier = specifier.now; target = target.now }) }
 {
-    Ok(Spelling::new(specifier.copy(alloc)?, target.copy(alloc)?))
+    Ok(Spelling::new(
+        referrer.shown.copy(alloc)?,
+        specifier.copy(alloc)?,
+        target.copy(alloc)?,
+    ))
 }
 
 // The web name of what a request leads to; its refusal where it isn't served there, or the name is a folder's.

@@ -19,7 +19,7 @@ use crate::following::follow;
 use crate::module::Module;
 use crate::names::served_url;
 use crate::referrer::Referrer;
-use crate::refusals::no_source;
+use crate::refusals::{no_source, shown, shown_target};
 use crate::specifiers::Specifiers;
 use crate::tables::{Name, Tables};
 use module_sources::Source;
@@ -86,8 +86,8 @@ fn page_referrer(alloc: Global, config: &Config) -> Result<Referrer, TraceFault>
     Ok(Referrer {
         text: Text::of(alloc, name.as_str())?,
         path: config.page().copy(alloc)?,
+        shown: shown(alloc, config.page(), &suffix)?,
         name,
-        suffix,
     })
 }
 
@@ -219,12 +219,12 @@ fn referrer_of(alloc: Global, target: &Module, name: &Name) -> Result<Referrer, 
     ensures name { IfOk result (λ referrer. referrer.name ≡ name.now.url) }
     ensures text { IfOk result (λ referrer. referrer.text ≡ name.now.text) }
     ensures path { IfOk result (λ referrer. referrer.path ≡ target.now.path) }
-    ensures suffix { IfOk result (λ referrer. referrer.suffix ≡ target.now.suffix) }
+    ensures shown { IfOk result (λ referrer. referrer.shown ≡ target.now.path ++ target.now.suffix) }
 {
     Ok(Referrer {
         name: name.url.copy(alloc)?,
         text: name.text.copy(alloc)?,
         path: target.path().copy(alloc)?,
-        suffix: target.suffix().copy(alloc)?,
+        shown: shown_target(alloc, target)?,
     })
 }

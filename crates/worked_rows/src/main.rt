@@ -9,7 +9,11 @@
 mod case;
 #[cfg(test)]
 mod cases;
+#[cfg(test)]
+mod check_cases;
 mod endings;
+#[cfg(test)]
+mod escaped_page;
 #[cfg(test)]
 mod faults;
 #[cfg(test)]

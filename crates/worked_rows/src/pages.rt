@@ -4,7 +4,7 @@ use std::alloc::Global;
 use std::test::Fail;
 use tree_model::PathFault;
 
-fn passes(alloc: Global, case: &PageCase) -> Result<bool, PathFault> {
+pub fn passes(alloc: Global, case: &PageCase) -> Result<bool, PathFault> {
     let folder = folder_of(alloc, case.files, &case.fails)?;
     let outcome = ended(alloc, case.words, folder, case.fails.gives)?;
     Ok(

@@ -26,8 +26,8 @@ returns-clause-map c =
     record {
       layout = laid.m;
       agreed = laid.is_agreed;
-      map = c.in_ok-map.ensures.text laid.m printed;
-      within = c.in_ok-map.ensures.within;
+      map = c.in_ok-map.ensures.printed.text laid.m printed;
+      within = c.in_ok-map.ensures.printed.within;
       modules = c.len.ensures.modules;
       requests = c.request_count.ensures.requests;
       mappings =

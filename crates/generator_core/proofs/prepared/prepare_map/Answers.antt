@@ -8,7 +8,7 @@ pub returns-in-Err-clause-prepares : goal.returns-in-Err-clause-prepares
 returns-in-Err-clause-prepares g c =
     let before = g.F.Folder.state c.args.folder.now in
     let after = g.F.Folder.state c.generate.new.folder in
-    stopped c.args.config.now before after Link (link_opens c.args.config.now before after) c.in-Err.stop (subst (λ r. Generating c.args.config.now before r after) c.in-Err.is c.generate.ensures.generates)
+    stopped c.args.config.now before after Link tt (link_opens c.args.config.now before after) c.in-Err.stop (subst (λ r. Generating c.args.config.now before r after) c.in-Err.is c.generate.ensures.generates)
 
 pub returns-in-Err-map_file-clause-prepares : goal.returns-in-Err-map_file-clause-prepares
 returns-in-Err-map_file-clause-prepares g c =

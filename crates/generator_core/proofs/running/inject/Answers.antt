@@ -1,12 +1,12 @@
-use Rattle.std.proofs.Common.{refl, subst}
+use Rattle.std.proofs.Common.{subst}
 use Rattle.generator_spec.specs.declared.Command.TheVariants.{Inject}
-use Rattle.generator_core.specs.Preparing.{Prepares}
+use Rattle.generator_core.specs.Preparing.{Prepares, own_file}
 use Rattle.generator_core.proofs.Endings.{stop_end, write_end, stop_not_done, spends_few}
 use Rattle.generator_core.proofs.Preparings.{still_few}
 use Rattle.generator_core.proofs.running.inject.Goals as goal
 
 pub returns-in-Ok-clause-end : goal.returns-in-Ok-clause-end
-returns-in-Ok-clause-end g c = λ words is_config. write_end words Inject c.args.config.now is_config _ _ _ _ _ _ c.in-Ok.prepared (subst (λ r. Prepares Inject c.args.config.now (g.F.Folder.state c.args.folder.now) r (g.F.Folder.state c.prepare_page.new.folder)) c.in-Ok.is c.prepare_page.ensures.prepares).ready c.finish.ensures
+returns-in-Ok-clause-end g c = λ words is_config. write_end words Inject c.args.config.now is_config _ _ _ _ _ _ c.in-Ok.prepared tt (subst (λ r. Prepares Inject c.args.config.now (g.F.Folder.state c.args.folder.now) r (g.F.Folder.state c.prepare_page.new.folder)) c.in-Ok.is c.prepare_page.ensures.prepares).ready c.finish.ensures
 
 pub returns-in-Ok-clause-steps : goal.returns-in-Ok-clause-steps
 returns-in-Ok-clause-steps g c = spends_few c.in-Ok.prepared _ _ _ _ _ _ _ c.finish.ensures c.in-Ok.ensures.steps
@@ -18,4 +18,4 @@ pub returns-in-Err-clause-steps : goal.returns-in-Err-clause-steps
 returns-in-Err-clause-steps g c = λ zero. absurd (stop_not_done c.in-Err.stop _ _ _ c.close.ensures.tells zero)
 
 pub returns-in-Ok-clause-asked : goal.returns-in-Ok-clause-asked
-returns-in-Ok-clause-asked g c = still_few c.args.config.now.page _ _ (g.F.Folder.state c.prepare_page.new.folder) _ refl c.finish.ensures.asked c.prepare_page.ensures.prepares.asked
+returns-in-Ok-clause-asked g c = still_few c.args.config.now (g.F.Folder.state c.args.folder.now).holds (own_file Inject c.args.config.now) _ (g.F.Folder.state c.prepare_page.new.folder) _ c.finish.ensures.asked c.prepare_page.ensures.prepares.asked

@@ -4,5 +4,5 @@ use Rattle.html_inject.specs.Search.{parts_behind}
 use Rattle.html_inject.proofs.Scripts.{no_script_fault}
 use Rattle.html_inject.proofs.search.fault_at.Goals as goal
 
-pub returns-then-not-is_script : goal.returns-then-not-is_script
-returns-then-not-is_script c = c.plain_fault.ensures ∙ no_script_fault c.args.piece.from c.args.seen (part_at c.args.text.now c.args.piece) (parts_behind c.args.text.now c.args.next) (sym c.is_script.ensures ∙ c.if-not-is_script.true)
+pub returns-then-not-script : goal.returns-then-not-script
+returns-then-not-script c = c.plain_fault.ensures ∙ no_script_fault c.args.piece.from c.args.seen (part_at c.args.text.now c.args.piece) (parts_behind c.args.text.now c.args.next) (sym c.requires.script ∙ c.if-not-script.true)

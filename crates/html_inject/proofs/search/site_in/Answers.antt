@@ -8,15 +8,18 @@ use Rattle.html_inject.proofs.search.site_in.Goals as goal
 pub loop-next-init : goal.loop-next-init
 loop-next-init c = begins_with c.args.text.now c.new-scanner.result c.next-next.new.self c.next-next.result c.new-scanner.ensures c.next-next.ensures.page c.next-next.ensures.next c.next-next.ensures.piece
 
-pub fault_at-requires : goal.fault_at-requires
-fault_at-requires c =
+pub fault_at-requires-clause-next : goal.fault_at-requires-clause-next
+fault_at-requires-clause-next c =
     let s = at_piece c.args.text.now c.loop-next.scanner c.loop-next.next c.in-Some.piece c.loop-next.found c.in-Some.is c.loop-next.invariant in
     (paired c.args.text.now c.loop-next.scanner c.in-Some.piece c.next-next-in-Some.result c.next-next-in-Some.new.self.1.0 c.next-next-in-Some.new.self.1.1 c.loop-next.found s c.next-next-in-Some.ensures.next c.next-next-in-Some.ensures.piece).pair
 
-pub more-found-requires : goal.more-found-requires
-more-found-requires c =
+pub more-found-requires-clause-next : goal.more-found-requires-clause-next
+more-found-requires-clause-next c =
     let s = at_piece c.args.text.now c.loop-next.scanner c.loop-next.next c.in-Some.piece c.loop-next.found c.in-Some.is c.loop-next.invariant in
     (paired c.args.text.now c.loop-next.scanner c.in-Some.piece c.next-next-in-Some.result c.next-next-in-Some.new.self.1.0 c.next-next-in-Some.new.self.1.1 c.loop-next.found s c.next-next-in-Some.ensures.next c.next-next-in-Some.ensures.piece).pair
+
+pub is_script-script-requires : goal.is_script-script-requires
+is_script-script-requires c = (at_piece c.args.text.now c.loop-next.scanner c.loop-next.next c.in-Some.piece c.loop-next.found c.in-Some.is c.loop-next.invariant).behind.0
 
 pub loop-next-smaller : goal.loop-next-smaller
 loop-next-smaller c =

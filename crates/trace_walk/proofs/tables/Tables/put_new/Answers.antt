@@ -1,5 +1,7 @@
 use Rattle.std.proofs.Common.{refl, sym, subst, ◌≡◌, ◌++◌, ◌∷◌, []}
 use Rattle.trace_walk.specs.Walking.{IsNamed}
+use Rattle.trace_spec.specs.declared.TraceFault.TheVariants.{Memory}
+use Rattle.trace_walk.proofs.FaultKinds.{handed_kind}
 use Rattle.trace_walk.proofs.TableLemmas.{memory_given, grows_by_one}
 use Rattle.trace_walk.proofs.tables.Tables.put_new.Goals as goal
 
@@ -13,3 +15,12 @@ returns-clause-grows c =
     (subst (λ m. c.put_module.new.modules.entries ≡ c.args.self.now.modules.entries ++ (m, c.args.name) ∷ []) (sym target) c.in_ok-put_module.ensures.put.1)
     (subst (λ m. IsNamed c.args.config.now m c.args.name) (sym target) c.requires.named)
     (record { sources = refl; added = c.in_ok-put_need.ensures.added; requests = refl })
+
+pub returns-in_err-text-clause-kind : goal.returns-in_err-text-clause-kind
+returns-in_err-text-clause-kind c = handed_kind c.args.config.now c.from_residual-in_err-text.result Memory c.from_residual-in_err-text.ensures.1 tt
+
+pub returns-in_err-need-clause-put : goal.returns-in_err-need-clause-put
+returns-in_err-need-clause-put c = λ r is. memory_given _ c.from_residual-in_err-need.result c.args.self.now c.from_residual-in_err-need.ensures.1
+
+pub returns-in_err-need-clause-kind : goal.returns-in_err-need-clause-kind
+returns-in_err-need-clause-kind c = handed_kind c.args.config.now c.from_residual-in_err-need.result Memory c.from_residual-in_err-need.ensures.1 tt

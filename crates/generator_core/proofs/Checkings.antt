@@ -1,0 +1,246 @@
+-- How a check comes to its report, step by step.
+use Rattle.std.proofs.Common.{◌≡◌, ◌≢◌, ◌≤◌, ◌++◌, ℕ, Bool, true, false, List, [], ◌∷◌, length, Option, Some, None, Ok, Err, IfSome, Result, refl, sym, ap, ◌∙◌, subst, inl, inr, arith}
+use Rattle.std.specs.FinMap.{get}
+use Rattle.std.specs.Prelude.{map as each, All}
+use Rattle.std.specs.List.{concat}
+use Rattle.std.proofs.lemmas.List.Elements.{All-nil, All-cons}
+use Rattle.std.proofs.lemmas.List.{append-nil}
+use Rattle.std.proofs.lemmas.List.Folds.{concat-append}
+use Rattle.tree_spec.specs.declared.Look.{Look}
+use Rattle.tree_spec.specs.declared.Look.TheVariants as look
+use Rattle.tree_spec.specs.declared.LookFault.TheVariants as look_fault
+use Rattle.tree_spec.specs.Counts.{Rose}
+use Rattle.tree_spec.specs.States.{FolderState, SinkState, OnlyLooks, IsLooked}
+use Rattle.tree_spec.specs.Trees.{Tree}
+use Rattle.import_map_spec.specs.ParsedMap.{ParsedMap}
+use Rattle.check_spec.specs.Differences.{Difference, differences}
+use Rattle.trace_spec.specs.declared.TraceFault.TheVariants.{Unservable}
+use Rattle.trace_spec.specs.Checks.{Gathered}
+use Rattle.trace_spec.specs.Kinds.{IsOfTrace}
+use Rattle.trace_spec.specs.Modules.{Config, path_of, shown, served_name, web_name}
+use Rattle.trace_spec.specs.Traces.{traced}
+use Rattle.trace_spec.specs.Walking.{the_page}
+use Rattle.generator_spec.proofs.Nameless.{nameless_is_refused}
+use Rattle.generator_spec.specs.declared.Command.TheVariants.{Check}
+use Rattle.generator_spec.specs.declared.MapFileFault.{MapFileFault}
+use Rattle.generator_spec.specs.declared.MapFileFault.TheVariants as map_fault
+use Rattle.generator_spec.specs.declared.Refusal.TheVariants.{MapFile, Trace}
+use Rattle.generator_spec.specs.Checking.{difference_line, difference_lines, check_status, check_lines}
+use Rattle.generator_spec.specs.Commands.{map_path, map_file_limit, map_file_fault, IsMapText, ReadsMap, HoldsMap, RefusesMapFile, RefusesMapFile as refuses_map}
+use Rattle.generator_spec.specs.Commands.{Opens, Opens as opens, Refuses, Refuses as refuses, IsRefusalOf as kind}
+use Rattle.generator_spec.specs.Words.{IsConfigOf}
+use Rattle.generator_spec.specs.Outcome.{ComesTo as comes, Outcome}
+use Rattle.generator_spec.specs.Ending.{IsDifference, Says, Ends, EndsAs, Shaped as shaped, Says as says}
+use Rattle.generation.specs.declared.stop.Stop.{Stop}
+use Rattle.generation.specs.declared.stop.Stop.TheVariants.{Refused, ReadFault, Memory}
+use Rattle.generation.specs.Generating.{Tracing, AsksNoPathTwice}
+use Rattle.generator_core.specs.declared.checking.Report.{Report}
+use Rattle.generator_core.specs.Preparing.{EndsBefore, AsksOwn}
+use Rattle.generator_core.specs.Checking.{IsMapTextFound, FindsMapText, IsMapStop, FindsMap, IsNameless, IsReport, IsChecked, IsReported, ChecksBy, Checks}
+use Rattle.generator_core.specs.Checking.{IsMapStop as map_stop, IsNameless as nameless}
+use Rattle.generator_core.proofs.Preparings.{if_some, if_two, if_all, looks_as, then_looks, earlier_end, own_asked, own_alone, own_then}
+use Rattle.generator_core.proofs.Endings.{ends_as}
+
+-- ---- the look at the map's file
+
+module _ (config : Config) (before after : FolderState) where
+  map_ends : (why : MapFileFault) → OnlyLooks before after ⊥ → IfSome before.holds (λ tree. RefusesMapFile tree config why) → EndsBefore Check config before after (Refused (MapFile why))
+  map_ends why looks why_not = record {
+    refused = if_some before.holds (λ tree so. refuses.map_file why so) why_not;
+    kind = kind.map_file why;
+    looks = looks_as before after (λ e. absurd (cc)) (λ e. absurd e) looks;
+  }
+
+module _ (path : List ℕ) (is_path : path ≡ map_path) (before after : FolderState) where
+  looked : (found : Look) → IsLooked before path map_file_limit (Ok found) after → OnlyLooks before after ⊥
+  looked found is = record { tree = is.tree; writes = is.writes; later = is.later; cause = λ e. absurd e; quiet = λ e. is.quiet (λ same. cc) }
+
+  no_text : (found : Look) (why : MapFileFault) → IsLooked before path map_file_limit (Ok found) after → ((config : Config) → IfSome before.holds (λ tree. RefusesMapFile tree config why)) → FindsMapText before (Err (Refused (MapFile why))) after
+  no_text found why is why_not = record { found = tt; asked = own_asked map_path path true before.asked after is_path is.asked; stopped = λ config. map_ends config before after why (looked found is) (why_not config) }
+
+  text_absent : IsLooked before path map_file_limit (Ok look.Absent) after → FindsMapText before (Err (Refused (MapFile map_fault.Absent))) after
+  text_absent is = no_text look.Absent map_fault.Absent is (λ config. if_some before.holds (λ tree e. refuses_map.absent (ap (get tree) (sym is_path) ∙ e) refl) is.entry)
+
+  text_folder : IsLooked before path map_file_limit (Ok look.Folder) after → FindsMapText before (Err (Refused (MapFile map_fault.Absent))) after
+  text_folder is = no_text look.Folder map_fault.Absent is (λ config. if_some before.holds (λ tree e. refuses_map.folder (ap (get tree) (sym is_path) ∙ e) refl) is.entry)
+
+  text_too_large : IsLooked before path map_file_limit (Ok look.TooLarge) after → FindsMapText before (Err (Refused (MapFile map_fault.TooLarge))) after
+  text_too_large is = no_text look.TooLarge map_fault.TooLarge is (λ config. if_some before.holds (λ tree e. refuses_map.too_large e.0 (ap (get tree) (sym is_path) ∙ e.1) e.2 refl) is.entry)
+
+  pub text_found : (bytes : List ℕ) → IsLooked before path map_file_limit (Ok (look.File bytes)) after → FindsMapText before (Ok bytes) after
+  text_found bytes is = record {
+    found = record {
+      is_text = if_some before.holds (λ tree e. record { stands = ap (get tree) (sym is_path) ∙ e.0; small = e.1 }) is.entry;
+      looks = looked (look.File bytes) is;
+    };
+    asked = own_asked map_path path true before.asked after is_path is.asked;
+    stopped = tt;
+  }
+
+  pub text_fault : IsLooked before path map_file_limit (Err look_fault.Failed) after → FindsMapText before (Err ReadFault) after
+  text_fault is = record {
+    found = tt;
+    asked = own_asked map_path path false before.asked after is_path is.asked;
+    stopped = λ config. record {
+      refused = tt;
+      kind = tt;
+      looks = record { tree = is.tree; writes = is.writes; later = is.later; cause = λ e. is.failed refl; quiet = λ none. absurd (none refl) };
+    };
+  }
+
+  pub text_memory : IsLooked before path map_file_limit (Err look_fault.Memory) after → FindsMapText before (Err Memory) after
+  text_memory is = record {
+    found = tt;
+    asked = own_asked map_path path false before.asked after is_path is.asked;
+    stopped = λ config. record {
+      refused = tt;
+      kind = tt;
+      looks = record { tree = is.tree; writes = is.writes; later = is.later; cause = λ e. absurd (cc); quiet = λ none. is.quiet (λ same. cc) };
+    };
+  }
+
+  told_by : (found : Look) (stop other : Stop) (exact : Look) → found ≡ exact → stop ≡ other → (IsLooked before path map_file_limit (Ok exact) after → FindsMapText before (Err other) after) → IsLooked before path map_file_limit (Ok found) after → FindsMapText before (Err stop) after
+  told_by found stop other exact f s ends is = subst (λ t. FindsMapText before (Err t) after) (sym s) (ends (subst (λ l. IsLooked before path map_file_limit (Ok l) after) f is))
+
+  pub absent_ends : (found : Look) (stop : Stop) → found ≡ look.Absent → stop ≡ Refused (MapFile map_fault.Absent) → IsLooked before path map_file_limit (Ok found) after → FindsMapText before (Err stop) after
+  absent_ends found stop f s is = told_by found stop (Refused (MapFile map_fault.Absent)) look.Absent f s text_absent is
+
+  pub folder_ends : (found : Look) (stop : Stop) → found ≡ look.Folder → stop ≡ Refused (MapFile map_fault.Absent) → IsLooked before path map_file_limit (Ok found) after → FindsMapText before (Err stop) after
+  folder_ends found stop f s is = told_by found stop (Refused (MapFile map_fault.Absent)) look.Folder f s text_folder is
+
+  pub too_large_ends : (found : Look) (stop : Stop) → found ≡ look.TooLarge → stop ≡ Refused (MapFile map_fault.TooLarge) → IsLooked before path map_file_limit (Ok found) after → FindsMapText before (Err stop) after
+  too_large_ends found stop f s is = told_by found stop (Refused (MapFile map_fault.TooLarge)) look.TooLarge f s text_too_large is
+
+-- before anything was looked at
+pub text_unasked : (state : FolderState) → FindsMapText state (Err Memory) state
+text_unasked state = record {
+  found = tt;
+  asked = by state.asked refl;
+  stopped = λ config. record {
+    refused = tt;
+    kind = tt;
+    looks = record { tree = refl; writes = refl; later = omega arith; cause = λ e. absurd (cc); quiet = λ none. refl };
+  };
+}
+  where
+    by : (told : Option (List (List ℕ))) → state.asked ≡ told → IfSome told (λ old. AsksOwn (map_path ∷ []) old state)
+    by None e = tt
+    by (Some old) e = record { first = []; is_own = inl refl; asked = e ∙ ap Some (sym (append-nil old)) }
+
+-- ---- behind the look
+
+kind_of_nameless : (config : Config) → web_name config the_page ≡ None → IsOfTrace config (Unservable (shown config the_page) None)
+kind_of_nameless config none = record { which = the_page; path_is = refl; url_is = sym none; lost = ap (served_name config.base (path_of config the_page)) none }
+
+module _ (config : Config) (before after : FolderState) where
+  opens_map : (text : List ℕ) (parsed : ParsedMap) → IfSome before.holds (λ tree. IsMapText tree text) → ReadsMap config text (Ok parsed) → IfSome before.holds (λ tree. HoldsMap tree config parsed)
+  opens_map text parsed is reads = if_some before.holds (λ tree stands. record { text = text; stands = stands; reads = reads }) is
+
+  no_stop : (stop : Stop) (other : Stop) → stop ≡ other → EndsBefore Check config before after other → EndsBefore Check config before after stop
+  no_stop stop other same is = subst (λ s. EndsBefore Check config before after s) (sym same) is
+
+  -- the text of a found file is no map
+  pub stops_map : (text : List ℕ) (stop : Stop) → IsMapTextFound before after text → IsMapStop config text stop → EndsBefore Check config before after stop
+  stops_map text stop found (map_stop.no_map fault reads same) =
+      no_stop stop _ same (map_ends config before after (map_file_fault fault) found.looks
+      (if_some before.holds (λ tree stands. refuses_map.no_map text fault stands reads refl) found.is_text))
+  stops_map text stop found (map_stop.no_base none same) =
+      no_stop stop _ same (record {
+        refused = if_some before.holds (λ tree stands. refuses.trace Check (Unservable (shown config the_page) None) (opens.no_base text stands none) (nameless_is_refused (get tree) config none)) found.is_text;
+        kind = kind.trace Check (Unservable (shown config the_page) None) (kind_of_nameless config none);
+        looks = looks_as before after (λ e. absurd (cc)) (λ e. absurd e) found.looks;
+      })
+  stops_map text stop found (map_stop.memory same) =
+      no_stop stop _ same (record { refused = tt; kind = tt; looks = looks_as before after (λ e. absurd (cc)) (λ e. absurd e) found.looks })
+
+module _ (config : Config) (before middle after : FolderState) where
+  earlier_report : (report : Report) → OnlyLooks before middle ⊥ → IsReported config middle after report → IsReported config before after report
+  earlier_report report looks is = record {
+    map = is.map;
+    all = is.all;
+    is_report = is.is_report;
+    told = subst (λ held. IfSome held (λ tree. IsChecked config tree is.map is.all)) looks.tree is.told;
+    looks = then_looks before middle after looks is.looks;
+  }
+
+  pub checks_behind : (text : List ℕ) (result : Result Report Stop) → FindsMapText before (Ok text) middle → ChecksBy config middle result after → Checks config before result after
+  checks_behind text (Ok report) found is = record { reported = earlier_report report found.found.looks is.reported; asked = own_then config before.holds middle.holds (map_path ∷ []) before.asked middle after found.found.looks.tree found.asked is.asked is.footprint; stopped = tt }
+  checks_behind text (Err stop) found is = record { reported = tt; asked = own_then config before.holds middle.holds (map_path ∷ []) before.asked middle after found.found.looks.tree found.asked is.asked is.footprint; stopped = earlier_end config before middle after Check stop found.found.looks is.stopped }
+
+module _ (config : Config) (before after : FolderState) where
+  -- the map's file is where it was
+  pub text_still : (text : List ℕ) (parsed : ParsedMap) → FindsMapText before (Ok text) after → ReadsMap config text (Ok parsed) → IfSome after.holds (λ tree. HoldsMap tree config parsed)
+  text_still text parsed found reads = subst (λ held. IfSome held (λ tree. HoldsMap tree config parsed)) (sym found.found.looks.tree) (opens_map config before after text parsed found.found.is_text reads)
+
+  pub text_refused : (stop : Stop) → FindsMapText before (Err stop) after → Checks config before (Err stop) after
+  text_refused stop found = record { reported = tt; asked = own_alone config before.holds (map_path ∷ []) before.asked after found.asked; stopped = found.stopped config }
+
+  pub map_refused : (text : List ℕ) (stop : Stop) → FindsMapText before (Ok text) after → IsMapStop config text stop → Checks config before (Err stop) after
+  map_refused text stop found why = record { reported = tt; asked = own_alone config before.holds (map_path ∷ []) before.asked after found.asked; stopped = stops_map config before after text stop found.found why }
+
+  -- ---- the trace
+
+  module _ (parsed : ParsedMap) (holds : IfSome before.holds (λ tree. HoldsMap tree config parsed)) where
+    pub trace_stops : (stop : Stop) → Tracing config before (Err stop) after → ChecksBy config before (Err stop) after
+    trace_stops (Refused why) is = record {
+      reported = tt;
+      asked = is.asked;
+      footprint = is.footprint;
+      stopped = record {
+        refused = if_two before.holds (λ tree held refuses_each. refuses_each Check (opens.has_map parsed held)) holds is.refused;
+        kind = is.kind Check;
+        looks = looks_as before after (λ e. absurd (cc)) (λ e. absurd (cc)) is.looks;
+      };
+    }
+    trace_stops ReadFault is = record { reported = tt; asked = is.asked; footprint = is.footprint; stopped = record { refused = tt; kind = tt; looks = looks_as before after (λ e. refl) (λ e. refl) is.looks } }
+    trace_stops Memory is = record { reported = tt; asked = is.asked; footprint = is.footprint; stopped = record { refused = tt; kind = tt; looks = looks_as before after (λ e. absurd (cc)) (λ e. absurd (cc)) is.looks } }
+
+    module _ (all : Gathered) (is : Tracing config before (Ok all) after) where
+      quiet_looks : OnlyLooks before after ⊥
+      quiet_looks = looks_as before after (λ e. absurd e) (λ e. absurd (cc)) is.looks
+
+      pub no_report : ChecksBy config before (Err Memory) after
+      no_report = record { reported = tt; asked = is.asked; footprint = is.footprint; stopped = record { refused = tt; kind = tt; looks = looks_as before after (λ e. absurd (cc)) (λ e. absurd e) quiet_looks } }
+
+      pub reports : (report : Report) → IsReport parsed all report → ChecksBy config before (Ok report) after
+      reports report is_report = record {
+        reported = record {
+          map = parsed;
+          all = all;
+          is_report = is_report;
+          told = if_two before.holds (λ tree held traces. record { holds = held; is_traced = traces }) holds is.traces;
+          looks = quiet_looks;
+        };
+        asked = is.asked;
+      footprint = is.footprint;
+        stopped = tt;
+      }
+
+-- ---- the end
+
+all_differ : (all : Gathered) (ds : List Difference) → All IsDifference (each (difference_line all) ds)
+all_differ all [] = All-nil IsDifference
+all_differ all (d ∷ more) =
+    All-cons IsDifference (difference_line all d) (each (difference_line all) more)
+    (record { referrer = _; specifier = _; wants = _; gets = d.got; says = refl }) (all_differ all more)
+
+module _ (words : List (List ℕ)) (config : Config) (is_config : IsConfigOf words Check config) (before after : FolderState) (out out_after : SinkState) (result : ℕ) (report : Report) (is : IsReported config before after report) where
+  abbrev lines : List (List ℕ)
+  lines = check_lines (length is.all.needs) (difference_lines is.map is.all)
+
+  outcome_told : (held told : Option Tree) → told ≡ held → IfSome held (λ tree. IsChecked config tree is.map is.all)
+      → IfSome held (λ tree. (later : Tree) × Outcome words tree report.status lines later × (told ≡ Some later))
+  outcome_told None told same checked = tt
+  outcome_told (Some tree) told same checked =
+      (tree, record { files = []; comes = comes.checked config is.map is.all is_config checked.holds checked.is_traced is.is_report.status refl refl; placed = refl }, same)
+
+  report_says : Says words before after report.status lines
+  report_says =
+      says.outcome
+      (shaped.checked (record { config = config; is_config = is_config; needs = length is.all.needs; differing = difference_lines is.map is.all; are_differences = all_differ is.all (differences is.map is.all.needs); ends = is.is_report.status; says = refl }))
+      (outcome_told before.holds after.holds is.looks.tree is.told) (is.looks.quiet (λ e. e)) is.looks.writes
+
+  pub check_ends : Ends report.status report.text.items out out_after result → out.faults ≤ out_after.faults → EndsAs words before after out out_after result
+  check_ends told more =
+      ends_as words before after out out_after result report.status lines (λ none. is.looks.tree ∙ none) report_says
+      (subst (λ text. Ends report.status text out out_after result) is.is_report.text told) is.looks.later (let w = is.looks.writes in omega (arith, w)) more

@@ -1,0 +1,22 @@
+use Rattle.std.proofs.Common.{subst}
+use Rattle.generation.specs.Generating.{Tracing}
+use Rattle.generator_core.proofs.Checkings.{trace_stops, no_report, reports}
+use Rattle.generator_core.proofs.checking.checked_by.Goals as goal
+
+pub returns-in-Err-clause-checks : goal.returns-in-Err-clause-checks
+returns-in-Err-clause-checks g c = λ holds.
+    let before = g.F.Folder.state c.args.folder.now in
+    let after = g.F.Folder.state c.traced.new.folder in
+    trace_stops c.args.config.now before after c.args.parsed.now holds c.in-Err.stop (subst (λ r. Tracing c.args.config.now before r after) c.in-Err.is c.traced.ensures.traces)
+
+pub returns-in-Err-report-clause-checks : goal.returns-in-Err-report-clause-checks
+returns-in-Err-report-clause-checks g c = λ holds.
+    let before = g.F.Folder.state c.args.folder.now in
+    let after = g.F.Folder.state c.traced.new.folder in
+    no_report c.args.config.now before after c.args.parsed.now holds c.in-Ok.trace (subst (λ r. Tracing c.args.config.now before r after) c.in-Ok.is c.traced.ensures.traces)
+
+pub returns-in-Ok-report-clause-checks : goal.returns-in-Ok-report-clause-checks
+returns-in-Ok-report-clause-checks g c = λ holds.
+    let before = g.F.Folder.state c.args.folder.now in
+    let after = g.F.Folder.state c.traced.new.folder in
+    reports c.args.config.now before after c.args.parsed.now holds c.in-Ok.trace (subst (λ r. Tracing c.args.config.now before r after) c.in-Ok.is c.traced.ensures.traces) c.in-Ok-report.report c.in-Ok-report.ensures

@@ -1,6 +1,0 @@
-use Rattle.std.proofs.Common.{Err, ap}
-use Rattle.generator_spec.proofs.MapPaths.{map_is_path}
-use Rattle.generator_core.proofs.prepared.map_file.Goals as goal
-
-pub unreachable-requires : goal.unreachable-requires
-unreachable-requires c = c.in-Err-BadPath.ensures.bad.0 (ap Err c.in-Err-BadPath.field-0-is) map_is_path

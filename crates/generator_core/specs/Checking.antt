@@ -1,0 +1,89 @@
+-- How a check comes to what it says.
+--     FindsMapText before result after      the map's file is read, or it is told why not
+--     FindsMap config text result      its text is read as a map, or it is told why not
+--     IsReport map all report          what is said of the map, where the trace has come to these tables
+--     ChecksBy config before result after    the same as the next one, behind the look at the map's file
+--     Checks config before result after      the check has its report, or it is told why not
+use Rattle.std.specs.Prelude.{◌≡◌, [], ◌∷◌, ℕ, List, length, Some, None, Result, Ok, Err, IfOk, IfErr, IfSome}
+use Rattle.std.specs.FinMap.{get}
+use Rattle.std.specs.List.{concat}
+use Rattle.tree_spec.specs.States.{FolderState, OnlyLooks}
+use Rattle.tree_spec.specs.Trees.{Tree}
+use Rattle.import_map_spec.specs.ParsedMap.{ParsedMap, MapFault}
+use Rattle.trace_spec.specs.declared.TraceFault.TheVariants.{Unservable}
+use Rattle.trace_spec.specs.Checks.{Gathered}
+use Rattle.trace_spec.specs.Modules.{Config, shown, web_name}
+use Rattle.trace_spec.specs.Traces.{traced}
+use Rattle.trace_spec.specs.Walking.{the_page}
+use Rattle.generator_spec.specs.declared.Command.TheVariants.{Check}
+use Rattle.generator_spec.specs.declared.Refusal.TheVariants.{MapFile, Trace}
+use Rattle.generator_spec.specs.Checking.{difference_lines, check_status, check_lines}
+use Rattle.generator_spec.specs.Commands.{map_path, IsMapText, ReadsMap, HoldsMap, map_file_fault}
+use Rattle.generation.specs.declared.stop.Stop.{Stop}
+use Rattle.generation.specs.declared.stop.Stop.TheVariants.{Refused, Memory}
+use Rattle.generation.specs.Generating.{AsksNoPathTwice, AsksFootprint}
+use Rattle.generator_core.specs.declared.checking.Report.{Report}
+use Rattle.generator_core.specs.Preparing.{AsksOwn, AsksFew, EndsBefore}
+
+-- ---- the map's file
+
+pub record IsMapTextFound (before after : FolderState) (text : List ℕ) : Type 0 where
+  pub is_text : IfSome before.holds (λ tree. IsMapText tree text)
+  pub looks : OnlyLooks before after ⊥
+
+pub record FindsMapText (before : FolderState) (result : Result (List ℕ) Stop) (after : FolderState) : Type 0 where
+  pub found : IfOk result (λ text. IsMapTextFound before after text)
+  pub asked : IfSome before.asked (λ old. AsksOwn (map_path ∷ []) old after)
+  pub stopped : IfErr result (λ stop. (config : Config) → EndsBefore Check config before after stop)
+
+-- ---- the map
+
+-- the text is no map, or the page has no URL, or memory is wanting
+pub data IsMapStop (config : Config) (text : List ℕ) (stop : Stop) : Type 0 where
+  no_map :
+      (fault : MapFault) → ReadsMap config text (Err fault) → stop ≡ Refused (MapFile (map_file_fault fault))
+      → IsMapStop config text stop
+  no_base :
+      web_name config the_page ≡ None → stop ≡ Refused (Trace (Unservable (shown config the_page) None))
+      → IsMapStop config text stop
+  memory : stop ≡ Memory → IsMapStop config text stop
+
+pub record FindsMap (config : Config) (text : List ℕ) (result : Result ParsedMap Stop) : Type 0 where
+  pub reads : IfOk result (λ map. ReadsMap config text (Ok map))
+  pub stopped : IfErr result (IsMapStop config text)
+
+-- ---- what is said
+
+pub record IsReport (map : ParsedMap) (all : Gathered) (report : Report) : Type 0 where
+  pub status : report.status ≡ check_status (difference_lines map all)
+  pub text : report.text.items ≡ concat (check_lines (length all.needs) (difference_lines map all))
+
+-- what a told tree has to do with it
+pub record IsChecked (config : Config) (tree : Tree) (map : ParsedMap) (all : Gathered) : Type 0 where
+  pub holds : HoldsMap tree config map
+  pub is_traced : traced (get tree) config ≡ Ok all
+
+pub record IsReported (config : Config) (before after : FolderState) (report : Report) : Type 0 where
+  pub map : ParsedMap
+  pub all : Gathered
+  pub is_report : IsReport map all report
+  pub told : IfSome before.holds (λ tree. IsChecked config tree map all)
+  pub looks : OnlyLooks before after ⊥
+
+-- the page has no URL, so it is refused, or memory is wanting
+pub data IsNameless (config : Config) (stop : Stop) : Type 0 where
+  refused : stop ≡ Refused (Trace (Unservable (shown config the_page) None)) → IsNameless config stop
+  memory : stop ≡ Memory → IsNameless config stop
+
+pub record ChecksBy (config : Config) (before : FolderState) (result : Result Report Stop)
+    (after : FolderState) : Type 0 where
+  pub reported : IfOk result (λ report. IsReported config before after report)
+  pub asked : IfSome before.asked (λ old. AsksNoPathTwice old after)
+  pub footprint : IfSome before.asked (λ old. AsksFootprint config before.holds old after)
+  pub stopped : IfErr result (λ stop. EndsBefore Check config before after stop)
+
+pub record Checks (config : Config) (before : FolderState) (result : Result Report Stop)
+    (after : FolderState) : Type 0 where
+  pub reported : IfOk result (λ report. IsReported config before after report)
+  pub asked : IfSome before.asked (λ old. AsksFew config before.holds (map_path ∷ []) old after)
+  pub stopped : IfErr result (λ stop. EndsBefore Check config before after stop)

@@ -1,0 +1,240 @@
+//! What a command says of the map that is there, or why it says nothing.
+
+ghost use Rattle.std.specs.Prelude.{◌≡◌, ◌≤◌, ◌+◌, ◌++◌, length, map, IfOk, OnOk, IfSome};
+ghost use Rattle.std.specs.List.{concat};
+ghost use Rattle.tree_spec.specs.declared.LimitName.TheVariants.{Modules, Requests};
+ghost use Rattle.tree_spec.specs.Limits.{limit_number};
+ghost use Rattle.trace_spec.specs.Modules.{web_name};
+ghost use Rattle.trace_spec.specs.Walking.{the_page};
+ghost use Rattle.map_check.specs.Shown.{shown};
+ghost use Rattle.generator_spec.specs.Checking as spec_at;
+ghost use Rattle.generator_spec.specs.Checking.{difference_line};
+ghost use Rattle.generator_spec.specs.Lines as spec;
+ghost use Rattle.generator_spec.specs.Commands as spec_files;
+ghost use Rattle.generator_spec.specs.Commands.{HoldsMap};
+ghost use Rattle.generator_core.specs.Checking.{Checks, ChecksBy, FindsMapText, FindsMap, IsNameless, IsReport};
+
+use crate::paths::map_path;
+use generation::{Stop, traced};
+use generator_spec::{MapFileFault, Refusal};
+use map_check::{Difference, Differences, check_map};
+use map_parse::{MapFault, ParsedMap, parse_map};
+use primitives::{Bytes, Memory, Steps, Text};
+use request_trace::{Config, Trace};
+use run_texts::{DIFFERENCES, DONE, differences_line, differs_line, served_line};
+use std::alloc::{AllocError, Global};
+use std::sync::ledger::Ledger;
+use trace_spec::TraceFault;
+use tree_model::{Folder, Look, LookFault, Path};
+use tree_spec::MOST_MAP_BYTES;
+use web_url::{Suffix, WebFault, WebUrl, web_of};
+
+/// What a check says, all its lines, and its status.
+#[derive(Drop)]
+pub struct Report {
+    pub status: u8,
+    pub text: Vec<u8>,
+}
+
+/// `check` reads the map before anything else, traces, and writes nothing.
+pub fn checked<F: Folder, L: Ledger>(
+    alloc: Global,
+    folder: &mut F,
+    config: &Config,
+    steps: &mut Steps<L>,
+) -> Result<Report, Stop>
+    ensures checks { Checks config.now (F.state folder.old) result (F.state folder.new) }
+    ensures bounded { steps.new ≤ steps.old + (limit_number Modules + limit_number Requests) }
+{
+    match map_text(alloc, folder) {
+        Err(stop) => Err(stop),
+        Ok(text) => match map_of(alloc, config, text.as_slice()) {
+            Err(stop) => Err(stop),
+            Ok(parsed) => checked_by(alloc, folder, config, &parsed, steps),
+        },
+    }
+}
+
+// Looks at the map's file, once.
+fn map_text<F: Folder>(alloc: Global, folder: &mut F) -> Result<Bytes, Stop>
+    ensures { FindsMapText (F.state folder.old) result (F.state folder.new) }
+{
+    match map_path(alloc) {
+        Ok(path) => text_at(alloc, folder, &path),
+        Err(_) => Err(Stop::Memory),
+    }
+}
+
+// The text of the map at its path.
+fn text_at<F: Folder>(alloc: Global, folder: &mut F, path: &Path) -> Result<Bytes, Stop>
+    ensures { path.now ≡ spec_files.map_path → FindsMapText (F.state folder.old) result (F.state folder.new) }
+{
+    match folder.look(alloc, path, MOST_MAP_BYTES as u64) {
+        Ok(Look::Absent) => Err(without_map(MapFileFault::Absent)),
+        Ok(Look::Folder) => Err(without_map(MapFileFault::Absent)),
+        Ok(Look::TooLarge) => Err(without_map(MapFileFault::TooLarge)),
+        Ok(Look::File(bytes)) => Ok(bytes),
+        Err(LookFault::Failed) => Err(Stop::ReadFault),
+        Err(LookFault::Memory) => Err(Stop::Memory),
+    }
+}
+
+fn without_map(fault: MapFileFault) -> Stop
+    ensures { result ≡ Stop.Refused (Refusal.MapFile fault) }
+{
+    Stop::Refused {
+        why: Refusal::MapFile { fault },
+    }
+}
+
+// The map of its text, read against the page's URL.
+fn map_of(alloc: Global, config: &Config, text: &[u8]) -> Result<ParsedMap, Stop>
+    ensures { FindsMap config.now text.now result }
+{
+    match map_base(alloc, config) {
+        Err(_) => Err(Stop::Memory),
+        Ok(None) => Err(without_base(alloc, config)),
+        Ok(Some(base)) => match parse_map(alloc, text, &base) {
+            Ok(parsed) => Ok(parsed),
+            Err(MapFault::NotJson { at }) => Err(without_map(MapFileFault::NotJson { at })),
+            Err(MapFault::TooDeep { at: _ }) => Err(without_map(MapFileFault::TooDeep)),
+            Err(MapFault::NotObject { which }) => {
+                Err(without_map(MapFileFault::NotObject { which }))
+            }
+            Err(MapFault::Memory) => Err(Stop::Memory),
+        },
+    }
+}
+
+// The page's URL, whether or not it is served there.
+fn map_base(alloc: Global, config: &Config) -> Result<Option<WebUrl>, Memory>
+    ensures { IfOk result (λ found. web_name config.now the_page ≡ found) }
+{
+    let suffix = Suffix::none(alloc);
+    match web_of(alloc, config.base(), config.page(), &suffix) {
+        Ok(url) => Ok(Some(url)),
+        Err(WebFault::Unservable { url }) => Ok(url),
+        Err(WebFault::Memory) => Err(AllocError),
+    }
+}
+
+// The page has no URL, and so no trace.
+fn without_base(alloc: Global, config: &Config) -> Stop
+    ensures { IsNameless config.now result }
+{
+    match Text::of(alloc, config.page().as_str()) {
+        Err(_) => Stop::Memory,
+        Ok(path) => Stop::Refused {
+            why: Refusal::Trace {
+                fault: TraceFault::Unservable { path, url: None },
+            },
+        },
+    }
+}
+
+// Traces, and says what the map doesn't serve.
+fn checked_by<F: Folder, L: Ledger>(
+    alloc: Global,
+    folder: &mut F,
+    config: &Config,
+    parsed: &ParsedMap,
+    steps: &mut Steps<L>,
+) -> Result<Report, Stop>
+    ensures checks { IfSome (F.state folder.old).holds (λ tree. HoldsMap tree config.now parsed.now)
+        → ChecksBy config.now (F.state folder.old) result (F.state folder.new) }
+    ensures bounded { steps.new ≤ steps.old + (limit_number Modules + limit_number Requests) }
+{
+    match traced(alloc, folder, config, steps) {
+        Err(stop) => Err(stop),
+        Ok(trace) => match report(alloc, &trace, parsed) {
+            Err(_) => Err(Stop::Memory),
+            Ok(report) => Ok(report),
+        },
+    }
+}
+
+// What the map doesn't serve of a trace's needs.
+fn report(alloc: Global, trace: &Trace, parsed: &ParsedMap) -> Result<Report, Memory>
+    ensures { IfOk result (IsReport parsed.now trace.now) }
+{
+    let differences = check_map(alloc, trace.needs(), parsed)?;
+    if differences.len() == 0 {
+        return served(alloc, trace.needs().len());
+    }
+    differing(alloc, trace, &differences)
+}
+
+fn served(alloc: Global, needs: usize) -> Result<Report, Memory>
+    ensures status { IfOk result (λ report. report.status ≡ 0) }
+    ensures text { IfOk result (λ report. report.text.items ≡ spec.served_line needs) }
+{
+    Ok(Report {
+        status: DONE,
+        text: served_line(alloc, needs)?,
+    })
+}
+
+fn differing(alloc: Global, trace: &Trace, differences: &Differences) -> Result<Report, Memory>
+    ensures status { IfOk result (λ report. report.status ≡ 6) }
+    ensures text { IfOk result (λ report. report.text.items
+        ≡ concat (map (λ d. difference_line trace.now (shown d)) differences.now) ++ spec.differences_line (length differences.now)) }
+{
+    let mut text = difference_text(alloc, trace, differences)?;
+    let last = differences_line(alloc, differences.len())?;
+    text.extend_from_slice(last.as_slice())?;
+    Ok(Report {
+        status: DIFFERENCES,
+        text,
+    })
+}
+
+// The line of each difference.
+fn difference_text(alloc: Global, trace: &Trace, differences: &Differences) -> Result<Vec<u8>, Memory>
+    ensures { IfOk result (λ text. text.items
+        ≡ concat (map (λ d. difference_line trace.now (shown d)) differences.now)) }
+{
+    let mut text = Vec::new(alloc);
+    for number in 0..differences.len() {
+        let Some(difference) = differences.at(number) else {
+            unreachable!();
+        };
+        push_difference(alloc, &mut text, trace, difference)?;
+    }
+    Ok(text)
+}
+
+fn push_difference(
+    alloc: Global,
+    text: &mut Vec<u8>,
+    trace: &Trace,
+    difference: &Difference,
+) -> Result<(), Memory>
+    ensures { OnOk result (text.new.items
+        ≡ text.old.items ++ difference_line trace.now (shown difference.now)) }
+{
+    let (referrer, specifier) = spelled(trace, difference.need);
+    let wants = wanted(trace, difference.need);
+    let line = differs_line(alloc, referrer, specifier, wants, &difference.got)?;
+    text.extend_from_slice(line.as_slice())
+}
+
+// How a need is first spelled: who asks, and the specifier.
+fn spelled(trace: &Trace, number: usize) -> (&str, &str)
+    ensures referrer { result.0.now ≡ (spec_at.spelling_at trace.now number).referrer }
+    ensures specifier { result.1.now ≡ (spec_at.spelling_at trace.now number).specifier }
+{
+    match trace.spelling(number) {
+        None => ("", ""),
+        Some(spelling) => (spelling.referrer().as_str(), spelling.specifier().as_str()),
+    }
+}
+
+// What has to come of a need.
+fn wanted(trace: &Trace, number: usize) -> &str
+    ensures { result.now ≡ (spec_at.need_at trace.now number).target }
+{
+    match trace.needs().at(number) {
+        None => "",
+        Some(need) => need.target.as_str(),
+    }
+}

@@ -1,0 +1,4 @@
+pub mod StringLists
+pub mod NameLemmas
+pub mod PartLemmas
+pub mod PrintLemmas

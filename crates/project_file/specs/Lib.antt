@@ -1,0 +1,4 @@
+pub mod Outcomes
+pub mod Parts
+pub mod Names
+pub mod Strings

@@ -1,0 +1,104 @@
+ghost use Rattle.std.specs.Prelude.{◌≡◌, false, IfOk, true};
+ghost use Rattle.clap.specs.Words.{app_of, rule_of};
+ghost use Rattle.clap.specs.declared.builder.Command.TheViews.{out-Command as fields_of};
+ghost use Rattle.words_clap_spec.specs.Program as spec;
+ghost use Rattle.words_clap_spec.specs.Program.{entries_rule, link_command, measure_command, number_rule, option_rule, program, unlink_command};
+
+use crate::help;
+use clap::{Arg, ArgAction, Command};
+use std::alloc::{AllocError, Global};
+
+/// The program with its commands, as `clap` takes it.
+pub fn command<'a>(alloc: Global) -> Result<Command<'a>, AllocError>
+    ensures { IfOk result (λ command. app_of command ≡ program) }
+{
+    top(alloc)?
+        .subcommand(link(alloc)?)?
+        .subcommand(unlink(alloc)?)?
+        .subcommand(plain(alloc, "refresh", help::REFRESH))?
+        .subcommand(plain(alloc, "inject", help::INJECT))?
+        .subcommand(plain(alloc, "check", help::CHECK))?
+        .subcommand(plain(alloc, "list", help::LIST))?
+        .subcommand(plain(alloc, "session", help::SESSION))?
+        .subcommand(measure(alloc)?)
+}
+
+// The words begin behind the program's name, so its name is given here.
+fn top<'a>(alloc: Global) -> Result<Command<'a>, AllocError>
+    ensures { IfOk result (λ command. app_of command ≡ spec.top) }
+{
+    Command::new(alloc, "salimgub")
+        .about(help::ABOUT)
+        .after_help(help::AFTER)
+        .no_binary_name(true)
+        .subcommand_required(true)
+        .arg_required_else_help(true)
+        .bin_name("salimgub")
+}
+
+fn link<'a>(alloc: Global) -> Result<Command<'a>, AllocError>
+    ensures app { IfOk result (λ command. app_of command ≡ link_command) }
+    ensures local { IfOk result (λ command. (fields_of command).has_globals ≡ false) }
+{
+    Command::new(alloc, "link")
+        .about(help::LINK)
+        .arg(option(alloc, "base", "URL", help::BASE))?
+        .arg(option(alloc, "page", "PATH", help::PAGE))?
+        .arg(option(alloc, "conditions", "NAMES", help::CONDITIONS))?
+        .arg(entries(alloc, help::ENTRIES))
+}
+
+fn unlink<'a>(alloc: Global) -> Result<Command<'a>, AllocError>
+    ensures app { IfOk result (λ command. app_of command ≡ unlink_command) }
+    ensures local { IfOk result (λ command. (fields_of command).has_globals ≡ false) }
+{
+    Command::new(alloc, "unlink")
+        .about(help::UNLINK)
+        .arg(entries(alloc, help::UNLINKED).required(true))
+}
+
+fn measure<'a>(alloc: Global) -> Result<Command<'a>, AllocError>
+    ensures app { IfOk result (λ command. app_of command ≡ measure_command) }
+    ensures local { IfOk result (λ command. (fields_of command).has_globals ≡ false) }
+{
+    Command::new(alloc, "measure")
+        .about(help::MEASURE)
+        .arg(number(alloc))
+}
+
+fn plain<'a>(alloc: Global, name: &'a str, about: &'a str) -> Command<'a>
+    ensures app { app_of result ≡ spec.plain_command name.entry.now }
+    ensures local { (fields_of result).has_globals ≡ false }
+{
+    Command::new(alloc, name).about(about)
+}
+
+fn option<'a>(alloc: Global, name: &'a str, value: &'a str, about: &'a str) -> Arg<'a>
+    ensures rule { rule_of result ≡ option_rule name.entry.now }
+    ensures local { result.global ≡ false }
+{
+    Arg::new(alloc, name)
+        .long(name)
+        .value_name(value)
+        .help(about)
+}
+
+fn entries<'a>(alloc: Global, about: &'a str) -> Arg<'a>
+    ensures rule { rule_of result ≡ entries_rule }
+    ensures local { result.global ≡ false }
+{
+    Arg::new(alloc, "entries")
+        .action(ArgAction::Append)
+        .value_name("ENTRY")
+        .help(about)
+}
+
+fn number<'a>(alloc: Global) -> Arg<'a>
+    ensures rule { rule_of result ≡ number_rule }
+    ensures local { result.global ≡ false }
+{
+    Arg::new(alloc, "number")
+        .value_name("N")
+        .required(true)
+        .help(help::NUMBER)
+}

@@ -1,0 +1,9 @@
+mod Rows
+mod Turns
+mod Entries
+mod LinkRows
+mod LinkTurns
+mod LinkWalk
+mod UnlinkWalk
+mod MeasureWalk
+pub mod PlainWords

@@ -1,0 +1,4 @@
+pub mod Program
+pub mod Holding
+pub mod Refusing
+pub mod Laws

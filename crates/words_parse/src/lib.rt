@@ -1,0 +1,71 @@
+//! What the words of a command line ask for, or what is to be said of them.
+//!
+//! `clap` judges the words, and `words_read` gives the values, which are those that `clap` holds.
+#![tactic(auto)]
+
+ghost use Rattle.std.specs.Prelude.{◌≡◌, ◌≢◌, Err, IfErr, IfOk, String, map, string_bytes};
+ghost use Rattle.clap.specs.Words.{kind_of};
+ghost use Rattle.words_clap_spec.specs.Refusing.{IsRefused, IsTaken};
+ghost use Rattle.words_read.specs.Shown.{AsksNothing, shown};
+ghost use Rattle.words_spec.specs.PlainWords.{Asked, Asks};
+
+#[cfg(test)]
+mod tests;
+
+use clap::Error;
+use clap::error::ErrorKind;
+use std::alloc::Global;
+use std::fmt::Write;
+use words_clap::matches;
+use words_read::read;
+
+pub use words_read::{Command, LinkValues};
+
+/// Why words ask for nothing.
+#[derive(Debug, Drop)]
+pub enum WordsFault {
+    /// `clap` has this to say: what is wrong with them, or the help that they ask for.
+    Told(String),
+    /// `clap` takes them, but they aren't plain.
+    NotPlain,
+    /// Want of memory.
+    Memory,
+}
+
+/// What the words ask for.
+pub fn parse<'a>(alloc: Global, words: &'a [String]) -> Result<Command<'a>, WordsFault>
+    ensures plain { (asked : Asked) → Asks (map string_bytes words.now) asked → IfOk result (λ command. shown command ≡ asked) }
+    ensures memory { (asked : Asked) → Asks (map string_bytes words.now) asked → IfErr result (λ fault. fault ≡ WordsFault.Memory) }
+    ensures asks { IfOk result (λ command. Asks (map string_bytes words.now) (shown command)) }
+    ensures told { (text : String) → result ≡ Err (WordsFault.Told text) → IsRefused (map string_bytes words.now) }
+    ensures not_plain { result ≡ Err WordsFault.NotPlain
+        → IsTaken (map string_bytes words.now) × AsksNothing (map string_bytes words.now) }
+{
+    match matches(alloc, words) {
+        Err(error) => Err(fault_from(alloc, &error)),
+        Ok(_) => match read(words) {
+            Some(command) => Ok(command),
+            None => Err(WordsFault::NotPlain),
+        },
+    }
+}
+
+fn fault_from(alloc: Global, error: &Error) -> WordsFault
+    ensures memory { kind_of error.now ≡ ErrorKind.OutOfMemory → result ≡ WordsFault.Memory }
+    ensures told { result ≢ WordsFault.NotPlain }
+{
+    match error.kind() {
+        ErrorKind::OutOfMemory => WordsFault::Memory,
+        _ => told(alloc, error),
+    }
+}
+
+fn told(alloc: Global, error: &Error) -> WordsFault
+    ensures { result ≢ WordsFault.NotPlain }
+{
+    let mut text = String::new(alloc);
+    match write!(text, "{error}") {
+        Ok(()) => WordsFault::Told(text),
+        Err(_) => WordsFault::Memory,
+    }
+}

@@ -1,0 +1,85 @@
+ghost use Rattle.std.specs.Prelude.{◌≡◌, MatchOption, map, string_bytes, option_map};
+ghost use Rattle.words_read.specs.Shown.{AsksNothing, options_of, shown};
+ghost use Rattle.words_spec.specs.PlainWords.{Asks, no_options};
+ghost use Rattle.words_spec.specs.Reading as reading;
+
+use crate::command::{Command, LinkValues};
+use crate::link::link_from;
+use crate::number::number_in;
+use crate::values::are_values;
+
+/// What the words ask for; None exactly where they aren't plain.
+pub fn read(words: &[String]) -> Option<Command<'_>>
+    ensures { MatchOption result (AsksNothing (map string_bytes words.now))
+        (λ command. Asks (map string_bytes words.now) (shown command)) }
+{
+    reading_of(words)
+}
+
+fn reading_of(words: &[String]) -> Option<Command<'_>>
+    ensures { option_map shown result ≡ reading.reading_of (map string_bytes words.now) }
+{
+    let (command, rest) = words.split_first()?;
+    let command = command.as_str();
+    if command == "link" {
+        return link_from(no_values(), rest);
+    }
+    if command == "unlink" {
+        return unlink_of(rest);
+    }
+    if command == "measure" {
+        return measure_of(rest);
+    }
+    if !rest.is_empty() {
+        return None;
+    }
+    plain_command(command)
+}
+
+fn no_values<'a>() -> LinkValues<'a>
+    ensures { options_of result ≡ no_options }
+{
+    LinkValues {
+        base: None,
+        page: None,
+        conditions: None,
+    }
+}
+
+fn unlink_of(words: &[String]) -> Option<Command<'_>>
+    ensures { option_map shown result ≡ reading.unlink_reading (map string_bytes words.now) }
+{
+    if words.is_empty() || !are_values(words) {
+        return None;
+    }
+    Some(Command::Unlink(words))
+}
+
+fn measure_of(words: &[String]) -> Option<Command<'_>>
+    ensures { option_map shown result ≡ reading.measure_reading (map string_bytes words.now) }
+{
+    let (text, rest) = words.split_first()?;
+    if !rest.is_empty() {
+        return None;
+    }
+    let number = number_in(text.as_str())?;
+    Some(Command::Measure(number))
+}
+
+fn plain_command(command: &str) -> Option<Command<'_>>
+    ensures { option_map shown result ≡ reading.plain_command command.now }
+{
+    if command == "refresh" {
+        Some(Command::Refresh)
+    } else if command == "check" {
+        Some(Command::Check)
+    } else if command == "list" {
+        Some(Command::List)
+    } else if command == "inject" {
+        Some(Command::Inject)
+    } else if command == "session" {
+        Some(Command::Session)
+    } else {
+        None
+    }
+}

@@ -1,0 +1,3 @@
+pub mod PlainWords
+pub mod Reading
+pub mod Laws

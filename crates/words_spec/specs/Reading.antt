@@ -1,0 +1,114 @@
+-- The meaning of words as a function, which reads them from the first to the last.
+--     reading_of words      what the words ask for, where they are plain
+--     link_reading words waiting options      the same of the words after `link` and these options
+--     spelling_of word      whether a word after `link` spells an option, with its value or without
+--     number_in text number      the number that the digits of a text go on to
+use Rattle.std.specs.List.{list_all}
+use Rattle.std.specs.Prelude.{◌==◌, ◌+◌, ◌-◌, ◌*◌, ◌&&◌, ◌||◌, not, true, false, Bool, ℕ, List, [], ◌∷◌, codes, bytes_eq, Option, Some, None, if◌then◌else◌, nat_lt, is_some, option_map, option_and_then}
+use Rattle.words_spec.specs.declared.LinkOption.{LinkOption}
+use Rattle.words_spec.specs.declared.LinkOption.TheVariants.{Base, Page, Conditions}
+use Rattle.words_spec.specs.PlainWords.{Asked, LinkOptions, no_options, spelled, value_of, with_value, linking, unlinking, refreshing, checking, listing, injecting, editing, measuring}
+
+abbrev pub is_value : List ℕ → Bool
+is_value [] = false
+is_value (byte ∷ rest) = not (byte == 45)
+
+-- the text behind a front, where it begins with that
+abbrev pub behind : List ℕ → List ℕ → Option (List ℕ)
+behind [] text = Some text
+behind (first ∷ front) [] = None
+behind (first ∷ front) (byte ∷ text) = if byte == first then behind front text else None
+
+-- what a word after `link` is: no option, an option whose value is the next word, or one with its value
+pub data Spelling : Type 0 where
+  no_option : Spelling
+  alone : LinkOption → Spelling
+  joined : LinkOption → List ℕ → Spelling
+
+-- by what stands behind the option's name
+abbrev pub spelling_by : LinkOption → Option (List ℕ) → Spelling
+spelling_by option None = no_option
+spelling_by option (Some []) = alone option
+spelling_by option (Some (byte ∷ value)) = if byte == 61 then joined option value else no_option
+
+abbrev pub or_else : Spelling → Spelling → Spelling
+or_else no_option other = other
+or_else (alone option) other = alone option
+or_else (joined option value) other = joined option value
+
+abbrev pub spelling_as : LinkOption → List ℕ → Spelling
+spelling_as option word = spelling_by option (behind (spelled option) word)
+
+abbrev pub spelling_of : List ℕ → Spelling
+spelling_of word = or_else (spelling_as Base word) (or_else (spelling_as Page word) (spelling_as Conditions word))
+
+-- the options with one more, where this is a value and the option isn't there already
+abbrev pub one_more : LinkOptions → LinkOption → List ℕ → Option LinkOptions
+one_more options option value =
+    if is_value value && not (is_some (value_of option options)) then Some (with_value option value options) else None
+
+abbrev pub entries_reading : LinkOptions → List (List ℕ) → Option Asked
+entries_reading options words = if list_all is_value words then Some (linking options words) else None
+
+abbrev pub by_spelling :
+    Spelling → LinkOptions → Option Asked → (Option LinkOption → LinkOptions → Option Asked) → Option Asked
+by_spelling no_option options entries next = entries
+by_spelling (alone option) options entries next = next (Some option) options
+by_spelling (joined option value) options entries next = option_and_then (next None) (one_more options option value)
+
+-- an option that was spelled alone waits for its value
+abbrev pub link_reading : List (List ℕ) → Option LinkOption → LinkOptions → Option Asked
+link_reading [] None options = Some (linking options [])
+link_reading [] (Some option) options = None
+link_reading (word ∷ rest) None options =
+    by_spelling (spelling_of word) options (entries_reading options (word ∷ rest)) (link_reading rest)
+link_reading (value ∷ rest) (Some option) options =
+    option_and_then (link_reading rest None) (one_more options option value)
+
+-- one more digit, where it is one and the number stays from 1 to 2,000
+abbrev pub next_number : ℕ → ℕ → Option ℕ
+next_number number digit =
+    if nat_lt digit 48 || nat_lt 57 digit then None
+    else (if (number * 10 + (digit - 48)) == 0 || nat_lt 2000 (number * 10 + (digit - 48)) then None
+        else Some (number * 10 + (digit - 48)))
+
+abbrev pub with_number : Option ℕ → (ℕ → Option ℕ) → Option ℕ
+with_number None next = None
+with_number (Some number) next = next number
+
+abbrev pub number_in : List ℕ → ℕ → Option ℕ
+number_in [] number = if number == 0 then None else Some number
+number_in (digit ∷ rest) number = with_number (next_number number digit) (number_in rest)
+
+abbrev pub measure_reading : List (List ℕ) → Option Asked
+measure_reading [] = None
+measure_reading (text ∷ []) = option_map measuring (number_in text 0)
+measure_reading (text ∷ more ∷ rest) = None
+
+abbrev pub unlink_reading : List (List ℕ) → Option Asked
+unlink_reading [] = None
+unlink_reading (word ∷ rest) = if list_all is_value (word ∷ rest) then Some (unlinking (word ∷ rest)) else None
+
+-- the commands that take nothing
+abbrev pub plain_command : List ℕ → Option Asked
+plain_command command =
+    if bytes_eq command (codes "refresh") then Some refreshing
+    else (if bytes_eq command (codes "check") then Some checking
+    else (if bytes_eq command (codes "list") then Some listing
+    else (if bytes_eq command (codes "inject") then Some injecting
+    else (if bytes_eq command (codes "session") then Some editing else None))))
+
+abbrev pub without_more : List (List ℕ) → Option Asked → Option Asked
+without_more [] asked = asked
+without_more (word ∷ rest) asked = None
+
+abbrev pub command_reading : List ℕ → List (List ℕ) → Option Asked
+command_reading command rest =
+    if bytes_eq command (codes "link") then link_reading rest None no_options
+    else (if bytes_eq command (codes "unlink") then unlink_reading rest
+    else (if bytes_eq command (codes "measure") then measure_reading rest
+    else without_more rest (plain_command command)))
+
+abbrev pub reading_of : List (List ℕ) → Option Asked
+reading_of [] = None
+reading_of (command ∷ rest) = command_reading command rest

@@ -1,0 +1,63 @@
+//! Runs of `inject` whose map has a name with an end tag in it: the page that comes of one comes of itself, and of
+//! itself with another map.
+
+use crate::case::NONE;
+use crate::page_cases::{INJECT, PageCase};
+use crate::pages::passes;
+use std::test::Fail;
+
+const NAMES: &str = "{\"imports\":{\"#</script>\":\"./x.mjs\"}}";
+
+const APP: &str = "import \"#</script>\";";
+
+const DONE: &str = "ok: 2 modules, 2 requests, 1 mappings\n";
+
+const INJECTED: &str = "<head><script type=\"importmap\">{
+  \"imports\": {
+    \"#\\u003c/script>\": \"https://app.test/x.mjs\"
+  }
+}
+</script>
+</head>
+";
+
+const OTHER_MAP: &str = "<head><script type=\"importmap\">{\"imports\":{\"#a\":\"/a.mjs\"}}</script>
+</head>
+";
+
+static CASES: [PageCase; 2] = [
+    PageCase {
+        words: INJECT,
+        files: &[
+            ("/index.html", INJECTED),
+            ("/package.json", NAMES),
+            ("/app.mjs", APP),
+            ("/x.mjs", ""),
+        ],
+        fails: NONE,
+        status: 0,
+        line: DONE,
+        page: Some(INJECTED),
+    },
+    PageCase {
+        words: INJECT,
+        files: &[
+            ("/index.html", OTHER_MAP),
+            ("/package.json", NAMES),
+            ("/app.mjs", APP),
+            ("/x.mjs", ""),
+        ],
+        fails: NONE,
+        status: 0,
+        line: DONE,
+        page: Some(INJECTED),
+    },
+];
+
+#[test]
+fn a_page_with_an_escaped_map(rt: HostRuntime) -> Result<(), Fail> {
+    for (number, case) in CASES.iter().enumerate() {
+        assert!(rt; passes(rt.alloc(), case)?, "escaped page {number}");
+    }
+    Ok(())
+}
