@@ -25,7 +25,7 @@ use Rattle.package_lookup.specs.Responses.{Response, given, fails, never, by_fau
 use Rattle.package_lookup.specs.declared.format.Format.{Format}
 use Rattle.package_lookup.specs.declared.format.Format.TheVariants.{Module, Detect, Not}
 use Rattle.package_lookup.specs.declared.fault.LookupFault.{LookupFault}
-use Rattle.package_lookup.proofs.Questions.{then_given, now_given, fault_on, looked_on, unfinished}
+use Rattle.package_lookup.proofs.Questions.{then_given, now_given, fault_on, looked_on}
 
 abbrev Found : Type 0
 Found = Result Source NoSource

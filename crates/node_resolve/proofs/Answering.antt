@@ -10,16 +10,18 @@ use Rattle.tree_spec.specs.LookLimits.{look_limits, limited}
 use Rattle.tree_spec.specs.Trees.{Tree}
 use Rattle.package_lookup.specs.Looked.{Sees}
 use Rattle.asking_spec.specs.Askings.{answered, and_then, on_ok, and_ok}
-use Rattle.tree_spec.specs.LookAskings.{Sights, LookAsking}
+use Rattle.tree_spec.specs.LookAskings.{Sights, LookAsking, looks}
 use Rattle.tree_spec.specs.declared.LimitName.{LimitName}
 use Rattle.node_spec.specs.NodeAnswers.{Refusal, by_cause, Resolving}
 use Rattle.node_spec.specs.declared.Cause.{Cause}
-use Rattle.package_lookup.specs.Answered.{State, Comes, Tells, AsksOnce, Answered}
+use Rattle.package_lookup.specs.Answered.{State, Comes, Tells, IsLookOf, AsksOnce, Answered}
 use Rattle.package_lookup.specs.Responses.{Response, given, fails, passes, not_read, no_memory, never, by_fault, bad_config, deep_config}
 use Rattle.package_lookup.specs.declared.fault.LookupFault.{LookupFault}
 use Rattle.package_lookup.specs.declared.fault.LookupFault.TheVariants as lookup
+use Rattle.std.proofs.lemmas.List.Elements.{All-contains}
+use Rattle.std.specs.Prelude.{All, Contains}
 use Rattle.std.specs.Result.{IsErrAnd}
-use Rattle.package_lookup.proofs.Questions.{handed, then_given, then_fails, now_given, no_memory_now, nothing, looked_to, refused_on, resolved_on, unfinished}
+use Rattle.package_lookup.proofs.Questions.{if_weaker, asks_finished, handed, then_given, then_fails, now_given, no_memory_now, nothing, looked_to, refused_on, resolved_on}
 use Rattle.node_resolve.specs.Responses.{node_fault, by_node_fault, responded, NeedsNoLook, ComesNow, Gives}
 use Rattle.node_resolve.specs.declared.fault.NodeFault.{NodeFault}
 use Rattle.node_resolve.specs.declared.fault.NodeFault.TheVariants.{Refused, ReadFault, Limit, Memory}
@@ -86,11 +88,6 @@ module _ {Y : Type 0} (before after : State) where
   resolved_fails part next (Limit which) a = resolved_on before after part next (lookup.Limit which) a
   resolved_fails part next Memory a = then_fails before after part (on_ok next) no_memory a
 
-  pub memory_then : {X : Type 0} (part : Resolving X) (value : X) (whole : Resolving Y) (fault : NodeFault) → fault ≡ Memory
-      → Answered before part (given (Ok value)) after → Answered before whole (by_node_fault fault) after
-  memory_then part value whole fault e a =
-      subst (λ f. Answered before whole (by_node_fault f) after) (sym e) (unfinished before after part (Ok value) whole a)
-
 -- ---- what comes behind
 
 pub then_ok : {X Y : Type 0} (before middle after : State) (part : Resolving X) (next : X → Resolving Y) (value : X)
@@ -110,27 +107,32 @@ tells_as None before after one other r q comes tells = tt
 tells_as (Some tree) before after one other r q comes tells =
     record { says = λ sights sees. comes tree sights refl sees; same = tells.same }
 
-asks_as : (asked : Option (List (List ℕ))) (before after : State) (one other : Type 0) → (one → other)
-    → IfSome asked (λ old. AsksOnce old before after one) → IfSome asked (λ old. AsksOnce old before after other)
-asks_as None before after one other weaker asks = tt
-asks_as (Some old) before after one other weaker asks = record {
-  more = asks.more;
-  asked = asks.asked;
-  once = asks.once;
-  new = asks.new;
-  held = λ finished. asks.held (λ e. finished (weaker e));
-}
+-- where all looks of the one are looks of the other
+looks_as : {X Y : Type 0} (told : Option Tree) (before : State) (one : LookAsking X) (other : LookAsking Y)
+    (path : List ℕ)
+    → ((tree : Tree) (sights : Sights) → told ≡ Some tree → Sees tree before.known sights
+    → All (Contains (looks sights other)) (looks sights one))
+    → IfSome told (λ tree. (sights : Sights) → Sees tree before.known sights → Contains (looks sights one) path)
+    → IfSome told (λ tree. (sights : Sights) → Sees tree before.known sights → Contains (looks sights other) path)
+looks_as None before one other path within is = tt
+looks_as (Some tree) before one other path within is = λ sights sees.
+    All-contains (Contains (looks sights other)) (looks sights one) path (within tree sights refl sees) (is sights sees)
 
 pub reframed : {X Y : Type 0} (before after : State) (one : LookAsking X) (other : LookAsking Y) (r : Response X)
     (q : Response Y) → Answered before one r after → (r ≡ fails no_memory → q ≡ fails no_memory)
     → (r ≡ fails not_read → q ≡ fails not_read) → (q ≡ fails not_read → r ≡ fails not_read)
     → (q ≡ fails never → r ≡ fails never)
     → ((tree : Tree) (sights : Sights) → before.folder.holds ≡ Some tree → Sees tree before.known sights
-    → Comes (evaluated (limited look_limits sights) before.trail other) q after.trail) → Answered before other q after
-reframed before after one other r q a memory read back possible comes = record {
+    → Comes (evaluated (limited look_limits sights) before.trail other) q after.trail)
+    → ((tree : Tree) (sights : Sights) → before.folder.holds ≡ Some tree → Sees tree before.known sights
+    → All (Contains (looks sights other)) (looks sights one)) → Answered before other q after
+reframed before after one other r q a memory read back possible comes within = record {
   tells = tells_as before.folder.holds before after one other r q comes a.tells;
   known = a.known;
-  asked = asks_as before.folder.asked before after (r ≡ fails no_memory) (q ≡ fails no_memory) memory a.asked;
+  asked = if_weaker before.folder.asked (λ old. AsksOnce old before after (r ≡ fails no_memory) (IsLookOf before one))
+      (λ old. AsksOnce old before after (q ≡ fails no_memory) (IsLookOf before other))
+      (λ old. asks_finished old before after (r ≡ fails no_memory) (q ≡ fails no_memory) (IsLookOf before one)
+      (IsLookOf before other) memory (λ path. looks_as before.folder.holds before one other path within)) a.asked;
   folder = record {
     tree = a.folder.tree;
     writes = a.folder.writes;

@@ -3,12 +3,14 @@
 --     choice_answered, choice_lost      the whole target
 --     moved, chosen_fails          what is handed on
 use Rattle.std.proofs.Common.{◌≡◌, ℕ, List, [], ◌∷◌, ◌++◌, Bool, true, false, Option, Some, None, IfSome, refl, sym, ap, ◌∙◌, subst}
-use Rattle.std.specs.Prelude.{All, ⊤}
-use Rattle.std.proofs.lemmas.List.Elements.{All-head, All-tail}
-use Rattle.asking_spec.specs.Askings.{answered, ask, and_then}
+use Rattle.std.specs.Prelude.{All, Contains, ⊤}
+use Rattle.std.proofs.lemmas.List.Elements.{All-nil, All-append, All-head, All-tail}
+use Rattle.asking_spec.proofs.AskingLemmas.{questions_then}
+use Rattle.asking_spec.proofs.EvaluationLemmas.{ends_outcome}
+use Rattle.asking_spec.specs.Askings.{answered, ask, outcome, and_then}
 use Rattle.asking_spec.specs.Evaluation.{Ended, ends, stopped, then_ended, evaluated}
 use Rattle.json_spec.specs.Value.{Json}
-use Rattle.tree_spec.specs.LookAskings.{Sights, LookAsking}
+use Rattle.tree_spec.specs.LookAskings.{Sights, LookAsking, looks}
 use Rattle.tree_spec.specs.LookLimits.{Trail, look_limits, limited}
 use Rattle.tree_spec.specs.Trees.{Tree}
 use Rattle.tree_spec.specs.States.{FolderState}
@@ -33,8 +35,9 @@ use Rattle.condition_match.specs.Choosing as choosing
 use Rattle.package_lookup.specs.Answered.{State, state, Comes, Tells, Answered}
 use Rattle.package_lookup.specs.Looked.{look_in, Sees}
 use Rattle.package_lookup.specs.Responses.{Failing, passes, not_read, no_memory, never, Response, given, fails}
-use Rattle.package_lookup.proofs.Questions.{then_given, then_fails, now_given}
+use Rattle.package_lookup.proofs.Questions.{limited_always, then_given, then_fails, now_given}
 use Rattle.node_resolve.proofs.Answering.{reframed}
+use Rattle.node_resolve.proofs.TargetLooks.{Hears, IsLook, hears_front, target_heard}
 use Rattle.node_resolve.specs.BareTexts.{Kept, GivesBare, a_value, a_fault, failing_of, lost_by}
 
 -- ---- no call behind a `Stop`
@@ -284,6 +287,36 @@ module _ (ask : List ℕ → Resolving Url) where
           calls.2,
     )
 
+    -- ---- the looks for the texts are among these
+
+    one_heard : (Among : List ℕ → Type 0) (before middle : Kept) (text : List ℕ) (answer : BareAnswer)
+        (more : List Call) → GivesBare ask before text answer middle → before.state.folder.holds ≡ Some tree
+        → Sees tree before.state.known sights → (answer ≡ bare_answer.Stop → more ≡ [])
+        → Hears sights bares Among ((text, answer) ∷ more)
+        → (Hears sights bares Among more → All Among (looks sights (row more)))
+        → All Among (looks sights (row ((text, answer) ∷ more)))
+    one_heard Among before middle text answer more (a_value {found = found} a j l k) e sees ends_it hears rest =
+        let is : found ≡ outcome sights (ask text) =
+        ends_outcome answers sights (limited_always sights) before.state.trail middle.state.trail (ask text) found
+        ((tells_at tree before.state middle.state (ask text) (given found) e a).says sights sees) in
+        subst (λ paths. All Among paths) (sym (questions_then sights (ask text) (λ f. row more)))
+        (All-append Among (looks sights (ask text)) (looks sights (row more)) hears.0
+        (rest (hears.1 (j ∙ ap judge_bare is))))
+    one_heard Among before middle text answer more (a_fault a s k) e sees ends_it hears rest =
+        subst (λ paths. All Among paths) (sym (questions_then sights (ask text) (λ f. row more)))
+        (All-append Among (looks sights (ask text)) (looks sights (row more)) hears.0
+        (subst (λ m. All Among (looks sights (row m))) (sym (ends_it s)) (All-nil Among)))
+
+    all_heard : (Among : List ℕ → Type 0) (before after : Kept) (asked : List Call) → StopsLast asked
+        → before.state.folder.holds ≡ Some tree → Sees tree before.state.known sights
+        → Calls (GivesBare ask) before asked after → Hears sights bares Among asked
+        → All Among (looks sights (row asked))
+    all_heard Among before after [] stops e sees calls hears = All-nil Among
+    all_heard Among before after (call ∷ more) stops e sees calls hears =
+        one_heard Among before calls.0 call.0 call.1 more calls.1 e sees stops.0 hears
+        (all_heard Among calls.0 after more stops.1 (still_holds before calls.0 call.0 call.1 calls.1 e)
+        (still_sees before calls.0 call.0 call.1 calls.1 e sees) calls.2)
+
   -- ---- the whole target
 
   abbrev failed : (X : Type 0) → Failing → Response X
@@ -352,15 +385,21 @@ module _ (ask : List ℕ → Resolving Url) where
               (target_comes bares rules goal last) ≡ stopped stop found.0) none found.1,
         )))
 
+    within : (tree : Tree) (sights : Sights) → before.state.folder.holds ≡ Some tree
+        → Sees tree before.state.known sights → All (Contains (looks sights whole)) (looks sights (row asked))
+    within tree sights e sees =
+        all_heard tree sights (IsLook sights bares whole) before after asked stops e sees calls
+        ((target_heard sights bares rules goal asked out is).hears None)
+
     whole_by : (fault : Option Failing) → after.fault ≡ fault
         → Answered before.state (row asked) (row_response fault) after.state
         → Answered before.state whole (response_of out after.last fault) after.state
     whole_by None f a =
         reframed before.state after.state (row asked) whole (given tt) (given (came out after.last)) a (λ e. absurd (cc))
-        (λ e. absurd (cc)) (λ e. absurd (cc)) (λ e. absurd (cc)) (λ tree sights e sees. comes_by tree sights e sees None f)
+        (λ e. absurd (cc)) (λ e. absurd (cc)) (λ e. absurd (cc)) (λ tree sights e sees. comes_by tree sights e sees None f) within
     whole_by (Some failing) f a =
         reframed before.state after.state (row asked) whole (fails failing) (fails failing) a
-        (there failing no_memory) (there failing not_read) (back failing not_read) (back failing never) (λ tree sights e sees. comes_by tree sights e sees (Some failing) f)
+        (there failing no_memory) (there failing not_read) (back failing not_read) (back failing never) (λ tree sights e sees. comes_by tree sights e sees (Some failing) f) within
 
     pub choice_answered : Answered before.state whole (response_of out after.last after.fault) after.state
     choice_answered = whole_by after.fault refl (rows before after asked free stops calls)
@@ -370,31 +409,41 @@ module _ (ask : List ℕ → Resolving Url) where
   module _ (rules : Rules) (goal : Json) (asked more : List Call) (out : Outcome)
       (is : ResolvesTarget rules goal (asked ++ more) out) (before after : Kept) (free : before.fault ≡ None)
       (calls : Calls (GivesBare ask) before asked after) where
+    front_stops : StopsLast asked
+    front_stops =
+        stops_front asked more (stops_last (asked ++ more) out (deciding_call_is_last rules goal (asked ++ more) out is))
+
+    within_front : (tree : Tree) (sights : Sights) → before.state.folder.holds ≡ Some tree
+        → Sees tree before.state.known sights
+        → All (Contains (looks sights (target_comes bares rules goal None))) (looks sights (row asked))
+    within_front tree sights e sees =
+        all_heard tree sights (IsLook sights bares (target_comes bares rules goal None)) before after asked front_stops e
+        sees calls
+        (hears_front sights bares (IsLook sights bares (target_comes bares rules goal None)) asked more
+        ((target_heard sights bares rules goal (asked ++ more) out is).hears None))
+
     lost_when : (fault : Option Failing) → Answered before.state (row asked) (row_response fault) after.state
         → Answered {X = Came Found} before.state (target_comes bares rules goal None) (fails (lost_by fault)) after.state
     lost_when None a =
         reframed before.state after.state (row asked) (target_comes bares rules goal None) (given tt) (fails no_memory) a
-        (λ e. refl) (λ e. absurd (cc)) (λ e. absurd (cc)) (λ e. absurd (cc)) (λ tree sights e sees. tt)
+        (λ e. refl) (λ e. absurd (cc)) (λ e. absurd (cc)) (λ e. absurd (cc)) (λ tree sights e sees. tt) within_front
     lost_when (Some (passes name)) a =
         reframed before.state after.state (row asked) (target_comes bares rules goal None) (fails (passes name))
         (fails no_memory) a (λ e. refl) (λ e. absurd (cc)) (λ e. absurd (cc)) (λ e. absurd (cc))
-        (λ tree sights e sees. tt)
+        (λ tree sights e sees. tt) within_front
     lost_when (Some not_read) a =
         reframed before.state after.state (row asked) (target_comes bares rules goal None) (fails not_read)
-        (fails not_read) a (λ e. absurd (cc)) (λ e. refl) (λ e. refl) (λ e. absurd (cc)) (λ tree sights e sees. tt)
+        (fails not_read) a (λ e. absurd (cc)) (λ e. refl) (λ e. refl) (λ e. absurd (cc)) (λ tree sights e sees. tt) within_front
     lost_when (Some no_memory) a =
         reframed before.state after.state (row asked) (target_comes bares rules goal None) (fails no_memory)
         (fails no_memory) a (λ e. refl) (λ e. absurd (cc)) (λ e. absurd (cc)) (λ e. absurd (cc))
-        (λ tree sights e sees. tt)
+        (λ tree sights e sees. tt) within_front
     lost_when (Some never) a = absurd (a.possible refl)
 
     pub choice_lost : Answered {X = Came Found} before.state (target_comes bares rules goal None)
         (fails (lost_by after.fault)) after.state
     choice_lost =
-        lost_when after.fault
-        (rows before after asked free
-        (stops_front asked more (stops_last (asked ++ more) out (deciding_call_is_last rules goal (asked ++ more) out is)))
-        calls)
+        lost_when after.fault (rows before after asked free front_stops calls)
 
 abbrev pub fails_of : (X : Type 0) → Failing → Response X
 fails_of X failing = fails failing

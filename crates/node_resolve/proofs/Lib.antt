@@ -3,6 +3,7 @@ pub mod Forms
 pub mod PlaceLemmas
 pub mod MemberLemmas
 pub mod TargetLemmas
+mod TargetLooks
 pub mod BareLemmas
 pub mod NameLemmas
 pub mod Folders

@@ -4,11 +4,11 @@
 --     learns_as            the same, where more may be left unfinished
 --     learns_by            what a call that asks learns
 --     learns_at            the same beside other trails
-use Rattle.std.proofs.Common.{◌≡◌, Option, Some, None, IfSome, refl, ◌∙◌, subst}
+use Rattle.std.proofs.Common.{◌≡◌, ℕ, List, Option, Some, None, IfSome, refl, ◌∙◌, subst}
 use Rattle.tree_spec.specs.LookAskings.{LookAsking}
 use Rattle.tree_spec.specs.LookLimits.{Trail}
 use Rattle.tree_spec.specs.Trees.{Tree}
-use Rattle.package_lookup.specs.Answered.{State, state, Tells, AsksOnce, Answered}
+use Rattle.package_lookup.specs.Answered.{State, state, Tells, IsLookOf, AsksOnce, Answered}
 use Rattle.package_lookup.specs.Learning.{IsSameIn, Learns}
 use Rattle.package_lookup.specs.Responses.{Response, fails, no_memory}
 use Rattle.package_lookup.proofs.Questions.{grows_itself, grows_twice, asks_then, asks_nothing_told, asks_finished, if_weaker}
@@ -25,36 +25,41 @@ same_now : (told : Option Tree) (before : State) → IfSome told (λ tree. IsSam
 same_now None before = tt
 same_now (Some tree) before = λ path. refl
 
-pub learns_then : (before middle after : State) (some rest : Type 0) → (some → ⊥) → Learns before middle some
-    → Learns middle after rest → Learns before after rest
-learns_then before middle after some rest done first last = record {
+pub learns_then : (before middle after : State) (some rest : Type 0) (First Last Whole : List ℕ → Type 0) → (some → ⊥)
+    → ((path : List ℕ) → First path → Whole path) → ((path : List ℕ) → Last path → Whole path)
+    → Learns before middle some First → Learns middle after rest Last → Learns before after rest Whole
+learns_then before middle after some rest First Last Whole done one two first last = record {
   tree = last.tree ∙ first.tree;
   same = same_then before.folder.holds middle.folder.holds before middle after first.tree first.same last.same;
   known = grows_twice before.known middle.known after.known first.known last.known;
-  asked = if_weaker before.folder.asked (λ old. AsksOnce old before middle some) (λ old. AsksOnce old before after rest)
-      (λ old asks. asks_then old before middle after some rest done first.known last.known asks last.asked) first.asked;
+  asked = if_weaker before.folder.asked (λ old. AsksOnce old before middle some First)
+      (λ old. AsksOnce old before after rest Whole)
+      (λ old asks. asks_then old before middle after some rest First Last Whole done first.known last.known one two asks last.asked) first.asked;
 }
 
-pub learns_nothing : (before : State) (unfinished : Type 0) → Learns before before unfinished
-learns_nothing before unfinished = record {
+pub learns_nothing : (before : State) (unfinished : Type 0) (Among : List ℕ → Type 0)
+    → Learns before before unfinished Among
+learns_nothing before unfinished Among = record {
   tree = refl;
   same = same_now before.folder.holds before;
   known = grows_itself before.known;
-  asked = asks_nothing_told before.folder.asked before before unfinished refl;
+  asked = asks_nothing_told before.folder.asked before before unfinished Among refl;
 }
 
-pub learns_as : (before after : State) (some other : Type 0) → (some → other) → Learns before after some
-    → Learns before after other
-learns_as before after some other weaker learns = record {
+pub learns_as : (before after : State) (some other : Type 0) (One Other : List ℕ → Type 0) → (some → other)
+    → ((path : List ℕ) → One path → Other path) → Learns before after some One → Learns before after other Other
+learns_as before after some other One Other weaker goes learns = record {
   tree = learns.tree;
   same = learns.same;
   known = learns.known;
-  asked = if_weaker before.folder.asked (λ old. AsksOnce old before after some) (λ old. AsksOnce old before after other)
-      (λ old asks. asks_finished old before after some other weaker asks) learns.asked;
+  asked = if_weaker before.folder.asked (λ old. AsksOnce old before after some One)
+      (λ old. AsksOnce old before after other Other)
+      (λ old asks. asks_finished old before after some other One Other weaker goes asks) learns.asked;
 }
 
 pub learns_by : {X : Type 0} (before after : State) (asking : LookAsking X) (response : Response X)
-    → Answered before asking response after → Learns before after (response ≡ fails no_memory)
+    → Answered before asking response after
+    → Learns before after (response ≡ fails no_memory) (IsLookOf before asking)
 learns_by before after asking response a = record {
   tree = a.folder.tree;
   same = if_weaker before.folder.holds (λ tree. Tells tree before asking response after)
@@ -63,15 +68,22 @@ learns_by before after asking response a = record {
   asked = a.asked;
 }
 
-pub learns_at : (before after : State) (first last : Trail) (unfinished : Type 0) → Learns before after unfinished
-    → Learns (state before.folder before.known first) (state after.folder after.known last) unfinished
-learns_at before after first last unfinished learns = record {
+pub learns_at : (before after : State) (first last : Trail) (unfinished : Type 0) (Among : List ℕ → Type 0)
+    → Learns before after unfinished Among
+    → Learns (state before.folder before.known first) (state after.folder after.known last) unfinished Among
+learns_at before after first last unfinished Among learns = record {
   tree = learns.tree;
   same = learns.same;
   known = learns.known;
-  asked = if_weaker before.folder.asked (λ old. AsksOnce old before after unfinished)
-      (λ old. AsksOnce old (state before.folder before.known first) (state after.folder after.known last) unfinished)
-      (λ old asks.
-      record { more = asks.more; asked = asks.asked; once = asks.once; new = asks.new; held = asks.held })
+  asked = if_weaker before.folder.asked (λ old. AsksOnce old before after unfinished Among)
+      (λ old. AsksOnce old (state before.folder before.known first) (state after.folder after.known last) unfinished Among)
+      (λ old asks. record {
+        more = asks.more;
+        asked = asks.asked;
+        once = asks.once;
+        new = asks.new;
+        held = asks.held;
+        among = asks.among;
+      })
       learns.asked;
 }

@@ -1,12 +1,13 @@
 -- One question after another: what a whole asking comes to, by what its parts come to.
+--     look_first, look_behind      a look of a part is a look of the whole
 --     then_given, then_fails       a part, and what comes behind it
 --     now_given                    nothing is asked
 --     no_memory_now, unfinished    memory was wanting before anything was asked, or behind a part
 --     looked_on, resolved_on ..    a fault of a part is the fault of the whole
 --     known_on                     what is known is the same in another form
 --     Left before whole middle rest      whatever the rest comes to from here, the whole comes to
-use Rattle.std.proofs.Common.{◌≡◌, ◌++◌, [], ℕ, true, false, List, Option, Some, None, Result, Err, IfSome, refl, sym, ap, ◌∙◌, subst, arith}
-use Rattle.std.specs.Prelude.{is_some, bytes_eq, All}
+use Rattle.std.proofs.Common.{◌≡◌, ◌++◌, [], ℕ, true, false, List, Option, Some, None, Result, Ok, Err, IfSome, refl, sym, ap, ◌∙◌, subst, arith}
+use Rattle.std.specs.Prelude.{is_some, bytes_eq, All, Contains}
 use Rattle.std.specs.FinMap.{get}
 use Rattle.std.proofs.Common.{append_assoc, append-nil}
 use Rattle.std.specs.Option.{option_or}
@@ -14,18 +15,20 @@ use Rattle.std.specs.Result.{IsErrAnd}
 use Rattle.std.proofs.lemmas.Bool.{cases_Bool}
 use Rattle.std.proofs.lemmas.Result.{err_from_is_err_and}
 use Rattle.std.proofs.Common.{⊎_elim}
-use Rattle.std.proofs.lemmas.List.Elements.{All-append, All-weaker, All-nil}
+use Rattle.std.proofs.lemmas.List.Elements.{All-append, All-weaker, All-nil, Contains-append_left, Contains-append_right}
 use Rattle.std.proofs.lemmas.Slice.Eq.{bytes_eq-Decides}
-use Rattle.asking_spec.proofs.EvaluationLemmas.{evaluated_then}
-use Rattle.asking_spec.specs.Askings.{answered, and_then, on_ok, and_ok}
-use Rattle.asking_spec.specs.Evaluation.{Ended, then_ended, evaluated}
+use Rattle.asking_spec.proofs.AskingLemmas.{questions_then}
+use Rattle.asking_spec.proofs.EvaluationLemmas.{evaluated_then, ends_outcome}
+use Rattle.asking_spec.specs.Askings.{answered, outcome, and_then, on_ok, and_ok}
+use Rattle.asking_spec.specs.Evaluation.{Ended, ends, then_ended, evaluated, AreAlways}
 use Rattle.node_spec.specs.NodeAnswers.{Refusal, by_cause, too_deep, Resolving}
 use Rattle.node_spec.specs.declared.Cause.TheVariants as cause
 use Rattle.tree_spec.specs.Counts.{Rose}
-use Rattle.tree_spec.specs.LookAskings.{Sights, LookAsking}
-use Rattle.tree_spec.specs.LookLimits.{Trail, look_limits, limited}
+use Rattle.tree_spec.specs.LookAskings.{Sights, LookAsking, looks}
+use Rattle.tree_spec.specs.LookLimits.{Trail, look_limits, counted, told, limited}
 use Rattle.tree_spec.specs.States.{FolderState, OnlyLooks}
 use Rattle.tree_spec.specs.Trees.{Tree}
+use Rattle.tree_spec.specs.declared.Entry.{Entry}
 use Rattle.tree_spec.specs.declared.LimitName.{LimitName}
 use Rattle.tree_spec.specs.declared.LimitName.TheVariants.{File, Bytes, Looks, Modules, ModuleRequests, Requests, Specifier, Entries, Brackets, Depth, Session, Map, Choices}
 use Rattle.tree_spec.specs.declared.Look.{Look}
@@ -34,7 +37,7 @@ use Rattle.package_lookup.specs.declared.fault.LookupFault.TheVariants.{ReadFaul
 use Rattle.package_lookup.specs.declared.known.Known.{Known}
 use Rattle.package_lookup.specs.Looked.{laid_at, kept_at, known_at, look_or, look_in, Sees, Grows, IsSameKnown}
 use Rattle.package_lookup.specs.Responses.{Failing, passes, not_read, no_memory, never, Response, given, fails, by_limit, by_fault, looked, bad_config, deep_config, resolved}
-use Rattle.package_lookup.specs.Answered.{State, state, Fails, Comes, Tells, AsksOnce, Answered}
+use Rattle.package_lookup.specs.Answered.{State, state, Fails, Comes, Tells, IsLookOf, AsksOnce, Answered}
 use Rattle.package_lookup.proofs.PathSets.{Apart, distinct_append, distinct_none}
 
 -- ---- what is known grows
@@ -82,12 +85,15 @@ known_apart known one other held new =
     (λ e. e)
     (cases_Bool (bytes_eq one other))
 
-pub asks_then : (old : List (List ℕ)) (before middle after : State) (some rest : Type 0) → (some → ⊥)
-    → Grows before.known middle.known → Grows middle.known after.known → AsksOnce old before middle some
-    → IfSome middle.folder.asked (λ list. AsksOnce list middle after rest) → AsksOnce old before after rest
-asks_then old before middle after some rest done grew grows one more = join (subst (λ asked. IfSome asked (λ list. AsksOnce list middle after rest)) one.asked more)
+pub asks_then : (old : List (List ℕ)) (before middle after : State) (some rest : Type 0)
+    (First Last Whole : List ℕ → Type 0) → (some → ⊥) → Grows before.known middle.known
+    → Grows middle.known after.known → ((path : List ℕ) → First path → Whole path)
+    → ((path : List ℕ) → Last path → Whole path) → AsksOnce old before middle some First
+    → IfSome middle.folder.asked (λ list. AsksOnce list middle after rest Last) → AsksOnce old before after rest Whole
+asks_then old before middle after some rest First Last Whole done grew grows first last one more =
+    join (subst (λ asked. IfSome asked (λ list. AsksOnce list middle after rest Last)) one.asked more)
   where
-    join : AsksOnce (old ++ one.more) middle after rest → AsksOnce old before after rest
+    join : AsksOnce (old ++ one.more) middle after rest Last → AsksOnce old before after rest Whole
     join two =
         let was : All (λ path. is_some (known_at middle.known path) ≡ true) one.more = one.held done in
         record {
@@ -106,31 +112,37 @@ asks_then old before middle after some rest done grew grows one more = join (sub
               (λ path held. held_by (known_at middle.known path) (known_at after.known path)
               (known_grows middle.known after.known grows path) held) one.more was)
               (two.held finished);
+          among = All-append Whole one.more two.more (All-weaker First Whole first one.more one.among)
+              (All-weaker Last Whole last two.more two.among);
         }
 
-pub asks_nothing : (old : List (List ℕ)) (before after : State) (unfinished : Type 0)
-    → after.folder.asked ≡ Some old → AsksOnce old before after unfinished
-asks_nothing old before after unfinished same = record {
+pub asks_nothing : (old : List (List ℕ)) (before after : State) (unfinished : Type 0) (Among : List ℕ → Type 0)
+    → after.folder.asked ≡ Some old → AsksOnce old before after unfinished Among
+asks_nothing old before after unfinished Among same = record {
   more = [];
   asked = same ∙ ap Some (sym (append-nil old));
   once = distinct_none;
   new = All-nil (λ path. known_at before.known path ≡ None);
   held = λ finished. All-nil (λ path. is_some (known_at after.known path) ≡ true);
+  among = All-nil Among;
 }
 
-pub asks_nothing_told : (told : Option (List (List ℕ))) (before after : State) (unfinished : Type 0)
-    → after.folder.asked ≡ told → IfSome told (λ old. AsksOnce old before after unfinished)
-asks_nothing_told None before after unfinished same = tt
-asks_nothing_told (Some old) before after unfinished same = asks_nothing old before after unfinished same
+pub asks_nothing_told : (asked : Option (List (List ℕ))) (before after : State) (unfinished : Type 0)
+    (Among : List ℕ → Type 0) → after.folder.asked ≡ asked
+    → IfSome asked (λ old. AsksOnce old before after unfinished Among)
+asks_nothing_told None before after unfinished Among same = tt
+asks_nothing_told (Some old) before after unfinished Among same = asks_nothing old before after unfinished Among same
 
-pub asks_finished : (old : List (List ℕ)) (before after : State) (some other : Type 0) → (some → other)
-    → AsksOnce old before after some → AsksOnce old before after other
-asks_finished old before after some other weaker one = record {
+pub asks_finished : (old : List (List ℕ)) (before after : State) (some other : Type 0) (One Other : List ℕ → Type 0)
+    → (some → other) → ((path : List ℕ) → One path → Other path) → AsksOnce old before after some One
+    → AsksOnce old before after other Other
+asks_finished old before after some other One Other weaker goes one = record {
   more = one.more;
   asked = one.asked;
   once = one.once;
   new = one.new;
   held = λ finished. one.held (λ s. finished (weaker s));
+  among = All-weaker One Other goes one.more one.among;
 }
 
 pub if_weaker : {X : Type 0} (told : Option X) (P Q : X → Type 0) → ((x : X) → P x → Q x) → IfSome told P → IfSome told Q
@@ -224,6 +236,52 @@ failed X failing = fails failing
 carried : {X Y : Type 0} (one other : Failing) → failed X one ≡ failed X other → failed Y one ≡ failed Y other
 carried one other e = (let same : one ≡ other = cc in ap fails same)
 
+-- ---- which looks are those of the whole
+
+looked_by : (found : Option Entry) (trail after : Trail) (c : Result Trail LimitName) (other : Option Entry)
+    → told found trail c ≡ ends other after → other ≡ found
+looked_by found trail after (Ok later) other e = cc
+looked_by found trail after (Err name) other e = absurd (cc)
+
+-- a look tells what stands there, where no limit stops it
+pub limited_always : (sights : Sights) → AreAlways (limited look_limits sights) sights
+limited_always sights trail after path found e =
+    looked_by (sights path) trail after (counted look_limits trail path (sights path)) found e
+
+pub look_first : {X Y : Type 0} (before : State) (part : LookAsking X) (next : X → LookAsking Y) (path : List ℕ)
+    → IsLookOf before part path → IsLookOf before (and_then part next) path
+look_first before part next path is =
+    if_weaker before.folder.holds
+    (λ tree. (sights : Sights) → Sees tree before.known sights → Contains (looks sights part) path)
+    (λ tree. (sights : Sights) → Sees tree before.known sights → Contains (looks sights (and_then part next)) path)
+    (λ tree each sights sees. subst (λ paths. Contains paths path) (sym (questions_then sights part next))
+    (Contains-append_left (looks sights part) (looks sights (next (outcome sights part))) path (each sights sees))) is
+
+behind_at : {X Y : Type 0} (tree : Tree) (before middle : State) (part : LookAsking X) (next : X → LookAsking Y)
+    (value : X) (path : List ℕ) → Tells tree before part (given value) middle
+    → ((sights : Sights) → Sees tree middle.known sights → Contains (looks sights (next value)) path)
+    → (sights : Sights) → Sees tree before.known sights → Contains (looks sights (and_then part next)) path
+behind_at tree before middle part next value path tells each sights sees =
+    let is : value ≡ outcome sights part =
+    ends_outcome (limited look_limits sights) sights (limited_always sights) before.trail middle.trail part value
+    (tells.says sights sees) in
+    subst (λ paths. Contains paths path)
+    (sym (questions_then sights part next ∙ ap (λ v. looks sights part ++ looks sights (next v)) (sym is)))
+    (Contains-append_right (looks sights part) (looks sights (next value)) path
+    (each sights (sees_still tree before.known middle.known sights tells.same sees)))
+
+pub look_behind : {X Y : Type 0} (before middle : State) (part : LookAsking X) (next : X → LookAsking Y) (value : X)
+    (path : List ℕ) → Answered before part (given value) middle → IsLookOf middle (next value) path
+    → IsLookOf before (and_then part next) path
+look_behind before middle part next value path one is =
+    both_told before.folder.holds (λ tree. Tells tree before part (given value) middle)
+    (λ tree. (sights : Sights) → Sees tree middle.known sights → Contains (looks sights (next value)) path)
+    (λ tree. (sights : Sights) → Sees tree before.known sights → Contains (looks sights (and_then part next)) path)
+    (λ tree. behind_at tree before middle part next value path) one.tells
+    (subst (λ holds. IfSome holds
+    (λ tree. (sights : Sights) → Sees tree middle.known sights → Contains (looks sights (next value)) path))
+    one.folder.tree is)
+
 -- ---- a part, and what comes behind it
 
 pub then_given : {X Y : Type 0} (before middle after : State) (part : LookAsking X) (next : X → LookAsking Y) (value : X)
@@ -235,10 +293,13 @@ then_given {X} before middle after part next value response one rest = record {
       (λ tree. tells_then tree before middle after part next value response) one.tells
       (subst (λ told. IfSome told (λ tree. Tells tree middle (next value) response after)) one.folder.tree rest.tells);
   known = grows_twice before.known middle.known after.known one.known rest.known;
-  asked = if_weaker before.folder.asked (λ old. AsksOnce old before middle (given value ≡ fails no_memory))
-      (λ old. AsksOnce old before after (response ≡ fails no_memory))
+  asked = if_weaker before.folder.asked
+      (λ old. AsksOnce old before middle (given value ≡ fails no_memory) (IsLookOf before part))
+      (λ old. AsksOnce old before after (response ≡ fails no_memory) (IsLookOf before (and_then part next)))
       (λ old asks. asks_then old before middle after (given value ≡ fails no_memory) (response ≡ fails no_memory)
-      (λ e. cc) one.known rest.known asks rest.asked) one.asked;
+      (IsLookOf before part) (IsLookOf middle (next value)) (IsLookOf before (and_then part next)) (λ e. cc) one.known
+      rest.known (look_first before part next) (λ path. look_behind before middle part next value path one) asks
+      rest.asked) one.asked;
   folder = looks_then before.folder middle.folder after.folder (given value ≡ fails not_read) (response ≡ fails not_read)
       (λ e. cc) one.folder rest.folder;
   possible = rest.possible;
@@ -252,10 +313,12 @@ then_fails {X} {Y} before after part next failing one = record {
       (λ tree. Tells {X = Y} tree before (and_then part next) (fails failing) after)
       (λ tree. tells_fails tree before after part next failing) one.tells;
   known = one.known;
-  asked = if_weaker before.folder.asked (λ old. AsksOnce old before after (failed X failing ≡ fails no_memory))
-      (λ old. AsksOnce old before after (failed Y failing ≡ fails no_memory))
+  asked = if_weaker before.folder.asked
+      (λ old. AsksOnce old before after (failed X failing ≡ fails no_memory) (IsLookOf before part))
+      (λ old. AsksOnce old before after (failed Y failing ≡ fails no_memory) (IsLookOf before (and_then part next)))
       (λ old. asks_finished old before after (failed X failing ≡ fails no_memory)
-      (failed Y failing ≡ fails no_memory) (carried failing no_memory)) one.asked;
+      (failed Y failing ≡ fails no_memory) (IsLookOf before part) (IsLookOf before (and_then part next))
+      (carried failing no_memory) (look_first before part next)) one.asked;
   folder = looks_as before.folder after.folder (failed X failing ≡ fails not_read)
       (failed Y failing ≡ fails not_read) (carried failing not_read) (carried failing not_read) one.folder;
   possible = λ e. one.possible (carried failing never e);
@@ -276,7 +339,8 @@ pub nothing : {X : Type 0} (before : State) (asking : LookAsking X) (response : 
 nothing before asking response comes read possible = record {
   tells = nothing_told before asking response before.folder.holds comes;
   known = grows_itself before.known;
-  asked = asks_nothing_told before.folder.asked before before (response ≡ fails no_memory) refl;
+  asked = asks_nothing_told before.folder.asked before before (response ≡ fails no_memory) (IsLookOf before asking)
+      refl;
   folder = no_looks before.folder (response ≡ fails not_read) read;
   possible = possible;
 }
@@ -289,17 +353,19 @@ pub no_memory_now : {X : Type 0} (before : State) (asking : LookAsking X)
 no_memory_now before asking = nothing before asking (fails no_memory) (λ sights. tt) (λ e. cc) (λ e. cc)
 
 -- want of memory behind a part leaves the whole unfinished
-pub unfinished : {X Y : Type 0} (before after : State) (part : LookAsking X) (value : X) (whole : LookAsking Y)
-    → Answered before part (given value) after → Answered {X = Y} before whole (fails no_memory) after
-unfinished {X} {Y} before after part value whole one = record {
+pub unfinished : {X Y : Type 0} (before after : State) (part : LookAsking X) (next : X → LookAsking Y) (value : X)
+    → Answered before part (given value) after → Answered {X = Y} before (and_then part next) (fails no_memory) after
+unfinished {X} {Y} before after part next value one = record {
   tells = if_weaker before.folder.holds (λ tree. Tells tree before part (given value) after)
-      (λ tree. Tells {X = Y} tree before whole (fails no_memory) after)
-      (λ tree. tells_unfinished tree before after part (given value) whole) one.tells;
+      (λ tree. Tells {X = Y} tree before (and_then part next) (fails no_memory) after)
+      (λ tree. tells_unfinished tree before after part (given value) (and_then part next)) one.tells;
   known = one.known;
-  asked = if_weaker before.folder.asked (λ old. AsksOnce old before after (given value ≡ fails no_memory))
-      (λ old. AsksOnce old before after (failed Y no_memory ≡ fails no_memory))
+  asked = if_weaker before.folder.asked
+      (λ old. AsksOnce old before after (given value ≡ fails no_memory) (IsLookOf before part))
+      (λ old. AsksOnce old before after (failed Y no_memory ≡ fails no_memory) (IsLookOf before (and_then part next)))
       (λ old. asks_finished old before after (given value ≡ fails no_memory)
-      (failed Y no_memory ≡ fails no_memory) (λ e. refl)) one.asked;
+      (failed Y no_memory ≡ fails no_memory) (IsLookOf before part) (IsLookOf before (and_then part next)) (λ e. refl)
+      (look_first before part next)) one.asked;
   folder = looks_as before.folder after.folder (given value ≡ fails not_read) (failed Y no_memory ≡ fails not_read)
       (λ e. absurd (cc)) (λ e. absurd (cc)) one.folder;
   possible = λ e. cc;
@@ -394,8 +460,9 @@ known_on before after known asking response same one = record {
     laid = λ path. same.laid path ∙ one.known.laid path;
     kept = λ path look e. same.kept path ∙ one.known.kept path look e;
   };
-  asked = if_weaker before.folder.asked (λ old. AsksOnce old before after (response ≡ fails no_memory))
-      (λ old. AsksOnce old before (state after.folder known after.trail) (response ≡ fails no_memory))
+  asked = if_weaker before.folder.asked
+      (λ old. AsksOnce old before after (response ≡ fails no_memory) (IsLookOf before asking))
+      (λ old. AsksOnce old before (state after.folder known after.trail) (response ≡ fails no_memory) (IsLookOf before asking))
       (λ old asks. record {
         more = asks.more;
         asked = asks.asked;
@@ -404,6 +471,7 @@ known_on before after known asking response same one = record {
         held = λ finished. All-weaker (λ path. is_some (known_at after.known path) ≡ true)
             (λ path. is_some (known_at known path) ≡ true)
             (λ path held. ap is_some (same_known_at after.known known same path) ∙ held) asks.more (asks.held finished);
+        among = asks.among;
       }) one.asked;
   folder = one.folder;
   possible = one.possible;

@@ -52,7 +52,7 @@ recorded_by : (before after : State) (at : List ℕ) (found : Option Entry) (res
     → Answered before (record_at at) response after
 recorded_by before after at found response a is (inl memory) =
     subst (λ r. Answered before (record_at at) r after) (sym memory)
-    (unfinished before after (look_at_text (package_json at)) found (record_at at) a)
+    (unfinished before after (look_at_text (package_json at)) (λ f. answered (record_of_entry f)) found a)
 recorded_by before after at found response a is (inr some) =
     subst (λ r. Answered before (record_at at) r after) (sym (is some))
     (then_given before after after (look_at_text (package_json at)) (λ f. answered (record_of_entry f)) found

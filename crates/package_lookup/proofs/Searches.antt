@@ -1,6 +1,6 @@
 -- How the nearest folder is found, folder by folder.
 --     seen_there, nothing_there, fault_there     whether a folder is accepted, by a look at its place
---     search_ends, search_accepts, search_fails, search_tops, search_rises
+--     search_ends, search_accepts, search_fails, search_unfinished, search_tops, search_rises
 --                                                what that says of the nearest folder
 use Rattle.std.proofs.Common.{◌≡◌, ℕ, List, Option, Some, None, Bool, true, false, refl, sym, ap, ◌∙◌, subst}
 use Rattle.std.specs.Prelude.{codes, option_map, if◌then◌else◌}
@@ -18,9 +18,9 @@ use Rattle.node_spec.specs.FileLooks.{look_at_text}
 use Rattle.node_spec.specs.Nearest.{Search, is_accepted, nearest_in, nearest}
 use Rattle.node_spec.specs.PackageResolve.{packages, package_at, package_folder}
 use Rattle.package_lookup.specs.declared.fault.LookupFault.{LookupFault}
-use Rattle.package_lookup.specs.Responses.{Response, given, fails, never, by_fault}
+use Rattle.package_lookup.specs.Responses.{Response, given, fails, no_memory, never, by_fault}
 use Rattle.package_lookup.specs.Answered.{State, Answered}
-use Rattle.package_lookup.proofs.Questions.{then_given, now_given, looked_on, left_goes, left_begins, Left, asking_as}
+use Rattle.package_lookup.proofs.Questions.{then_given, now_given, unfinished, looked_on, left_goes, left_begins, Left, asking_as}
 
 -- ---- looks at texts
 
@@ -134,6 +134,16 @@ module _ (search : Search) where
       asking_as now later (and_then (is_accepted search at) next) (nearest search at)
       (by_fault (fails never) (fails never) fault) (sym (judged_on now at first.above first.is free))
       (looked_on now later (is_accepted search at) next fault a)
+
+  pub search_unfinished : (now later : State) (at : List ℕ) → IsPath at → search.ends_at at ≡ false
+      → Answered now (is_accepted search at) (given false) later
+      → Answered {X = Option (List ℕ)} now (nearest search at) (fails no_memory) later
+  search_unfinished now later at is free a =
+      let first = is_judged at is in
+      let next : Bool → LookAsking (Option (List ℕ)) = λ accepted. if accepted then answered (Some at) else first.above in
+      asking_as now later (and_then (is_accepted search at) next) (nearest search at) (fails no_memory)
+      (sym (judged_on now at first.above first.is free))
+      (unfinished now later (is_accepted search at) next false a)
 
   pub search_tops : (now later : State) (at : List ℕ) → at ≡ codes "/" → search.ends_at at ≡ false
       → Answered now (is_accepted search at) (given false) later → Answered now (nearest search at) (given None) later

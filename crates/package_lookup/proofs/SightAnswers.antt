@@ -1,10 +1,10 @@
 -- A look at a path, as an answer to the asking for it.
 use Rattle.std.proofs.Common.{◌≡◌, ◌≢◌, ◌⊎◌, ◌++◌, [], ◌∷◌, ℕ, true, false, List, Option, Some, None, Result, Ok, Err, IfSome, refl, sym, ap, ◌∙◌, subst, inl, inr, append-nil, ⊎_elim}
-use Rattle.std.specs.Prelude.{is_some, if◌then◌else◌}
+use Rattle.std.specs.Prelude.{is_some, Contains, if◌then◌else◌}
 use Rattle.std.specs.FinMap.{get}
-use Rattle.std.proofs.lemmas.List.Elements.{All-cons, All-nil}
+use Rattle.std.proofs.lemmas.List.Elements.{All-cons, All-nil, Contains-push}
 use Rattle.asking_spec.specs.Evaluation.{Ended, ends, then_ended, evaluated}
-use Rattle.tree_spec.specs.LookAskings.{Sights, look_at}
+use Rattle.tree_spec.specs.LookAskings.{Sights, look_at, looks}
 use Rattle.tree_spec.specs.LookLimits.{Trail, look_limits, counted, told, limited}
 use Rattle.tree_spec.specs.States.{FolderState, OnlyLooks}
 use Rattle.tree_spec.specs.Trees.{Tree}
@@ -21,7 +21,7 @@ use Rattle.package_lookup.specs.SeenLooks.{entry_of, look_seen, within_limit, se
 use Rattle.package_lookup.specs.Looked.{known_at, look_or, look_in, Sees}
 use Rattle.package_lookup.specs.Trails.{has_room, OnCount}
 use Rattle.package_lookup.specs.Responses.{Failing, passes, not_read, no_memory, never, Response, given, fails, by_limit, by_fault}
-use Rattle.package_lookup.specs.Answered.{State, state, Comes, Tells, AsksOnce, Answered}
+use Rattle.package_lookup.specs.Answered.{State, state, Comes, Tells, IsLookOf, AsksOnce, Answered}
 use Rattle.package_lookup.specs.Fetching.{unknown, IsAsked, Fetches}
 use Rattle.package_lookup.proofs.LookCounts.{counted_large, counted_many, counted_named, counted_alike, stands_counted, large_seen}
 use Rattle.package_lookup.proofs.PathSets.{distinct_one}
@@ -35,44 +35,51 @@ failed failing = fails failing
 
 -- ---- what the folder was asked for
 
-asks_by : (list : List (List ℕ)) (before after : State) (unfinished : Type 0) (path : List ℕ) (more : List (List ℕ))
-    (found : Option Look) → known_at before.known path ≡ found → after.folder.asked ≡ Some (list ++ more)
+asks_by : (list : List (List ℕ)) (before after : State) (unfinished : Type 0) (Among : List ℕ → Type 0) (path : List ℕ)
+    (more : List (List ℕ)) (found : Option Look) → Among path → known_at before.known path ≡ found → after.folder.asked ≡ Some (list ++ more)
     → more ≡ (if is_some found then [] else path ∷ [])
-    → ((unfinished → ⊥) → is_some (known_at after.known path) ≡ true) → AsksOnce list before after unfinished
-asks_by list before after unfinished path more (Some look) known asked is held =
-    asks_nothing list before after unfinished
+    → ((unfinished → ⊥) → is_some (known_at after.known path) ≡ true) → AsksOnce list before after unfinished Among
+asks_by list before after unfinished Among path more (Some look) here known asked is held =
+    asks_nothing list before after unfinished Among
     (asked ∙ (ap (λ m. Some (list ++ m)) is ∙ ap Some (append-nil list)))
-asks_by list before after unfinished path more None known asked is held = record {
+asks_by list before after unfinished Among path more None here known asked is held = record {
   more = path ∷ [];
   asked = asked ∙ ap (λ m. Some (list ++ m)) is;
   once = distinct_one path;
   new = All-cons (λ p. known_at before.known p ≡ None) path [] known (All-nil (λ p. known_at before.known p ≡ None));
   held = λ finished. All-cons (λ p. is_some (known_at after.known p) ≡ true) path [] (held finished)
       (All-nil (λ p. is_some (known_at after.known p) ≡ true));
+  among = All-cons Among path [] here (All-nil Among);
 }
 
 abbrev Covers : Known → Known → List ℕ → Type 0 → List (List ℕ) → Type 0
 Covers old new path unfinished more =
     (more ≡ []) ⊎ ((more ≡ unknown old path) × ((unfinished → ⊥) → is_some (known_at new path) ≡ true))
 
-asks_covered : (list : List (List ℕ)) (before after : State) (unfinished : Type 0) (path : List ℕ)
-    (more : List (List ℕ)) → after.folder.asked ≡ Some (list ++ more)
-    → Covers before.known after.known path unfinished more → AsksOnce list before after unfinished
-asks_covered list before after unfinished path more asked (inl none) =
-    asks_nothing list before after unfinished
+asks_covered : (list : List (List ℕ)) (before after : State) (unfinished : Type 0) (Among : List ℕ → Type 0)
+    (path : List ℕ) (more : List (List ℕ)) → Among path → after.folder.asked ≡ Some (list ++ more)
+    → Covers before.known after.known path unfinished more → AsksOnce list before after unfinished Among
+asks_covered list before after unfinished Among path more here asked (inl none) =
+    asks_nothing list before after unfinished Among
     (asked ∙ (ap (λ m. Some (list ++ m)) none ∙ ap Some (append-nil list)))
-asks_covered list before after unfinished path more asked (inr one) =
-    asks_by list before after unfinished path more (known_at before.known path) refl asked one.0 one.1
+asks_covered list before after unfinished Among path more here asked (inr one) =
+    asks_by list before after unfinished Among path more (known_at before.known path) here refl asked one.0 one.1
 
-asks_told : (told : Option (List (List ℕ))) (before after : State) (unfinished : Type 0) (path : List ℕ)
-    (result : Result Look LookupFault)
+asks_told : (told : Option (List (List ℕ))) (before after : State) (unfinished : Type 0) (Among : List ℕ → Type 0)
+    (path : List ℕ) (result : Result Look LookupFault) → Among path
     → ((more : List (List ℕ)) → IsAsked before.known path result more
     → Covers before.known after.known path unfinished more)
     → IfSome told (λ list. (more : List (List ℕ)) × (after.folder.asked ≡ Some (list ++ more)) × IsAsked before.known path result more)
-    → IfSome told (λ list. AsksOnce list before after unfinished)
-asks_told None before after unfinished path result covers asked = tt
-asks_told (Some list) before after unfinished path result covers asked =
-    asks_covered list before after unfinished path asked.0 asked.1 (covers asked.0 asked.2)
+    → IfSome told (λ list. AsksOnce list before after unfinished Among)
+asks_told None before after unfinished Among path result here covers asked = tt
+asks_told (Some list) before after unfinished Among path result here covers asked =
+    asks_covered list before after unfinished Among path asked.0 here asked.1 (covers asked.0 asked.2)
+
+-- the path at which a look looks
+looks_there : (path : List ℕ) (holds : Option Tree) (known : Known)
+    → IfSome holds (λ tree. (sights : Sights) → Sees tree known sights → Contains (looks sights (look_at path)) path)
+looks_there path None known = tt
+looks_there path (Some tree) known = λ sights sees. Contains-push [] path
 
 -- ---- a look that was fetched
 
@@ -101,7 +108,9 @@ module _ (before after : FolderState) (old new : Known) (trail : Trail) (path : 
   answers later result response fetches told covers only possible = record {
     tells = tells_told before.holds before after old new trail later path response told fetches.same;
     known = fetches.grows;
-    asked = asks_told before.asked (state before old trail) (state after new later) (response ≡ fails no_memory) path result covers fetches.asked;
+    asked = asks_told before.asked (state before old trail) (state after new later) (response ≡ fails no_memory)
+        (IsLookOf (state before old trail) (look_at path)) path result (looks_there path before.holds old) covers
+        fetches.asked;
     folder = only;
     possible = possible;
   }

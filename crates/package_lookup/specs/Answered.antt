@@ -1,13 +1,16 @@
 -- What a call that asks about a folder does.
 --     State                                 the folder, what is known of it, and what was looked at
 --     Comes end response after              the evaluation of an asking ends as the call does
---     AsksOnce before after done            the folder was asked for no path that was known, and for none twice
+--     IsLookOf before asking path           where a tree is told, the asking looks at the path, by all that looks tell
+--     AsksOnce old before after unfinished Among
+--                                           the folder was asked for no path that was known, for none twice, and for
+--                                           those alone of which this holds
 --     Answered before asking response after what the call does
 --     Asks before path after                the folder was asked for the path where it isn't known, and only there
-use Rattle.std.specs.Prelude.{◌≡◌, ◌≢◌, ◌++◌, [], ◌∷◌, ℕ, List, Some, None, All, ⊤, IfSome, is_some, Bool, true, bytes_eq, not, ◌&&◌, if◌then◌else◌}
+use Rattle.std.specs.Prelude.{◌≡◌, ◌≢◌, ◌++◌, [], ◌∷◌, ℕ, List, Some, None, All, Contains, ⊤, IfSome, is_some, Bool, true, bytes_eq, not, ◌&&◌, if◌then◌else◌}
 use Rattle.std.specs.List.{IsDistinct}
 use Rattle.asking_spec.specs.Evaluation.{Ended, ends, stopped, evaluated}
-use Rattle.tree_spec.specs.LookAskings.{Sights, LookAsking}
+use Rattle.tree_spec.specs.LookAskings.{Sights, LookAsking, looks}
 use Rattle.tree_spec.specs.LookLimits.{Trail, look_limits, limited}
 use Rattle.tree_spec.specs.States.{FolderState, OnlyLooks}
 use Rattle.tree_spec.specs.Trees.{Tree}
@@ -45,20 +48,30 @@ pub record Tells {X : Type 0} (tree : Tree) (before : State) (asking : LookAskin
       → Comes (evaluated (limited look_limits sights) before.trail asking) response after.trail
   pub same : (path : List ℕ) → look_in tree after.known path ≡ look_in tree before.known path
 
--- where the folder tells what it was asked for: further paths, none of them known before, none of them twice, and each
--- of them known afterwards, unless memory was wanting
-pub record AsksOnce (old : List (List ℕ)) (before after : State) (unfinished : Type 0) : Type 0 where
+-- own: the path is one of the asking's looks, whatever stands at each path as far as a look tells
+abbrev pub IsLookOf : {X : Type 0} → State → LookAsking X → List ℕ → Type 0
+IsLookOf before asking path =
+    IfSome before.folder.holds
+    (λ tree. (sights : Sights) → Sees tree before.known sights → Contains (looks sights asking) path)
+
+-- where the folder tells what it was asked for: further paths, none of them known before, none of them twice, each of
+-- them known afterwards, unless memory was wanting, and no others than those that were to be looked at
+pub record AsksOnce (old : List (List ℕ)) (before after : State) (unfinished : Type 0)
+    (Among : List ℕ → Type 0) : Type 0 where
   pub more : List (List ℕ)
   pub asked : after.folder.asked ≡ Some (old ++ more)
   pub once : IsDistinct bytes_eq more
   pub new : All (λ path. known_at before.known path ≡ None) more
   pub held : (unfinished → ⊥) → All (λ path. is_some (known_at after.known path) ≡ true) more
+  pub among : All Among more
 
 pub record Answered {X : Type 0} (before : State) (asking : LookAsking X) (response : Response X)
     (after : State) : Type 0 where
   pub tells : IfSome before.folder.holds (λ tree. Tells tree before asking response after)
   pub known : Grows before.known after.known
-  pub asked : IfSome before.folder.asked (λ old. AsksOnce old before after (response ≡ fails no_memory))
+  pub asked :
+      IfSome before.folder.asked
+      (λ old. AsksOnce old before after (response ≡ fails no_memory) (IsLookOf before asking))
   pub folder : OnlyLooks before.folder after.folder (response ≡ fails not_read)
   pub possible : response ≢ fails never
 

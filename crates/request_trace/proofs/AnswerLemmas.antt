@@ -1,4 +1,5 @@
 -- A question of a walk that is answered by looks, and the walk over these answers.
+--     answers_always       the answers are always the same, unless a limit stops them
 --     met_by               a question
 --     traces_by            the walk
 --     traces_moved         the same beside another name for the state
@@ -6,38 +7,42 @@
 --     first_name, second_name, third_name      the references
 --     named_limit, limit_ends, look_ends      a limit that ends a walk
 use Rattle.std.proofs.Common.{◌≡◌, ℕ, List, Option, Some, None, Result, Ok, Err, IfSome, refl, sym, ap, ◌∙◌, subst}
-use Rattle.std.specs.Prelude.{◌≢◌, [], ◌∷◌, IfErr}
-use Rattle.asking_spec.specs.Askings.{Asking, answered, ask}
-use Rattle.asking_spec.specs.Evaluation.{Ended, ends, stopped, then_ended, Answers, evaluated}
+use Rattle.std.specs.Prelude.{◌≢◌, [], ◌∷◌, Contains, IfErr}
+use Rattle.std.proofs.lemmas.List.Elements.{Contains-append_left}
+use Rattle.asking_spec.specs.Askings.{answered, ask, questions}
+use Rattle.asking_spec.proofs.EvaluationLemmas.{ends_outcome}
+use Rattle.asking_spec.specs.Evaluation.{Ended, ends, then_ended, evaluated, AreAlways}
 use Rattle.tree_spec.specs.declared.LimitName.{LimitName}
 use Rattle.tree_spec.specs.declared.LimitName.TheVariants.{File, Bytes, Looks, Modules, ModuleRequests, Requests, Specifier, Entries, Brackets, Depth, Session, Map, Choices}
-use Rattle.tree_spec.specs.LookAskings.{Sights}
+use Rattle.trace_spec.proofs.Generations.{looks_are_of_questions}
+use Rattle.tree_spec.specs.LookAskings.{Sights, looks, footprint}
 use Rattle.tree_spec.specs.LookLimits.{Trail, begun, no_trail, look_limits, limited}
 use Rattle.tree_spec.specs.States.{FolderState}
 use Rattle.tree_spec.specs.Trees.{Tree}
 use Rattle.trace_spec.specs.declared.TraceFault.{TraceFault}
 use Rattle.trace_spec.specs.declared.TraceFault.TheVariants.{Limit, ReadFault, Memory}
-use Rattle.trace_spec.specs.Questions.{Question, Answer, put, answers}
+use Rattle.trace_spec.specs.Questions.{Question, Answer, put, answers, always}
 use Rattle.trace_spec.specs.Kinds.{IsTraceLimit}
-use Rattle.trace_spec.specs.Traces.{result_of, state_of, trace, traced}
+use Rattle.trace_spec.specs.Traces.{result_of, state_of, trace, traced, generation}
 use Rattle.trace_spec.specs.Checks.{Gathered}
 use Rattle.trace_spec.specs.Modules.{Config}
 use Rattle.package_lookup.specs.declared.known.Known.{Known}
 use Rattle.package_lookup.specs.Looked.{Sees}
-use Rattle.package_lookup.specs.Answered.{State, state, Tells, Answered}
+use Rattle.package_lookup.specs.Answered.{State, state, Tells, IsLookOf, Answered}
 use Rattle.package_lookup.specs.Answered as lookup
 use Rattle.package_lookup.specs.Responses.{Response, given, fails, passes, not_read, no_memory, never, by_limit}
-use Rattle.package_lookup.proofs.Questions.{sees_still}
+use Rattle.package_lookup.proofs.Questions.{sees_still, limited_always}
 use Rattle.package_lookup.proofs.Learnings.{learns_as, learns_by, learns_at}
-use Rattle.trace_walk.specs.Meeting.{Kept, IsTold, Comes, Met, fine}
+use Rattle.trace_walk.specs.Meeting.{Told, Kept, IsTold, looks_of, IsAskedBy, Comes, Met, fine}
 use Rattle.trace_walk.specs.Kinds.{IsOfWalk}
 use Rattle.trace_walk.specs.Shown.{traced_of}
 use Rattle.trace_walk.specs.declared.tables.Tables.{Tables}
-use Rattle.request_trace.specs.Answering.{result_by, ToldBy, answers_of}
-use Rattle.request_trace.specs.Tracing.{Traces}
+use Rattle.request_trace.specs.Answering.{result_by, told_by, ToldBy, answers_of}
+use Rattle.request_trace.specs.Tracing.{IsOfFootprint, Traces}
+use Rattle.request_trace.proofs.FootprintPaths.{footprint_contains}
 
-abbrev Told : Type 0
-Told = Answers Trail LimitName Question Answer
+abbrev Answering : Type 0
+Answering = Told Trail Question Answer
 
 abbrev going : {X : Type 0} → Ended X Trail LimitName → Ended (Result X TraceFault) Trail LimitName
 going end = then_ended end (λ value after. ends (Ok value) after)
@@ -66,6 +71,10 @@ read_by (fails not_read) result is e = refl
 read_by (fails no_memory) result is e = absurd (cc)
 read_by (fails never) result is e = absurd (cc)
 
+pub answers_always : (sights : Sights) → AreAlways (answers sights) (always sights)
+answers_always sights trail after question answer e =
+    ends_outcome (limited look_limits sights) sights (limited_always sights) (begun trail) after (put question) answer e
+
 abbrev afresh : State → State
 afresh before = state before.folder before.known (begun before.trail)
 
@@ -76,17 +85,17 @@ module _ (references : List ℕ) (before after : State) (question : Question) (r
   told_here a tree holds =
       subst (λ h. IfSome h (λ tree. Tells tree (afresh before) (put question) response after)) holds a.tells
 
-  comes_told : result ≡ result_by response → Answered (afresh before) (put question) response after → (told : Told)
-      → ToldBy before.folder before.known told → IsTold result
-      → Comes told before.trail (fine (ask question answered)) result after.trail
+  comes_told : result ≡ result_by response → Answered (afresh before) (put question) response after
+      → (told : Answering) → ToldBy before.folder before.known told → IsTold result
+      → Comes told.answers before.trail (fine (ask question answered)) result after.trail
   comes_told is a told by is_told =
       (let tells = told_here a by.tree by.holds in
       let here = comes_by (answers by.sights before.trail question) response result after.trail is is_told
       (tells.says by.sights by.sees) in
-      subst (λ t. Comes t before.trail (fine (ask question answered)) result after.trail) (sym by.are)
+      subst (λ (t : Answering). Comes t.answers before.trail (fine (ask question answered)) result after.trail) (sym by.are)
       (record { is = here.0; leaves = here.1 }))
 
-  told_still : Answered (afresh before) (put question) response after → (told : Told)
+  told_still : Answered (afresh before) (put question) response after → (told : Answering)
       → ToldBy before.folder before.known told → ToldBy after.folder after.known told
   told_still a told by = record {
     tree = by.tree;
@@ -95,6 +104,18 @@ module _ (references : List ℕ) (before after : State) (question : Question) (r
     sees = sees_still by.tree before.known after.known by.sights (told_here a by.tree by.holds).same by.sees;
     are = by.are;
   }
+
+  -- a look of the question is one at which the walk's question looks
+  asked_by : (path : List ℕ) → IsLookOf (afresh before) (put question) path
+      → IsAskedBy (answers_of references before) (fine (ask question answered)) path
+  asked_by path is told by are =
+      let each : (sights : Sights) → Sees by.tree before.known sights → Contains (looks sights (put question)) path =
+      subst (λ holds. IfSome holds
+      (λ tree. (sights : Sights) → Sees tree before.known sights → Contains (looks sights (put question)) path))
+      by.holds is in
+      subst (λ (t : Answering). Contains (looks_of t (questions t.always (fine (ask question answered)))) path)
+      (sym by.are)
+      (Contains-append_left (looks by.sights (put question)) [] path (each by.sights by.sees))
 
   pub met_by : result ≡ result_by response → Answered (afresh before) (put question) response after
       → Met (answers_of references before) (fine (ask question answered)) result (answers_of references after)
@@ -105,9 +126,11 @@ module _ (references : List ℕ) (before after : State) (question : Question) (r
     later = a.folder.later;
     cause = λ e. a.folder.cause (read_by response result is e);
     quiet = λ ne. a.folder.quiet (λ e. ne (is ∙ ap result_by e));
-    learns = learns_as before after (response ≡ fails no_memory) (result ≡ Err Memory) (λ e. is ∙ ap result_by e)
+    learns = learns_as before after (response ≡ fails no_memory) (result ≡ Err Memory)
+        (IsLookOf (afresh before) (put question))
+        (IsAskedBy (answers_of references before) (fine (ask question answered))) (λ e. is ∙ ap result_by e) asked_by
         (learns_at (afresh before) after before.trail after.trail (response ≡ fails no_memory)
-        (learns_by (afresh before) after (put question) response a));
+        (IsLookOf (afresh before) (put question)) (learns_by (afresh before) after (put question) response a));
   }
 
 -- ---- the walk
@@ -120,8 +143,20 @@ is_traced : (told : Option Tree) (references others : List ℕ) (config : Config
 is_traced None references others config before after result holds fresh met = tt
 is_traced (Some tree) references others config before after result holds fresh met = λ sights sees is_told.
     ap (λ trail. result_of (evaluated (answers sights) trail (trace config))) (sym fresh)
-    ∙ (met.comes (answers sights) (record { tree = tree; sights = sights; holds = holds; sees = sees; are = refl })
+    ∙ (met.comes (told_by sights) (record { tree = tree; sights = sights; holds = holds; sees = sees; are = refl })
     is_told).is
+
+-- what the walk's questions look at is of the footprint
+of_footprint : (told : Option Tree) (references : List ℕ) (config : Config) (before : State) (path : List ℕ)
+    → before.folder.holds ≡ told → IsAskedBy (answers_of references before) (trace config) path
+    → IfSome told
+    (λ tree. (sights : Sights) → Sees tree before.known sights → Contains (footprint sights (generation config)) path)
+of_footprint None references config before path holds is = tt
+of_footprint (Some tree) references config before path holds is = λ sights sees.
+    footprint_contains sights (generation config) path
+    (subst (λ paths. Contains paths path) (sym (looks_are_of_questions sights config).looks)
+    (is (told_by sights) (record { tree = tree; sights = sights; holds = holds; sees = sees; are = refl })
+    (answers_always sights)))
 
 pub traces_by : (references others : List ℕ) (config : Config) (before after : State)
     (result : Result Gathered TraceFault) → before.trail ≡ no_trail
@@ -130,7 +165,11 @@ pub traces_by : (references others : List ℕ) (config : Config) (before after :
     → Traces config before.folder before.known result after.folder after.known
 traces_by references others config before after result fresh met kind = record {
   is = is_traced before.folder.holds references others config before after result refl fresh met;
-  learns = learns_at before after no_trail no_trail (result ≡ Err Memory) met.learns;
+  learns = learns_at before after no_trail no_trail (result ≡ Err Memory)
+      (IsOfFootprint config before.folder before.known)
+      (learns_as before after (result ≡ Err Memory) (result ≡ Err Memory)
+      (IsAskedBy (answers_of references before) (trace config)) (IsOfFootprint config before.folder before.known)
+      (λ e. e) (λ path. of_footprint before.folder.holds references config before path refl) met.learns);
   looks = record {
     tree = ap (λ (keeps : Kept). keeps.holds) met.keeps;
     writes = ap (λ (keeps : Kept). keeps.writes) met.keeps;

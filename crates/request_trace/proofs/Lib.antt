@@ -1,1 +1,2 @@
+mod FootprintPaths
 pub mod AnswerLemmas

@@ -1,22 +1,21 @@
 -- The answers to a walk's questions by looks at a folder.
 --     result_by response            what a question comes to, as the result of a call
---     ToldBy folder known told      these are the answers by what stands at each path, as far as looks tell
+--     told_by sights                the answers by what stands at each path, and the looks of each question
+--     ToldBy folder known told      these are the answers so, as far as looks tell
 --     answers_of references looks   what answers, in this state
 use Rattle.std.specs.Prelude.{◌≡◌, ℕ, List, Some, Result, Ok, Err}
-use Rattle.asking_spec.specs.Evaluation.{Answers}
-use Rattle.tree_spec.specs.declared.LimitName.{LimitName}
-use Rattle.tree_spec.specs.LookAskings.{Sights}
+use Rattle.tree_spec.specs.LookAskings.{Sights, looks}
 use Rattle.tree_spec.specs.LookLimits.{Trail}
 use Rattle.tree_spec.specs.States.{FolderState}
 use Rattle.tree_spec.specs.Trees.{Tree}
 use Rattle.trace_spec.specs.declared.TraceFault.{TraceFault}
 use Rattle.trace_spec.specs.declared.TraceFault.TheVariants.{Limit, ReadFault, Memory}
-use Rattle.trace_spec.specs.Questions.{Question, Answer, answers}
+use Rattle.trace_spec.specs.Questions.{Question, Answer, put, answers, always}
 use Rattle.package_lookup.specs.declared.known.Known.{Known}
 use Rattle.package_lookup.specs.Looked.{Sees}
 use Rattle.package_lookup.specs.Answered.{State}
 use Rattle.package_lookup.specs.Responses.{Response, given, fails, passes, not_read, no_memory, never}
-use Rattle.trace_walk.specs.Meeting.{AnswererState}
+use Rattle.trace_walk.specs.Meeting.{Told, AnswererState}
 
 -- no call comes to `never`
 abbrev pub result_by : {X : Type 0} → Response X → Result X TraceFault
@@ -26,12 +25,20 @@ result_by (fails not_read) = Err ReadFault
 result_by (fails no_memory) = Err Memory
 result_by (fails never) = Err Memory
 
-pub record ToldBy (folder : FolderState) (known : Known) (told : Answers Trail LimitName Question Answer) : Type 0 where
+abbrev pub told_by : Sights → Told Trail Question Answer
+told_by sights =
+    record {
+      answers = answers sights;
+      always = always sights;
+      looks = λ question. looks sights (put question);
+    }
+
+pub record ToldBy (folder : FolderState) (known : Known) (told : Told Trail Question Answer) : Type 0 where
   pub tree : Tree
   pub sights : Sights
   pub holds : folder.holds ≡ Some tree
   pub sees : Sees tree known sights
-  pub are : told ≡ answers sights
+  pub are : told ≡ told_by sights
 
 abbrev pub answers_of : List ℕ → State → AnswererState
 answers_of references looks =

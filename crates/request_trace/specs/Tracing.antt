@@ -1,14 +1,16 @@
 -- The trace of a folder, of which something is known.
+--     IsOfFootprint config before known path       where a tree is told, the path is of the generation's footprint, by
+--                                                  all that looks tell
 --     Traces config before known result after later      the trace, or its first refusal
-use Rattle.std.specs.Prelude.{◌≡◌, Result, Err, IfSome, IfErr}
-use Rattle.tree_spec.specs.LookAskings.{Sights}
+use Rattle.std.specs.Prelude.{◌≡◌, ℕ, List, Contains, Result, Err, IfSome, IfErr}
+use Rattle.tree_spec.specs.LookAskings.{Sights, footprint}
 use Rattle.tree_spec.specs.LookLimits.{no_trail}
 use Rattle.tree_spec.specs.States.{FolderState, OnlyLooks}
 use Rattle.trace_spec.specs.declared.TraceFault.{TraceFault}
 use Rattle.trace_spec.specs.declared.TraceFault.TheVariants.{ReadFault, Memory}
 use Rattle.trace_spec.specs.Modules.{Config}
 use Rattle.trace_spec.specs.Checks.{Gathered}
-use Rattle.trace_spec.specs.Traces.{traced}
+use Rattle.trace_spec.specs.Traces.{traced, generation}
 use Rattle.package_lookup.specs.declared.known.Known.{Known}
 use Rattle.package_lookup.specs.Looked.{Sees}
 use Rattle.package_lookup.specs.Answered.{State, state}
@@ -20,13 +22,20 @@ use Rattle.trace_walk.specs.Kinds.{IsOfWalk}
 abbrev pub known_of : FolderState → Known → State
 known_of folder known = state folder known no_trail
 
+-- own: whatever stands at each path as far as a look tells
+abbrev pub IsOfFootprint : Config → FolderState → Known → List ℕ → Type 0
+IsOfFootprint config before known path =
+    IfSome before.holds
+    (λ tree. (sights : Sights) → Sees tree known sights → Contains (footprint sights (generation config)) path)
+
 -- own: unless a look fails or memory is wanting, the result is the definition's, whatever stands at each path as far as
--- looks tell
+-- looks tell. Whatever the result is, the folder was asked for paths of the footprint alone
 pub record Traces (config : Config) (before : FolderState) (known : Known) (result : Result Gathered TraceFault)
     (after : FolderState) (later : Known) : Type 0 where
   pub is :
       IfSome before.holds
       (λ tree. (sights : Sights) → Sees tree known sights → IsTold result → traced sights config ≡ result)
-  pub learns : Learns (known_of before known) (known_of after later) (result ≡ Err Memory)
+  pub learns :
+      Learns (known_of before known) (known_of after later) (result ≡ Err Memory) (IsOfFootprint config before known)
   pub looks : OnlyLooks before after (result ≡ Err ReadFault)
   pub kind : IfErr result (IsOfWalk config)

@@ -15,8 +15,8 @@ use trace_spec::TraceFault;
 use trace_walk::{Config, Tables, walk};
 use tree_model::Folder;
 
-/// The trace of a folder and a config, or its first refusal. No path is looked at that is known, and none twice. It
-/// takes at most one step for each module and for each request.
+/// The trace of a folder and a config, or its first refusal. No path is looked at that is known, none twice, and none
+/// that isn't of the generation's footprint. It takes at most one step for each module and for each request.
 pub fn trace<F: Folder, L: Ledger>(
     alloc: Global,
     folder: &mut F,

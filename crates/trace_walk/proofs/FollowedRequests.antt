@@ -18,25 +18,26 @@ use Rattle.trace_spec.specs.Checks.{Gathered, Wanted, checked, led, followed_by,
 use Rattle.trace_spec.specs.Traces.{result_of, state_of}
 use Rattle.trace_walk.specs.declared.referrer.Referrer as code
 use Rattle.trace_walk.specs.declared.tables.Tables.{Tables}
-use Rattle.trace_walk.specs.Meeting.{AnswererState, fine, Met}
+use Rattle.trace_walk.specs.Meeting.{AnswererState, fine, IsAskedBy, Met}
 use Rattle.trace_walk.specs.Shown.{done}
 use Rattle.trace_walk.specs.Walking.{IsReferrer, IsGiven}
 use Rattle.trace_walk.proofs.FaultKinds.{handed}
 use Rattle.trace_walk.proofs.TableLemmas.{shown_is}
-use Rattle.trace_walk.proofs.Meetings.{failed, told_err, met_then, met_failed, met_now}
+use Rattle.trace_walk.proofs.Meetings.{failed, told_err, met_then, met_failed, met_lost, met_now}
 
 refused_first : (before : AnswererState) (config : Config) (tables : Gathered) (r : Referrer Module) (specifier : List ℕ) (want : Result Wanted TraceFault) (fault : TraceFault) → IsGiven want (Err fault) → Met {X = Gathered} before (followed_by config tables r specifier want) (Err fault) before
 refused_first before config tables r specifier want fault given = record {
-  comes = λ answers told is_told. (let is : want ≡ Err fault = given.given (told_err {X = Wanted} {Y = Gathered} fault is_told).1 in record {
-    is = ap (λ w. result_of (evaluated answers before.state (followed_by config tables r specifier w))) is;
-    leaves = ap (λ w. state_of (evaluated answers before.state (followed_by config tables r specifier w))) is;
+  comes = λ told tells is_told. (let is : want ≡ Err fault = given.given (told_err {X = Wanted} {Y = Gathered} fault is_told).1 in record {
+    is = ap (λ w. result_of (evaluated told.answers before.state (followed_by config tables r specifier w))) is;
+    leaves = ap (λ w. state_of (evaluated told.answers before.state (followed_by config tables r specifier w))) is;
   });
-  told = λ answers told. told;
+  told = λ told tells. tells;
   keeps = refl;
   later = omega arith;
   cause = λ e. absurd (given.no_look (let f : fault ≡ ReadFault = cc in ap Err f));
   quiet = λ ne. refl;
-  learns = learns_nothing before.looks (failed Gathered fault ≡ Err Memory);
+  learns = learns_nothing before.looks (failed Gathered fault ≡ Err Memory)
+      (IsAskedBy before (followed_by config tables r specifier want));
 }
 
 -- a check before Node is asked isn't passed
@@ -61,6 +62,14 @@ follow_failed before after config tables r conditions path specifier want fault 
     subst (λ v. Met before (follows config tables r specifier) (done v code) after) (sym (handed result fault is))
     (subst (λ w. Met {X = Gathered} before (followed_by config tables r specifier w) (Err fault) after) (sym asks)
     (met_failed before after (fine (ask (of_request config.conditions (path_of config r) specifier) answered)) (by_answer config tables r specifier want) fault (put_so before after config r conditions path specifier (Err fault) on at met)))
+
+-- memory was wanting behind Node's answer
+pub follow_lost : (before after : AnswererState) (config : Config) (tables : Gathered) (r : Referrer Module) (conditions : List (List ℕ)) (path specifier : List ℕ) (want : Wanted) (found : Result Module Refusal) (result : Result (Unit {0}) TraceFault) (code : Tables) → conditions ≡ config.conditions → path_of config r ≡ path
+    → IsErrAnd result (λ f. f ≡ Memory) → checked config tables r specifier ≡ Ok want → Met {X = Result Module Refusal} before (fine (ask (of_request conditions path specifier) answered)) (Ok found) after → Met before (follows config tables r specifier) (done result code) after
+follow_lost before after config tables r conditions path specifier want found result code on at is asks met =
+    subst (λ v. Met before (follows config tables r specifier) (done v code) after) (sym (handed result Memory is))
+    (subst (λ w. Met {X = Gathered} before (followed_by config tables r specifier w) (Err Memory) after) (sym asks)
+    (met_lost before after (fine (ask (of_request config.conditions (path_of config r) specifier) answered)) (by_answer config tables r specifier want) found (put_so before after config r conditions path specifier (Ok found) on at met)))
 
 -- Node's answer decides
 pub follow_led : (before after : AnswererState) (config : Config) (tables : Gathered) (r : Referrer Module) (conditions : List (List ℕ)) (path specifier : List ℕ) (want : Wanted) (found : Result Module Refusal) (result : Result Gathered TraceFault) → conditions ≡ config.conditions → path_of config r ≡ path

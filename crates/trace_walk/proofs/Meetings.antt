@@ -1,9 +1,14 @@
 -- One call after another: what a whole asking comes to, by what its parts come to.
+--     asked_first, asked_behind          what a part asks for, the whole does
 --     Left before whole middle rest      whatever the rest comes to from here, the whole comes to
-use Rattle.std.proofs.Common.{◌≡◌, Result, Ok, Err, refl, ap, ◌∙◌, subst, arith}
-use Rattle.asking_spec.specs.Askings.{Asking, answered, and_ok}
+use Rattle.std.proofs.Common.{◌≡◌, ◌++◌, ℕ, List, Result, Ok, Err, refl, sym, ap, ◌∙◌, subst, arith}
+use Rattle.std.specs.Prelude.{Contains}
+use Rattle.std.proofs.lemmas.Grind.{flat_map-append}
+use Rattle.std.proofs.lemmas.List.Elements.{Contains-append_left, Contains-append_right}
+use Rattle.asking_spec.specs.Askings.{Asking, answered, outcome, questions, on_ok, and_ok}
 use Rattle.asking_spec.specs.Evaluation.{Ended, ends, stopped, Answers, evaluated}
-use Rattle.asking_spec.proofs.EvaluationLemmas.{ends_then, refused_then, stopped_then}
+use Rattle.asking_spec.proofs.AskingLemmas.{questions_then}
+use Rattle.asking_spec.proofs.EvaluationLemmas.{ends_then, refused_then, stopped_then, ends_outcome}
 use Rattle.tree_spec.specs.declared.LimitName.{LimitName}
 use Rattle.tree_spec.specs.Counts.{Rose}
 use Rattle.trace_spec.specs.declared.TraceFault.{TraceFault}
@@ -11,7 +16,7 @@ use Rattle.trace_spec.specs.declared.TraceFault.TheVariants.{ReadFault, Memory, 
 use Rattle.trace_spec.specs.Traces.{result_of, state_of}
 use Rattle.package_lookup.specs.Learning.{Learns}
 use Rattle.package_lookup.proofs.Learnings.{learns_then, learns_nothing, learns_as}
-use Rattle.trace_walk.specs.Meeting.{Outside, IsTold, Comes, Met}
+use Rattle.trace_walk.specs.Meeting.{Told, Outside, IsTold, looks_of, IsAskedBy, Comes, Met}
 use Rattle.trace_walk.specs.Walking.{IsGiven}
 
 abbrev pub failed : (X : Type 0) → TraceFault → Result X TraceFault
@@ -44,56 +49,103 @@ comes_then answers before middle after part next value result one two =
 pub told_err : {X Y : Type 0} (fault : TraceFault) → IsTold {X = Y} (Err fault) → IsTold {X = X} (Err fault)
 told_err fault told = ((λ e. told.0 (cc)), (λ e. told.1 (cc)))
 
+-- ---- what a part asks for, the whole does
+
+pub asked_first : {T Q : Type 0} {A : Q → Type 0} {X Y : Type 0} (before : Outside T Q A)
+    (part : Asking Q A (Result X TraceFault)) (next : X → Asking Q A (Result Y TraceFault)) (path : List ℕ)
+    → IsAskedBy before part path → IsAskedBy before (and_ok part next) path
+asked_first before part next path is = λ told tells always.
+    let rest = questions told.always (on_ok next (outcome told.always part)) in
+    subst (λ paths. Contains paths path)
+    (sym (ap (looks_of told) (questions_then told.always part (on_ok next))
+    ∙ flat_map-append told.looks (questions told.always part) rest))
+    (Contains-append_left (looks_of told (questions told.always part)) (looks_of told rest) path (is told tells always))
+
+pub asked_behind : {T Q : Type 0} {A : Q → Type 0} {X Y : Type 0} (before middle : Outside T Q A)
+    (part : Asking Q A (Result X TraceFault)) (next : X → Asking Q A (Result Y TraceFault)) (value : X)
+    (path : List ℕ) → Met before part (Ok value) middle → IsAskedBy middle (next value) path
+    → IsAskedBy before (and_ok part next) path
+asked_behind {X = X} before middle part next value path first is = λ told tells always.
+    let one = first.comes told tells ((λ e. cc), (λ e. cc)) in
+    let found : succeeded X value ≡ outcome told.always part =
+    ends_outcome told.answers told.always always before.state middle.state part (Ok value)
+    (ended_ok (evaluated told.answers before.state part) value middle.state one.is one.leaves) in
+    let rest = questions told.always (next value) in
+    subst (λ paths. Contains paths path)
+    (sym (ap (looks_of told) (questions_then told.always part (on_ok next)
+    ∙ ap (λ r. questions told.always part ++ questions told.always (on_ok next r)) (sym found))
+    ∙ flat_map-append told.looks (questions told.always part) rest))
+    (Contains-append_right (looks_of told (questions told.always part)) (looks_of told rest) path
+    (is told (first.told told tells) always))
+
 -- a part that has its value, and what comes behind it
 pub met_then : {T Q : Type 0} {A : Q → Type 0} {X Y : Type 0} (before middle after : Outside T Q A) (part : Asking Q A (Result X TraceFault)) (next : X → Asking Q A (Result Y TraceFault)) (value : X) (result : Result Y TraceFault)
     → Met before part (Ok value) middle → Met middle (next value) result after → Met before (and_ok part next) result after
 met_then {X = X} before middle after part next value result first rest = record {
-  comes = λ answers told is_told. comes_then answers before.state middle.state after.state part next value result (first.comes answers told ((λ e. cc), (λ e. cc))) (rest.comes answers (first.told answers told) is_told);
-  told = λ answers told. rest.told answers (first.told answers told);
+  comes = λ told tells is_told. comes_then told.answers before.state middle.state after.state part next value result (first.comes told tells ((λ e. cc), (λ e. cc))) (rest.comes told (first.told told tells) is_told);
+  told = λ told tells. rest.told told (first.told told tells);
   keeps = rest.keeps ∙ first.keeps;
   later = (let one = first.later in let two = rest.later in omega arith);
   cause = λ e. (let two = rest.cause e in let same : middle.faults ≡ before.faults = first.quiet (λ f. cc) in subst (λ n. Rose n after.faults) same two);
   quiet = λ ne. rest.quiet ne ∙ first.quiet (λ f. cc);
-  learns = learns_then before.looks middle.looks after.looks (succeeded X value ≡ Err Memory) (result ≡ Err Memory) (λ e. cc)
-      first.learns rest.learns;
+  learns = learns_then before.looks middle.looks after.looks (succeeded X value ≡ Err Memory) (result ≡ Err Memory)
+      (IsAskedBy before part) (IsAskedBy middle (next value)) (IsAskedBy before (and_ok part next)) (λ e. cc)
+      (asked_first before part next) (λ path. asked_behind before middle part next value path first) first.learns
+      rest.learns;
 }
 
 -- a part that has none
 pub met_failed : {T Q : Type 0} {A : Q → Type 0} {X Y : Type 0} (before after : Outside T Q A) (part : Asking Q A (Result X TraceFault)) (next : X → Asking Q A (Result Y TraceFault)) (fault : TraceFault)
     → Met {X = X} before part (Err fault) after → Met {X = Y} before (and_ok part next) (Err fault) after
 met_failed {X = X} {Y = Y} before after part next fault first = record {
-  comes = λ answers told is_told. (let one = first.comes answers told (told_err fault is_told) in fails_by answers before.state after.state part next fault (evaluated answers before.state part) refl one.is one.leaves);
+  comes = λ told tells is_told. (let one = first.comes told tells (told_err fault is_told) in fails_by told.answers before.state after.state part next fault (evaluated told.answers before.state part) refl one.is one.leaves);
   told = first.told;
   keeps = first.keeps;
   later = first.later;
   cause = λ e. first.cause (let f : fault ≡ ReadFault = cc in ap Err f);
   quiet = λ ne. first.quiet (λ e. ne (let f : fault ≡ ReadFault = cc in ap Err f));
   learns = learns_as before.looks after.looks (failed X fault ≡ Err Memory) (failed Y fault ≡ Err Memory)
-      (λ e. (let f : fault ≡ Memory = cc in ap Err f)) first.learns;
+      (IsAskedBy before part) (IsAskedBy before (and_ok part next)) (λ e. (let f : fault ≡ Memory = cc in ap Err f))
+      (asked_first before part next) first.learns;
+}
+
+-- memory was wanting behind a part
+pub met_lost : {T Q : Type 0} {A : Q → Type 0} {X Y : Type 0} (before after : Outside T Q A) (part : Asking Q A (Result X TraceFault)) (next : X → Asking Q A (Result Y TraceFault)) (value : X)
+    → Met before part (Ok value) after → Met {X = Y} before (and_ok part next) (Err Memory) after
+met_lost {X = X} {Y = Y} before after part next value first = record {
+  comes = λ told tells is_told. absurd (is_told.1 refl);
+  told = first.told;
+  keeps = first.keeps;
+  later = first.later;
+  cause = λ e. absurd (cc);
+  quiet = λ ne. first.quiet (λ e. cc);
+  learns = learns_as before.looks after.looks (succeeded X value ≡ Err Memory) (failed Y Memory ≡ Err Memory)
+      (IsAskedBy before part) (IsAskedBy before (and_ok part next)) (λ e. refl) (asked_first before part next)
+      first.learns;
 }
 
 -- nothing is asked
 pub met_now : {T Q : Type 0} {A : Q → Type 0} {X : Type 0} (before : Outside T Q A) (value result : Result X TraceFault) → IsGiven value result → Met before (answered value) result before
 met_now before value result given = record {
-  comes = λ answers told is_told. record { is = given.given is_told.1; leaves = refl };
-  told = λ answers told. told;
+  comes = λ told tells is_told. record { is = given.given is_told.1; leaves = refl };
+  told = λ told tells. tells;
   keeps = refl;
   later = omega arith;
   cause = λ e. absurd (given.no_look e);
   quiet = λ ne. refl;
-  learns = learns_nothing before.looks (result ≡ Err Memory);
+  learns = learns_nothing before.looks (result ≡ Err Memory) (IsAskedBy before (answered value));
 }
 
 -- and so does want of memory before anything was asked
 pub met_memory : {T Q : Type 0} {A : Q → Type 0} {X : Type 0} (before : Outside T Q A) (whole : Asking Q A (Result X TraceFault)) → Met {X = X} before whole (Err Memory) before
 met_memory {X = X} before whole = record {
-  comes = λ answers told is_told. absurd (is_told.1 refl);
-  told = λ answers told. told;
+  comes = λ told tells is_told. absurd (is_told.1 refl);
+  told = λ told tells. tells;
   keeps = refl;
   later = omega arith;
   cause = λ e. absurd (cc);
   quiet = λ ne. refl;
-  learns = learns_nothing before.looks (failed X Memory ≡ Err Memory);
+  learns = learns_nothing before.looks (failed X Memory ≡ Err Memory) (IsAskedBy before whole);
 }
 
 pub given_same : {X : Type 0} (value : X) → IsGiven (Ok value) (Ok value)
@@ -102,37 +154,43 @@ given_same value = record { given = λ ne. refl; no_look = λ e. cc }
 -- ---- whatever the rest comes to, the whole does
 
 pub record Left {T Q : Type 0} {A : Q → Type 0} {X : Type 0} (before : Outside T Q A) (whole : Asking Q A (Result X TraceFault)) (middle : Outside T Q A) (rest : Asking Q A (Result X TraceFault)) : Type 0 where
-  pub same : (answers : Answers T LimitName Q A) → before.told answers → evaluated answers before.state whole ≡ evaluated answers middle.state rest
-  pub told : (answers : Answers T LimitName Q A) → before.told answers → middle.told answers
+  pub same : (told : Told T Q A) → before.told told → evaluated told.answers before.state whole ≡ evaluated told.answers middle.state rest
+  pub told : (told : Told T Q A) → before.told told → middle.told told
   pub keeps : middle.keeps ≡ before.keeps
   pub quiet : middle.faults ≡ before.faults
-  pub learns : Learns before.looks middle.looks ⊥
+  pub learns : Learns before.looks middle.looks ⊥ (IsAskedBy before whole)
+  pub within : (path : List ℕ) → IsAskedBy middle rest path → IsAskedBy before whole path
 
 pub left_begins : {T Q : Type 0} {A : Q → Type 0} {X : Type 0} (before : Outside T Q A) (whole : Asking Q A (Result X TraceFault)) → Left before whole before whole
-left_begins before whole = record { same = λ answers told. refl; told = λ answers told. told; keeps = refl; quiet = refl; learns = learns_nothing before.looks ⊥ }
+left_begins before whole = record { same = λ told tells. refl; told = λ told tells. tells; keeps = refl; quiet = refl; learns = learns_nothing before.looks ⊥ (IsAskedBy before whole); within = λ path is. is }
 
 pub left_completes : {T Q : Type 0} {A : Q → Type 0} {X : Type 0} (before middle after : Outside T Q A) (whole rest : Asking Q A (Result X TraceFault)) (result : Result X TraceFault)
     → Left before whole middle rest → Met middle rest result after → Met before whole result after
 left_completes before middle after whole rest result left met = record {
-  comes = λ answers told is_told. (let one = met.comes answers (left.told answers told) is_told in let same = left.same answers told in record { is = ap result_of same ∙ one.is; leaves = ap state_of same ∙ one.leaves });
-  told = λ answers told. met.told answers (left.told answers told);
+  comes = λ told tells is_told. (let one = met.comes told (left.told told tells) is_told in let same = left.same told tells in record { is = ap result_of same ∙ one.is; leaves = ap state_of same ∙ one.leaves });
+  told = λ told tells. met.told told (left.told told tells);
   keeps = met.keeps ∙ left.keeps;
   later = (let one = left.quiet in let two = met.later in omega arith);
   cause = λ e. subst (λ n. Rose n after.faults) left.quiet (met.cause e);
   quiet = λ ne. met.quiet ne ∙ left.quiet;
-  learns = learns_then before.looks middle.looks after.looks ⊥ (result ≡ Err Memory) (λ e. e) left.learns met.learns;
+  learns = learns_then before.looks middle.looks after.looks ⊥ (result ≡ Err Memory) (IsAskedBy before whole)
+      (IsAskedBy middle rest) (IsAskedBy before whole) (λ e. e) (λ path is. is) left.within left.learns met.learns;
 }
 
 pub left_goes : {T Q : Type 0} {A : Q → Type 0} {X Y : Type 0} (before middle later : Outside T Q A) (whole : Asking Q A (Result Y TraceFault)) (part : Asking Q A (Result X TraceFault)) (next : X → Asking Q A (Result Y TraceFault)) (value : X)
     → Left before whole middle (and_ok part next) → Met middle part (Ok value) later → Left before whole later (next value)
 left_goes {X = X} before middle later whole part next value left met = record {
-  same = λ answers told. (let one = met.comes answers (left.told answers told) ((λ e. cc), (λ e. cc)) in
-      left.same answers told ∙ ends_then answers middle.state later.state part next value (ended_ok (evaluated answers middle.state part) value later.state one.is one.leaves));
-  told = λ answers told. met.told answers (left.told answers told);
+  same = λ told tells. (let one = met.comes told (left.told told tells) ((λ e. cc), (λ e. cc)) in
+      left.same told tells ∙ ends_then told.answers middle.state later.state part next value (ended_ok (evaluated told.answers middle.state part) value later.state one.is one.leaves));
+  told = λ told tells. met.told told (left.told told tells);
   keeps = met.keeps ∙ left.keeps;
   quiet = met.quiet (λ e. cc) ∙ left.quiet;
-  learns = learns_then before.looks middle.looks later.looks ⊥ ⊥ (λ e. e) left.learns
-      (learns_as middle.looks later.looks (succeeded X value ≡ Err Memory) ⊥ (λ e. absurd (cc)) met.learns);
+  learns = learns_then before.looks middle.looks later.looks ⊥ ⊥ (IsAskedBy before whole) (IsAskedBy middle part)
+      (IsAskedBy before whole) (λ e. e) (λ path is. is)
+      (λ path is. left.within path (asked_first middle part next path is)) left.learns
+      (learns_as middle.looks later.looks (succeeded X value ≡ Err Memory) ⊥ (IsAskedBy middle part)
+      (IsAskedBy middle part) (λ e. absurd (cc)) (λ path is. is) met.learns);
+  within = λ path is. left.within path (asked_behind middle later part next value path met is);
 }
 
 pub left_fails : {T Q : Type 0} {A : Q → Type 0} {X Y : Type 0} (before middle later : Outside T Q A) (whole : Asking Q A (Result Y TraceFault)) (part : Asking Q A (Result X TraceFault)) (next : X → Asking Q A (Result Y TraceFault)) (fault : TraceFault)

@@ -32,7 +32,7 @@ use Rattle.trace_walk.specs.Refusing.{no_source_fault}
 use Rattle.trace_walk.specs.Walking.{IsReferrer, IsNamed, AllNamed, AreBeside, IsGiven, Grows, IsWhole, IsUnserved}
 use Rattle.trace_walk.proofs.TableLemmas.{keys_of-length}
 use Rattle.trace_walk.proofs.FaultKinds.{handed}
-use Rattle.trace_walk.proofs.Meetings.{met_then, met_failed, met_now, Left}
+use Rattle.trace_walk.proofs.Meetings.{met_then, met_failed, met_lost, met_now, Left}
 
 -- ---- how the tables grow
 
@@ -146,6 +146,13 @@ pub visit_failed : (before after : AnswererState) (config : Config) (tables : Ga
 visit_failed before after config tables m path fault result code at is first =
     subst (λ v. Met before (visited (rules config) tables (a_module m)) (done v code) after) (sym (handed result fault is))
     (met_failed before after (fine (ask (of_module m.path) answered)) (behind config tables m) fault (subst (λ p. Met {X = Result spec.Source spec.NoSource} before (fine (ask (of_module p) answered)) (Err fault) after) (sym at) first))
+
+-- memory was wanting behind the answer
+pub visit_lost : (before after : AnswererState) (config : Config) (tables : Gathered) (m : Module) (path : List ℕ) (found : Result spec.Source spec.NoSource) (result : Result (Unit {0}) TraceFault) (code : Tables) → m.path ≡ path → IsErrAnd result (λ f. f ≡ Memory)
+    → Met {X = Result spec.Source spec.NoSource} before (fine (ask (of_module path) answered)) (Ok found) after → Met before (visited (rules config) tables (a_module m)) (done result code) after
+visit_lost before after config tables m path found result code at is first =
+    subst (λ v. Met before (visited (rules config) tables (a_module m)) (done v code) after) (sym (handed result Memory is))
+    (met_lost before after (fine (ask (of_module m.path) answered)) (behind config tables m) found (subst (λ p. Met {X = Result spec.Source spec.NoSource} before (fine (ask (of_module p) answered)) (Ok found) after) (sym at) first))
 
 sourceless : (config : Config) (tables : Gathered) (m : Module) (why : NoSource) (text : List ℕ) → text ≡ m.path ++ m.suffix → module_opened config tables m (Err (no_source_of why)) ≡ Err (no_source_fault text why)
 sourceless config tables m (NotModule reason) text is = ap (λ shown. Err (refused.NotModule shown reason)) (sym is)

@@ -1,4 +1,6 @@
 -- What is known of answers from outside, and what a call that asks for them comes to.
+--     Told T Q A                       answers, what each question is answered where nothing stops it, and at which
+--                                      paths it looks
 --     Outside T Q A                    which answers are those that are told; the state that they see; how many looks
 --                                      failed; what stays as it is; what was looked at, and is known
 --     Kept                             what looks leave as it is
@@ -7,10 +9,12 @@
 --     Comes answers before asking result after     by these answers the asking comes to this, and leaves that state
 --     Met before asking result after   the call comes to what the asking comes to, unless a look fails or memory is
 --                                      wanting; and what it learns of the folder
+--     looks_of told asked              the paths at which these questions look
+--     IsAskedBy before asking path     the asking's questions look at the path, by all answers that are told
 --     AnswererState                    the answers to the questions of a walk, which see a trail of looks
-use Rattle.std.specs.Prelude.{◌≡◌, ◌≢◌, ◌≤◌, ℕ, List, Option, Result, Ok, Err}
-use Rattle.asking_spec.specs.Askings.{Asking, answered, and_then}
-use Rattle.asking_spec.specs.Evaluation.{Answers, evaluated}
+use Rattle.std.specs.Prelude.{◌≡◌, ◌≢◌, ◌≤◌, ℕ, List, flat_map, Contains, Option, Result, Ok, Err}
+use Rattle.asking_spec.specs.Askings.{Asking, answered, and_then, questions}
+use Rattle.asking_spec.specs.Evaluation.{Answers, evaluated, AreAlways}
 use Rattle.tree_spec.specs.declared.LimitName.{LimitName}
 use Rattle.tree_spec.specs.Counts.{Rose}
 use Rattle.tree_spec.specs.LookLimits.{Trail}
@@ -28,9 +32,14 @@ pub record Kept : Type 0 where
   pub holds : Option Tree
   pub writes : ℕ
 
+pub record Told (T Q : Type 0) (A : Q → Type 0) : Type 0 where
+  pub answers : Answers T LimitName Q A
+  pub always : (question : Q) → A question
+  pub looks : Q → List (List ℕ)
+
 -- own: more than one answer can be told where what is known leaves more than one open
 pub record Outside (T Q : Type 0) (A : Q → Type 0) : Type 1 where
-  pub told : Answers T LimitName Q A → Type 0
+  pub told : Told T Q A → Type 0
   pub state : T
   pub faults : ℕ
   pub keeps : Kept
@@ -38,6 +47,15 @@ pub record Outside (T Q : Type 0) (A : Q → Type 0) : Type 1 where
 
 abbrev pub fine : {Q : Type 0} {A : Q → Type 0} {X : Type 0} → Asking Q A X → Asking Q A (Result X TraceFault)
 fine asking = and_then asking (λ value. answered (Ok value))
+
+abbrev pub looks_of : {T Q : Type 0} {A : Q → Type 0} → Told T Q A → List Q → List (List ℕ)
+looks_of told asked = flat_map told.looks asked
+
+-- own: of answers that are always the same, unless a limit stops them
+abbrev pub IsAskedBy : {T Q X : Type 0} {A : Q → Type 0} → Outside T Q A → Asking Q A X → List ℕ → Type 0
+IsAskedBy {T} {Q} {X} {A} before asking path =
+    (told : Told T Q A) → before.told told → AreAlways told.answers told.always
+    → Contains (looks_of told (questions told.always asking)) path
 
 -- the call wasn't ended by a look that failed, nor by want of memory
 abbrev pub IsTold : {X : Type 0} → Result X TraceFault → Type 0
@@ -51,14 +69,14 @@ pub record Comes {T Q X : Type 0} {A : Q → Type 0} (answers : Answers T LimitN
 pub record Met {T Q X : Type 0} {A : Q → Type 0} (before : Outside T Q A) (asking : Asking Q A (Result X TraceFault))
     (result : Result X TraceFault) (after : Outside T Q A) : Type 0 where
   pub comes :
-      (answers : Answers T LimitName Q A) → before.told answers → IsTold result
-      → Comes answers before.state asking result after.state
-  pub told : (answers : Answers T LimitName Q A) → before.told answers → after.told answers
+      (told : Told T Q A) → before.told told → IsTold result
+      → Comes told.answers before.state asking result after.state
+  pub told : (told : Told T Q A) → before.told told → after.told told
   pub keeps : after.keeps ≡ before.keeps
   pub later : before.faults ≤ after.faults
   pub cause : result ≡ Err ReadFault → Rose before.faults after.faults
   pub quiet : result ≢ Err ReadFault → after.faults ≡ before.faults
-  pub learns : Learns before.looks after.looks (result ≡ Err Memory)
+  pub learns : Learns before.looks after.looks (result ≡ Err Memory) (IsAskedBy before asking)
 
 abbrev pub AnswererState : Type 1
 AnswererState = Outside Trail Question Answer

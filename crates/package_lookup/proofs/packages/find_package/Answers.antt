@@ -1,12 +1,12 @@
-use Rattle.std.proofs.Common.{Some, None, false, refl, ap, ◌∙◌}
+use Rattle.std.proofs.Common.{Some, None, refl, ap, ◌∙◌}
 use Rattle.tree_spec.specs.Paths.{joined}
-use Rattle.node_spec.specs.Nearest.{nearest, is_accepted}
+use Rattle.node_spec.specs.Nearest.{nearest}
 use Rattle.node_spec.specs.PackageResolve.{packages, package_folder}
 use Rattle.package_lookup.specs.Answered.{state}
 use Rattle.package_lookup.specs.Responses.{given, fails, no_memory, never, by_fault, itself}
 use Rattle.package_lookup.specs.declared.fault.LookupFault.TheVariants.{Memory}
-use Rattle.package_lookup.proofs.Questions.{looked_err, no_memory_now, unfinished, left_twice, given_as}
-use Rattle.package_lookup.proofs.Searches.{search_accepts, search_fails, search_tops, search_rises, package_none, package_found, package_fails}
+use Rattle.package_lookup.proofs.Questions.{looked_err, no_memory_now, left_twice, given_as}
+use Rattle.package_lookup.proofs.Searches.{search_accepts, search_fails, search_unfinished, search_tops, search_rises, package_none, package_found, package_fails}
 use Rattle.package_lookup.proofs.packages.find_package.Goals as goal
 
 pub returns-in_err-place : goal.returns-in_err-place
@@ -59,9 +59,9 @@ returns-in_err-parent g c =
     c.args.name.now Memory
     (c.up.invariant.left.completes (fails no_memory)
     (state (g.F.Folder.state c.package_in.new.folder) c.package_in.new.known c.package_in.new.trail)
-    (unfinished (state (g.F.Folder.state c.up.folder) c.up.known c.up.trail)
-    (state (g.F.Folder.state c.package_in.new.folder) c.package_in.new.known c.package_in.new.trail)
-    (is_accepted (packages c.args.name.now) c.up.at) false (nearest (packages c.args.name.now) c.up.at)
+    (search_unfinished (packages c.args.name.now) (state (g.F.Folder.state c.up.folder) c.up.known c.up.trail)
+    (state (g.F.Folder.state c.package_in.new.folder) c.package_in.new.known c.package_in.new.trail) c.up.at
+    c.up.invariant.is_path refl
     (rw (c.in-Ok-None.is, c.in-Ok-None.field-0-is) at (c.package_in.ensures.answered c.args.name.now (c.as_str.ensures.value ∙ c.in_ok-place.ensures))))))
 
 pub returns-in-None : goal.returns-in-None

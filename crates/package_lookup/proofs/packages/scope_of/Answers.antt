@@ -1,11 +1,10 @@
 use Rattle.std.proofs.Common.{Some, None, false, sym, ◌∙◌}
 use Rattle.node_spec.specs.LookupPackageScope.{package_scope, scopes}
-use Rattle.node_spec.specs.Nearest.{is_accepted}
 use Rattle.package_lookup.specs.Answered.{state}
 use Rattle.package_lookup.specs.Responses.{given, fails, no_memory, never, by_fault, itself}
 use Rattle.package_lookup.specs.declared.fault.LookupFault.TheVariants.{Memory}
-use Rattle.package_lookup.proofs.Questions.{looked_err, no_memory_now, unfinished, left_twice}
-use Rattle.package_lookup.proofs.Searches.{search_ends, search_accepts, search_fails, search_tops, search_rises}
+use Rattle.package_lookup.proofs.Questions.{looked_err, no_memory_now, left_twice}
+use Rattle.package_lookup.proofs.Searches.{search_ends, search_accepts, search_fails, search_unfinished, search_tops, search_rises}
 use Rattle.package_lookup.proofs.packages.scope_of.Goals as goal
 
 pub returns-in_err-at : goal.returns-in_err-at
@@ -44,9 +43,9 @@ returns-in_err-parent g c =
     c.from_residual-in_err-parent.ensures.1
     (c.up.invariant.completes (fails no_memory)
     (state (g.F.Folder.state c.holds_record.new.folder) c.holds_record.new.known c.holds_record.new.trail)
-    (unfinished (state (g.F.Folder.state c.up.folder) c.up.known c.up.trail)
-    (state (g.F.Folder.state c.holds_record.new.folder) c.holds_record.new.known c.holds_record.new.trail)
-    (is_accepted scopes c.up.at) false (package_scope c.up.at)
+    (search_unfinished scopes (state (g.F.Folder.state c.up.folder) c.up.known c.up.trail)
+    (state (g.F.Folder.state c.holds_record.new.folder) c.holds_record.new.known c.holds_record.new.trail) c.up.at
+    c.is_node_modules.ensures.is_path (sym c.is_node_modules.ensures.named ∙ c.if-is_node_modules.false)
     (rw (c.in-Ok-false.is, c.in-Ok-false.field-0-test) at c.holds_record.ensures)))
 
 pub returns-in-None : goal.returns-in-None

@@ -2,7 +2,7 @@ use Rattle.std.proofs.Common.{◌≡◌, Ok, Err, refl}
 use Rattle.trace_walk.specs.Shown.{before_of, done, answer_of}
 use Rattle.trace_walk.specs.declared.answerer.NodeAnswer.TheVariants.{Refused, TooDeep}
 use Rattle.trace_walk.proofs.FaultKinds.{handed_kind}
-use Rattle.trace_walk.proofs.FollowedRequests.{follow_refused, follow_failed, follow_led, given_refused, given_too_deep}
+use Rattle.trace_walk.proofs.FollowedRequests.{follow_refused, follow_failed, follow_lost, follow_led, given_refused, given_too_deep}
 use Rattle.trace_walk.proofs.following.follow.Goals as goal
 
 pub returns-in_err-asked-clause-met : goal.returns-in_err-asked-clause-met
@@ -34,3 +34,8 @@ returns-in-TooDeep-clause-met g c = λ r is all.
     follow_led _ _ c.args.config.now (before_of c.args.tables.now) r c.conditions-conditions.result.now c.args.referrer.now.path c.args.specifier.now (record { referrer = c.args.referrer.now.name; asked = c.in_ok-asked.asked }) (answer_of TooDeep) _
     c.conditions-conditions.ensures is.path ((c.in_ok-asked.ensures.checked c.args.config.now (before_of c.args.tables.now) r refl is).given (λ e. cc)) (rw (c.as_str.ensures, c.in-TooDeep.is) at c.in_ok-path.ensures.met)
     (given_too_deep c.args.config.now r (before_of c.args.tables.now) c.args.specifier.now (record { referrer = c.args.referrer.now.name; asked = c.in_ok-asked.asked }))
+
+pub returns-in_err-refusal-in-Refused-clause-met : goal.returns-in_err-refusal-in-Refused-clause-met
+returns-in_err-refusal-in-Refused-clause-met g c = λ r is all.
+    follow_lost _ _ c.args.config.now (before_of c.args.tables.now) r c.conditions-conditions.result.now c.args.referrer.now.path c.args.specifier.now (record { referrer = c.args.referrer.now.name; asked = c.in_ok-asked.asked }) (answer_of (Refused c.in-Refused.cause)) c.from_residual-in_err-refusal-in-Refused.result c.args.tables.now
+    c.conditions-conditions.ensures is.path c.from_residual-in_err-refusal-in-Refused.ensures.1 ((c.in_ok-asked.ensures.checked c.args.config.now (before_of c.args.tables.now) r refl is).given (λ e. cc)) (rw (c.as_str.ensures, c.in-Refused.is) at c.in_ok-path.ensures.met)

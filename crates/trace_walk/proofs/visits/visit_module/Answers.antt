@@ -5,7 +5,7 @@ use Rattle.trace_spec.specs.Walking.{a_module}
 use Rattle.trace_walk.specs.declared.tables.Tables.{Tables}
 use Rattle.module_sources.specs.Shown.{source_of}
 use Rattle.trace_walk.specs.Shown.{before_of, done}
-use Rattle.trace_walk.proofs.Visiting.{visit_failed, visit_sourceless, visit_done, pushed_source, grows_by_visit}
+use Rattle.trace_walk.proofs.Visiting.{visit_failed, visit_lost, visit_sourceless, visit_done, pushed_source, grows_by_visit}
 use Rattle.trace_walk.proofs.visits.visit_module.Goals as goal
 
 pub returns-in_ok-push_source-in-Ok-clause-met : goal.returns-in_ok-push_source-in-Ok-clause-met
@@ -27,3 +27,15 @@ returns-in_err-source-clause-met g c = λ m is all.
 pub returns-in_ok-no_source-in-Err-clause-met : goal.returns-in_ok-no_source-in-Err-clause-met
 returns-in_ok-no_source-in-Err-clause-met g c = λ m is all.
     visit_sourceless _ _ c.args.config.now (before_of c.args.tables.now) m c.args.referrer.now.path c.args.referrer.now.suffix c.in-Err.why c.in_ok-no_source-in-Err.field-0 is.path is.suffix c.in_ok-no_source-in-Err.ensures (rw c.in-Err.is at c.in_ok-source.ensures.met)
+
+pub returns-in_err-requests-in-Ok-clause-met : goal.returns-in_err-requests-in-Ok-clause-met
+returns-in_err-requests-in-Ok-clause-met g c = λ m is all.
+    visit_lost _ _ c.args.config.now (before_of c.args.tables.now) m c.args.referrer.now.path _ c.from_residual-in_err-requests-in-Ok.result _ is.path c.from_residual-in_err-requests-in-Ok.ensures.1 c.in_ok-source.ensures.met
+
+pub returns-in_err-push_source-in-Ok-clause-met : goal.returns-in_err-push_source-in-Ok-clause-met
+returns-in_err-push_source-in-Ok-clause-met g c = λ m is all.
+    visit_lost _ _ c.args.config.now (before_of c.args.tables.now) m c.args.referrer.now.path _ c.from_residual-in_err-push_source-in-Ok.result _ is.path c.from_residual-in_err-push_source-in-Ok.ensures.1 c.in_ok-source.ensures.met
+
+pub returns-in_err-no_source-in-Err-clause-met : goal.returns-in_err-no_source-in-Err-clause-met
+returns-in_err-no_source-in-Err-clause-met g c = λ m is all.
+    visit_lost _ _ c.args.config.now (before_of c.args.tables.now) m c.args.referrer.now.path _ c.from_residual-in_err-no_source-in-Err.result _ is.path c.from_residual-in_err-no_source-in-Err.ensures.1 c.in_ok-source.ensures.met

@@ -1,0 +1,257 @@
+-- The looks for the bare texts of a target are looks of the target.
+--     Agrees asked                 each call has the answer by what stands at each path
+--     Hears Among asked            the looks for the texts are among these, up to the first call with another answer
+--     hears_front                  so it is of the first calls
+--     target_heard                 the calls of a target, and what it comes to by them
+use Rattle.std.proofs.Common.{◌≡◌, ℕ, true, false, List, [], ◌∷◌, ◌++◌, Option, refl, sym, ap, ◌∙◌, subst}
+use Rattle.std.specs.Prelude.{All, Contains, ⊤}
+use Rattle.std.proofs.lemmas.Bool.{cond-true, cond-false}
+use Rattle.std.proofs.lemmas.List.Elements.{All-weaker, All-contains_itself, Contains-append_left, Contains-append_right}
+use Rattle.asking_spec.proofs.AskingLemmas.{outcome_then, questions_then}
+use Rattle.asking_spec.specs.Askings.{answered, outcome, and_then}
+use Rattle.json_spec.specs.Value.{Json, an_object, Items, an_item, Members, a_member}
+use Rattle.tree_spec.specs.LookAskings.{Sights, LookAsking, looks}
+use Rattle.node_spec.specs.PackageTargetResolve.{Bares, Came, came, bare_comes, text_comes, after_item, after_member, target_comes, items_come, members_come}
+use Rattle.node_spec.specs.PackageTargets.{Rules, Call, own_outcome, with_match, bare_outcome, ResolvesText, is_undefined, is_passed, last_of, ResolvesTarget, ResolvesMembers, ResolvesItems}
+use Rattle.node_spec.specs.PackageTargets.ResolvesItems.{no_item, decided, passed}
+use Rattle.node_spec.specs.PackageTargets.ResolvesMembers.{no_member, untried, defined, undefined}
+use Rattle.node_spec.specs.PackageTargets.ResolvesTarget.{text_target, index_key, object_target, empty_list, list_target, null_target, bool_target, number_target}
+use Rattle.node_spec.specs.PackageTargets.ResolvesText.{own_place, bare, no_target}
+use Rattle.node_spec.specs.declared.BareAnswer.{BareAnswer}
+use Rattle.node_spec.specs.declared.Outcome.{Outcome}
+use Rattle.node_spec.specs.declared.Outcome.TheVariants.{Undefined, Null, InvalidTarget, InvalidConfig}
+
+module _ {X : Type 0} (sights : Sights) (bares : Bares X) where
+  abbrev pub answer_to : List ℕ → BareAnswer
+  answer_to text = bares.judge (outcome sights (bares.ask text))
+
+  abbrev pub Agrees : List Call → Type 0
+  Agrees [] = ⊤
+  Agrees (call ∷ more) = (call.1 ≡ answer_to call.0) × Agrees more
+
+  abbrev pub Hears : (List ℕ → Type 0) → List Call → Type 0
+  Hears Among [] = ⊤
+  Hears Among (call ∷ more) =
+      All Among (looks sights (bares.ask call.0)) × (call.1 ≡ answer_to call.0 → Hears Among more)
+
+  hears_weaker : (One Other : List ℕ → Type 0) → ((path : List ℕ) → One path → Other path) → (asked : List Call)
+      → Hears One asked → Hears Other asked
+  hears_weaker One Other goes [] hears = tt
+  hears_weaker One Other goes (call ∷ more) hears = (
+    All-weaker One Other goes (looks sights (bares.ask call.0)) hears.0,
+    λ e. hears_weaker One Other goes more (hears.1 e),
+  )
+
+  hears_append : (Among : List ℕ → Type 0) (front back : List Call) → Hears Among front
+      → (Agrees front → Hears Among back) → Hears Among (front ++ back)
+  hears_append Among [] back hears rest = rest tt
+  hears_append Among (call ∷ front) back hears rest =
+      (hears.0, λ e. hears_append Among front back (hears.1 e) (λ agrees. rest (e, agrees)))
+
+  pub hears_front : (Among : List ℕ → Type 0) (front back : List Call) → Hears Among (front ++ back)
+      → Hears Among front
+  hears_front Among [] back hears = tt
+  hears_front Among (call ∷ front) back hears = (hears.0, λ e. hears_front Among front back (hears.1 e))
+
+  agrees_parts : (front back : List Call) → Agrees (front ++ back) → Agrees front × Agrees back
+  agrees_parts [] back agrees = (tt, agrees)
+  agrees_parts (call ∷ front) back agrees =
+      (let rest = agrees_parts front back agrees.1 in ((agrees.0, rest.0), rest.1))
+
+  -- ---- a part and the whole
+
+  abbrev pub IsLook : LookAsking (Came X) → List ℕ → Type 0
+  IsLook asking path = Contains (looks sights asking) path
+
+  first_looks : {Y : Type 0} (part : LookAsking Y) (next : Y → LookAsking (Came X)) (path : List ℕ)
+      → Contains (looks sights part) path → IsLook (and_then part next) path
+  first_looks part next path is =
+      subst (λ paths. Contains paths path) (sym (questions_then sights part next))
+      (Contains-append_left (looks sights part) (looks sights (next (outcome sights part))) path is)
+
+  later_looks : (part : LookAsking (Came X)) (next : Came X → LookAsking (Came X)) (path : List ℕ)
+      → IsLook (next (outcome sights part)) path → IsLook (and_then part next) path
+  later_looks part next path is =
+      subst (λ paths. Contains paths path) (sym (questions_then sights part next))
+      (Contains-append_right (looks sights part) (looks sights (next (outcome sights part))) path is)
+
+  pub record IsHeard (asked : List Call) (asking : Option X → LookAsking (Came X)) (out : Outcome) : Type 0 where
+    pub hears : (last : Option X) → Hears (IsLook (asking last)) asked
+    pub comes : (last : Option X) → Agrees asked → (outcome sights (asking last)).out ≡ out
+
+  abbrev comes_to : LookAsking (Came X) → Outcome
+  comes_to asking = (outcome sights asking).out
+
+  part_heard : (part : LookAsking (Came X)) (next : Came X → LookAsking (Came X)) (asked : List Call)
+      → Hears (IsLook part) asked → Hears (IsLook (and_then part next)) asked
+  part_heard part next asked hears =
+      hears_weaker (IsLook part) (IsLook (and_then part next)) (first_looks part next) asked hears
+
+  rest_heard : (part : LookAsking (Came X)) (next : Came X → LookAsking (Came X)) (rest : LookAsking (Came X))
+      (asked : List Call) → next (outcome sights part) ≡ rest → Hears (IsLook rest) asked
+      → Hears (IsLook (and_then part next)) asked
+  rest_heard part next rest asked same hears =
+      hears_weaker (IsLook rest) (IsLook (and_then part next))
+      (λ path is. later_looks part next path (subst (λ asking. IsLook asking path) (sym same) is)) asked hears
+
+  rest_comes : (part : LookAsking (Came X)) (next : Came X → LookAsking (Came X)) (rest : LookAsking (Came X))
+      → next (outcome sights part) ≡ rest → comes_to (and_then part next) ≡ comes_to rest
+  rest_comes part next rest same =
+      ap (λ (c : Came X). c.out) (outcome_then sights part next) ∙ ap comes_to same
+
+  silent : (out : Outcome) → IsHeard [] (λ last. answered (came out last)) out
+  silent out = record { hears = λ last. tt; comes = λ last agrees. refl }
+
+  chosen : (asked : List Call) (out : Outcome) (asking other : Option X → LookAsking (Came X))
+      → ((last : Option X) → other last ≡ asking last) → IsHeard asked asking out → IsHeard asked other out
+  chosen asked out asking other same one = record {
+    hears = λ last. subst (λ a. Hears (IsLook a) asked) (sym (same last)) (one.hears last);
+    comes = λ last agrees. ap comes_to (same last) ∙ one.comes last agrees;
+  }
+
+  -- ---- an item or a member, and then the rest
+
+  abbrev behind : (Option X → LookAsking (Came X)) → Came X → LookAsking (Came X)
+  behind more first = and_then (more first.last) (λ later. answered (came (last_of first.out later.out) later.last))
+
+  item_passed : (front back : List Call) (item more : Option X → LookAsking (Came X)) (first rest : Outcome)
+      → is_passed first ≡ true → IsHeard front item first → IsHeard back more rest
+      → IsHeard (front ++ back) (λ last. and_then (item last) (after_item more)) (last_of first rest)
+  item_passed front back item more first rest p one two =
+      let goes : (last : Option X) → Agrees front
+      → after_item more (outcome sights (item last)) ≡ behind more (outcome sights (item last)) =
+      λ last agrees. cond-true _ _ _ (ap is_passed (one.comes last agrees) ∙ p) in
+      record {
+        hears = λ last. let c : Came X = outcome sights (item last) in
+            hears_append (IsLook (and_then (item last) (after_item more))) front back
+            (part_heard (item last) (after_item more) front (one.hears last))
+            (λ agrees. rest_heard (item last) (after_item more) (behind more c) back (goes last agrees)
+            (part_heard (more c.last) (λ later. answered (came (last_of c.out later.out) later.last)) back
+            (two.hears c.last)));
+        comes = λ last agrees. let c : Came X = outcome sights (item last) in
+            let parts = agrees_parts front back agrees in
+            rest_comes (item last) (after_item more) (behind more c) (goes last parts.0)
+            ∙ (ap (λ (d : Came X). d.out) (outcome_then sights (more c.last) (λ later. answered (came (last_of c.out later.out) later.last)))
+            ∙ (λ i. last_of (one.comes last parts.0 i) (two.comes c.last parts.1 i)));
+      }
+
+  item_decided : (asked : List Call) (item more : Option X → LookAsking (Came X)) (out : Outcome)
+      → is_passed out ≡ false → IsHeard asked item out
+      → IsHeard asked (λ last. and_then (item last) (after_item more)) out
+  item_decided asked item more out p one = record {
+    hears = λ last. part_heard (item last) (after_item more) asked (one.hears last);
+    comes = λ last agrees.
+        rest_comes (item last) (after_item more) (answered (outcome sights (item last)))
+        (cond-false _ _ _ (ap is_passed (one.comes last agrees) ∙ p))
+        ∙ one.comes last agrees;
+  }
+
+  member_undefined : (front back : List Call) (member more : Option X → LookAsking (Came X)) (out : Outcome)
+      → IsHeard front member Undefined → IsHeard back more out
+      → IsHeard (front ++ back) (λ last. and_then (member last) (after_member more)) out
+  member_undefined front back member more out one two =
+      let goes : (last : Option X) → Agrees front
+      → after_member more (outcome sights (member last)) ≡ more (outcome sights (member last)).last =
+      λ last agrees. cond-true _ _ _ (ap is_undefined (one.comes last agrees)) in
+      record {
+        hears = λ last. let c : Came X = outcome sights (member last) in
+            hears_append (IsLook (and_then (member last) (after_member more))) front back
+            (part_heard (member last) (after_member more) front (one.hears last))
+            (λ agrees. rest_heard (member last) (after_member more) (more c.last) back (goes last agrees)
+            (two.hears c.last));
+        comes = λ last agrees. let c : Came X = outcome sights (member last) in
+            let parts = agrees_parts front back agrees in
+            rest_comes (member last) (after_member more) (more c.last) (goes last parts.0)
+            ∙ two.comes c.last parts.1;
+      }
+
+  member_defined : (asked : List Call) (member more : Option X → LookAsking (Came X)) (out : Outcome)
+      → is_undefined out ≡ false → IsHeard asked member out
+      → IsHeard asked (λ last. and_then (member last) (after_member more)) out
+  member_defined asked member more out p one = record {
+    hears = λ last. part_heard (member last) (after_member more) asked (one.hears last);
+    comes = λ last agrees.
+        rest_comes (member last) (after_member more) (answered (outcome sights (member last)))
+        (cond-false _ _ _ (ap is_undefined (one.comes last agrees) ∙ p))
+        ∙ one.comes last agrees;
+  }
+
+  -- ---- strings
+
+  abbrev asks_bare : List ℕ → LookAsking (Came X)
+  asks_bare text = and_then (bares.ask text) (λ value. answered (bare_comes bares value))
+
+  bare_heard : (text : List ℕ) (answer : BareAnswer)
+      → IsHeard ((text, answer) ∷ []) (λ last. asks_bare text) (bare_outcome answer)
+  bare_heard text answer = record {
+    hears = λ last. (
+      All-weaker (Contains (looks sights (bares.ask text))) (IsLook (asks_bare text))
+          (first_looks (bares.ask text) (λ value. answered (bare_comes bares value))) (looks sights (bares.ask text))
+          (All-contains_itself (looks sights (bares.ask text))),
+      λ e. tt,
+    );
+    comes = λ last agrees.
+        ap (λ (c : Came X). c.out) (outcome_then sights (bares.ask text) (λ value. answered (bare_comes bares value)))
+        ∙ ap bare_outcome (sym agrees.0);
+  }
+
+  text_heard : (rules : Rules) (text : List ℕ) (asked : List Call) (out : Outcome)
+      → ResolvesText rules text asked out → IsHeard asked (text_comes bares rules text) out
+  text_heard rules text _ _ (own_place b) =
+      chosen [] (own_outcome rules.pattern_match text)
+      (λ last. answered (came (own_outcome rules.pattern_match text) last)) (text_comes bares rules text)
+      (λ last. cond-true _ _ _ b) (silent (own_outcome rules.pattern_match text))
+  text_heard rules text _ _ (bare answer b n) =
+      let asked : List ℕ = with_match rules.pattern_match text in
+      chosen ((asked, answer) ∷ []) (bare_outcome answer) (λ last. asks_bare asked) (text_comes bares rules text)
+      (λ last. cond-false _ _ _ b ∙ cond-true _ _ _ n) (bare_heard asked answer)
+  text_heard rules text _ _ (no_target b n) =
+      chosen [] InvalidTarget (λ last. answered (came InvalidTarget last)) (text_comes bares rules text)
+      (λ last. cond-false _ _ _ b ∙ cond-false _ _ _ n) (silent InvalidTarget)
+
+  -- ---- all targets
+
+  mutual
+    pub target_heard : (rules : Rules) (target : Json) (asked : List Call) (out : Outcome)
+        → ResolvesTarget rules target asked out → IsHeard asked (target_comes bares rules target) out
+    target_heard rules _ _ _ (text_target text asked out r) = text_heard rules text asked out r
+    target_heard rules _ _ _ (index_key fields i) =
+        chosen [] InvalidConfig (λ last. answered (came InvalidConfig last))
+        (target_comes bares rules (an_object fields)) (λ last. cond-true _ _ _ i) (silent InvalidConfig)
+    target_heard rules _ _ _ (object_target fields asked out i r) =
+        chosen asked out (members_come bares rules fields) (target_comes bares rules (an_object fields))
+        (λ last. cond-false _ _ _ i) (members_heard rules fields asked out r)
+    target_heard rules _ _ _ empty_list = silent Null
+    target_heard rules _ _ _ (list_target item more asked out r) = items_heard rules (an_item item more) asked out r
+    target_heard rules _ _ _ null_target = silent Null
+    target_heard rules _ _ _ (bool_target b) = silent InvalidTarget
+    target_heard rules _ _ _ (number_target number) = silent InvalidTarget
+
+    members_heard : (rules : Rules) (fields : Members) (asked : List Call) (out : Outcome)
+        → ResolvesMembers rules fields asked out → IsHeard asked (members_come bares rules fields) out
+    members_heard rules _ _ _ no_member = silent Undefined
+    members_heard rules _ _ _ (untried key value more asked out t r) =
+        chosen asked out (members_come bares rules more) (members_come bares rules (a_member key value more))
+        (λ last. cond-false _ _ _ t) (members_heard rules more asked out r)
+    members_heard rules _ _ _ (defined key value more asked out t r d) =
+        chosen asked out
+        (λ last. and_then (target_comes bares rules value last) (after_member (λ l. members_come bares rules more l)))
+        (members_come bares rules (a_member key value more)) (λ last. cond-true _ _ _ t)
+        (member_defined asked (target_comes bares rules value) (λ l. members_come bares rules more l) out d
+        (target_heard rules value asked out r))
+    members_heard rules _ _ _ (undefined key value more front back out t r s) =
+        chosen (front ++ back) out
+        (λ last. and_then (target_comes bares rules value last) (after_member (λ l. members_come bares rules more l)))
+        (members_come bares rules (a_member key value more)) (λ last. cond-true _ _ _ t)
+        (member_undefined front back (target_comes bares rules value) (λ l. members_come bares rules more l) out
+        (target_heard rules value front Undefined r) (members_heard rules more back out s))
+
+    items_heard : (rules : Rules) (items : Items) (asked : List Call) (out : Outcome)
+        → ResolvesItems rules items asked out → IsHeard asked (items_come bares rules items) out
+    items_heard rules _ _ _ no_item = silent Undefined
+    items_heard rules _ _ _ (decided item more asked out r d) =
+        item_decided asked (target_comes bares rules item) (λ l. items_come bares rules more l) out d
+        (target_heard rules item asked out r)
+    items_heard rules _ _ _ (passed item more front back first rest r p s) =
+        item_passed front back (target_comes bares rules item) (λ l. items_come bares rules more l) first rest p
+        (target_heard rules item front first r) (items_heard rules more back rest s)
