@@ -1,8 +1,7 @@
 -- Names that commas part are read back from their text.
-use Rattle.std.proofs.Common.{◌≡◌, ◌≢◌, ◌<◌, ◌==◌, ◌+◌, ℕ, Bool, true, false, List, [], ◌∷◌, ◌++◌, All, get_or, length, refl, sym, ap, subst, ◌∙◌, append-nil, arith}
+use Rattle.std.proofs.Common.{◌≡◌, ◌≢◌, ◌<◌, ◌==◌, ℕ, Bool, true, false, List, [], ◌∷◌, ◌++◌, All, get_or, length, refl, ap, subst, ◌∙◌, append-nil, arith}
 use Rattle.std.specs.List.{flat_map, slice_split}
 use Rattle.std.specs.Prelude.{◌↔◌, IsTrue, not}
-use Rattle.std.proofs.lemmas.List.{length-append}
 use Rattle.std.proofs.lemmas.List.Elements.{All-head, All-tail, All-weaker, All-from_get_or}
 use Rattle.condition_match.proofs.ConditionLemmas.{cut_there, cut_nowhere, names_of}
 use Rattle.condition_match.specs.Conditions.{is_name_byte, names_in, IsCondition, AreConditions}

@@ -2,7 +2,6 @@
 use Rattle.std.proofs.Common.{◌≡◌, ℕ, suc, List, [], ◌∷◌, All, length, refl, sym, ap, subst, ◌∙◌}
 use Rattle.std.specs.List.{IsDistinct}
 use Rattle.std.specs.Prelude.{◌≢◌, codes, bytes_eq, Option, Some, None, Result, Ok, Err, IfOk, MatchOption, MatchResult}
-use Rattle.tree_spec.specs.Paths.{IsPath}
 use Rattle.tree_spec.specs.declared.LimitName.TheVariants.{Depth}
 use Rattle.json_spec.specs.Grammar.{NotJson, TooDeep, ReadsJson}
 use Rattle.json_spec.specs.PropertyOrder.{pairs_of}

@@ -1,7 +1,6 @@
-use Rattle.std.proofs.Common.{rules, All, string_bytes, ◌≡◌, ◌∙◌, ap}
+use Rattle.std.proofs.Common.{rules, All, ◌≡◌}
 use Rattle.ordered_json.specs.Lists.{values_of}
 use Rattle.ordered_json.specs.Shown.{items_of}
-use Rattle.project_spec.specs.ProjectFiles.{strings}
 use Rattle.project_file.specs.Names.{IsName, joined}
 use Rattle.project_file.proofs.PartLemmas.{good_names, bad_names}
 use Rattle.project_file.proofs.parts.conditions_in.Goals as goal

@@ -1,4 +1,3 @@
-use Rattle.std.proofs.Common.{rules}
 use Rattle.project_file.proofs.PrintLemmas.{all_printed, all_utf8, more_printed, more_utf8}
 use Rattle.project_file.proofs.printing.push_more_strings.Goals as goal
 
