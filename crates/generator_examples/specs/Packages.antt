@@ -98,13 +98,13 @@ packages_all = record {
       "https://app.test/node_modules/ui/node_modules/@ui/core/lib/index.mjs"
       ∷ [];
   spellings =
-      spelled "./app.js" "/app.js"
-      ∷ spelled "ui" "/node_modules/ui/b.js"
-      ∷ spelled "ui/x/menu" "/node_modules/ui/x/menu.js"
-      ∷ spelled "me/own.js" "/own.js"
-      ∷ spelled "#ui" "/node_modules/ui/b.js"
-      ∷ spelled "@ui/core" "/node_modules/ui/node_modules/@ui/core/lib/index.mjs"
-      ∷ spelled "@ui/core" "/node_modules/ui/node_modules/@ui/core/lib/index.mjs"
+      spelled "/index.html" "./app.js" "/app.js"
+      ∷ spelled "/app.js" "ui" "/node_modules/ui/b.js"
+      ∷ spelled "/app.js" "ui/x/menu" "/node_modules/ui/x/menu.js"
+      ∷ spelled "/app.js" "me/own.js" "/own.js"
+      ∷ spelled "/app.js" "#ui" "/node_modules/ui/b.js"
+      ∷ spelled "/node_modules/ui/b.js" "@ui/core" "/node_modules/ui/node_modules/@ui/core/lib/index.mjs"
+      ∷ spelled "/node_modules/ui/x/menu.js" "@ui/core" "/node_modules/ui/node_modules/@ui/core/lib/index.mjs"
       ∷ [];
   requests = 7;
 }

@@ -5,7 +5,7 @@
 --     based base asked          the config with this base and these entries, and the page `/index.html`
 --     links base asked, injects base asked      the words of a command with this base and these entries
 --     module_at path            the module of a file
---     spelled specifier path    a need's spelling, which leads to the module of a file
+--     spelled referrer specifier path      a need's spelling by what is shown so, which leads to the module of a file
 --     source bytes asked        the source with these bytes, which asks for these specifiers
 --     levels, spelling, site, paged, missing, clashing      the sites
 --     levels_all, spelling_all, site_all      the tables of their traces
@@ -60,8 +60,9 @@ injects base asked = texts ("inject" ∷ "--base" ∷ base ∷ asked)
 abbrev pub module_at : String → Module
 module_at path = record { path = codes path; suffix = [] }
 
-abbrev pub spelled : String → String → Spelling
-spelled specifier path = record { specifier = codes specifier; target = module_at path }
+abbrev pub spelled : String → String → String → Spelling
+spelled referrer specifier path =
+    record { referrer = codes referrer; specifier = codes specifier; target = module_at path }
 
 abbrev pub source : List ℕ → List String → Source
 source bytes asked = record { bytes = bytes; specifiers = texts asked }
@@ -94,11 +95,11 @@ levels_all = record {
       ∷ need "https://app.test/a.mjs" "https://app.test/b.mjs" "https://app.test/b.mjs"
       ∷ [];
   spellings =
-      spelled "./app.mjs" "/app.mjs"
-      ∷ spelled "./a.mjs" "/a.mjs"
-      ∷ spelled "./b.mjs" "/b.mjs"
-      ∷ spelled "./c.mjs" "/c.mjs"
-      ∷ spelled "./b.mjs" "/b.mjs"
+      spelled "/index.html" "./app.mjs" "/app.mjs"
+      ∷ spelled "/app.mjs" "./a.mjs" "/a.mjs"
+      ∷ spelled "/app.mjs" "./b.mjs" "/b.mjs"
+      ∷ spelled "/a.mjs" "./c.mjs" "/c.mjs"
+      ∷ spelled "/a.mjs" "./b.mjs" "/b.mjs"
       ∷ [];
   requests = 5;
 }
@@ -119,7 +120,8 @@ spelling_all = record {
       need "https://app.test/index.html" "https://app.test/app.mjs" "https://app.test/app.mjs"
       ∷ need "https://app.test/app.mjs" "https://app.test/a%62.mjs" "https://app.test/ab.mjs"
       ∷ [];
-  spellings = spelled "./app.mjs" "/app.mjs" ∷ spelled "./a%62.mjs" "/ab.mjs" ∷ [];
+  spellings =
+      spelled "/index.html" "./app.mjs" "/app.mjs" ∷ spelled "/app.mjs" "./a%62.mjs" "/ab.mjs" ∷ [];
   requests = 2;
 }
 
@@ -226,14 +228,14 @@ site_all = record {
       ∷ need "https://app.test/pages/%5Bid%5D.mjs" "https://app.test/lib/greet.mjs" "https://app.test/lib/greet.mjs"
       ∷ [];
   spellings =
-      spelled "./app.mjs" "/app.mjs"
-      ∷ spelled "./lib/greet.mjs" "/lib/greet.mjs"
-      ∷ spelled "./pages/home.mjs" "/pages/home.mjs"
-      ∷ spelled "./pages/[id].mjs" "/pages/[id].mjs"
-      ∷ spelled "./words.mjs" "/lib/words.mjs"
-      ∷ spelled "../lib/greet.mjs" "/lib/greet.mjs"
-      ∷ spelled "./[id].mjs" "/pages/[id].mjs"
-      ∷ spelled "../lib/greet.mjs" "/lib/greet.mjs"
+      spelled "/index.html" "./app.mjs" "/app.mjs"
+      ∷ spelled "/app.mjs" "./lib/greet.mjs" "/lib/greet.mjs"
+      ∷ spelled "/app.mjs" "./pages/home.mjs" "/pages/home.mjs"
+      ∷ spelled "/app.mjs" "./pages/[id].mjs" "/pages/[id].mjs"
+      ∷ spelled "/lib/greet.mjs" "./words.mjs" "/lib/words.mjs"
+      ∷ spelled "/pages/home.mjs" "../lib/greet.mjs" "/lib/greet.mjs"
+      ∷ spelled "/pages/home.mjs" "./[id].mjs" "/pages/[id].mjs"
+      ∷ spelled "/pages/[id].mjs" "../lib/greet.mjs" "/lib/greet.mjs"
       ∷ [];
   requests = 8;
 }
