@@ -4,7 +4,7 @@ use std::test::Fail;
 
 /// Pages, and what comes of them and the map `{}`: the new page, in which `@` stands for the map's element and its line
 /// end, or the fault that decides. Typed by hand.
-static PAGES: [(&str, &str); 78] = [
+static PAGES: [(&str, &str); 66] = [
     ("<head></head>\n", "<head>@</head>\n"),
     ("", "NoPlace"),
     ("<p>", "NoPlace"),
@@ -151,24 +151,6 @@ static PAGES: [(&str, &str); 78] = [
     ("<![CDATA[<link>]]></head>", "<![CDATA[<link>]]>@</head>"),
     ("</ head></head>", "</ head>@</head>"),
     ("\u{feff}</head>", "\u{feff}@</head>"),
-    (" \n\t\r\u{c}", "NoPlace"),
-    ("日本</head>語", "日本@</head>語"),
-    ("<!--><link>-->", "<!-->@<link>-->"),
-    ("<!---><link>-->", "<!--->@<link>-->"),
-    ("<!--a--!><link>", "<!--a--!>@<link>"),
-    ("<!--a--!b><link>--><base>", "PageUnclear at 19"),
-    ("<?xml version='1'?><link>", "<?xml version='1'?>@<link>"),
-    ("<xmp><base></xmp></head>", "<xmp><base></xmp>@</head>"),
-    (
-        "<iframe></head></iframe></head>",
-        "<iframe></head></iframe>@</head>",
-    ),
-    ("<noembed><link></noembed>", "NoPlace"),
-    (
-        "<noframes><script></noframes></head>",
-        "<noframes><script></noframes>@</head>",
-    ),
-    ("<p title=<link>x</head>", "<p title=<link>x@</head>"),
     (
         "<head>\n  <meta charset=utf-8>\n</head>",
         "<head>\n  <meta charset=utf-8>\n@</head>",
@@ -221,6 +203,36 @@ fn comes(alloc: Global, page: &[u8], wanted: &str) -> Result<bool, Fail> {
 #[test]
 fn pages(rt: HostRuntime) -> Result<(), Fail> {
     for (page, wanted) in PAGES {
+        assert!(rt; comes(rt.alloc(), page.as_bytes(), wanted)?, "{page}");
+    }
+    Ok(())
+}
+
+/// More pages; one table of them all takes more memory than the prover gives to one declaration.
+static PAGES_WITH_ODD_MARKUP: [(&str, &str); 12] = [
+    (" \n\t\r\u{c}", "NoPlace"),
+    ("日本</head>語", "日本@</head>語"),
+    ("<!--><link>-->", "<!-->@<link>-->"),
+    ("<!---><link>-->", "<!--->@<link>-->"),
+    ("<!--a--!><link>", "<!--a--!>@<link>"),
+    ("<!--a--!b><link>--><base>", "PageUnclear at 19"),
+    ("<?xml version='1'?><link>", "<?xml version='1'?>@<link>"),
+    ("<xmp><base></xmp></head>", "<xmp><base></xmp>@</head>"),
+    (
+        "<iframe></head></iframe></head>",
+        "<iframe></head></iframe>@</head>",
+    ),
+    ("<noembed><link></noembed>", "NoPlace"),
+    (
+        "<noframes><script></noframes></head>",
+        "<noframes><script></noframes>@</head>",
+    ),
+    ("<p title=<link>x</head>", "<p title=<link>x@</head>"),
+];
+
+#[test]
+fn pages_with_odd_markup(rt: HostRuntime) -> Result<(), Fail> {
+    for (page, wanted) in PAGES_WITH_ODD_MARKUP {
         assert!(rt; comes(rt.alloc(), page.as_bytes(), wanted)?, "{page}");
     }
     Ok(())
