@@ -1,6 +1,5 @@
 //! A folder of the disk.
-ghost use Rattle.std.specs.Prelude.{◌≡◌, ◌≢◌, ◌≤◌, ◌<◌, ◌-◌, ◌^◌, ◌⊎◌, ◌++◌, ℕ, None, Some, IfOk, IfSome, length, take};
-ghost use Rattle.std.specs.Io.KnownBytes.{Consumes, IsAtEnd, Keeps};
+ghost use Rattle.std.specs.Prelude.{◌≡◌, ◌≢◌, ◌≤◌, ◌<◌, ◌-◌, ◌^◌, ℕ, None, IfOk, IfSome, length};
 ghost use Rattle.tree_spec.specs.Counts.{Rose};
 ghost use Rattle.disk_devices.specs.Contents.{IsContent};
 
@@ -237,67 +236,19 @@ fn above(name: &str) -> &str
     }
 }
 
-/// The content of a file that told `size` bytes, or too large where there are more than `limit`.
+/// The content of a file of about `size` bytes, or too large where there are more than `limit`.
 fn content<F: Read + Drop>(alloc: Global, file: F, size: u64, limit: u64) -> io::Result<Look>
     requires { limit < 2 ^ 64 - 1 }
-    ensures { IfOk result (λ look. IfSome (F.remaining file)
-        (λ all. IsContent all limit look ⊎ IsContent (take size all) limit look)) }
+    ensures { IfOk result (λ look. IfSome (F.remaining file) (λ all. IsContent all limit look)) }
 {
     let room = size.min(limit) + 1;
+    let mut bytes = Vec::with_capacity(alloc, room as usize)?;
     let mut front = file.take(limit + 1);
-    let bytes = all_of(alloc, &mut front, size, room as usize)?;
+    front.read_to_end(&mut bytes)?;
     if bytes.len() as u64 > limit {
         return Ok(Look::TooLarge);
     }
     Ok(Look::File(Bytes::from_vec(bytes)))
-}
-
-/// All that a file gives that told `size` bytes. A read of it that comes short of its room is taken for its end where
-/// it ends as was told, so that nothing more is asked for.
-fn all_of<F: Read>(alloc: Global, file: &mut F, size: u64, room: usize) -> io::Result<Vec<u8>>
-    requires { 0 < room }
-    ensures { IfOk result (λ bytes. IfSome (F.remaining file.old)
-        (λ all. (bytes.items ≡ all) ⊎ (bytes.items ≡ take size all))) }
-{
-    let mut bytes = vec![in alloc; 0; room]?;
-    match read_once(file, &mut bytes)? {
-        None => rest_of(file, bytes, 0),
-        Some(count) => {
-            if count == 0 || (count < room && count as u64 == size) {
-                bytes.truncate(count);
-                return Ok(bytes);
-            }
-            rest_of(file, bytes, count)
-        }
-    }
-}
-
-/// The first `count` of these bytes, and all that a file gives behind them.
-fn rest_of<F: Read>(file: &mut F, read: Vec<u8>, count: usize) -> io::Result<Vec<u8>>
-    ensures { IfOk result (λ bytes. IfSome (F.remaining file.old)
-        (λ rest. bytes.items ≡ take count read.items ++ rest)) }
-{
-    let mut bytes = read;
-    bytes.truncate(count);
-    file.read_to_end(&mut bytes)?;
-    Ok(bytes)
-}
-
-/// What one read gives, or none where a signal interrupts it.
-fn read_once<F: Read>(file: &mut F, into: &mut [u8]) -> io::Result<Option<usize>>
-    ensures within { IfOk result (λ found. IfSome found (λ count. count ≤ length into.new)) }
-    ensures none { IfOk result (λ found. found ≡ None → Keeps (F.remaining file.old) (F.remaining file.new)) }
-    ensures given { IfOk result (λ found. IfSome found (λ count.
-        Consumes (F.remaining file.old) (F.remaining file.new) (take count into.new))) }
-    ensures end { IfOk result (λ found. found ≡ Some 0 → 0 < length into.old → IsAtEnd (F.remaining file.new)) }
-{
-    match file.read(into) {
-        Ok(count) => Ok(Some(count)),
-        Err(fault) => match fault.kind() {
-            ErrorKind::Interrupted => Ok(None),
-            _ => Err(fault),
-        },
-    }
 }
 
 #[cfg(test)]
