@@ -4,7 +4,7 @@ ghost use Rattle.tree_spec.specs.Limits.{limit_number};
 ghost use Rattle.generation.specs.Generating.{Generating, IsMapOf, HasLargeMap};
 
 use crate::stop::{Stop, too_large};
-use crate::traced::traced;
+use crate::tracing::traced;
 use map_flatten::{agreed, mappings};
 use map_print::{PrintFault, print_map};
 use primitives::Steps;

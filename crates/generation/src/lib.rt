@@ -4,8 +4,8 @@
 
 mod generated;
 mod stop;
-mod traced;
+mod tracing;
 
 pub use generated::{Generated, generate};
 pub use stop::Stop;
-pub use traced::traced;
+pub use tracing::traced;

@@ -1,5 +1,5 @@
-//! The program: it makes the folder, the streams, the counter and the words, and leaves every decision to `run`, but the
-//! one where there is no memory for the words.
+//! The program: it makes the folder, the streams, the counter and the words, and leaves every decision to `run`, but
+//! the one where there is no memory for the words.
 #![tactic(auto)]
 
 ghost use Rattle.std.specs.Prelude.{◌≡◌, ◌<◌, ℕ};

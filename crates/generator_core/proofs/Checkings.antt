@@ -12,7 +12,8 @@ use Rattle.tree_spec.specs.declared.LookFault.TheVariants as look_fault
 use Rattle.tree_spec.specs.Counts.{Rose}
 use Rattle.tree_spec.specs.States.{FolderState, SinkState, OnlyLooks, IsLooked}
 use Rattle.tree_spec.specs.Trees.{Tree}
-use Rattle.import_map_spec.specs.ParsedMap.{ParsedMap}
+use Rattle.import_map_spec.specs.ParsedMap.{ParsedMap, MapFault}
+use Rattle.import_map_spec.specs.Parsing.{ParsesMap}
 use Rattle.check_spec.specs.Differences.{Difference, differences}
 use Rattle.trace_spec.specs.declared.TraceFault.TheVariants.{Unservable}
 use Rattle.trace_spec.specs.Checks.{Gathered}
@@ -25,7 +26,7 @@ use Rattle.generator_spec.specs.declared.Command.TheVariants.{Check}
 use Rattle.generator_spec.specs.declared.MapFileFault.{MapFileFault}
 use Rattle.generator_spec.specs.declared.MapFileFault.TheVariants as map_fault
 use Rattle.generator_spec.specs.declared.Refusal.TheVariants.{MapFile, Trace}
-use Rattle.generator_spec.specs.Checking.{difference_line, difference_lines, check_status, check_lines}
+use Rattle.generator_spec.specs.Checking.{need_at, spelling_at, difference_line, difference_lines, check_status, check_lines}
 use Rattle.generator_spec.specs.Commands.{map_path, map_file_limit, map_file_fault, IsMapText, ReadsMap, HoldsMap, RefusesMapFile, RefusesMapFile as refuses_map}
 use Rattle.generator_spec.specs.Commands.{Opens, Opens as opens, Refuses, Refuses as refuses, IsRefusalOf as kind}
 use Rattle.generator_spec.specs.Words.{IsConfigOf}
@@ -127,6 +128,11 @@ text_unasked state = record {
     by None e = tt
     by (Some old) e = record { first = []; is_own = inl refl; asked = e ∙ ap Some (sym (append-nil old)) }
 
+-- ---- the text
+
+pub no_map_read : (config : Config) (text base : List ℕ) (fault : MapFault) (stop : Stop) → web_name config the_page ≡ Some base → ParsesMap base text (Err fault) → stop ≡ Refused (MapFile (map_file_fault fault)) → FindsMap config text (Err stop)
+no_map_read config text base fault stop named parses same = record { reads = tt; stopped = map_stop.no_map fault (record { base = base; named = named; parses = parses }) same }
+
 -- ---- behind the look
 
 kind_of_nameless : (config : Config) → web_name config the_page ≡ None → IsOfTrace config (Unservable (shown config the_page) None)
@@ -212,7 +218,7 @@ module _ (config : Config) (before after : FolderState) where
           looks = quiet_looks;
         };
         asked = is.asked;
-      footprint = is.footprint;
+        footprint = is.footprint;
         stopped = tt;
       }
 
@@ -222,7 +228,13 @@ all_differ : (all : Gathered) (ds : List Difference) → All IsDifference (each 
 all_differ all [] = All-nil IsDifference
 all_differ all (d ∷ more) =
     All-cons IsDifference (difference_line all d) (each (difference_line all) more)
-    (record { referrer = _; specifier = _; wants = _; gets = d.got; says = refl }) (all_differ all more)
+    (record {
+      referrer = (spelling_at all d.need).referrer;
+      specifier = (spelling_at all d.need).specifier;
+      wants = (need_at all d.need).target;
+      gets = d.got;
+      says = refl;
+    }) (all_differ all more)
 
 module _ (words : List (List ℕ)) (config : Config) (is_config : IsConfigOf words Check config) (before after : FolderState) (out out_after : SinkState) (result : ℕ) (report : Report) (is : IsReported config before after report) where
   abbrev lines : List (List ℕ)

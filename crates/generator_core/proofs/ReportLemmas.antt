@@ -1,6 +1,6 @@
 -- What a check says, line by line.
-use Rattle.std.proofs.Common.{◌≡◌, ℕ, zero, suc, ◌+◌, List, [], ◌∷◌, ◌++◌, length, Some, refl, sym, ap, ◌∙◌, subst, append_assoc, arith}
-use Rattle.std.specs.Prelude.{map as each, drop, slice_get}
+use Rattle.std.proofs.Common.{◌≡◌, ℕ, zero, suc, ◌+◌, List, [], ◌∷◌, ◌++◌, length, Some, Result, Ok, Err, refl, sym, ap, ◌∙◌, subst, append_assoc, arith}
+use Rattle.std.specs.Prelude.{map as each, drop, slice_get, IfOk}
 use Rattle.std.specs.List.{concat}
 use Rattle.std.proofs.lemmas.List.{append-nil}
 use Rattle.std.proofs.lemmas.List.Folds.{concat-append}
@@ -74,3 +74,8 @@ some_differences map all (d ∷ more) report found some s t =
           ∙ (ap (λ text. concat (lines_of all (d ∷ more)) ++ text) (sym (one_line_text last))
           ∙ (sym (concat-append (lines_of all (d ∷ more)) (last ∷ [])) ∙ ap (λ differing. concat (check_lines (length all.needs) differing)) lines)));
     }
+
+-- what holds of a value that was given, by two facts of it
+pub if_ok_two : {A E : Type 0} {P Q R : A → Type 0} (result : Result A E) → ((x : A) → P x → Q x → R x) → IfOk result P → IfOk result Q → IfOk result R
+if_ok_two (Ok x) f p q = f x p q
+if_ok_two (Err e) f p q = tt

@@ -146,7 +146,7 @@ fn checked_by<F: Folder, L: Ledger>(
 {
     match traced(alloc, folder, config, steps) {
         Err(stop) => Err(stop),
-        Ok(trace) => match report(alloc, &trace, parsed) {
+        Ok(trace) => match report_of(alloc, &trace, parsed) {
             Err(_) => Err(Stop::Memory),
             Ok(report) => Ok(report),
         },
@@ -154,7 +154,7 @@ fn checked_by<F: Folder, L: Ledger>(
 }
 
 // What the map doesn't serve of a trace's needs.
-fn report(alloc: Global, trace: &Trace, parsed: &ParsedMap) -> Result<Report, Memory>
+fn report_of(alloc: Global, trace: &Trace, parsed: &ParsedMap) -> Result<Report, Memory>
     ensures { IfOk result (IsReport parsed.now trace.now) }
 {
     let differences = check_map(alloc, trace.needs(), parsed)?;
@@ -177,7 +177,8 @@ fn served(alloc: Global, needs: usize) -> Result<Report, Memory>
 fn differing(alloc: Global, trace: &Trace, differences: &Differences) -> Result<Report, Memory>
     ensures status { IfOk result (λ report. report.status ≡ 6) }
     ensures text { IfOk result (λ report. report.text.items
-        ≡ concat (map (λ d. difference_line trace.now (shown d)) differences.now) ++ spec.differences_line (length differences.now)) }
+        ≡ concat (map (λ d. difference_line trace.now (shown d)) differences.now)
+        ++ spec.differences_line (length differences.now)) }
 {
     let mut text = difference_text(alloc, trace, differences)?;
     let last = differences_line(alloc, differences.len())?;
@@ -189,7 +190,11 @@ fn differing(alloc: Global, trace: &Trace, differences: &Differences) -> Result<
 }
 
 // The line of each difference.
-fn difference_text(alloc: Global, trace: &Trace, differences: &Differences) -> Result<Vec<u8>, Memory>
+fn difference_text(
+    alloc: Global,
+    trace: &Trace,
+    differences: &Differences,
+) -> Result<Vec<u8>, Memory>
     ensures { IfOk result (λ text. text.items
         ≡ concat (map (λ d. difference_line trace.now (shown d)) differences.now)) }
 {

@@ -11,7 +11,6 @@ ghost use Rattle.trace_spec.specs.Modules.{Config as Configured};
 ghost use Rattle.generator_spec.specs.Ending.{Ends, EndsAs, TellsRefusal};
 ghost use Rattle.command_words.specs.Splitting.{texts};
 ghost use Rattle.generator_core.specs.Preparing.{AsksFew, own_file};
-
 ghost use Rattle.generator_core.specs.Writing.{TellsStop, Finishes, SpendsFew};
 
 use crate::checking::checked;

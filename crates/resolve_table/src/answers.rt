@@ -50,7 +50,11 @@ pub fn answer_text(alloc: Global, answer: &Result<Found, NodeFault>) -> io::Resu
 }
 
 fn found_text(alloc: Global, found: &Found) -> io::Result<String> {
-    Ok(format!(in alloc; "found {}{}", found.path().as_str(), found.suffix().as_str())?)
+    Ok(format!(in alloc;
+        "found {}{}",
+        found.path().as_str(),
+        found.suffix().as_str()
+    )?)
 }
 
 /// The paths that are looked at, where a module is found.

@@ -435,10 +435,22 @@ fn differs(alloc: Global, got: &Got, line: &str) -> Result<bool, Memory> {
 fn differences(rt: HostRuntime) -> Result<(), Fail> {
     let alloc = rt.alloc();
     let wrong = Got::Url(Text::of(alloc, "https://app.test/\"x\"")?);
-    assert!(rt; differs(alloc, &wrong, "differs: from \"/app.mjs?x\" for \"ui\" wants \
-        \"https://app.test/ui.mjs\" gets \"https://app.test/\\\"x\\\"\"\n")?);
-    assert!(rt; differs(alloc, &Got::Bare, "differs: from \"/app.mjs?x\" for \"ui\" wants \
-        \"https://app.test/ui.mjs\" gets Bare\n")?);
+    assert!(rt;
+        differs(
+            alloc,
+            &wrong,
+            "differs: from \"/app.mjs?x\" for \"ui\" wants \
+        \"https://app.test/ui.mjs\" gets \"https://app.test/\\\"x\\\"\"\n"
+        )?
+    );
+    assert!(rt;
+        differs(
+            alloc,
+            &Got::Bare,
+            "differs: from \"/app.mjs?x\" for \"ui\" wants \
+        \"https://app.test/ui.mjs\" gets Bare\n"
+        )?
+    );
     assert!(rt; served_line(alloc, 4)?.as_slice() == b"ok: 4 needs served\n".as_slice());
     assert!(rt; differences_line(alloc, 2)?.as_slice() == b"2 differences\n".as_slice());
     Ok(())

@@ -12,6 +12,11 @@ pub(crate) const AFTER: &str = "Examples, in the folder of the site:
   salimgub refresh
       write the map anew after a file or a package has changed
 
+Options of link, before the entries, each at most once:
+  --base <URL>          the URL of this folder on the web, as https://app.test/; needed the first time
+  --page <PATH>         the page's path below this folder; at first /index.html
+  --conditions <NAMES>  the conditions of packages, with commas between them; at first browser,import
+
 Status:
   0  done
   1  refused: an import leads to no module, or the page has no place for the map
@@ -24,20 +29,35 @@ Status:
   8  there is no memory left
   9  not built yet";
 
-pub(crate) const LINK: &str = "Add entries to the project, and write the map and the project's file";
+pub(crate) const LINK: &str =
+    "Add entries to the project, and write the map and the project's file";
+
 pub(crate) const UNLINK: &str = "Take entries out, and write the map and the project's file";
+
 pub(crate) const REFRESH: &str = "Write the map anew for the project as it is";
+
 pub(crate) const INJECT: &str = "Write the page with the map in it";
-pub(crate) const CHECK: &str = "Compare the map's file with what the modules need, and write nothing";
+
+pub(crate) const CHECK: &str =
+    "Compare the map's file with what the modules need, and write nothing";
+
 pub(crate) const LIST: &str = "Print the modules";
+
 pub(crate) const SESSION: &str = "Read edits from the standard input and answer each";
+
 pub(crate) const MEASURE: &str = "Generate over a made tree of N packages and print counts";
 
 pub(crate) const BASE: &str =
     "The URL of this folder on the web, as https://app.test/; needed the first time";
+
 pub(crate) const PAGE: &str = "The page's path below this folder [at first: /index.html]";
+
 pub(crate) const CONDITIONS: &str =
     "The conditions of packages, with commas between them [at first: browser,import]";
-pub(crate) const ENTRIES: &str = "What the page imports: ./app.mjs, or a package as lit or @scope/ui/button.js";
+
+pub(crate) const ENTRIES: &str =
+    "What the page imports: ./app.mjs, or a package as lit or @scope/ui/button.js";
+
 pub(crate) const UNLINKED: &str = "What the page no longer imports, written as it was linked";
+
 pub(crate) const NUMBER: &str = "How many packages, from 1 to 2000";

@@ -16,7 +16,8 @@ PlainWordsPass = (words : List (List ℕ)) (asked : Asked) → Asks words asked 
 
 -- own law: what it finds in plain words is what they ask for
 abbrev pub PlainWordsAreHeld : Type 0
-PlainWordsAreHeld = (words : List (List ℕ)) (asked : Asked) → Asks words asked → Holds asked (subcommand_of program words)
+PlainWordsAreHeld =
+    (words : List (List ℕ)) (asked : Asked) → Asks words asked → Holds asked (subcommand_of program words)
 
 -- own law: `--help`, `-h` and no words ask for help; so does `help`, of which `clap` says only that it is that or the
 -- fault of a command that isn't there

@@ -3,10 +3,10 @@
 //! `clap` judges the words, and `words_read` gives the values, which are those that `clap` holds.
 #![tactic(auto)]
 
-ghost use Rattle.std.specs.Prelude.{◌≡◌, ◌≢◌, Err, IfErr, IfOk, String, map, string_bytes};
+ghost use Rattle.std.specs.Prelude.{◌≡◌, ◌≢◌, IfErr, IfOk, map, string_bytes};
 ghost use Rattle.clap.specs.Words.{kind_of};
-ghost use Rattle.words_clap_spec.specs.Refusing.{IsRefused, IsTaken};
-ghost use Rattle.words_read.specs.Shown.{AsksNothing, shown};
+ghost use Rattle.words_parse.specs.Explaining.{Explains};
+ghost use Rattle.words_read.specs.Shown.{shown};
 ghost use Rattle.words_spec.specs.PlainWords.{Asked, Asks};
 
 #[cfg(test)]
@@ -18,7 +18,6 @@ use std::alloc::Global;
 use std::fmt::Write;
 use words_clap::matches;
 use words_read::read;
-
 pub use words_read::{Command, LinkValues};
 
 /// Why words ask for nothing.
@@ -33,13 +32,14 @@ pub enum WordsFault {
 }
 
 /// What the words ask for.
+#[tactic(auto, using(crate::proofs::Explained::explained))]
 pub fn parse<'a>(alloc: Global, words: &'a [String]) -> Result<Command<'a>, WordsFault>
-    ensures plain { (asked : Asked) → Asks (map string_bytes words.now) asked → IfOk result (λ command. shown command ≡ asked) }
-    ensures memory { (asked : Asked) → Asks (map string_bytes words.now) asked → IfErr result (λ fault. fault ≡ WordsFault.Memory) }
+    ensures plain { (asked : Asked) → Asks (map string_bytes words.now) asked
+        → IfOk result (λ command. shown command ≡ asked) }
+    ensures memory { (asked : Asked) → Asks (map string_bytes words.now) asked
+        → IfErr result (λ fault. fault ≡ WordsFault.Memory) }
     ensures asks { IfOk result (λ command. Asks (map string_bytes words.now) (shown command)) }
-    ensures told { (text : String) → result ≡ Err (WordsFault.Told text) → IsRefused (map string_bytes words.now) }
-    ensures not_plain { result ≡ Err WordsFault.NotPlain
-        → IsTaken (map string_bytes words.now) × AsksNothing (map string_bytes words.now) }
+    ensures faults { IfErr result (Explains (map string_bytes words.now)) }
 {
     match matches(alloc, words) {
         Err(error) => Err(fault_from(alloc, &error)),

@@ -8,7 +8,7 @@ static ROWS: &str = r#"
 [link][./app.mjs] => link base page conditions entries[./app.mjs]
 [link][--base][https://app.test/][./app.mjs] => link base[https://app.test/] page conditions entries[./app.mjs]
 [link][--base=https://app.test/][./app.mjs] => link base[https://app.test/] page conditions entries[./app.mjs]
-[link][--conditions][browser,import][--page=/a/b.html][--base][x] => link base[x] page[/a/b.html] conditions[browser,import] entries
+[link][--conditions][a,b][--page=/c.html][--base][x] => link base[x] page[/c.html] conditions[a,b] entries
 [link][--page=/x=y.html][a=b] => link base page[/x=y.html] conditions entries[a=b]
 [link][--base==] => link base[=] page conditions entries
 [link][--base][link] => link base[link] page conditions entries

@@ -9,7 +9,8 @@ use words_spec::LinkOption;
 
 /// What the words after `link` and these options ask for.
 pub(crate) fn link_from<'a>(values: LinkValues<'a>, words: &'a [String]) -> Option<Command<'a>>
-    ensures { option_map shown result ≡ reading.link_reading (map string_bytes words.now) None (options_of values.entry) }
+    ensures { option_map shown result
+        ≡ reading.link_reading (map string_bytes words.now) None (options_of values.entry) }
 {
     let Some((word, rest)) = words.split_first() else {
         return Some(Command::Link(values, words));
@@ -39,7 +40,11 @@ fn entries_from<'a>(values: LinkValues<'a>, words: &'a [String]) -> Option<Comma
 }
 
 // None where the text can't be a value, and where the option is there already.
-fn one_more<'a>(values: LinkValues<'a>, option: LinkOption, value: &'a str) -> Option<LinkValues<'a>>
+fn one_more<'a>(
+    values: LinkValues<'a>,
+    option: LinkOption,
+    value: &'a str,
+) -> Option<LinkValues<'a>>
     ensures { option_map options_of result ≡ reading.one_more (options_of values.entry) option value.now }
 {
     if !is_value(value) {

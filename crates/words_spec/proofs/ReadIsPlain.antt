@@ -1,7 +1,7 @@
 -- What reading gives is asked for by plain words.
 use Rattle.std.proofs.Common.{◌≡◌, ◌≤◌, ◌<◌, ◌==◌, ◌&&◌, ◌+◌, ◌-◌, ◌*◌, ◌/◌, ◌%◌, ℕ, List, [], ◌∷◌, ◌++◌, codes, append-nil, append_assoc, Option, Some, None, option_map, is_some, if◌then◌else◌, Bool, true, false, not, refl, sym, ap, ap₂, ◌∙◌, subst, arith, inl, inr, ◌⊎◌}
 use Rattle.std.specs.Fmt.{decimal}
-use Rattle.std.specs.List.{list_all, All}
+use Rattle.std.specs.List.{list_all}
 use Rattle.std.specs.Prelude.{bytes_eq, option_and_then}
 use Rattle.std.proofs.lemmas.Bool.{eqb-true, not-true}
 use Rattle.std.proofs.lemmas.Bool.Decides.{nat_tests}
@@ -11,8 +11,8 @@ use Rattle.std.proofs.lemmas.Slice.Eq.{bytes_eq-Decides}
 use Rattle.words_spec.specs.declared.LinkOption.{LinkOption}
 use Rattle.words_spec.specs.declared.LinkOption.TheVariants.{Base, Page, Conditions}
 use Rattle.words_spec.specs.Laws.{ReadingIsExact}
-use Rattle.words_spec.specs.PlainWords.{Asked, Asks, IsValue, LinkOptions, LinkWords, no_options, spelled, value_of, with_value, linking, unlinking, refreshing, checking, listing, injecting, editing, measuring, entries, two_words, one_word, link, unlink, refresh, check, list, inject, session, measure}
-use Rattle.words_spec.specs.Reading.{Spelling, no_option, alone, joined, behind, by_spelling, command_reading, entries_reading, is_value, link_reading, measure_reading, next_number, number_in, one_more, or_else, plain_command, reading_of, spelling_as, spelling_by, spelling_of, unlink_reading, with_number, without_more}
+use Rattle.words_spec.specs.PlainWords.{Asked, Asks, IsValue, LinkOptions, LinkWords, no_options, spelled, value_of, with_value, linking, unlinking, measuring, entries, two_words, one_word, link, unlink, refresh, check, list, inject, session, measure}
+use Rattle.words_spec.specs.Reading.{Spelling, no_option, alone, joined, behind, by_spelling, entries_reading, is_value, link_reading, measure_reading, next_number, number_in, one_more, or_else, plain_command, reading_of, spelling_as, spelling_by, spelling_of, unlink_reading, with_number, without_more}
 use Rattle.words_spec.proofs.PlainIsRead.{plain_is_read}
 use Rattle.words_spec.proofs.Values.{both_true, passed_value, passed_values}
 

@@ -4,7 +4,7 @@
 --     spelling_of word      whether a word after `link` spells an option, with its value or without
 --     number_in text number      the number that the digits of a text go on to
 use Rattle.std.specs.List.{list_all}
-use Rattle.std.specs.Prelude.{◌==◌, ◌+◌, ◌-◌, ◌*◌, ◌&&◌, ◌||◌, not, true, false, Bool, ℕ, List, [], ◌∷◌, codes, bytes_eq, Option, Some, None, if◌then◌else◌, nat_lt, is_some, option_map, option_and_then}
+use Rattle.std.specs.Prelude.{◌==◌, ◌+◌, ◌-◌, ◌*◌, ◌&&◌, ◌||◌, not, false, Bool, ℕ, List, [], ◌∷◌, codes, bytes_eq, Option, Some, None, if◌then◌else◌, nat_lt, is_some, option_map, option_and_then}
 use Rattle.words_spec.specs.declared.LinkOption.{LinkOption}
 use Rattle.words_spec.specs.declared.LinkOption.TheVariants.{Base, Page, Conditions}
 use Rattle.words_spec.specs.PlainWords.{Asked, LinkOptions, no_options, spelled, value_of, with_value, linking, unlinking, refreshing, checking, listing, injecting, editing, measuring}
@@ -70,7 +70,7 @@ abbrev pub next_number : ℕ → ℕ → Option ℕ
 next_number number digit =
     if nat_lt digit 48 || nat_lt 57 digit then None
     else (if (number * 10 + (digit - 48)) == 0 || nat_lt 2000 (number * 10 + (digit - 48)) then None
-        else Some (number * 10 + (digit - 48)))
+    else Some (number * 10 + (digit - 48)))
 
 abbrev pub with_number : Option ℕ → (ℕ → Option ℕ) → Option ℕ
 with_number None next = None

@@ -10,13 +10,17 @@ pub struct CheckCase {
 
 const CHECK: &str = "check --base https://app.test/ ./app.mjs";
 
-const BLOCKED_AND_WRONG: &str = "{\"imports\":{\"ui/\":\"/node_modules/ui/\",\"ui/b.mjs\":null,\"z\":\"./wrong.mjs\",\"./app.mjs\":\"/x.mjs\",\"/app.mjs\":\"/app.mjs\"}}";
+const BLOCKED_AND_WRONG: &str =
+    "{\"imports\":{\"ui/\":\"/node_modules/ui/\",\"ui/b.mjs\":null,\"z\":\"./wrong.mjs\",\"./app.mjs\":\"/x.mjs\",\"/app.mjs\":\"/app.mjs\"}}";
 
-const SERVING: &str = "{\"imports\":{\"ui/\":\"/node_modules/ui/\",\"z\":\"/node_modules/z/z.mjs\"}}";
+const SERVING: &str =
+    "{\"imports\":{\"ui/\":\"/node_modules/ui/\",\"z\":\"/node_modules/z/z.mjs\"}}";
 
-const NEAREST_LAST: &str = "{\"scopes\":{\"/\":{\"z\":\"/1\"},\"/app.mjs\":{\"z\":\"/node_modules/z/z.mjs\"}}}";
+const NEAREST_LAST: &str =
+    "{\"scopes\":{\"/\":{\"z\":\"/1\"},\"/app.mjs\":{\"z\":\"/node_modules/z/z.mjs\"}}}";
 
-const NEAREST_FIRST: &str = "{\"scopes\":{\"/app.mjs\":{\"z\":\"/node_modules/z/z.mjs\"},\"/\":{\"z\":\"/1\"}}}";
+const NEAREST_FIRST: &str =
+    "{\"scopes\":{\"/app.mjs\":{\"z\":\"/node_modules/z/z.mjs\"},\"/\":{\"z\":\"/1\"}}}";
 
 /// Maps with what they don't serve, what is no map, and in which order that is seen: the base, the map, the trace. The
 /// map is looked at once, before the modules; two looks, the give and a write that never comes fail in turn.
@@ -25,7 +29,10 @@ pub static CHECK_CASES: [CheckCase; 29] = [
         case: Case {
             words: CHECK,
             files: &[
-                ("/app.mjs", "import \"ui/a.mjs\"; import \"ui/b.mjs\"; import \"z\";"),
+                (
+                    "/app.mjs",
+                    "import \"ui/a.mjs\"; import \"ui/b.mjs\"; import \"z\";",
+                ),
                 ("/node_modules/ui/package.json", "{}"),
                 ("/node_modules/ui/a.mjs", ""),
                 ("/node_modules/ui/b.mjs", ""),
@@ -43,7 +50,10 @@ pub static CHECK_CASES: [CheckCase; 29] = [
         case: Case {
             words: CHECK,
             files: &[
-                ("/app.mjs", "import \"ui/a.mjs\"; import \"ui/b.mjs\"; import \"z\";"),
+                (
+                    "/app.mjs",
+                    "import \"ui/a.mjs\"; import \"ui/b.mjs\"; import \"z\";",
+                ),
                 ("/node_modules/ui/package.json", "{}"),
                 ("/node_modules/ui/a.mjs", ""),
                 ("/node_modules/ui/b.mjs", ""),
@@ -91,7 +101,10 @@ pub static CHECK_CASES: [CheckCase; 29] = [
         case: Case {
             words: CHECK,
             files: &[
-                ("/app.mjs", "import \"ui/a.mjs\"; import \"ui/b.mjs\"; import \"z\";"),
+                (
+                    "/app.mjs",
+                    "import \"ui/a.mjs\"; import \"ui/b.mjs\"; import \"z\";",
+                ),
                 ("/node_modules/ui/package.json", "{}"),
                 ("/node_modules/ui/a.mjs", ""),
                 ("/node_modules/ui/b.mjs", ""),
@@ -112,7 +125,10 @@ pub static CHECK_CASES: [CheckCase; 29] = [
                 ("/app.mjs", "import \"z\";"),
                 ("/node_modules/z/package.json", "{\"exports\":\"./z.mjs\"}"),
                 ("/node_modules/z/z.mjs", ""),
-                ("/importmap.json", "{\"imports\":{\"z\":\"/node_modules/z/z.mjs\",\"/app.mjs\":\"/x.mjs\"}}"),
+                (
+                    "/importmap.json",
+                    "{\"imports\":{\"z\":\"/node_modules/z/z.mjs\",\"/app.mjs\":\"/x.mjs\"}}",
+                ),
             ],
             status: 6,
             line: "differs: from \"/index.html\" for \"./app.mjs\" wants \"https://app.test/app.mjs\" gets \"https://app.test/x.mjs\"\n1 differences\n",
@@ -125,13 +141,21 @@ pub static CHECK_CASES: [CheckCase; 29] = [
             words: CHECK,
             files: &[
                 ("/app.mjs", "import \"u/a\";import \"u/b/../c\";"),
-                ("/node_modules/u/package.json", "{\"exports\":{\"./a\":\"./z.mjs\",\"./b/../c\":\"./z.mjs\"}}"),
+                (
+                    "/node_modules/u/package.json",
+                    "{\"exports\":{\"./a\":\"./z.mjs\",\"./b/../c\":\"./z.mjs\"}}",
+                ),
                 ("/node_modules/u/z.mjs", ""),
-                ("/importmap.json", "{\"scopes\":{\"/app.mjs\":{\"u/\":\"/v/?/\"}},\"imports\":{\"u/a\":\"/node_modules/u/z.mjs\"}}"),
+                (
+                    "/importmap.json",
+                    "{\"scopes\":{\"/app.mjs\":{\"u/\":\"/v/?/\"}},\"imports\":{\"u/a\":\"/node_modules/u/z.mjs\"}}",
+                ),
             ],
             status: 6,
             line: "differs: from \"/app.mjs\" for \"u/a\" wants \"https://app.test/node_modules/u/z.mjs\" gets Backtrack\ndiffers: from \"/app.mjs\" for \"u/b/../c\" wants \"https://app.test/node_modules/u/z.mjs\" gets Backtrack\n2 differences\n",
-            map: Some("{\"scopes\":{\"/app.mjs\":{\"u/\":\"/v/?/\"}},\"imports\":{\"u/a\":\"/node_modules/u/z.mjs\"}}"),
+            map: Some(
+                "{\"scopes\":{\"/app.mjs\":{\"u/\":\"/v/?/\"}},\"imports\":{\"u/a\":\"/node_modules/u/z.mjs\"}}",
+            ),
         },
         fails: NONE,
     },
@@ -183,9 +207,7 @@ pub static CHECK_CASES: [CheckCase; 29] = [
     CheckCase {
         case: Case {
             words: CHECK,
-            files: &[
-                ("/app.mjs", "import \"./q.mjs\";"),
-            ],
+            files: &[("/app.mjs", "import \"./q.mjs\";")],
             status: 7,
             line: "bad file: map absent\n",
             map: None,
@@ -208,10 +230,7 @@ pub static CHECK_CASES: [CheckCase; 29] = [
     CheckCase {
         case: Case {
             words: CHECK,
-            files: &[
-                ("/app.mjs", "import \"./q.mjs\";"),
-                ("/importmap.json", ""),
-            ],
+            files: &[("/app.mjs", "import \"./q.mjs\";"), ("/importmap.json", "")],
             status: 7,
             line: "bad file: map at 0\n",
             map: Some(""),
@@ -314,11 +333,16 @@ pub static CHECK_CASES: [CheckCase; 29] = [
             words: CHECK,
             files: &[
                 ("/app.mjs", "import \"./q.mjs\";"),
-                ("/importmap.json", "{\"x\":[[[[[[[[[[[[[[[[[[[[[[[[[[[[[[[[[[[[[[[[[[[[[[[[[[[[[[[[[[[[[[[[[[[[[[[[[[[[[[[[[[[[[[[[[[[[[[[[[[[[[[[[[[[[[[[[[[[[[[[[[[[[[[[["),
+                (
+                    "/importmap.json",
+                    "{\"x\":[[[[[[[[[[[[[[[[[[[[[[[[[[[[[[[[[[[[[[[[[[[[[[[[[[[[[[[[[[[[[[[[[[[[[[[[[[[[[[[[[[[[[[[[[[[[[[[[[[[[[[[[[[[[[[[[[[[[[[[[[[[[[[[[",
+                ),
             ],
             status: 3,
             line: "limit: depth above 128\n",
-            map: Some("{\"x\":[[[[[[[[[[[[[[[[[[[[[[[[[[[[[[[[[[[[[[[[[[[[[[[[[[[[[[[[[[[[[[[[[[[[[[[[[[[[[[[[[[[[[[[[[[[[[[[[[[[[[[[[[[[[[[[[[[[[[[[[[[[[[[[["),
+            map: Some(
+                "{\"x\":[[[[[[[[[[[[[[[[[[[[[[[[[[[[[[[[[[[[[[[[[[[[[[[[[[[[[[[[[[[[[[[[[[[[[[[[[[[[[[[[[[[[[[[[[[[[[[[[[[[[[[[[[[[[[[[[[[[[[[[[[[[[[[[[",
+            ),
         },
         fails: NONE,
     },
@@ -338,9 +362,7 @@ pub static CHECK_CASES: [CheckCase; 29] = [
     CheckCase {
         case: Case {
             words: "check --base ftp://h/ ./app.mjs",
-            files: &[
-                ("/app.mjs", "import \"./q.mjs\";"),
-            ],
+            files: &[("/app.mjs", "import \"./q.mjs\";")],
             status: 2,
             line: "words: BadBase \"ftp://h/\"\n",
             map: None,
@@ -350,9 +372,7 @@ pub static CHECK_CASES: [CheckCase; 29] = [
     CheckCase {
         case: Case {
             words: "check --base https://app.test/ -x",
-            files: &[
-                ("/app.mjs", "import \"./q.mjs\";"),
-            ],
+            files: &[("/app.mjs", "import \"./q.mjs\";")],
             status: 9,
             line: "not built: words\n",
             map: None,
@@ -362,9 +382,7 @@ pub static CHECK_CASES: [CheckCase; 29] = [
     CheckCase {
         case: Case {
             words: "check --base https://app.test/",
-            files: &[
-                ("/importmap.json", "{}"),
-            ],
+            files: &[("/importmap.json", "{}")],
             status: 0,
             line: "ok: 0 needs served\n",
             map: Some("{}"),

@@ -23,5 +23,5 @@ returns-clause-checks g c =
     let after = g.F.Folder.state c.checked_by.new.folder in
     let found = subst (λ r. FindsMapText before r middle) c.in-Ok.is c.map_text.ensures in
     checks_behind c.args.config.now before middle after c.in-Ok.text c.checked_by.result found
-    (c.checked_by.ensures.checks (text_still c.args.config.now before middle c.in-Ok.text c.in-Ok-map_of.parsed.now found
+    (c.checked_by.ensures.checks (text_still c.args.config.now before middle c.in-Ok.text c.in-Ok-map_of.parsed found
     (subst (λ r. FindsMap c.args.config.now c.in-Ok.text r) c.in-Ok-map_of.is (subst (λ t. FindsMap c.args.config.now t c.map_of.result) c.as_slice.ensures c.map_of.ensures)).reads))

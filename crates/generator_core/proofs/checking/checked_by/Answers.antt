@@ -9,14 +9,14 @@ returns-in-Err-clause-checks g c = λ holds.
     let after = g.F.Folder.state c.traced.new.folder in
     trace_stops c.args.config.now before after c.args.parsed.now holds c.in-Err.stop (subst (λ r. Tracing c.args.config.now before r after) c.in-Err.is c.traced.ensures.traces)
 
-pub returns-in-Err-report-clause-checks : goal.returns-in-Err-report-clause-checks
-returns-in-Err-report-clause-checks g c = λ holds.
+pub returns-in-Err-report_of-clause-checks : goal.returns-in-Err-report_of-clause-checks
+returns-in-Err-report_of-clause-checks g c = λ holds.
     let before = g.F.Folder.state c.args.folder.now in
     let after = g.F.Folder.state c.traced.new.folder in
     no_report c.args.config.now before after c.args.parsed.now holds c.in-Ok.trace (subst (λ r. Tracing c.args.config.now before r after) c.in-Ok.is c.traced.ensures.traces)
 
-pub returns-in-Ok-report-clause-checks : goal.returns-in-Ok-report-clause-checks
-returns-in-Ok-report-clause-checks g c = λ holds.
+pub returns-clause-checks : goal.returns-clause-checks
+returns-clause-checks g c = λ holds.
     let before = g.F.Folder.state c.args.folder.now in
     let after = g.F.Folder.state c.traced.new.folder in
-    reports c.args.config.now before after c.args.parsed.now holds c.in-Ok.trace (subst (λ r. Tracing c.args.config.now before r after) c.in-Ok.is c.traced.ensures.traces) c.in-Ok-report.report c.in-Ok-report.ensures
+    reports c.args.config.now before after c.args.parsed.now holds c.in-Ok.trace (subst (λ r. Tracing c.args.config.now before r after) c.in-Ok.is c.traced.ensures.traces) c.in-Ok-report_of.report c.in-Ok-report_of.ensures

@@ -1,9 +1,10 @@
-use Rattle.std.proofs.Common.{Err, ap, ◌∙◌}
+use Rattle.std.proofs.Common.{Err, refl, ap, ◌∙◌, subst}
 use Rattle.generator_spec.proofs.Configs.{refused_or_config}
 use Rattle.generator_spec.specs.declared.Command.TheVariants.{Link, Inject, Check}
+use Rattle.generator_spec.specs.Ending.{Ends}
 use Rattle.command_words.specs.Splitting.{texts}
 use Rattle.generator_core.specs.Preparing.{own_file}
-use Rattle.generator_core.proofs.Endings.{words_end}
+use Rattle.generator_core.proofs.Endings.{words_end, memory_ends}
 use Rattle.generator_core.proofs.Preparings.{asks_nothing, asked_by}
 use Rattle.generator_core.proofs.running.run.Goals as goal
 
@@ -37,3 +38,8 @@ returns-in-Err-Refused-clause-asked g c = λ command config is. asks_nothing con
 
 pub returns-in-Err-Memory-clause-asked : goal.returns-in-Err-Memory-clause-asked
 returns-in-Err-Memory-clause-asked g c = λ command config is. asks_nothing config (g.F.Folder.state c.args.folder.now).holds (own_file command config) (g.F.Folder.state c.args.folder.now)
+
+pub returns-in-Err-Memory-clause-end : goal.returns-in-Err-Memory-clause-end
+returns-in-Err-Memory-clause-end g c =
+    memory_ends (texts c.args.words.now) (g.F.Folder.state c.args.folder.now) (g.F.Folder.state c.args.folder.now) _ _ c.tell.result refl refl refl
+    (subst (λ line. Ends 8 line (g.O.Sink.state c.args.out.now) (g.O.Sink.state c.tell.new.out) c.tell.result) c.memory_line.ensures c.tell.ensures.ends) c.tell.ensures.later
