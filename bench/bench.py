@@ -20,7 +20,8 @@ failures = 0
 
 
 class Run:
-    """The outcome of one program: status, output, seconds by the wall clock, and most bytes of memory."""
+    """The outcome of one program: status, output, seconds by the wall clock and of processor time, and most bytes of
+    memory."""
 
     def __init__(self, command, folder, stdin=None):
         with tempfile.TemporaryFile() as out:
@@ -37,10 +38,15 @@ class Run:
                     os._exit(127)
             _, status, used = os.wait4(child, 0)
             self.seconds = time.perf_counter() - started
+            self.processor = used.ru_utime + used.ru_stime
             self.status = os.waitstatus_to_exitcode(status)
             self.memory = used.ru_maxrss * 1024
             out.seek(0)
             self.out = out.read().decode("utf-8", "replace")
+
+
+    def times(self):
+        return f"{self.seconds:.3f} s ({self.processor:.3f} s of processor time)"
 
 
 def best(command, folder, tries, stdin=None):
@@ -58,7 +64,7 @@ def say(passed, text):
 def link(tree, tries):
     """The fastest of a few links of a tree, where each is right."""
     run = best([PROGRAM] + WORDS, tree.folder, tries)
-    wanted = f"ok: {len(tree.paths)} modules, {tree.requests} requests, {tree.mappings} mappings\n"
+    wanted = f"ok: {tree.modules} modules, {tree.requests} requests, {tree.mappings} mappings\n"
     if run.status != 0 or run.out != wanted:
         say(False, f"{os.path.basename(tree.folder)}: status {run.status}, out {run.out!r}, wanted {wanted!r}")
     return run
@@ -79,7 +85,8 @@ def against_peer(name, run, peer, share, label):
         print(f"SKIP  {label}: {name} ended with status {peer.status}", flush=True)
     else:
         say(run.seconds <= share * peer.seconds,
-            f"{label}: {run.seconds:.3f} s, {run.seconds / peer.seconds:.3f} of {name}'s {peer.seconds:.3f} s, at most {share}")
+            f"{label}: {run.seconds:.3f} s, {run.seconds / peer.seconds:.3f} of {name}'s {peer.seconds:.3f} s, at most {share}"
+            f"; of processor time {run.processor:.3f} s, {run.processor / peer.processor:.3f} of {peer.processor:.3f} s")
 
 
 def esbuild(tree, tries):
@@ -102,7 +109,7 @@ def measure(shape, work, modules, slack, tries, peers):
     # A tree at the limit of requests has twice the time and memory of one at the limit of modules alone.
     at_limit = 2 if shape is trees.shared else 1
     seconds = max(5 * at_limit * slack * modules / 20000, NOISE)
-    say(twice.seconds <= seconds, f"{label}: {twice.seconds:.3f} s, at most {seconds:g} s")
+    say(twice.seconds <= seconds, f"{label}: {twice.times()}, at most {seconds:g} s")
     memory = min(512 * at_limit * MIB, slack * (3 * whole.size + 64 * MIB))
     say(twice.memory <= memory, f"{label}: {twice.memory / MIB:.1f} MiB for {whole.size / MIB:.1f} MiB of files, "
                                 f"at most {memory / MIB:.1f} MiB")
@@ -128,7 +135,7 @@ def measure_packages(work, count, slack, tries, peers):
     say(ten.memory <= memory, f"{label}: {ten.memory / MIB:.1f} MiB for {whole.size / MIB:.1f} MiB of files, "
                               f"at most {memory / MIB:.1f} MiB")
     ratio = ten.seconds / max(once.seconds, NOISE / 10)
-    say(ratio <= 12 * slack, f"{label}: {ten.seconds:.3f} s, {ratio:.2f} times as long as for a tenth of them, "
+    say(ratio <= 12 * slack, f"{label}: {ten.times()}, {ratio:.2f} times as long as for a tenth of them, "
                              f"{once.seconds:.3f} s, at most {12 * slack}")
     sums = floor(whole, tries)
     say(ten.seconds <= max(4 * slack * sums.seconds, NOISE),
@@ -144,7 +151,7 @@ def measure_names(work, modules, slack, tries):
     tree = trees.names(os.path.join(work, "names"), modules)
     run = link(tree, tries)
     seconds = 10 * slack * modules / 20000
-    say(run.seconds <= seconds, f"{label}: {run.seconds:.3f} s, at most {seconds:g} s")
+    say(run.seconds <= seconds, f"{label}: {run.times()}, at most {seconds:g} s")
     say(run.memory <= 1024 * MIB, f"{label}: {run.memory / MIB:.1f} MiB, at most 1024 MiB")
 
 
@@ -156,9 +163,20 @@ def measure_layout(work, modules, slack, tries):
         whole = trees.disagreeing(os.path.join(work, f"whole-{slashes}"), modules, slashes)
         once, twice = link(half, tries), link(whole, tries)
         seconds = max(2 * slack * modules / 20000, NOISE)
-        say(twice.seconds <= seconds, f"{label}: {twice.seconds:.3f} s, at most {seconds:g} s")
+        say(twice.seconds <= seconds, f"{label}: {twice.times()}, at most {seconds:g} s")
         ratio = twice.seconds / max(once.seconds, NOISE)
         say(ratio <= 2.5, f"{label}: {ratio:.2f} times as long as for half of them, {once.seconds:.3f} s, at most 2.5")
+
+
+def measure_suffixes(work, modules, size, slack, tries):
+    """Measures one module that is asked for under many suffixes."""
+    label = f"{modules} modules, of which all but the hubs are one file of {size / MIB:g} MiB"
+    tree = trees.suffixes(os.path.join(work, "suffixes"), modules, size)
+    run = link(tree, tries)
+    seconds = max(10 * slack * modules / 20000, NOISE)
+    say(run.seconds <= seconds, f"{label}: {run.times()}, at most {seconds:g} s")
+    memory = 3 * tree.size + 64 * MIB
+    say(run.memory <= memory, f"{label}: {run.memory / MIB:.1f} MiB, at most {memory / MIB:.1f} MiB")
 
 
 def main():
@@ -178,10 +196,12 @@ def main():
             measure_packages(work, 200, 10, 2, False)
             measure_names(work, 2000, 10, 2)
             measure_layout(work, 2000, 10, 2)
+            measure_suffixes(work, 1000, MIB, 10, 1)
         else:
             measure_packages(work, 2000, 1, 3, True)
             measure_names(work, 18000, 1, 2)
             measure_layout(work, 19000, 1, 3)
+            measure_suffixes(work, 20000, 16 * MIB, 1, 2)
     finally:
         shutil.rmtree(work)
     print(f"{failures} failed" if failures else "all passed")

@@ -6,13 +6,14 @@ MOST_REQUESTS = 4000
 
 
 class Tree:
-    """A tree on disk: its folder, its modules' paths in it, the paths of its other files, and how many requests and
-    mappings `link ./app.mjs` counts."""
+    """A tree on disk: its folder, its modules' paths in it, the paths of its other files, and how many modules, requests
+    and mappings `link ./app.mjs` counts."""
 
     def __init__(self, folder):
         self.folder = folder
         self.paths = []
         self.records = []
+        self.modules = 0
         self.requests = 1
         self.mappings = 0
         self.size = 0
@@ -28,6 +29,7 @@ class Tree:
     def add(self, path, specifiers, rest=""):
         self.write(path, "".join(f'import "{specifier}";\n' for specifier in specifiers) + rest)
         self.paths.append(path)
+        self.modules += 1
         self.requests += len(specifiers)
 
     def record(self, path, text):
@@ -156,4 +158,20 @@ def disagreeing(folder, modules, slashes=0):
             version(f"all/f{i}")
     # Each module that asks has a mapping of its own: where it has a version, at its folder, and else at itself.
     tree.mappings = asking
+    return tree
+
+
+def suffixes(folder, modules, size):
+    """One module of so many bytes that hubs ask for under suffixes of its own, so that it counts as many modules."""
+    tree = Tree(folder)
+    hubs = -(-modules // MOST_REQUESTS)
+    tree.add("app.mjs", [f"./h{h}.mjs" for h in range(hubs)])
+    rest = modules - 1 - hubs
+    for h in range(hubs):
+        tree.add(f"h{h}.mjs", [f"./big.mjs?{i}" for i in range(h, rest, hubs)])
+    line = "export const value = [1, 2, 3].map((x) => x + 1); // a line of a large module\n"
+    text = line * (size // len(line))
+    tree.write("big.mjs", text + " " * (size - len(text)))
+    tree.paths.append("big.mjs")
+    tree.modules += rest
     return tree

@@ -1,1 +1,2 @@
 mod SourceAnswers
+pub mod OutlineAnswers

@@ -1,1 +1,2 @@
+pub mod KeptOutlines
 pub mod Shown

@@ -2,10 +2,12 @@
 //! for.
 #![tactic(auto)]
 
+mod outlines;
 mod reading;
 mod source;
 #[cfg(test)]
 mod tests;
 
+pub use outlines::Outlines;
 pub use reading::module_source;
 pub use source::{NoSource, Source};

@@ -1,6 +1,7 @@
 ghost use Rattle.std.specs.Prelude.{◌≡◌, ◌≤◌, ◌+◌, Bool, ℕ, List, Some, Result, Ok, Err, IfOk, IfErr};
 ghost use Rattle.std.specs.Str.{is_utf8};
 ghost use Rattle.tree_spec.specs.declared.Entry.TheVariants.{Stored};
+ghost use Rattle.tree_spec.specs.declared.Look.TheVariants.{File};
 ghost use Rattle.tree_spec.specs.LookLimits.{begun};
 ghost use Rattle.module_spec.specs.OutlineReading.{read_outline};
 ghost use Rattle.node_spec.specs.EsmFileFormat as formats;
@@ -9,13 +10,14 @@ ghost use Rattle.trace_spec.specs.Questions as spec;
 ghost use Rattle.package_lookup.specs.Answered.{state, Answered};
 ghost use Rattle.package_lookup.specs.Formats.{by_format};
 ghost use Rattle.package_lookup.specs.Responses.{given, fails, never, by_fault, by_limit, looked};
-ghost use Rattle.package_lookup.specs.SeenLooks.{entry_of};
+ghost use Rattle.package_lookup.specs.SeenLooks.{entry_of, look_seen};
 ghost use Rattle.es_module_parser.specs.Faults.{IsFaultOf};
-ghost use Rattle.es_module_parser.specs.Outlines.{as_outline};
+ghost use Rattle.module_sources.specs.KeptOutlines.{AreOutlines, IsRightFor, IsWith};
 ghost use Rattle.module_sources.specs.Shown.{source_in, IsOfSource, NamesLimit};
 
+use crate::outlines::{Outlined, Outlines};
 use crate::{NoSource, Source};
-use es_module_parser::{Outline, OutlineFault, outline};
+use es_module_parser::{OutlineFault, outline};
 use node_spec::Reason;
 use package_lookup::{Format, Known, LookupFault, Seen, Trail, format_of};
 use primitives::{Bytes, Memory, Steps};
@@ -33,8 +35,11 @@ pub fn module_source<F: Folder, L: Ledger>(
     folder: &mut F,
     trail: &mut Trail,
     path: &Path,
+    outlines: &mut Outlines,
     steps: &mut Steps<L>,
 ) -> Result<Result<Source, NoSource>, LookupFault>
+    requires kept { AreOutlines known.old outlines.old }
+    ensures kept { AreOutlines known.new outlines.new }
     ensures answered { Answered (state (F.state folder.old) known.old (begun trail.old)) (spec.module_source path.now)
         (looked source_in result) (state (F.state folder.new) known.new trail.new) }
     ensures cost { steps.new ≤ steps.old + 1 }
@@ -42,7 +47,7 @@ pub fn module_source<F: Folder, L: Ledger>(
 {
     match format_of(alloc, known, folder, trail, path) {
         Err(fault) => without_format(fault),
-        Ok(format) => source_by_format(alloc, known, folder, trail, path, format, steps),
+        Ok(format) => source_by_format(alloc, known, folder, trail, path, format, outlines, steps),
     }
 }
 
@@ -77,8 +82,11 @@ fn source_by_format<F: Folder, L: Ledger>(
     trail: &mut Trail,
     path: &Path,
     format: Format,
+    outlines: &mut Outlines,
     steps: &mut Steps<L>,
 ) -> Result<Result<Source, NoSource>, LookupFault>
+    requires kept { AreOutlines known.old outlines.old }
+    ensures kept { AreOutlines known.new outlines.new }
     ensures answered { (found : Result formats.Format Refusal) → by_format format ≡ given found
         → Answered (state (F.state folder.old) known.old trail.old) (spec.by_format path.now found)
         (looked source_in result) (state (F.state folder.new) known.new trail.new) }
@@ -86,8 +94,8 @@ fn source_by_format<F: Folder, L: Ledger>(
     ensures limit { NamesLimit result }
 {
     match format {
-        Format::Module => read_module(alloc, known, folder, trail, path, false, steps),
-        Format::Detect => read_module(alloc, known, folder, trail, path, true, steps),
+        Format::Module => read_module(alloc, known, folder, trail, path, false, outlines, steps),
+        Format::Detect => read_module(alloc, known, folder, trail, path, true, outlines, steps),
         Format::Not(reason) => Ok(Err(NoSource::NotModule { reason })),
     }
 }
@@ -100,8 +108,11 @@ fn read_module<F: Folder, L: Ledger>(
     trail: &mut Trail,
     path: &Path,
     is_detected: bool,
+    outlines: &mut Outlines,
     steps: &mut Steps<L>,
 ) -> Result<Result<Source, NoSource>, LookupFault>
+    requires kept { AreOutlines known.old outlines.old }
+    ensures kept { AreOutlines known.new outlines.new }
     ensures answered { Answered (state (F.state folder.old) known.old trail.old) (spec.read_module is_detected path.now)
         (looked source_in result) (state (F.state folder.new) known.new trail.new) }
     ensures cost { steps.new ≤ steps.old + 1 }
@@ -109,16 +120,20 @@ fn read_module<F: Folder, L: Ledger>(
 {
     match known.look(alloc, folder, path, trail) {
         Err(fault) => Err(fault),
-        Ok(seen) => Ok(source_seen(alloc, seen, is_detected, steps)?),
+        Ok(seen) => Ok(source_seen(alloc, path, seen, is_detected, outlines, steps)?),
     }
 }
 
 fn source_seen<L: Ledger>(
     alloc: Global,
+    path: &Path,
     seen: Seen,
     is_detected: bool,
+    outlines: &mut Outlines,
     steps: &mut Steps<L>,
 ) -> Result<Result<Source, NoSource>, Memory>
+    requires kept { (bytes : List ℕ) → look_seen seen ≡ File bytes → IsRightFor outlines.old path.now bytes }
+    ensures kept { IsWith outlines.old path.now (look_seen seen) outlines.new }
     ensures source { IfOk result (λ found. source_in found ≡ spec.by_entry is_detected (entry_of seen)) }
     ensures cost { steps.new ≤ steps.old + 1 }
     ensures limit { NamesLimit result }
@@ -126,7 +141,7 @@ fn source_seen<L: Ledger>(
     match seen {
         Seen::Absent => Ok(unreadable(0)),
         Seen::Folder => Ok(unreadable(0)),
-        Seen::File(bytes) => source_of_bytes(alloc, bytes, is_detected, steps),
+        Seen::File(bytes) => source_of_bytes(alloc, path, bytes, is_detected, outlines, steps),
     }
 }
 
@@ -141,10 +156,34 @@ fn unreadable(at: usize) -> Result<Source, NoSource>
 
 fn source_of_bytes<L: Ledger>(
     alloc: Global,
+    path: &Path,
     bytes: Rc<Bytes>,
     is_detected: bool,
+    outlines: &mut Outlines,
     steps: &mut Steps<L>,
 ) -> Result<Result<Source, NoSource>, Memory>
+    requires kept { IsRightFor outlines.old path.now bytes.value }
+    ensures kept { IsWith outlines.old path.now (File bytes.value) outlines.new }
+    ensures source { IfOk result (λ found. source_in found ≡ spec.by_bytes is_detected bytes.value) }
+    ensures cost { steps.new ≤ steps.old + 1 }
+    ensures limit { NamesLimit result }
+{
+    match outlines.find(path) {
+        None => read_bytes(alloc, path, bytes, is_detected, outlines, steps),
+        Some(outlined) => Ok(source_of_outline(bytes, outlined.copy()?, is_detected)),
+    }
+}
+
+// The source of bytes whose outline isn't kept.
+fn read_bytes<L: Ledger>(
+    alloc: Global,
+    path: &Path,
+    bytes: Rc<Bytes>,
+    is_detected: bool,
+    outlines: &mut Outlines,
+    steps: &mut Steps<L>,
+) -> Result<Result<Source, NoSource>, Memory>
+    ensures kept { IsWith outlines.old path.now (File bytes.value) outlines.new }
     ensures source { IfOk result (λ found. source_in found ≡ spec.by_bytes is_detected bytes.value) }
     ensures cost { steps.new ≤ steps.old + 1 }
     ensures limit { NamesLimit result }
@@ -153,7 +192,11 @@ fn source_of_bytes<L: Ledger>(
         Err(fault) => Ok(unreadable(fault.valid_up_to())),
         Ok(text) => match outline(alloc, text, steps) {
             Err(fault) => without_outline(fault),
-            Ok(outline) => source_of_outline(alloc, bytes, outline, is_detected),
+            Ok(outline) => {
+                let outlined = Outlined::of(alloc, outline)?;
+                outlines.keep(alloc, path, &outlined)?;
+                Ok(source_of_outline(bytes, outlined, is_detected))
+            }
         },
     }
 }
@@ -178,22 +221,21 @@ fn without_outline(fault: OutlineFault) -> Result<Result<Source, NoSource>, Memo
 
 // The source of a text with this outline; where the text decides, only where it declares that it is a module's.
 fn source_of_outline(
-    alloc: Global,
     bytes: Rc<Bytes>,
-    outline: Outline,
+    outlined: Outlined,
     is_detected: bool,
-) -> Result<Result<Source, NoSource>, Memory>
-    ensures source { IfOk result (λ found. source_in found
-        ≡ spec.by_outline is_detected bytes.value (Ok (as_outline outline))) }
-    ensures limit { NamesLimit result }
+) -> Result<Source, NoSource>
+    ensures source { source_in result ≡ spec.by_outline is_detected bytes.value
+        (Ok (record { requests = outlined.requests.value; declares = outlined.declares })) }
+    ensures limit { IfErr result IsOfSource }
 {
-    if is_detected && !outline.declares {
-        return Ok(Err(NoSource::NotModule {
+    if is_detected && !outlined.declares {
+        return Err(NoSource::NotModule {
             reason: Reason::CommonJs,
-        }));
+        });
     }
-    Ok(Ok(Source {
+    Ok(Source {
         bytes,
-        requests: Rc::new(alloc, outline.requests)?,
-    }))
+        requests: outlined.requests,
+    })
 }

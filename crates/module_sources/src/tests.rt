@@ -67,7 +67,16 @@ fn read<L: Ledger>(
     let mut steps = Steps::<L>::start(blank);
     let mut known = Known::new(alloc);
     let mut trail = Trail::new(alloc);
-    module_source(alloc, &mut known, folder, &mut trail, path, &mut steps)
+    let mut outlines = Outlines::new(alloc);
+    module_source(
+        alloc,
+        &mut known,
+        folder,
+        &mut trail,
+        path,
+        &mut outlines,
+        &mut steps,
+    )
 }
 
 fn source_at(alloc: Global, folder: &mut MemFolder, path: &Path) -> Result<String, Fail> {

@@ -60,6 +60,7 @@ impl Known {
             (looked entry_of result) (state (F.state folder.new) self.new trail.new) }
         ensures asks { Asks (state (F.state folder.old) self.old trail.old) path.now
             (looked entry_of result) (state (F.state folder.new) self.new trail.new) }
+        ensures held { IfOk result (λ seen. known_at self.new path.now ≡ Some (look_seen seen)) }
     {
         let (seen, _) = self.sight(alloc, folder, path, trail)?;
         Ok(seen)

@@ -9,7 +9,7 @@ ghost use Rattle.trace_walk.specs.Shown.{sources, resolutions};
 ghost use Rattle.request_trace.specs.Answering.{result_by};
 
 use condition_match::Conditions;
-use module_sources::{NoSource, Source, module_source};
+use module_sources::{NoSource, Outlines, Source, module_source};
 use node_resolve::{Found, NodeFault, resolve};
 use package_lookup::{Known, LookupFault, Trail};
 use primitives::Steps;
@@ -28,17 +28,20 @@ pub struct FolderAnswers<'a, 'b, 'c, 'd, F: Folder, L: Ledger> {
     pub known: &'b mut Known,
     pub steps: &'c mut Steps<L>,
     pub trail: &'d mut Trail,
+    /// So a module that is asked for under many suffixes is read once.
+    pub outlines: Outlines,
 }
 
 impl<'a, 'b, 'c, 'd, F: Folder, L: Ledger> Answerer for FolderAnswers<'a, 'b, 'c, 'd, F, L> {
-    ghost use Rattle.std.specs.Prelude.{⊤, [], ◌∷◌};
+    ghost use Rattle.std.specs.Prelude.{[], ◌∷◌};
+    ghost use Rattle.module_sources.specs.KeptOutlines.{AreOutlines};
     ghost use Rattle.package_lookup.specs.Answered.{state};
     ghost use Rattle.request_trace.specs.Answering.{answers_of};
 
     ghost state = { λ answers. answers_of (answers.folder.ghost_name ∷ answers.known.ghost_name
         ∷ answers.steps.ghost_name ∷ []) (state (F.state answers.folder.now) answers.known.now answers.trail.now) };
 
-    ghost ready = { λ answers. ⊤ };
+    ghost ready = { λ answers. AreOutlines answers.known.now answers.outlines };
 
     ghost steps = { λ answers. answers.steps.now };
 
@@ -47,7 +50,15 @@ impl<'a, 'b, 'c, 'd, F: Folder, L: Ledger> Answerer for FolderAnswers<'a, 'b, 'c
         alloc: Global,
         path: &Path,
     ) -> Result<Result<Source, NoSource>, TraceFault> {
-        let found = module_source(alloc, self.known, self.folder, self.trail, path, self.steps);
+        let found = module_source(
+            alloc,
+            self.known,
+            self.folder,
+            self.trail,
+            path,
+            &mut self.outlines,
+            self.steps,
+        );
         source_answer(found)
     }
 

@@ -7,6 +7,7 @@ ghost use Rattle.request_trace.specs.Tracing.{Traces};
 
 use crate::folder_answers::FolderAnswers;
 use crate::traces::Trace;
+use module_sources::Outlines;
 use package_lookup::{Known, Trail};
 use primitives::Steps;
 use std::alloc::Global;
@@ -53,6 +54,7 @@ fn tables_of<F: Folder, L: Ledger>(
         known,
         trail: &mut trail,
         steps,
+        outlines: Outlines::new(alloc),
     };
     walk(alloc, &mut answers, config)
 }
