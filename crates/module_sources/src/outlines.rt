@@ -1,11 +1,13 @@
 ghost use Rattle.std.specs.Prelude.{◌≡◌, ℕ, List, None, Some, IfOk, OnOk, OnErr, bytes_eq, option_copied, if◌then◌else◌};
 ghost use Rattle.std.specs.HashMap as map;
+ghost use Rattle.es_module_parser.specs.Outlines.{as_outline};
 ghost use Rattle.module_sources.specs.KeptOutlines.{outline_at};
 
 use es_module_parser::{Outline, Requests};
 use primitives::Memory;
 use std::alloc::Global;
 use std::collections::HashMap;
+use std::marker::Model;
 use std::rc::Rc;
 use tree_model::Path;
 
@@ -62,14 +64,21 @@ fn insert(kept: &mut HashMap<Path, Outlined>, path: Path, outlined: Outlined) ->
 /// The outline of a text, whose requests are shared.
 #[derive(Drop)]
 pub(crate) struct Outlined {
-    pub requests: Rc<Requests>,
-    pub declares: bool,
+    requests: Rc<Requests>,
+    declares: bool,
+}
+
+impl Model for Outlined {
+    ghost use Rattle.module_spec.specs.Outlines.{Outline};
+
+    ghost Value = { Outline };
+
+    ghost view = { λ outlined. record { requests = outlined.requests.value; declares = outlined.declares } };
 }
 
 impl Outlined {
     pub(crate) fn of(alloc: Global, outline: Outline) -> Result<Outlined, Memory>
-        ensures requests { IfOk result (λ outlined. outlined.requests.value ≡ outline.requests) }
-        ensures declares { IfOk result (λ outlined. outlined.declares ≡ outline.declares) }
+        ensures { IfOk result (λ outlined. outlined ≡ as_outline outline) }
     {
         Ok(Outlined {
             declares: outline.declares,
@@ -77,7 +86,7 @@ impl Outlined {
         })
     }
 
-    /// The same, with the requests shared.
+    /// An equal one, with the requests shared.
     pub(crate) fn copy(&self) -> Result<Outlined, Memory>
         ensures { IfOk result (λ copy. copy ≡ self.now) }
     {
@@ -85,5 +94,13 @@ impl Outlined {
             requests: Rc::clone(&self.requests)?,
             declares: self.declares,
         })
+    }
+
+    /// The requests, and whether the text declares that it is a module's.
+    pub(crate) fn into_parts(self) -> (Rc<Requests>, bool)
+        ensures requests { result.0.value ≡ self.requests }
+        ensures declares { result.1 ≡ self.declares }
+    {
+        (self.requests, self.declares)
     }
 }

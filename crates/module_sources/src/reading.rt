@@ -225,17 +225,14 @@ fn source_of_outline(
     outlined: Outlined,
     is_detected: bool,
 ) -> Result<Source, NoSource>
-    ensures source { source_in result ≡ spec.by_outline is_detected bytes.value
-        (Ok (record { requests = outlined.requests.value; declares = outlined.declares })) }
+    ensures source { source_in result ≡ spec.by_outline is_detected bytes.value (Ok outlined) }
     ensures limit { IfErr result IsOfSource }
 {
-    if is_detected && !outlined.declares {
+    let (requests, declares) = outlined.into_parts();
+    if is_detected && !declares {
         return Err(NoSource::NotModule {
             reason: Reason::CommonJs,
         });
     }
-    Ok(Source {
-        bytes,
-        requests: outlined.requests,
-    })
+    Ok(Source { bytes, requests })
 }
