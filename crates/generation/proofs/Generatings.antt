@@ -1,8 +1,11 @@
 -- What comes of a trace for which nothing was known.
-use Rattle.std.proofs.Common.{◌≡◌, ◌≢◌, ◌≤◌, ℕ, List, length, Option, Some, None, IfSome, Result, Ok, Err, refl, sym, ap, subst}
+use Rattle.std.proofs.Common.{◌≡◌, ◌≢◌, ◌≤◌, ℕ, List, length, Option, Some, None, IfSome, Result, Ok, Err, refl, sym, ap, ◌∙◌, subst}
 use Rattle.std.specs.FinMap.{get}
+use Rattle.std.specs.Prelude.{◌++◌, All, Contains}
+use Rattle.std.proofs.lemmas.List.{append_cancel_left}
+use Rattle.std.proofs.lemmas.List.Elements.{All-weaker}
 use Rattle.std.specs.Option.{option_or}
-use Rattle.tree_spec.specs.LookAskings.{Sights}
+use Rattle.tree_spec.specs.LookAskings.{Sights, footprint}
 use Rattle.tree_spec.specs.States.{FolderState, OnlyLooks}
 use Rattle.tree_spec.specs.Trees.{Tree}
 use Rattle.tree_spec.specs.declared.LimitName.TheVariants.{Map}
@@ -15,15 +18,15 @@ use Rattle.trace_spec.specs.declared.TraceFault.TheVariants as fault
 use Rattle.trace_spec.specs.Checks.{Gathered}
 use Rattle.trace_spec.specs.Kinds.{IsOfTrace}
 use Rattle.trace_spec.specs.Modules.{Config}
-use Rattle.trace_spec.specs.Traces.{traced}
+use Rattle.trace_spec.specs.Traces.{traced, generation}
 use Rattle.trace_walk.specs.Kinds.{IsOfWalk}
 use Rattle.trace_walk.specs.Meeting.{IsTold}
-use Rattle.request_trace.specs.Tracing.{Traces, known_of}
+use Rattle.request_trace.specs.Tracing.{IsOfFootprint, Traces, known_of}
 use Rattle.generator_spec.specs.Commands.{Refuses as refuses, IsRefusalOf as kind}
 use Rattle.generation.specs.declared.generated.Generated.{Generated}
 use Rattle.generation.specs.declared.stop.Stop.{Stop}
 use Rattle.generation.specs.declared.stop.Stop.TheVariants.{Refused, ReadFault, Memory}
-use Rattle.generation.specs.Generating.{StopsAs, IsMapOf, HasLargeMap, IsGenerated, AsksNoPathTwice, Generating}
+use Rattle.generation.specs.Generating.{StopsAs, IsMapOf, HasLargeMap, IsGenerated, AsksNoPathTwice, AsksFootprint, Generating}
 use Rattle.generation.specs.Generating.StopsAs.{failed_look, memory, refused}
 use Rattle.generator_spec.specs.declared.Refusal.TheVariants.{Limit}
 
@@ -49,6 +52,19 @@ pub record IsFresh (known : Known) : Type 0 where
 
 sees_all : (tree : Tree) (known : Known) → IsFresh known → Sees tree known (get tree)
 sees_all tree known fresh = record { each = λ path. sym (λ i. look_or (option_or (fresh.laid path i) (fresh.kept path i)) (get tree path)) }
+
+-- ---- what is asked for
+
+same_more : (old some more : List (List ℕ)) → Some (old ++ some) ≡ Some (old ++ more) → some ≡ more
+same_more old some more e = append_cancel_left old some more (cc)
+
+within_tree : (told : Option Tree) (known : Known) → IsFresh known → (config : Config) (more : List (List ℕ))
+    → All (λ path. IfSome told (λ tree. (sights : Sights) → Sees tree known sights → Contains (footprint sights (generation config)) path)) more
+    → IfSome told (λ tree. All (Contains (footprint (get tree) (generation config))) more)
+within_tree None known fresh config more each = tt
+within_tree (Some tree) known fresh config more each =
+    All-weaker (λ path. (sights : Sights) → Sees tree known sights → Contains (footprint sights (generation config)) path)
+    (Contains (footprint (get tree) (generation config))) (λ path is. is (get tree) (sees_all tree known fresh)) more each
 
 -- ---- the trace
 
@@ -77,14 +93,23 @@ module _ (config : Config) (before after : FolderState) (known later : Known) (f
   asks : (result : Result Gathered TraceFault) → Traces config before known result after later → IfSome before.asked (λ old. AsksNoPathTwice old after)
   asks result is = if_some before.asked (λ old once. record { more = once.more; asked = once.asked; once = once.once }) is.learns.asked
 
+  -- by what stands at each path in the tree
+  in_tree : (more : List (List ℕ)) → All (IsOfFootprint config before known) more
+      → IfSome before.holds (λ tree. All (Contains (footprint (get tree) (generation config))) more)
+  in_tree more all = within_tree before.holds known fresh config more all
+
+  looks_at : (result : Result Gathered TraceFault) → Traces config before known result after later → IfSome before.asked (λ old. AsksFootprint config before.holds old after)
+  looks_at result is = if_some before.asked (λ old once more same. in_tree more (subst (λ paths. All (IsOfFootprint config before known) paths) (same_more old once.more more (sym once.asked ∙ same)) once.among)) is.learns.asked
+
   pub stopped : (why : TraceFault) (stop : Stop) → Traces config before known (Err why) after later → StopsAs why stop → Generating config before (Err stop) after
-  stopped why stop is (failed_look same) = record { generated = tt; refused = tt; kind = tt; asked = asks (Err why) is; looks = looks_as before after (λ e. ap as_err same) (λ e. refl) is.looks }
-  stopped why stop is (memory same) = record { generated = tt; refused = tt; kind = tt; asked = asks (Err why) is; looks = looks_as before after (λ e. absurd (cc)) (λ e. absurd (cc)) is.looks }
+  stopped why stop is (failed_look same) = record { generated = tt; refused = tt; kind = tt; asked = asks (Err why) is; footprint = looks_at (Err why) is; looks = looks_as before after (λ e. ap as_err same) (λ e. refl) is.looks }
+  stopped why stop is (memory same) = record { generated = tt; refused = tt; kind = tt; asked = asks (Err why) is; footprint = looks_at (Err why) is; looks = looks_as before after (λ e. absurd (cc)) (λ e. absurd (cc)) is.looks }
   stopped why stop is (refused no_look no_memory) = record {
     generated = tt;
     refused = if_some before.holds (λ tree e command opened. refuses.trace command why opened e) (traced_so (Err why) is (λ e. no_look (cc), λ e. no_memory (cc)));
     kind = λ command. kind.trace command why (of_trace config why no_look no_memory is.kind);
     asked = asks (Err why) is;
+    footprint = looks_at (Err why) is;
     looks = looks_as before after (λ e. absurd (cc)) (λ e. absurd (no_look (cc))) is.looks;
   }
 
@@ -100,6 +125,7 @@ module _ (config : Config) (before after : FolderState) (known later : Known) (f
       refused = tt;
       kind = tt;
       asked = asks (Ok all) is;
+      footprint = looks_at (Ok all) is;
       looks = looks_as before after (λ e. absurd (cc)) (λ e. absurd (cc)) is.looks;
     }
 
@@ -111,8 +137,9 @@ module _ (config : Config) (before after : FolderState) (known later : Known) (f
           refused = if_some before.holds (λ tree e command opened. refuses.large_map command opened (record { all = all; is_traced = e; map = large.layout; agreed = large.agreed; large = large.large })) has_trace;
           kind = λ command. kind.large_map command;
           asked = asks (Ok all) is;
+          footprint = looks_at (Ok all) is;
           looks = looks_as before after (λ e. absurd (cc)) (λ e. absurd (cc)) is.looks;
         })
 
     pub lacks : Generating config before (Err Memory) after
-    lacks = record { generated = tt; refused = tt; kind = tt; asked = asks (Ok all) is; looks = looks_as before after (λ e. absurd (cc)) (λ e. absurd (cc)) is.looks }
+    lacks = record { generated = tt; refused = tt; kind = tt; asked = asks (Ok all) is; footprint = looks_at (Ok all) is; looks = looks_as before after (λ e. absurd (cc)) (λ e. absurd (cc)) is.looks }

@@ -3,12 +3,16 @@
 --     IfRefused P stop      of a refusal, this
 --     IsMapOf all generated      the map's text and its counts are those of these tables
 --     HasLargeMap all      the text of the map of these tables is too large
+--     AsksNoPathTwice old after      the folder was asked for further paths, for none of them twice
+--     AreOfFootprint config holds paths      where a tree is told, these are of the footprint of its generation
+--     AsksFootprint config holds old after      all further paths are
 --     Generating config before result after      what it gives for a folder, and what it leaves
-use Rattle.std.specs.Prelude.{◌≡◌, ◌≢◌, ◌≤◌, ◌<◌, ◌++◌, ⊤, ℕ, List, length, bytes_eq, Some, Result, Ok, Err, IfOk, IfErr, IfSome}
+use Rattle.std.specs.Prelude.{◌≡◌, ◌≢◌, ◌≤◌, ◌<◌, ◌++◌, ⊤, ℕ, List, length, bytes_eq, All, Contains, Option, Some, Result, Ok, Err, IfOk, IfErr, IfSome}
 use Rattle.std.specs.FinMap.{get}
 use Rattle.std.specs.List.{IsDistinct}
 use Rattle.tree_spec.specs.declared.LimitName.TheVariants.{Map}
 use Rattle.tree_spec.specs.Limits.{limit_number}
+use Rattle.tree_spec.specs.LookAskings.{footprint}
 use Rattle.tree_spec.specs.Trees.{Tree}
 use Rattle.tree_spec.specs.States.{FolderState, OnlyLooks}
 use Rattle.import_map_spec.specs.ParsedMap.{ParsedMap}
@@ -19,7 +23,7 @@ use Rattle.trace_spec.specs.declared.TraceFault.{TraceFault}
 use Rattle.trace_spec.specs.declared.TraceFault.TheVariants as fault
 use Rattle.trace_spec.specs.Modules.{Config}
 use Rattle.trace_spec.specs.Checks.{Gathered}
-use Rattle.trace_spec.specs.Traces.{traced}
+use Rattle.trace_spec.specs.Traces.{traced, generation}
 use Rattle.generator_spec.specs.declared.Command.{Command}
 use Rattle.generator_spec.specs.declared.Refusal.{Refusal}
 use Rattle.generator_spec.specs.declared.Refusal.TheVariants.{Trace}
@@ -66,6 +70,15 @@ pub record AsksNoPathTwice (old : List (List ℕ)) (after : FolderState) : Type 
   pub asked : after.asked ≡ Some (old ++ more)
   pub once : IsDistinct bytes_eq more
 
+abbrev pub AreOfFootprint : Config → Option Tree → List (List ℕ) → Type 0
+AreOfFootprint config holds paths =
+    IfSome holds (λ tree. All (Contains (footprint (get tree) (generation config))) paths)
+
+-- own: whatever further paths it was asked for
+abbrev pub AsksFootprint : Config → Option Tree → List (List ℕ) → FolderState → Type 0
+AsksFootprint config holds old after =
+    (more : List (List ℕ)) → after.asked ≡ Some (old ++ more) → AreOfFootprint config holds more
+
 -- own: a told tree has the trace whose map this is, or refuses each command that is opened so; and whatever is told,
 -- each can be refused so. What isn't refused is a look that failed and was counted, or want of memory
 pub record Generating (config : Config) (before : FolderState) (result : Result Generated Stop)
@@ -76,4 +89,5 @@ pub record Generating (config : Config) (before : FolderState) (result : Result 
       → Refuses tree config command why)))
   pub kind : IfErr result (IfRefused (λ why. (command : Command) → IsRefusalOf config command why))
   pub asked : IfSome before.asked (λ old. AsksNoPathTwice old after)
+  pub footprint : IfSome before.asked (λ old. AsksFootprint config before.holds old after)
   pub looks : OnlyLooks before after (result ≡ Err ReadFault)
