@@ -3,13 +3,15 @@ use Rattle.std.proofs.Common.{◌≡◌, ◌≤◌, ◌⊎◌, ℕ, Bool, true, 
 use Rattle.std.proofs.lemmas.List.{append-nil}
 use Rattle.std.specs.FinMap.{get}
 use Rattle.std.specs.List.{IsDistinct}
-use Rattle.std.specs.Prelude.{bytes_eq}
+use Rattle.std.specs.Prelude.{bytes_eq, Contains}
+use Rattle.std.proofs.lemmas.List.Elements.{All-nil}
 use Rattle.tree_spec.specs.declared.Look.{Look}
 use Rattle.tree_spec.specs.declared.Look.TheVariants as look
 use Rattle.tree_spec.specs.declared.LookFault.TheVariants as look_fault
 use Rattle.tree_spec.specs.declared.LimitName.TheVariants.{File, Map}
 use Rattle.tree_spec.specs.Counts.{Rose}
 use Rattle.tree_spec.specs.Limits.{limit_number}
+use Rattle.tree_spec.specs.LookAskings.{footprint}
 use Rattle.tree_spec.specs.Looks.{asked_after}
 use Rattle.tree_spec.specs.States.{FolderState, OnlyLooks, IsLooked}
 use Rattle.tree_spec.specs.Trees.{Tree}
@@ -19,6 +21,9 @@ use Rattle.page_spec.specs.Injection as injection
 use Rattle.page_spec.specs.Injection.{TakesMaps}
 use Rattle.page_spec.proofs.KeptOut.{takes_or_keeps_out}
 use Rattle.trace_spec.specs.Modules.{Config}
+use Rattle.trace_spec.specs.Traces.{generation}
+use Rattle.generator_spec.proofs.Configs.{one_config}
+use Rattle.generator_spec.specs.Words.{IsConfigOf}
 use Rattle.generator_spec.specs.declared.Command.{Command}
 use Rattle.generator_spec.specs.declared.Command.TheVariants.{Link, Inject}
 use Rattle.generator_spec.specs.declared.PageFault.{PageFault}
@@ -28,9 +33,9 @@ use Rattle.generator_spec.specs.Commands.{IsPage, RefusesPage, RefusesPage as re
 use Rattle.generation.specs.declared.generated.Generated.{Generated}
 use Rattle.generation.specs.declared.stop.Stop.{Stop}
 use Rattle.generation.specs.declared.stop.Stop.TheVariants.{Refused, ReadFault, Memory}
-use Rattle.generation.specs.Generating.{Generating, IsGenerated, AsksNoPathTwice}
+use Rattle.generation.specs.Generating.{Generating, IsGenerated, AreOfFootprint, AsksNoPathTwice, AsksFootprint}
 use Rattle.generator_core.specs.declared.prepared.Prepared.{Prepared}
-use Rattle.generator_core.specs.Preparing.{AsksPage, AsksFew, EndsBefore, IsPageFound, FindsPage, HasCounts, IsMapFile, IsPageFile, IsPrepared, IsReady, Prepares}
+use Rattle.generator_core.specs.Preparing.{AsksPage, AreOfGeneration, AsksFew, EndsBefore, IsPageFound, FindsPage, HasCounts, IsMapFile, IsPageFile, IsPrepared, IsReady, Prepares}
 
 pub if_some : {A : Type 0} {P Q : A → Type 0} (told : Option A) → ((x : A) → P x → Q x) → IfSome told P → IfSome told Q
 if_some None f h = h
@@ -73,34 +78,43 @@ none_twice : IsDistinct bytes_eq []
 unfolding IsDistinct
 none_twice = tt
 
-asks_few : (page : List ℕ) (told : Option (List (List ℕ))) (after : FolderState) → IfSome told (λ old. AsksNoPathTwice old after) → IfSome told (λ old. AsksFew page old after)
-asks_few page told after asks = if_some told (λ old is. record { first = []; is_page = inl refl; more = is.more; asked = is.asked; once = is.once }) asks
+none_of_footprint : (config : Config) (holds : Option Tree) → AreOfFootprint config holds []
+none_of_footprint config None = tt
+none_of_footprint config (Some tree) = All-nil (Contains (footprint (get tree) (generation config)))
+
+asks_few : (config : Config) (holds : Option Tree) (told : Option (List (List ℕ))) (after : FolderState) → IfSome told (λ old. AsksNoPathTwice old after) → IfSome told (λ old. AsksFootprint config holds old after) → IfSome told (λ old. AsksFew config.page (AreOfFootprint config holds) old after)
+asks_few config holds told after asks prints = if_two told (λ old is are. record { first = []; is_page = inl refl; more = is.more; asked = is.asked; once = is.once; looks = are is.more is.asked }) asks prints
 
 page_asked : (page path : List ℕ) (b : Bool) (told : Option (List (List ℕ))) (after : FolderState) → path ≡ page → after.asked ≡ asked_after b path told → IfSome told (λ old. AsksPage page old after)
 page_asked page path b None after same is = tt
 page_asked page path true (Some old) after same is = record { first = page ∷ []; is_page = inr refl; asked = is ∙ ap (λ p. Some (old ++ p ∷ [])) same }
 page_asked page path false (Some old) after same is = record { first = []; is_page = inl refl; asked = is ∙ ap Some (sym (append-nil old)) }
 
-page_alone : (page : List ℕ) (told : Option (List (List ℕ))) (after : FolderState) → IfSome told (λ old. AsksPage page old after) → IfSome told (λ old. AsksFew page old after)
-page_alone page told after asks = if_some told (λ old is. record { first = is.first; is_page = is.is_page; more = []; asked = is.asked ∙ ap (λ first. Some (old ++ first)) (sym (append-nil is.first)); once = none_twice }) asks
+page_alone : (config : Config) (holds : Option Tree) (told : Option (List (List ℕ))) (after : FolderState) → IfSome told (λ old. AsksPage config.page old after) → IfSome told (λ old. AsksFew config.page (AreOfFootprint config holds) old after)
+page_alone config holds told after asks = if_some told (λ old is. record { first = is.first; is_page = is.is_page; more = []; asked = is.asked ∙ ap (λ first. Some (old ++ first)) (sym (append-nil is.first)); once = none_twice; looks = none_of_footprint config holds }) asks
 
-page_then : (page : List ℕ) (told : Option (List (List ℕ))) (middle after : FolderState) → IfSome told (λ old. AsksPage page old middle) → IfSome middle.asked (λ old. AsksNoPathTwice old after) → IfSome told (λ old. AsksFew page old after)
-page_then page None middle after first later = tt
-page_then page (Some old) middle after first later =
+page_then : (config : Config) (holds : Option Tree) (told : Option (List (List ℕ))) (middle after : FolderState) → middle.holds ≡ holds → IfSome told (λ old. AsksPage config.page old middle) → IfSome middle.asked (λ old. AsksNoPathTwice old after) → IfSome middle.asked (λ old. AsksFootprint config middle.holds old after) → IfSome told (λ old. AsksFew config.page (AreOfFootprint config holds) old after)
+page_then config holds None middle after same first later prints = tt
+page_then config holds (Some old) middle after same first later prints =
     let more : AsksNoPathTwice (old ++ first.first) after = subst (λ told. IfSome told (λ before. AsksNoPathTwice before after)) first.asked later in
-    record { first = first.first; is_page = first.is_page; more = more.more; asked = more.asked ∙ ap Some (append_assoc old first.first more.more); once = more.once }
+    let are : AsksFootprint config middle.holds (old ++ first.first) after = subst (λ told. IfSome told (λ before. AsksFootprint config middle.holds before after)) first.asked prints in
+    record { first = first.first; is_page = first.is_page; more = more.more; asked = more.asked ∙ ap Some (append_assoc old first.first more.more); once = more.once; looks = subst (λ h. AreOfFootprint config h more.more) same (are more.more more.asked) }
 
 -- a write asks for nothing
-pub still_few : (page other : List ℕ) (told : Option (List (List ℕ))) (middle after : FolderState) → page ≡ other → after.asked ≡ middle.asked → IfSome told (λ old. AsksFew page old middle) → IfSome told (λ old. AsksFew other old after)
-still_few page other told middle after same still asks =
-    if_some told (λ old is. record { first = is.first; is_page = subst (λ p. (is.first ≡ []) ⊎ (is.first ≡ p ∷ [])) same is.is_page; more = is.more; asked = still ∙ is.asked; once = is.once }) asks
+pub still_few : (page other : List ℕ) (Looks Others : List (List ℕ) → Type 0) (told : Option (List (List ℕ))) (middle after : FolderState) → page ≡ other → after.asked ≡ middle.asked → ((paths : List (List ℕ)) → Looks paths → Others paths) → IfSome told (λ old. AsksFew page Looks old middle) → IfSome told (λ old. AsksFew other Others old after)
+still_few page other Looks Others told middle after same still goes asks =
+    if_some told (λ old is. record { first = is.first; is_page = subst (λ p. (is.first ≡ []) ⊎ (is.first ≡ p ∷ [])) same is.is_page; more = is.more; asked = still ∙ is.asked; once = is.once; looks = goes is.more is.looks }) asks
 
-pub asks_nothing : (page : List ℕ) (state : FolderState) → IfSome state.asked (λ old. AsksFew page old state)
-asks_nothing page state = by state.asked refl
+-- words ask for one config
+pub of_words : (words : List (List ℕ)) (command : Command) (config : Config) (holds : Option Tree) → IsConfigOf words command config → (paths : List (List ℕ)) → AreOfFootprint config holds paths → AreOfGeneration words holds paths
+of_words words command config holds is paths are = λ other second called. subst (λ c. AreOfFootprint c holds paths) (one_config words command other config second is called).one_config are
+
+pub asks_nothing : (page : List ℕ) (words : List (List ℕ)) (state : FolderState) → IfSome state.asked (λ old. AsksFew page (AreOfGeneration words state.holds) old state)
+asks_nothing page words state = by state.asked refl
   where
-    by : (told : Option (List (List ℕ))) → state.asked ≡ told → IfSome told (λ old. AsksFew page old state)
+    by : (told : Option (List (List ℕ))) → state.asked ≡ told → IfSome told (λ old. AsksFew page (AreOfGeneration words state.holds) old state)
     by None e = tt
-    by (Some old) e = record { first = []; is_page = inl refl; more = []; asked = e ∙ ap Some (sym (append-nil old)); once = none_twice }
+    by (Some old) e = record { first = []; is_page = inl refl; more = []; asked = e ∙ ap Some (sym (append-nil old)); once = none_twice; looks = λ command config called. none_of_footprint config state.holds }
 
 -- ---- generation
 
@@ -122,10 +136,10 @@ module _ (config : Config) (before after : FolderState) where
     stopped_as Memory is = record { refused = tt; kind = tt; looks = looks_as before after (λ e. absurd (cc)) (λ e. absurd (cc)) is.looks }
 
     pub stopped : (stop : Stop) → Generating config before (Err stop) after → Prepares command config before (Err stop) after
-    stopped stop is = record { ready = tt; asked = asks_few config.page before.asked after is.asked; stopped = stopped_as stop is }
+    stopped stop is = record { ready = tt; asked = asks_few config before.holds before.asked after is.asked is.footprint; stopped = stopped_as stop is }
 
   pub lacks : (command : Command) (generated : Generated) → Generating config before (Ok generated) after → Prepares command config before (Err Memory) after
-  lacks command generated is = record { ready = tt; asked = asks_few config.page before.asked after is.asked; stopped = lacks_memory command (generated_looks generated is) }
+  lacks command generated is = record { ready = tt; asked = asks_few config before.holds before.asked after is.asked is.footprint; stopped = lacks_memory command (generated_looks generated is) }
 
   prepared_of : (command : Command) (tree : Tree) (generated : Generated) (prepared : Prepared) → HasCounts generated prepared → Writes tree config generated.map.items command prepared.path prepared.file.items → IsGenerated tree config generated → IsPrepared command config tree prepared
   prepared_of command tree generated prepared counts wrote is = record {
@@ -146,7 +160,7 @@ module _ (config : Config) (before after : FolderState) where
       is_prepared = if_two before.holds (λ tree writes_so is_generated. prepared_of command tree generated prepared counts writes_so is_generated) wrote is.generated;
       looks = generated_looks generated is;
     };
-    asked = asks_few config.page before.asked after is.asked;
+    asked = asks_few config before.holds before.asked after is.asked is.footprint;
     stopped = tt;
   }
 
@@ -188,17 +202,17 @@ module _ (config : Config) (before middle after : FolderState) where
   earlier_ready : (command : Command) (prepared : Prepared) → OnlyLooks before middle ⊥ → IsReady command config middle after prepared → IsReady command config before after prepared
   earlier_ready command prepared looks is = record { is_prepared = subst (λ held. IfSome held (λ tree. IsPrepared command config tree prepared)) looks.tree is.is_prepared; looks = then_looks before middle after looks is.looks }
 
-  module _ (command : Command) (looks : OnlyLooks before middle ⊥) (asked : IfSome before.asked (λ old. AsksPage config.page old middle)) (later : IfSome middle.asked (λ old. AsksNoPathTwice old after)) where
+  module _ (command : Command) (looks : OnlyLooks before middle ⊥) (asked : IfSome before.asked (λ old. AsksPage config.page old middle)) (later : IfSome middle.asked (λ old. AsksNoPathTwice old after)) (prints : IfSome middle.asked (λ old. AsksFootprint config middle.holds old after)) where
     earlier : (result : Result Prepared Stop) → Prepares command config middle result after → Prepares command config before result after
-    earlier (Ok prepared) is = record { ready = earlier_ready command prepared looks is.ready; asked = page_then config.page before.asked middle after asked later; stopped = tt }
-    earlier (Err stop) is = record { ready = tt; asked = page_then config.page before.asked middle after asked later; stopped = earlier_end command stop looks is.stopped }
+    earlier (Ok prepared) is = record { ready = earlier_ready command prepared looks is.ready; asked = page_then config before.holds before.asked middle after looks.tree asked later prints; stopped = tt }
+    earlier (Err stop) is = record { ready = tt; asked = page_then config before.holds before.asked middle after looks.tree asked later prints; stopped = earlier_end command stop looks is.stopped }
 
   -- the page is where it was
   page_still : (page : List ℕ) → IsPageFound config before middle page → IfSome middle.holds (λ tree. IsPage tree config page)
   page_still page is = subst (λ held. IfSome held (λ tree. IsPage tree config page)) (sym is.looks.tree) is.is_page
 
-  pub page_prepared : (page : List ℕ) (result : Result Prepared Stop) → FindsPage config before (Ok page) middle → IfSome middle.asked (λ old. AsksNoPathTwice old after) → (IfSome middle.holds (λ tree. IsPage tree config page) → Prepares Inject config middle result after) → Prepares Inject config before result after
-  page_prepared page result is asks prepares = earlier Inject is.found.looks is.asked asks result (prepares (page_still page is.found))
+  pub page_prepared : (page : List ℕ) (result : Result Prepared Stop) → FindsPage config before (Ok page) middle → IfSome middle.asked (λ old. AsksNoPathTwice old after) → IfSome middle.asked (λ old. AsksFootprint config middle.holds old after) → (IfSome middle.holds (λ tree. IsPage tree config page) → Prepares Inject config middle result after) → Prepares Inject config before result after
+  page_prepared page result is asks prints prepares = earlier Inject is.found.looks is.asked asks prints result (prepares (page_still page is.found))
 
 -- ---- the look at the page
 
@@ -210,7 +224,7 @@ no_memory bytes inject.Memory keeps = takes_or_keeps_out.no_memory [] bytes (kee
 
 module _ (config : Config) (before after : FolderState) where
   pub page_refused : (stop : Stop) → FindsPage config before (Err stop) after → Prepares Inject config before (Err stop) after
-  page_refused stop is = record { ready = tt; asked = page_alone config.page before.asked after is.asked; stopped = is.stopped }
+  page_refused stop is = record { ready = tt; asked = page_alone config before.holds before.asked after is.asked; stopped = is.stopped }
 
   page_ends : (why : PageFault) → OnlyLooks before after ⊥ → IfSome before.holds (λ tree. RefusesPage tree config why) → IsOfPage why → EndsBefore Inject config before after (Refused (Page why))
   page_ends why looks why_not of = record {
@@ -224,7 +238,7 @@ module _ (config : Config) (before after : FolderState) where
       subst (λ s. Prepares Inject config before (Err s) after) (sym same)
       (record {
         ready = tt;
-        asked = page_alone config.page before.asked after is.asked;
+        asked = page_alone config before.holds before.asked after is.asked;
         stopped = page_ends (KeepsMapsOut why) is.found.looks (if_some before.holds (λ tree stands. refuses_page.keeps_out page why stands keeps) is.found.is_page) (no_memory page why keeps);
       })
 

@@ -1,11 +1,12 @@
 -- How a command comes to what it writes.
 --     AsksPage page old after      the folder was asked for the page, or for nothing
---     AsksFew page old after      and then for further paths, for none of them twice
+--     AreOfGeneration words holds paths      these paths are of the footprint of what the words ask for
+--     AsksFew page Looks old after      and then for further paths, for none of them twice, of which this holds
 --     FindsPage config before result after      the page is read, or it is told why not
 --     IsMapFile generated prepared      the file is the map that was generated
 --     IsPageFile config page generated prepared      the file is the page with that map
 --     Prepares command config before result after      the command has its file, or it is told why not
-use Rattle.std.specs.Prelude.{◌≡◌, ◌≤◌, ◌⊎◌, ◌++◌, [], ◌∷◌, ℕ, List, length, bytes_eq, Some, Result, Ok, IfOk, IfErr, IfSome}
+use Rattle.std.specs.Prelude.{◌≡◌, ◌≤◌, ◌⊎◌, ◌++◌, [], ◌∷◌, ℕ, List, length, bytes_eq, Option, Some, Result, Ok, IfOk, IfErr, IfSome}
 use Rattle.std.specs.FinMap.{get}
 use Rattle.std.specs.List.{IsDistinct}
 use Rattle.tree_spec.specs.declared.LimitName.TheVariants.{Map}
@@ -23,10 +24,11 @@ use Rattle.trace_spec.specs.Traces.{traced}
 use Rattle.generator_spec.specs.declared.Command.{Command}
 use Rattle.generator_spec.specs.declared.Command.TheVariants.{Inject}
 use Rattle.generator_spec.specs.Commands.{IsPage, Refuses, IsRefusalOf, map_path, Writes}
+use Rattle.generator_spec.specs.Words.{IsConfigOf}
 use Rattle.generation.specs.declared.generated.Generated.{Generated}
 use Rattle.generation.specs.declared.stop.Stop.{Stop}
 use Rattle.generation.specs.declared.stop.Stop.TheVariants.{ReadFault}
-use Rattle.generation.specs.Generating.{IfRefused}
+use Rattle.generation.specs.Generating.{IfRefused, AreOfFootprint}
 use Rattle.generator_core.specs.declared.prepared.Prepared.{Prepared}
 
 -- ---- what is asked of the folder
@@ -36,13 +38,19 @@ pub record AsksPage (page : List ℕ) (old : List (List ℕ)) (after : FolderSta
   pub is_page : (first ≡ []) ⊎ (first ≡ page ∷ [])
   pub asked : after.asked ≡ Some (old ++ first)
 
+abbrev pub AreOfGeneration : List (List ℕ) → Option Tree → List (List ℕ) → Type 0
+AreOfGeneration words holds paths =
+    (command : Command) (config : Config) → IsConfigOf words command config → AreOfFootprint config holds paths
+
 -- own: the page may be among the further paths too
-pub record AsksFew (page : List ℕ) (old : List (List ℕ)) (after : FolderState) : Type 0 where
+pub record AsksFew (page : List ℕ) (Looks : List (List ℕ) → Type 0) (old : List (List ℕ))
+    (after : FolderState) : Type 0 where
   pub first : List (List ℕ)
   pub is_page : (first ≡ []) ⊎ (first ≡ page ∷ [])
   pub more : List (List ℕ)
   pub asked : after.asked ≡ Some (old ++ (first ++ more))
   pub once : IsDistinct bytes_eq more
+  pub looks : Looks more
 
 -- ---- before the write
 
@@ -100,5 +108,6 @@ pub record IsReady (command : Command) (config : Config) (before after : FolderS
 pub record Prepares (command : Command) (config : Config) (before : FolderState) (result : Result Prepared Stop)
     (after : FolderState) : Type 0 where
   pub ready : IfOk result (λ prepared. IsReady command config before after prepared)
-  pub asked : IfSome before.asked (λ old. AsksFew config.page old after)
+  pub asked :
+      IfSome before.asked (λ old. AsksFew config.page (AreOfFootprint config before.holds) old after)
   pub stopped : IfErr result (λ stop. EndsBefore command config before after stop)

@@ -6,7 +6,7 @@ ghost use Rattle.tree_spec.specs.Limits.{limit_number};
 ghost use Rattle.page_spec.specs.Injection.{TakesMaps};
 ghost use Rattle.generator_spec.specs.declared.Command.TheVariants.{Link, Inject};
 ghost use Rattle.generator_spec.specs.Commands.{IsPage};
-ghost use Rattle.generation.specs.Generating.{AsksNoPathTwice};
+ghost use Rattle.generation.specs.Generating.{AsksNoPathTwice, AsksFootprint};
 ghost use Rattle.generator_core.specs.Preparing.{FindsPage, IsMapFile, IsPageFile, Prepares};
 
 use generation::{Generated, Stop, generate};
@@ -129,6 +129,8 @@ fn prepare_at<F: Folder, L: Ledger>(
         → IfSome (F.state folder.old).holds (λ tree. IsPage tree config.now site.now)
         → Prepares Inject config.now (F.state folder.old) result (F.state folder.new) }
     ensures asked { IfSome (F.state folder.old).asked (λ old. AsksNoPathTwice old (F.state folder.new)) }
+    ensures footprint { IfSome (F.state folder.old).asked (λ old. AsksFootprint config.now
+        (F.state folder.old).holds old (F.state folder.new)) }
     ensures steps { IfOk result (λ prepared. steps.new ≤ steps.old + (prepared.modules + prepared.requests)) }
     ensures bounded { steps.new ≤ steps.old + (limit_number Modules + limit_number Requests) }
 {

@@ -7,7 +7,8 @@ ghost use Rattle.generator_spec.specs.Statuses.{done_status};
 ghost use Rattle.generator_spec.specs.Words.{IsConfigOf, RefusesWords, page_path};
 ghost use Rattle.generator_spec.specs.Ending.{Ends, EndsAs, TellsRefusal};
 ghost use Rattle.command_words.specs.Splitting.{texts};
-ghost use Rattle.generator_core.specs.Preparing.{AsksFew};
+ghost use Rattle.generation.specs.Generating.{AreOfFootprint};
+ghost use Rattle.generator_core.specs.Preparing.{AreOfGeneration, AsksFew};
 ghost use Rattle.generator_core.specs.Writing.{TellsStop, Finishes, SpendsFew};
 
 use crate::prepared::{Prepared, prepare_map, prepare_page};
@@ -38,7 +39,8 @@ pub fn run<F: Folder, I: Source, O: Sink, L: Ledger>(
         (O.state out.new) result }
     ensures words { (why : Refusal) → RefusesWords (texts words.now) why → folder.new ≡ folder.old }
     ensures input { _input.new ≡ _input.old }
-    ensures asked { IfSome (F.state folder.old).asked (λ old. AsksFew page_path old (F.state folder.new)) }
+    ensures asked { IfSome (F.state folder.old).asked (λ old. AsksFew page_path
+        (AreOfGeneration (texts words.now) (F.state folder.old).holds) old (F.state folder.new)) }
     ensures steps { result ≡ done_status → SpendsFew (O.state out.old) (O.state out.new) steps.old steps.new }
     ensures bounded { steps.new ≤ steps.old + (limit_number Modules + limit_number Requests) }
     ensures unspent { (why : Refusal) → RefusesWords (texts words.now) why → steps.new ≡ steps.old }
@@ -61,7 +63,8 @@ fn link<F: Folder, O: Sink, L: Ledger>(
 ) -> u8
     ensures end { (words : List (List ℕ)) → IsConfigOf words Link config.now
         → EndsAs words (F.state folder.old) (F.state folder.new) (O.state out.old) (O.state out.new) result }
-    ensures asked { IfSome (F.state folder.old).asked (λ old. AsksFew config.now.page old (F.state folder.new)) }
+    ensures asked { IfSome (F.state folder.old).asked (λ old. AsksFew config.now.page
+        (AreOfFootprint config.now (F.state folder.old).holds) old (F.state folder.new)) }
     ensures steps { result ≡ done_status → SpendsFew (O.state out.old) (O.state out.new) steps.old steps.new }
     ensures bounded { steps.new ≤ steps.old + (limit_number Modules + limit_number Requests) }
 {
@@ -81,7 +84,8 @@ fn inject<F: Folder, O: Sink, L: Ledger>(
 ) -> u8
     ensures end { (words : List (List ℕ)) → IsConfigOf words Inject config.now
         → EndsAs words (F.state folder.old) (F.state folder.new) (O.state out.old) (O.state out.new) result }
-    ensures asked { IfSome (F.state folder.old).asked (λ old. AsksFew config.now.page old (F.state folder.new)) }
+    ensures asked { IfSome (F.state folder.old).asked (λ old. AsksFew config.now.page
+        (AreOfFootprint config.now (F.state folder.old).holds) old (F.state folder.new)) }
     ensures steps { result ≡ done_status → SpendsFew (O.state out.old) (O.state out.new) steps.old steps.new }
     ensures bounded { steps.new ≤ steps.old + (limit_number Modules + limit_number Requests) }
 {

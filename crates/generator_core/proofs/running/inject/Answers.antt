@@ -18,4 +18,4 @@ pub returns-in-Err-clause-steps : goal.returns-in-Err-clause-steps
 returns-in-Err-clause-steps g c = λ zero. absurd (stop_not_done c.in-Err.stop _ _ _ c.close.ensures.tells zero)
 
 pub returns-in-Ok-clause-asked : goal.returns-in-Ok-clause-asked
-returns-in-Ok-clause-asked g c = still_few c.args.config.now.page _ _ (g.F.Folder.state c.prepare_page.new.folder) _ refl c.finish.ensures.asked c.prepare_page.ensures.prepares.asked
+returns-in-Ok-clause-asked g c = still_few c.args.config.now.page _ _ _ _ (g.F.Folder.state c.prepare_page.new.folder) _ refl c.finish.ensures.asked (λ paths are. are) c.prepare_page.ensures.prepares.asked
