@@ -25,8 +25,7 @@ mod site;
 mod table;
 
 use crate::limits::{looks_at_files, looks_at_nothing};
-use crate::report::Report;
-use crate::table::take_table;
+use crate::table::Table;
 use primitives::Steps;
 use std::alloc::Global;
 use std::marker::Brand;
@@ -34,23 +33,24 @@ use std::sync::ledger::{Blank, Ledger};
 use std::{env, fs, io};
 
 /// What a table comes to.
-fn tried<L: Ledger>(alloc: Global, table: &str, blank: Blank) -> io::Result<Report>
+fn tried<L: Ledger>(alloc: Global, text: &str, blank: Blank) -> io::Result<Table>
     requires name { blank.name ≡ L.name }
     requires parts { blank.parts ≡ L.parts }
     requires some { 0 < blank.parts }
 {
     let mut steps = Steps::<L>::start(blank);
-    let mut report = Report::new(alloc);
-    take_table(alloc, table, &mut report, &mut steps)?;
-    Ok(report)
+    let mut tried = Table::new(alloc)?;
+    tried.take(alloc, text, &mut steps)?;
+    Ok(tried)
 }
 
 fn main(rt: HostRuntime) -> io::Result<()> {
     let mut words = env::args(&rt)?;
     words.next();
     for word in words {
-        let table = fs::read_to_string(&rt, word.as_str())?;
-        let report = tried::<Brand>(rt.alloc(), table.as_str(), Blank::new(1))?;
+        let text = fs::read_to_string(&rt, word.as_str())?;
+        let table = tried::<Brand>(rt.alloc(), text.as_str(), Blank::new(1))?;
+        let report = table.report();
         println!(rt; "{word}: {} cases{}", report.cases(), report.differences())?;
     }
     println!(rt; "absent paths: {}", looks_at_nothing(rt.alloc())?)?;

@@ -60,8 +60,14 @@ impl Site {
         }
     }
 
-    /// A file with this text.
-    pub fn put_text(&mut self, alloc: Global, path: &str, text: &str) -> io::Result<()> {
+    /// Makes it the tree of a package `p` in the root's `node_modules`, with this package.json.
+    pub fn put_package(&mut self, alloc: Global, record: &str) -> io::Result<()> {
+        self.clear(alloc)?;
+        self.put_text(alloc, "/node_modules/p/package.json", record)
+    }
+
+    // A file with this text.
+    fn put_text(&mut self, alloc: Global, path: &str, text: &str) -> io::Result<()> {
         self.put(alloc, path, Some(text.as_bytes()))
     }
 

@@ -10,82 +10,111 @@ use std::alloc::Global;
 use std::io;
 use std::sync::ledger::Ledger;
 
-/// Tries all lines.
-pub fn take_table<L: Ledger>(
-    alloc: Global,
-    table: &str,
-    report: &mut Report,
-    steps: &mut Steps<L>,
-) -> io::Result<()> {
-    let mut site = Site::new(alloc)?;
-    let mut whole = String::new(alloc);
-    for line in table.lines() {
+/// What has been read of a table: the tree, the line that may still go on, and what was tried.
+#[derive(Drop)]
+pub struct Table {
+    site: Site,
+    line: String,
+    report: Report,
+}
+
+impl Table {
+    pub fn new(alloc: Global) -> io::Result<Table> {
+        Ok(Table {
+            site: Site::new(alloc)?,
+            line: String::new(alloc),
+            report: Report::new(alloc),
+        })
+    }
+
+    /// What was tried.
+    pub fn report(&self) -> &Report {
+        &self.report
+    }
+
+    /// Tries all lines.
+    pub fn take<L: Ledger>(
+        &mut self,
+        alloc: Global,
+        text: &str,
+        steps: &mut Steps<L>,
+    ) -> io::Result<()> {
+        for line in text.lines() {
+            self.take_line(alloc, line, steps)?;
+        }
+        self.try_line(alloc, steps)
+    }
+
+    fn take_line<L: Ledger>(
+        &mut self,
+        alloc: Global,
+        line: &str,
+        steps: &mut Steps<L>,
+    ) -> io::Result<()> {
         match line.strip_prefix("    ") {
-            Some(more) => {
-                whole.push_str(" ")?;
-                whole.push_str(more)?;
-            }
+            Some(more) => self.go_on(more),
             None => {
-                take_line(alloc, &mut site, whole.as_str(), report, steps)?;
-                whole = String::from_str(alloc, line)?;
+                self.try_line(alloc, steps)?;
+                self.begin(alloc, line)
             }
         }
     }
-    take_line(alloc, &mut site, whole.as_str(), report, steps)
-}
 
-fn take_line<L: Ledger>(
-    alloc: Global,
-    site: &mut Site,
-    line: &str,
-    report: &mut Report,
-    steps: &mut Steps<L>,
-) -> io::Result<()> {
-    let line = unmarked(alloc, line)?;
-    match line_of(line.as_str()) {
-        Line::Comment => Ok(()),
-        Line::Tree => site.clear(alloc),
-        Line::Entry(entry) => site.put_entry(alloc, entry),
-        Line::From(path) => site.ask_from(alloc, path),
-        Line::Conditions(conditions) => site.hold(alloc, conditions),
-        Line::Names(names) => site.put_names(alloc, names),
-        Line::Package(record, rest) => take_package(alloc, site, record, rest, report, steps),
-        Line::Case(case) => take_case(alloc, site, case, report, steps),
+    fn begin(&mut self, alloc: Global, line: &str) -> io::Result<()> {
+        self.line = String::from_str(alloc, line)?;
+        Ok(())
     }
-}
 
-// A package, and a case where one stands on its line.
-fn take_package<L: Ledger>(
-    alloc: Global,
-    site: &mut Site,
-    record: &str,
-    rest: &str,
-    report: &mut Report,
-    steps: &mut Steps<L>,
-) -> io::Result<()> {
-    site.clear(alloc)?;
-    site.put_text(alloc, "/node_modules/p/package.json", record)?;
-    match rest.split_once(" | ") {
-        None => site.put_names(alloc, rest),
-        Some((names, case)) => {
-            site.put_names(alloc, names)?;
-            take_case(alloc, site, case, report, steps)
+    fn go_on(&mut self, more: &str) -> io::Result<()> {
+        self.line.push_str(" ")?;
+        self.line.push_str(more)?;
+        Ok(())
+    }
+
+    fn try_line<L: Ledger>(&mut self, alloc: Global, steps: &mut Steps<L>) -> io::Result<()> {
+        let line = unmarked(alloc, self.line.as_str())?;
+        match line_of(line.as_str()) {
+            Line::Comment => Ok(()),
+            Line::Tree => self.site.clear(alloc),
+            Line::Entry(entry) => self.site.put_entry(alloc, entry),
+            Line::From(path) => self.site.ask_from(alloc, path),
+            Line::Conditions(conditions) => self.site.hold(alloc, conditions),
+            Line::Names(names) => self.site.put_names(alloc, names),
+            Line::Package(record, rest) => self.try_package(alloc, record, rest, steps),
+            Line::Case(case) => self.try_case(alloc, case, steps),
         }
     }
-}
 
-fn take_case<L: Ledger>(
-    alloc: Global,
-    site: &mut Site,
-    case: &str,
-    report: &mut Report,
-    steps: &mut Steps<L>,
-) -> io::Result<()> {
-    let Some((asked, wanted)) = case.split_once(" => ") else {
-        return Err(io::Error::other("a line is no case"));
-    };
-    let got = told(alloc, site, asked, wanted, steps)?;
-    report.compare(asked, wanted, got.as_str())
+    // A package, and a case where one stands on its line.
+    fn try_package<L: Ledger>(
+        &mut self,
+        alloc: Global,
+        record: &str,
+        rest: &str,
+        steps: &mut Steps<L>,
+    ) -> io::Result<()> {
+        self.site.put_package(alloc, record)?;
+        match rest.split_once(" | ") {
+            None => self.site.put_names(alloc, rest),
+            Some((names, case)) => {
+                self.site.put_names(alloc, names)?;
+                self.try_case(alloc, case, steps)
+            }
+        }
+    }
+
+    fn try_case<L: Ledger>(
+        &mut self,
+        alloc: Global,
+        case: &str,
+        steps: &mut Steps<L>,
+    ) -> io::Result<()> {
+        let Some((asked, wanted)) = case.split_once(" => ") else {
+            return Err(io::Error::other("a line is no case"));
+        };
+        let got = told(alloc, &mut self.site, asked, wanted, steps)?;
+        self.report.compare(asked, wanted, got.as_str())
+    }
 }
 
 // What comes of a case, by the kind of what is wanted.
