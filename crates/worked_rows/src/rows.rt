@@ -1,6 +1,5 @@
 use crate::case::{Case, Fails, LINK, NONE, ended, ends, fits, outcome_of, put};
 use crate::cases::CASES;
-use crate::check_cases::CHECK_CASES;
 use crate::faults::FAULTS;
 use primitives::Memory;
 use std::alloc::Global;
@@ -21,19 +20,6 @@ fn each_row_ends_as_it_must(rt: HostRuntime) -> Result<(), Fail> {
             case.words,
             case.status,
             case.line
-        );
-    }
-    Ok(())
-}
-
-#[test]
-fn each_check_ends_as_it_must(rt: HostRuntime) -> Result<(), Fail> {
-    for (number, check) in CHECK_CASES.iter().enumerate() {
-        assert!(rt;
-            passes(rt.alloc(), &check.case, &check.fails)?,
-            "check {number} must end with {} {}",
-            check.case.status,
-            check.case.line
         );
     }
     Ok(())
