@@ -136,7 +136,7 @@ module _ (config : Config) (before after : FolderState) where
   refused_so Memory is = record { generated = tt; refused = tt; kind = tt; asked = is.asked; footprint = is.footprint; looks = looks_as before after (λ e. absurd (cc)) (λ e. absurd (cc)) is.looks }
 
   module _ (all : Gathered) (is : Tracing config before (Ok all) after) where
-    pub generated : (found : Generated) → IsMapOf all found → Generating config before (Ok found) after
+    pub generated : (found : Generated) → IsMapOf config all found → Generating config before (Ok found) after
     generated found is_map = record {
       generated = if_some before.holds (λ tree e. record { all = all; is_traced = e; is_map = is_map }) is.traces;
       refused = tt;
@@ -146,12 +146,12 @@ module _ (config : Config) (before after : FolderState) where
       looks = looks_as before after (λ e. absurd (cc)) (λ e. absurd (cc)) is.looks;
     }
 
-    pub too_large : (stop : Stop) → stop ≡ Refused (Limit Map) → HasLargeMap all → Generating config before (Err stop) after
+    pub too_large : (stop : Stop) → stop ≡ Refused (Limit Map) → HasLargeMap config all → Generating config before (Err stop) after
     too_large stop same large =
         subst (λ s. Generating config before (Err s) after) (sym same)
         (record {
           generated = tt;
-          refused = if_some before.holds (λ tree e command generating opened. refuses.large_map command generating opened (record { all = all; is_traced = e; map = large.layout; agreed = large.agreed; large = large.large })) is.traces;
+          refused = if_some before.holds (λ tree e command generating opened. refuses.large_map command generating opened (record { all = all; is_traced = e; layout = large.layout; agreed = large.agreed; large = large.large })) is.traces;
           kind = λ command generating. kind.large_map command generating;
           asked = is.asked;
           footprint = is.footprint;

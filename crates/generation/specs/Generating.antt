@@ -1,8 +1,8 @@
 -- What the calls that trace and generate give.
 --     StopsAs fault stop      a command ends so that has no trace
 --     IfRefused P stop      of a refusal, this
---     IsMapOf all generated      the map's text and its counts are those of these tables
---     HasLargeMap all      the text of the map of these tables is too large
+--     IsMapOf config all generated      the map's text and its counts are those of these tables
+--     HasLargeMap config all      the text of the map of these tables is too large
 --     AsksNoPathTwice old after      the folder was asked for further paths, for none of them twice
 --     AsksFootprint config holds old after      where a tree is told, all further paths are of its footprint
 --     Tracing config before result after      the trace of a folder, and what is left of that
@@ -28,6 +28,7 @@ use Rattle.generator_spec.specs.declared.Command.{Command}
 use Rattle.generator_spec.specs.declared.Refusal.{Refusal}
 use Rattle.generator_spec.specs.declared.Refusal.TheVariants.{Trace}
 use Rattle.generator_spec.specs.Commands.{IsGenerating, Opens, Refuses, IsRefusalOf}
+use Rattle.generator_spec.specs.Digests.{with_digests}
 use Rattle.generation.specs.declared.generated.Generated.{Generated}
 use Rattle.generation.specs.declared.stop.Stop.{Stop}
 use Rattle.generation.specs.declared.stop.Stop.TheVariants.{Refused, ReadFault, Memory}
@@ -43,26 +44,26 @@ IfRefused P (Refused why) = P why
 IfRefused P ReadFault = ⊤
 IfRefused P Memory = ⊤
 
--- the text of the agreed layout, with what is told of it
-pub record IsMapOf (all : Gathered) (generated : Generated) : Type 0 where
+-- the text of the agreed layout with the digests of the modules, and what is told of it
+pub record IsMapOf (config : Config) (all : Gathered) (generated : Generated) : Type 0 where
   pub layout : ParsedMap
   pub agreed : IsAgreedLayout all.needs layout
-  pub map : generated.map.items ≡ map_text layout
+  pub map : generated.map.items ≡ map_text (with_digests config all layout)
   pub within : length generated.map.items ≤ limit_number Map
   pub modules : generated.modules ≡ length all.modules
   pub requests : generated.requests ≡ all.requests
   pub mappings : generated.mappings ≡ mapping_count layout
 
-pub record HasLargeMap (all : Gathered) : Type 0 where
+pub record HasLargeMap (config : Config) (all : Gathered) : Type 0 where
   pub layout : ParsedMap
   pub agreed : IsAgreedLayout all.needs layout
-  pub large : limit_number Map < length (map_text layout)
+  pub large : limit_number Map < length (map_text (with_digests config all layout))
 
 -- own: the map of the tree's trace
 pub record IsGenerated (tree : Tree) (config : Config) (generated : Generated) : Type 0 where
   pub all : Gathered
   pub is_traced : traced (get tree) config ≡ Ok all
-  pub is_map : IsMapOf all generated
+  pub is_map : IsMapOf config all generated
 
 -- own: the folder was asked for further paths, for none of them twice
 pub record AsksNoPathTwice (old : List (List ℕ)) (after : FolderState) : Type 0 where

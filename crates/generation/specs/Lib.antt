@@ -1,1 +1,2 @@
 pub mod Generating
+pub mod Digesting

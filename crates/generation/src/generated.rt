@@ -3,13 +3,13 @@ ghost use Rattle.tree_spec.specs.declared.LimitName.TheVariants.{Modules, Reques
 ghost use Rattle.tree_spec.specs.Limits.{limit_number};
 ghost use Rattle.generation.specs.Generating.{Generating, IsMapOf, HasLargeMap};
 
+use crate::digests::digests;
 use crate::stop::{Stop, too_large};
 use crate::tracing::traced;
 use map_flatten::{agreed, mappings};
 use map_print::{PrintFault, print_map};
 use primitives::Steps;
 use request_trace::{Config, Trace};
-use scope_builder::Mappings;
 use std::alloc::Global;
 use std::sync::ledger::Ledger;
 use tree_model::Folder;
@@ -38,7 +38,7 @@ pub fn generate<F: Folder, L: Ledger>(
 {
     match traced(alloc, folder, config, steps) {
         Err(stop) => Err(stop),
-        Ok(trace) => match map_of(alloc, &trace) {
+        Ok(trace) => match map_of(alloc, config, &trace) {
             Ok(generated) => Ok(generated),
             Err(PrintFault::MapTooLarge) => Err(too_large()),
             Err(PrintFault::Memory) => Err(Stop::Memory),
@@ -47,12 +47,13 @@ pub fn generate<F: Folder, L: Ledger>(
 }
 
 // The map of a trace, with its counts.
-fn map_of(alloc: Global, trace: &Trace) -> Result<Generated, PrintFault>
-    ensures map { IfOk result (IsMapOf trace.now) }
-    ensures too_large { result ≡ Err PrintFault.MapTooLarge → HasLargeMap trace.now }
+fn map_of(alloc: Global, config: &Config, trace: &Trace) -> Result<Generated, PrintFault>
+    ensures map { IfOk result (IsMapOf config.now trace.now) }
+    ensures too_large { result ≡ Err PrintFault.MapTooLarge → HasLargeMap config.now trace.now }
 {
     let layout = agreed(alloc, trace.needs())?;
-    let map = print_map(alloc, &layout, &Mappings::new(alloc))?;
+    let digests = digests(alloc, config, trace)?;
+    let map = print_map(alloc, &layout, &digests)?;
     let Some(mappings) = mappings(&layout) else {
         return Err(PrintFault::Memory);
     };

@@ -2,6 +2,7 @@
 //! call, whose contract is its definition.
 #![tactic(auto)]
 
+mod digests;
 mod generated;
 mod stop;
 mod tracing;

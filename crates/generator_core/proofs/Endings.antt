@@ -31,6 +31,7 @@ use Rattle.generator_spec.proofs.Endings.{one_line_text}
 use Rattle.generator_spec.proofs.Outcomes.{writes_generate}
 use Rattle.generator_spec.specs.Commands.{IsGenerating, HoldsMap, Refuses, NewFile, new_file, Writes, Writes as writes_file}
 use Rattle.generator_spec.specs.Checking.{difference_line, difference_lines, check_status, check_lines}
+use Rattle.generator_spec.specs.Digests.{with_digests}
 use Rattle.generator_spec.specs.Generation.{Generates}
 use Rattle.generator_spec.specs.Words.{IsConfigOf, RefusesWords}
 use Rattle.generator_spec.specs.Lines.{page_status, map_file_status, status_of, line_of, counts_line, memory_line, read_fault_line}
@@ -38,7 +39,7 @@ use Rattle.generator_spec.specs.Outcome.{ComesTo, ComesTo as comes, FilesPlaced,
 use Rattle.generator_spec.specs.Ending.{AreWritten, IsGenerated, IsCarried, Linked, IsDone, MapServes, IsCounted, StopsWriting, Says, Ends, EndsAs, TellsRefusal}
 use Rattle.generator_spec.specs.Ending.{IsDone as done, Shaped as shaped, Says as says, Ends as ends}
 use Rattle.soundness.proofs.Checked.{checked_maps_serve}
-use Rattle.soundness.proofs.Sound.{sound, one_map_in_page}
+use Rattle.soundness.proofs.Sound.{sound, modules_are_known, one_map_in_page}
 use Rattle.generation.specs.declared.stop.Stop.{Stop}
 use Rattle.generation.specs.declared.stop.Stop.TheVariants as stops
 use Rattle.generator_core.specs.declared.prepared.Prepared.{Prepared}
@@ -107,6 +108,7 @@ linked words tree map line files told is wrote written =
       line = line;
       generated = is;
       serves = sound tree is.config map is.generates;
+      knows = modules_are_known tree is.config map is.generates;
       files = files;
       writes = wrote;
       carrier = found.carrier;
@@ -275,13 +277,13 @@ module _ (words : List (List ℕ)) (command : Command) (config : Config) (is_con
   counted : IsCounted words done_here
   counted = record { command = command; config = config; is_config = is_config; generating = generating; modules = prepared.modules; requests = prepared.requests; mappings = prepared.mappings; says = refl }
 
-  generated_of : (tree : Tree) → (ready : IsPrepared command config tree prepared) → IsGenerated words tree (map_text ready.layout) done_here
+  generated_of : (tree : Tree) → (ready : IsPrepared command config tree prepared) → IsGenerated words tree (map_text (with_digests config ready.all ready.layout)) done_here
   generated_of tree ready = record {
     command = command;
     config = config;
     is_config = is_config;
-    opens = written_is_opened tree config (map_text ready.layout) new_here command ready.writes;
-    generates = record { page_is_file = page_of_words_is_file words command config is_config; all = ready.all; is_traced = ready.is_traced; map = ready.layout; agreed = ready.agreed; text = refl; within = ready.within };
+    opens = written_is_opened tree config (map_text (with_digests config ready.all ready.layout)) new_here command ready.writes;
+    generates = record { page_is_file = page_of_words_is_file words command config is_config; all = ready.all; is_traced = ready.is_traced; layout = ready.layout; agreed = ready.agreed; text = refl; within = ready.within };
     says = λ i. counts_line (ready.modules i) (ready.requests i) (ready.mappings i);
   }
 
@@ -291,14 +293,14 @@ module _ (words : List (List ℕ)) (command : Command) (config : Config) (is_con
   written_told held told ready written =
       if_two held (λ tree is_ready wrote_so.
       let so = generated_of tree is_ready in
-      (wrote_so.after, record { files = new_here; comes = comes.written command config (map_text is_ready.layout) is_config so.generates is_ready.writes refl (ap (λ line. line ∷ []) so.says); placed = wrote_so.placed }, wrote_so.is_told)) ready written
+      (wrote_so.after, record { files = new_here; comes = comes.written command config (map_text (with_digests config is_ready.all is_ready.layout)) is_config so.generates is_ready.writes refl (ap (λ line. line ∷ []) so.says); placed = wrote_so.placed }, wrote_so.is_told)) ready written
 
   -- none of the files was written
   stops_told : (held told : Option Tree) → told ≡ held → IfSome held (λ tree. IsPrepared command config tree prepared) → IfSome held (λ tree. StopsWriting words tree done_here told)
   unfolding generated_of
   stops_told None told same ready = tt
   stops_told (Some tree) told same is_ready = record {
-    map = map_text is_ready.layout;
+    map = map_text (with_digests config is_ready.all is_ready.layout);
     generated = generated_of tree is_ready;
     files = new_here;
     writes = is_ready.writes;

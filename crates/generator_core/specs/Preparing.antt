@@ -26,6 +26,7 @@ use Rattle.trace_spec.specs.Traces.{traced, generation}
 use Rattle.generator_spec.specs.declared.Command.{Command}
 use Rattle.generator_spec.specs.declared.Command.TheVariants.{Link, Inject, Check}
 use Rattle.generator_spec.specs.Commands.{IsPage, Refuses, IsRefusalOf, map_path, new_file, Writes}
+use Rattle.generator_spec.specs.Digests.{with_digests}
 use Rattle.generation.specs.declared.generated.Generated.{Generated}
 use Rattle.generation.specs.declared.stop.Stop.{Stop}
 use Rattle.generation.specs.declared.stop.Stop.TheVariants.{ReadFault}
@@ -97,11 +98,13 @@ pub record IsPrepared (command : Command) (config : Config) (tree : Tree) (prepa
   pub is_traced : traced (get tree) config ≡ Ok all
   pub layout : ParsedMap
   pub agreed : IsAgreedLayout all.needs layout
-  pub within : length (map_text layout) ≤ limit_number Map
+  pub within : length (map_text (with_digests config all layout)) ≤ limit_number Map
   pub modules : prepared.modules ≡ length all.modules
   pub requests : prepared.requests ≡ all.requests
   pub mappings : prepared.mappings ≡ mapping_count layout
-  pub writes : Writes tree config (map_text layout) command (new_file prepared.path prepared.file.items ∷ [])
+  pub writes :
+      Writes tree config (map_text (with_digests config all layout)) command
+      (new_file prepared.path prepared.file.items ∷ [])
 
 pub record IsReady (command : Command) (config : Config) (before after : FolderState) (prepared : Prepared) : Type 0 where
   pub is_prepared : IfSome before.holds (λ tree. IsPrepared command config tree prepared)

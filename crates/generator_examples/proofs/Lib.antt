@@ -1,4 +1,5 @@
 pub mod Growing
+pub mod ShortTexts
 pub mod Words
 pub mod Counting
 pub mod Evaluated

@@ -14,12 +14,17 @@ use Rattle.tree_spec.proofs.Insertion.{same_tree, get_here, get_other}
 use Rattle.tree_spec.proofs.Placings.{in_root}
 use Rattle.std.specs.FinMap.{get, insert}
 use Rattle.import_map_spec.proofs.examples.WrittenMaps.{get_map_of}
-use Rattle.import_map_spec.specs.WrittenMaps.{map_of_lists}
+use Rattle.import_map_spec.specs.ParsedMap.{ParsedMap, Texts}
+use Rattle.import_map_spec.specs.WrittenMaps.{Lists, map_of, map_of_lists}
 use Rattle.url_spec.specs.Bases.{base_of}
 use Rattle.url_spec.specs.Parsing.{text_of, parse_alone}
+use Rattle.url_spec.specs.WebNames.{escaped, web}
+use Rattle.integrity_spec.specs.DigestTexts.{digest_text}
 use Rattle.layout_spec.proofs.examples.LaidLists.{listed_layout, layout_listed}
 use Rattle.layout_spec.proofs.examples.PrintedLists.{listed_text, lists_text}
 use Rattle.layout_spec.specs.Counting.{mapping_count}
+use Rattle.layout_spec.specs.PrintedMap.{map_text}
+use Rattle.layout_spec.specs.declared.Need.{Need}
 use Rattle.layout_spec.proofs.SomeAgreed.{is_among, disagrees, agreed, agreed_above, stands_at}
 use Rattle.trace_spec.specs.Modules.{Config}
 use Rattle.trace_spec.specs.Checks.{Gathered}
@@ -29,6 +34,7 @@ use Rattle.generator_spec.specs.declared.PageFault.TheVariants.{Absent}
 use Rattle.generator_spec.specs.declared.Refusal.TheVariants.{BadBase, Page, Trace}
 use Rattle.generator_spec.proofs.MapPaths.{map_in_root, page_in_root}
 use Rattle.generator_spec.proofs.PageNames.{page_of_words_is_file}
+use Rattle.generator_spec.specs.Digests.{digests}
 use Rattle.generator_spec.specs.Generation.{Generates}
 use Rattle.generator_spec.specs.Lines.{counts_line}
 use Rattle.generator_spec.specs.Commands.{IsPage, map_path}
@@ -49,9 +55,11 @@ use Rattle.page_spec.specs.Pieces.{first_piece, Part, part, Pieces}
 use Rattle.page_spec.specs.Pieces.Pieces.{none, piece}
 use Rattle.std.specs.Str.{is_utf8, chars}
 use Rattle.generator_spec.specs.Words.RefusesWords.{bad_base}
-use Rattle.soundness.proofs.Sound.{sound}
+use Rattle.soundness.proofs.Sound.{sound, modules_are_known}
 use Rattle.generator_examples.specs.Sites.{Files, tree_of, based, links, injects, levels, spelling, spelling_all, spelling_map, site, site_all, site_map, paged, paged_after, missing, clashing}
-use Rattle.generator_examples.specs.Packages.{packages, packages_all, packages_map}
+use Rattle.generator_examples.specs.Sites.{map_end, spelled_text, site_app_text, greet_text, id_text, home_text}
+use Rattle.generator_examples.specs.Packages.{app_text, b_text, menu_text, packages, packages_all, packages_map}
+use Rattle.generator_examples.proofs.ShortTexts.{behind, line_short}
 use Rattle.generator_examples.specs.Examples.{IsTraced, IsMapped, with_map, Trees, TraceExamples, MapExamples, EndExamples, WorkedExamples}
 use Rattle.generator_examples.proofs.TracedExamples.{traced_examples}
 use Rattle.generator_examples.proofs.Growing.{grown}
@@ -101,47 +109,113 @@ ftp_is_none = refl
 
 -- ---- maps
 
-abbrev generated : (words : List (List ℕ)) (command : Command) (files : Files) (config : Config) (all : Gathered) (text : List ℕ) → IsConfigOf words command config → IsTraced files config all → listed_text (listed_layout all.needs) ≡ text → length text ≤ limit_number Map → Generates (tree_of files) config text
-generated words command files config all text is is_traced e small = record {
+-- the lists of a layout, with digests
+abbrev with_pairs : Lists → List (List ℕ × List ℕ) → Lists
+with_pairs layout pairs = record { imports = layout.imports; scopes = layout.scopes; integrity = pairs }
+
+abbrev digested : List Need → List (List ℕ × List ℕ) → Lists
+digested needs pairs = with_pairs (listed_layout needs) pairs
+
+abbrev with_integrity : ParsedMap → Texts (List ℕ) → ParsedMap
+with_integrity layout digests = record { imports = layout.imports; scopes = layout.scopes; integrity = digests }
+
+abbrev generated : (words : List (List ℕ)) (command : Command) (files : Files) (config : Config) (all : Gathered) (pairs : List (List ℕ × List ℕ)) (text : List ℕ) → IsConfigOf words command config → IsTraced files config all → digests config all.modules all.sources ≡ map_of pairs → listed_text (digested all.needs pairs) ≡ text → length text ≤ limit_number Map → Generates (tree_of files) config text
+generated words command files config all pairs text is is_traced are e small = record {
   page_is_file = page_of_words_is_file words command config is;
   all = all;
   is_traced = is_traced;
-  map = map_of_lists (listed_layout all.needs);
+  layout = map_of_lists (listed_layout all.needs);
   agreed = layout_listed all.needs;
-  text = sym (lists_text (listed_layout all.needs) ∙ e);
+  text = sym (ap (λ found. map_text (with_integrity (map_of_lists (listed_layout all.needs)) found)) are ∙ (lists_text (digested all.needs pairs) ∙ e));
   within = small;
 }
 
-spelling_text : listed_text (listed_layout spelling_all.needs) ≡ spelling_map
+-- the digest of each module's bytes, the last module first
+abbrev spelling_pairs : List (List ℕ × List ℕ)
+spelling_pairs = (codes "https://app.test/ab.mjs", digest_text []) ∷ (codes "https://app.test/app.mjs", digest_text spelled_text) ∷ []
+
+abbrev site_pairs : List (List ℕ × List ℕ)
+site_pairs =
+    (codes "https://app.test/lib/words.mjs", digest_text [])
+    ∷ (codes "https://app.test/pages/%5Bid%5D.mjs", digest_text id_text)
+    ∷ (codes "https://app.test/pages/home.mjs", digest_text home_text)
+    ∷ (codes "https://app.test/lib/greet.mjs", digest_text greet_text)
+    ∷ (codes "https://app.test/app.mjs", digest_text site_app_text)
+    ∷ []
+
+abbrev packages_pairs : List (List ℕ × List ℕ)
+packages_pairs =
+    (codes "https://app.test/node_modules/ui/node_modules/@ui/core/lib/index.mjs", digest_text (codes "export const h = 1;"))
+    ∷ (codes "https://app.test/own.js", digest_text (codes "export const own = 0;"))
+    ∷ (codes "https://app.test/node_modules/ui/x/menu.js", digest_text menu_text)
+    ∷ (codes "https://app.test/node_modules/ui/b.js", digest_text b_text)
+    ∷ (codes "https://app.test/app.js", digest_text app_text)
+    ∷ []
+
+spelling_digests : digests (based "https://app.test/" ("./app.mjs" ∷ [])) spelling_all.modules spelling_all.sources ≡ map_of spelling_pairs
+unfolding web escaped parse_alone text_of url_on_literals
+spelling_digests = refl
+
+site_digests : digests (based "https://app.test/" ("./app.mjs" ∷ [])) site_all.modules site_all.sources ≡ map_of site_pairs
+unfolding web escaped parse_alone text_of url_on_literals
+site_digests = refl
+
+packages_digests : digests (based "https://app.test/" ("./app.js" ∷ [])) packages_all.modules packages_all.sources ≡ map_of packages_pairs
+unfolding web escaped parse_alone text_of url_on_literals
+packages_digests = refl
+
+spelling_text : listed_text (digested spelling_all.needs spelling_pairs) ≡ spelling_map
 unfolding parse_alone text_of url_on_literals is_among disagrees agreed agreed_above stands_at
 spelling_text = refl
 
-site_text : listed_text (listed_layout site_all.needs) ≡ site_map
+site_text : listed_text (digested site_all.needs site_pairs) ≡ site_map
 unfolding parse_alone text_of url_on_literals is_among disagrees agreed agreed_above stands_at
 site_text = refl
 
-packages_text : listed_text (listed_layout packages_all.needs) ≡ packages_map
+packages_text : listed_text (digested packages_all.needs packages_pairs) ≡ packages_map
 unfolding parse_alone text_of url_on_literals is_among disagrees agreed agreed_above stands_at
 packages_text = refl
 
+-- each map is short, whatever its digests are
+spelling_short : length spelling_map ≤ limit_number Map
+spelling_short =
+    behind _ _ _ (lit≤ tt) (line_short "    \"https://app.test/ab.mjs\": " [] ",\n" _ _ (lit≤ tt) (lit≤ tt)
+    (line_short "    \"https://app.test/app.mjs\": " spelled_text "\n" map_end 10 (lit≤ tt) (lit≤ tt) (lit≤ tt))) (lit≤ tt)
+
+site_short : length site_map ≤ limit_number Map
+site_short =
+    behind _ _ _ (lit≤ tt) (line_short "    \"https://app.test/app.mjs\": " site_app_text ",\n" _ _ (lit≤ tt) (lit≤ tt)
+    (line_short "    \"https://app.test/lib/greet.mjs\": " greet_text ",\n" _ _ (lit≤ tt) (lit≤ tt)
+    (line_short "    \"https://app.test/lib/words.mjs\": " [] ",\n" _ _ (lit≤ tt) (lit≤ tt)
+    (line_short "    \"https://app.test/pages/%5Bid%5D.mjs\": " id_text ",\n" _ _ (lit≤ tt) (lit≤ tt)
+    (line_short "    \"https://app.test/pages/home.mjs\": " home_text "\n" map_end 10 (lit≤ tt) (lit≤ tt) (lit≤ tt)))))) (lit≤ tt)
+
+packages_short : length packages_map ≤ limit_number Map
+packages_short =
+    behind _ _ _ (lit≤ tt) (line_short "    \"https://app.test/app.js\": " app_text ",\n" _ _ (lit≤ tt) (lit≤ tt)
+    (line_short "    \"https://app.test/node_modules/ui/b.js\": " b_text ",\n" _ _ (lit≤ tt) (lit≤ tt)
+    (line_short "    \"https://app.test/node_modules/ui/node_modules/@ui/core/lib/index.mjs\": " (codes "export const h = 1;") ",\n" _ _ (lit≤ tt) (lit≤ tt)
+    (line_short "    \"https://app.test/node_modules/ui/x/menu.js\": " menu_text ",\n" _ _ (lit≤ tt) (lit≤ tt)
+    (line_short "    \"https://app.test/own.js\": " (codes "export const own = 0;") "\n" map_end 10 (lit≤ tt) (lit≤ tt) (lit≤ tt)))))) (lit≤ tt)
+
 mapped : (files : Files) (config : Config) (text : List ℕ) → Generates (tree_of files) config text → IsMapped files config text
-mapped files config text is = record { generates = is; serves = sound (tree_of files) config text is }
+mapped files config text is = record { generates = is; serves = sound (tree_of files) config text is; knows = modules_are_known (tree_of files) config text is }
 
 abbrev spelling_generates : Generates (tree_of spelling) (based "https://app.test/" ("./app.mjs" ∷ [])) spelling_map
-spelling_generates = generated _ Link spelling _ spelling_all spelling_map app_gives spelling_traced spelling_text (lit≤ tt)
+spelling_generates = generated _ Link spelling _ spelling_all spelling_pairs spelling_map app_gives spelling_traced spelling_digests spelling_text spelling_short
 
 abbrev site_generates : Generates (tree_of site) (based "https://app.test/" ("./app.mjs" ∷ [])) site_map
-site_generates = generated _ Link site _ site_all site_map app_gives site_traced site_text (lit≤ tt)
+site_generates = generated _ Link site _ site_all site_pairs site_map app_gives site_traced site_digests site_text site_short
 
 abbrev paged_generates : Generates (tree_of paged) (based "https://app.test/" ("./app.mjs" ∷ [])) spelling_map
-paged_generates = generated _ Inject paged _ spelling_all spelling_map paged_gives paged_traced spelling_text (lit≤ tt)
+paged_generates = generated _ Inject paged _ spelling_all spelling_pairs spelling_map paged_gives paged_traced spelling_digests spelling_text spelling_short
 
 packages_give : IsConfigOf (links "https://app.test/" ("./app.js" ∷ [])) Link (based "https://app.test/" ("./app.js" ∷ []))
 unfolding base_of parse_alone text_of url_on_literals
 packages_give = gives Link _ "https://app.test/" ("./app.js" ∷ []) refl refl refl refl (lit≤ tt)
 
 abbrev packages_generate : Generates (tree_of packages) (based "https://app.test/" ("./app.js" ∷ [])) packages_map
-packages_generate = generated _ Link packages _ packages_all packages_map packages_give packages_traced packages_text (lit≤ tt)
+packages_generate = generated _ Link packages _ packages_all packages_pairs packages_map packages_give packages_traced packages_digests packages_text packages_short
 
 map_examples : MapExamples
 map_examples = record { two_spellings = mapped spelling _ spelling_map spelling_generates; of_site = mapped site _ site_map site_generates; of_packages = mapped packages _ packages_map packages_generate }

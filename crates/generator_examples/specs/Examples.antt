@@ -1,6 +1,6 @@
 -- Worked examples of generation.
 --     IsTraced files config all       the tables of the trace of these files
---     IsMapped files config text      the files have a map with this text, which serves
+--     IsMapped files config text      the files have a map with this text, which serves and knows the modules
 --     Ends files words status line after      how a command ends: its status, its line, the files that it leaves
 --     with_map files text             the files, with the map beside them
 --     Trees, TraceExamples, MapExamples      that the sites are trees; their traces; their maps
@@ -13,7 +13,7 @@ use Rattle.trace_spec.specs.Modules.{Config}
 use Rattle.trace_spec.specs.Checks.{Gathered}
 use Rattle.trace_spec.specs.Traces.{traced}
 use Rattle.generator_spec.specs.Generation.{Generates}
-use Rattle.generator_spec.specs.Serves.{Serves}
+use Rattle.generator_spec.specs.Serves.{KnowsModules, Serves}
 use Rattle.generator_spec.specs.Outcome.{Outcome}
 use Rattle.generator_examples.specs.Sites.{Files, tree_of, file, based, links, injects, levels, levels_all, spelling, spelling_all, spelling_map, site, site_all, site_map}
 use Rattle.generator_examples.specs.Sites.{paged, paged_after, missing, clashing}
@@ -24,10 +24,11 @@ use Rattle.generator_examples.specs.Packages.{packages, packages_all, packages_m
 abbrev pub IsTraced : Files → Config → Gathered → Type 0
 IsTraced files config all = traced (get (tree_of files)) config ≡ Ok all
 
--- own: a map with this text is generated, and it serves
+-- own: a map with this text is generated, it serves, and it has the digest of each module
 pub record IsMapped (files : Files) (config : Config) (text : List ℕ) : Type 0 where
   pub generates : Generates (tree_of files) config text
   pub serves : Serves (tree_of files) config text
+  pub knows : KnowsModules (tree_of files) config text
 
 -- own: the command of these words ends so, and leaves these files
 abbrev pub Ends : Files → List (List ℕ) → ℕ → String → Files → Type 0

@@ -2,10 +2,10 @@
 --     packages                  the site
 --     packages_all              the tables of its trace
 --     packages_map              the text of its map
-use Rattle.std.specs.Prelude.{ℕ, List, [], ◌∷◌, codes}
+use Rattle.std.specs.Prelude.{ℕ, List, [], ◌∷◌, ◌++◌, codes}
 use Rattle.layout_spec.specs.WorkedExamples.{need}
 use Rattle.trace_spec.specs.Checks.{Gathered}
-use Rattle.generator_examples.specs.Sites.{Files, folder, file, lines, module_at, spelled, source}
+use Rattle.generator_examples.specs.Sites.{Files, folder, file, lines, digest_line, map_end, module_at, spelled, source}
 
 abbrev pub own_record : List ℕ
 own_record =
@@ -119,6 +119,12 @@ packages_map =
     ∷ "    \"me/own.js\": \"https://app.test/own.js\","
     ∷ "    \"ui\": \"https://app.test/node_modules/ui/b.js\","
     ∷ "    \"ui/x/menu\": \"https://app.test/node_modules/ui/x/menu.js\""
-    ∷ "  }"
-    ∷ "}"
+    ∷ "  },"
+    ∷ "  \"integrity\": {"
     ∷ [])
+    ++ digest_line "    \"https://app.test/app.js\": " app_text ",\n"
+    (digest_line "    \"https://app.test/node_modules/ui/b.js\": " b_text ",\n"
+    (digest_line "    \"https://app.test/node_modules/ui/node_modules/@ui/core/lib/index.mjs\": "
+    (codes "export const h = 1;") ",\n"
+    (digest_line "    \"https://app.test/node_modules/ui/x/menu.js\": " menu_text ",\n"
+    (digest_line "    \"https://app.test/own.js\": " (codes "export const own = 0;") "\n" map_end))))

@@ -2,6 +2,7 @@
 --     Files, tree_of files      paths with what stands there, and the tree of them
 --     folder path, file path bytes      one of them
 --     lines written, texts written      a text of these lines; these texts
+--     digest_line front bytes back rest      a line with the digest of these bytes between two texts, and the rest
 --     based base asked          the config with this base and these entries, and the page `/index.html`
 --     links base asked, injects base asked      the words of a command with this base and these entries
 --     module_at path            the module of a file
@@ -16,7 +17,9 @@ use Prim.Native.String.{String}
 use Rattle.tree_spec.specs.declared.Entry.{Entry}
 use Rattle.tree_spec.specs.declared.Entry.TheVariants.{Stored, Directory}
 use Rattle.tree_spec.specs.Trees.{Tree}
+use Rattle.json_spec.specs.PrintedString.{quoted}
 use Rattle.import_map_spec.specs.WrittenMaps.{map_of}
+use Rattle.integrity_spec.specs.DigestTexts.{digest_text}
 use Rattle.layout_spec.specs.WorkedExamples.{need}
 use Rattle.trace_spec.specs.Modules.{Config, Module}
 use Rattle.trace_spec.specs.Questions.{Source}
@@ -39,6 +42,13 @@ file path bytes = (codes path, Stored bytes)
 abbrev pub lines : List String → List ℕ
 lines [] = []
 lines (line ∷ more) = codes line ++ (10 ∷ lines more)
+
+-- a line of a map's integrity, with the digest of a file's bytes, and what follows it; and what stands behind the last
+abbrev pub digest_line : String → List ℕ → String → List ℕ → List ℕ
+digest_line front bytes back rest = codes front ++ (quoted (digest_text bytes) ++ (codes back ++ rest))
+
+abbrev pub map_end : List ℕ
+map_end = lines ("  }" ∷ "}" ∷ [])
 
 abbrev pub texts : List String → List (List ℕ)
 texts written = map (λ (text : String). codes text) written
@@ -131,9 +141,11 @@ spelling_map =
     ("{"
     ∷ "  \"imports\": {"
     ∷ "    \"https://app.test/a%62.mjs\": \"https://app.test/ab.mjs\""
-    ∷ "  }"
-    ∷ "}"
+    ∷ "  },"
+    ∷ "  \"integrity\": {"
     ∷ [])
+    ++ digest_line "    \"https://app.test/ab.mjs\": " [] ",\n"
+    (digest_line "    \"https://app.test/app.mjs\": " spelled_text "\n" map_end)
 
 -- ---- the same with a page, without its map and with it
 
@@ -146,15 +158,7 @@ paged = paged_with (lines ("<head></head>" ∷ []))
 abbrev pub paged_after : Files
 paged_after =
     paged_with
-    (lines
-    ("<head><script type=\"importmap\">{"
-    ∷ "  \"imports\": {"
-    ∷ "    \"https://app.test/a%62.mjs\": \"https://app.test/ab.mjs\""
-    ∷ "  }"
-    ∷ "}"
-    ∷ "</script>"
-    ∷ "</head>"
-    ∷ []))
+    (codes "<head><script type=\"importmap\">" ++ (spelling_map ++ lines ("</script>" ∷ "</head>" ∷ [])))
 
 -- ---- the site of the repository's examples: a URL escapes the name of a file
 
@@ -246,9 +250,14 @@ site_map =
     ("{"
     ∷ "  \"imports\": {"
     ∷ "    \"https://app.test/pages/[id].mjs\": \"https://app.test/pages/%5Bid%5D.mjs\""
-    ∷ "  }"
-    ∷ "}"
+    ∷ "  },"
+    ∷ "  \"integrity\": {"
     ∷ [])
+    ++ digest_line "    \"https://app.test/app.mjs\": " site_app_text ",\n"
+    (digest_line "    \"https://app.test/lib/greet.mjs\": " greet_text ",\n"
+    (digest_line "    \"https://app.test/lib/words.mjs\": " [] ",\n"
+    (digest_line "    \"https://app.test/pages/%5Bid%5D.mjs\": " id_text ",\n"
+    (digest_line "    \"https://app.test/pages/home.mjs\": " home_text "\n" map_end))))
 
 -- ---- what is refused
 

@@ -15,6 +15,7 @@ use Rattle.trace_spec.specs.declared.TraceFault.{TraceFault}
 use Rattle.trace_spec.specs.Modules.{Config}
 use Rattle.trace_spec.specs.Checks.{Gathered}
 use Rattle.trace_spec.specs.Traces.{traced}
+use Rattle.generator_spec.specs.Digests.{with_digests}
 use Rattle.generator_spec.specs.Generation.{PageIsFile, Generates, IsTooLarge}
 use Rattle.generator_spec.specs.Laws.{IsTextOf, OneGeneration, SomeGeneration, NothingRefused}
 
@@ -29,37 +30,42 @@ one_trace tree config second bytes others same a b =
     same_trace (traced (get tree) config) a.all b.all a.is_traced (ap (traced (get tree)) same ∙ b.is_traced)
 
 -- equal needs have one agreed layout
-agreed_map : (all other : Gathered) (m n : ParsedMap) → all ≡ other → IsAgreedLayout all.needs m → IsAgreedLayout other.needs n → m ≡ n
-agreed_map all other m n same a b =
+agreed_layout : (all other : Gathered) (m n : ParsedMap) → all ≡ other → IsAgreedLayout all.needs m → IsAgreedLayout other.needs n → m ≡ n
+agreed_layout all other m n same a b =
     one_agreed_layout all.needs m n a (subst (λ (g : Gathered). IsAgreedLayout g.needs n) (sym same) b)
 
--- and one map
-pub one_map :
+-- and one layout
+pub one_layout :
     (tree : Tree) (config second : Config) (bytes others : List ℕ) → config ≡ second
-    → (a : Generates tree config bytes) → (b : Generates tree second others) → a.map ≡ b.map
-one_map tree config second bytes others same a b =
-    agreed_map a.all b.all a.map b.map (one_trace tree config second bytes others same a b) a.agreed b.agreed
+    → (a : Generates tree config bytes) → (b : Generates tree second others) → a.layout ≡ b.layout
+one_layout tree config second bytes others same a b =
+    agreed_layout a.all b.all a.layout b.layout (one_trace tree config second bytes others same a b) a.agreed b.agreed
 
 -- and one text
 pub one_text :
     (tree : Tree) (config second : Config) (bytes others : List ℕ) → config ≡ second
     → Generates tree config bytes → Generates tree second others → bytes ≡ others
 one_text tree config second bytes others same a b =
-    a.text ∙ (ap map_text (one_map tree config second bytes others same a b) ∙ sym b.text)
+    let traces = one_trace tree config second bytes others same a b in
+    let layouts = one_layout tree config second bytes others same a b in
+    a.text ∙ ((λ i. map_text (with_digests (same i) (traces i) (layouts i))) ∙ sym b.text)
 
 pub one_generation : OneGeneration
 one_generation tree config some other a b = one_text tree config config some other refl a b
 
-module _ (tree : Tree) (config : Config) (all : Gathered) (page : PageIsFile config) (traces : traced (get tree) config ≡ Ok all) (map : ParsedMap) (agreed : IsAgreedLayout all.needs map) where
-  generated : length (map_text map) ≤ limit_number Map → Generates tree config (map_text map)
-  generated small = record { page_is_file = page; all = all; is_traced = traces; map = map; agreed = agreed; text = refl; within = small }
+module _ (tree : Tree) (config : Config) (all : Gathered) (page : PageIsFile config) (traces : traced (get tree) config ≡ Ok all) (layout : ParsedMap) (agreed : IsAgreedLayout all.needs layout) where
+  abbrev text : List ℕ
+  text = map_text (with_digests config all layout)
 
-  too_large : limit_number Map < length (map_text map) → IsTooLarge tree config
-  too_large large = record { all = all; is_traced = traces; map = map; agreed = agreed; large = large }
+  generated : length text ≤ limit_number Map → Generates tree config text
+  generated small = record { page_is_file = page; all = all; is_traced = traces; layout = layout; agreed = agreed; text = refl; within = small }
 
-  generated_or_too_large : Generates tree config (map_text map) ⊎ IsTooLarge tree config
+  too_large : limit_number Map < length text → IsTooLarge tree config
+  too_large large = record { all = all; is_traced = traces; layout = layout; agreed = agreed; large = large }
+
+  generated_or_too_large : Generates tree config text ⊎ IsTooLarge tree config
   generated_or_too_large =
-      elim (cases_lt (limit_number Map) (length (map_text map))) [
+      elim (cases_lt (limit_number Map) (length text)) [
         | inl large ↦ inr (too_large large)
         | inr small ↦ inl (generated small)
       ]
@@ -67,8 +73,9 @@ module _ (tree : Tree) (config : Config) (all : Gathered) (page : PageIsFile con
 pub some_generation : SomeGeneration
 some_generation tree config all page traces =
     let found = some_agreed_layout all.needs in
-    let is_text : IsTextOf all (map_text found.0) = record { map = found.0; agreed = found.1; text = refl } in
-    (map_text found.0, is_text, generated_or_too_large tree config all page traces found.0 found.1)
+    let text = map_text (with_digests config all found.0) in
+    let is_text : IsTextOf config all text = record { layout = found.0; agreed = found.1; text = refl } in
+    (text, is_text, generated_or_too_large tree config all page traces found.0 found.1)
 
 module _ (tree : Tree) (config : Config) (bytes : List ℕ) (generates : Generates tree config bytes) where
   no_refusal : (fault : TraceFault) → traced (get tree) config ≡ Err fault → ⊥
@@ -80,8 +87,10 @@ module _ (tree : Tree) (config : Config) (bytes : List ℕ) (generates : Generat
   not_too_large : IsTooLarge tree config → ⊥
   not_too_large is =
       let traces = same_trace (traced (get tree) config) generates.all is.all generates.is_traced is.is_traced in
-      let maps = agreed_map generates.all is.all generates.map is.map traces generates.agreed is.agreed in
-      let n : length bytes ≡ length (map_text is.map) = ap length (generates.text ∙ ap map_text maps) in
+      let layouts = agreed_layout generates.all is.all generates.layout is.layout traces generates.agreed is.agreed in
+      let same : map_text (with_digests config generates.all generates.layout) ≡ map_text (with_digests config is.all is.layout)
+      = λ i. map_text (with_digests config (traces i) (layouts i)) in
+      let n : length bytes ≡ length (map_text (with_digests config is.all is.layout)) = ap length (generates.text ∙ same) in
       let small = generates.within in
       let large = is.large in
       omega (arith, small, large, n)

@@ -27,7 +27,7 @@ use Rattle.generator_spec.specs.Outcome.{ComesTo, FilesPlaced, Outcome}
 use Rattle.generator_spec.specs.Outcome.ComesTo.{words_refused, refused, written, checked}
 use Rattle.generator_spec.specs.Laws.{SameConfig, SameOutcome, OneOutcome, HasOutcome, AreRefused, SomeOutcome}
 use Rattle.generator_spec.proofs.Configs.{one_config, one_words_refusal, refused_or_config, some_config}
-use Rattle.generator_spec.proofs.Generations.{one_trace, one_map, one_text, some_generation}
+use Rattle.generator_spec.proofs.Generations.{one_trace, one_layout, one_text, some_generation}
 use Rattle.generator_spec.proofs.MapPaths.{map_is_path, page_is_path, map_in_root, page_in_root}
 use Rattle.generator_spec.proofs.PageNames.{page_of_words_is_file}
 use Rattle.generator_spec.proofs.Nameless.{traced_is_named}
@@ -111,20 +111,20 @@ module _ (words : List (List ℕ)) (tree : Tree) (status other : ℕ) (lines oth
   both_written :
       (command command_too : Command) (config second : Config) (map map_too : List ℕ)
       → IsConfigOf words command config → (generates : Generates tree config map)
-      → Writes tree config map command files → status ≡ 0 → lines ≡ done_line generates.all generates.map ∷ []
+      → Writes tree config map command files → status ≡ 0 → lines ≡ done_line generates.all generates.layout ∷ []
       → IsConfigOf words command_too second → (too : Generates tree second map_too)
-      → Writes tree second map_too command_too more → other ≡ 0 → others ≡ done_line too.all too.map ∷ []
+      → Writes tree second map_too command_too more → other ≡ 0 → others ≡ done_line too.all too.layout ∷ []
       → SameEnd status other lines others files more
   both_written command command_too config second map map_too is generates wrote s l is_too too wrote_too t m =
       let same = one_config words command command_too config second is is_too in
       let traces = one_trace tree config second map map_too same.one_config generates too in
-      let maps = one_map tree config second map map_too same.one_config generates too in
+      let layouts = one_layout tree config second map map_too same.one_config generates too in
       let texts = one_text tree config second map map_too same.one_config generates too in
       let wrote_same : Writes tree config map command more =
       subst (λ m. Writes tree config m command more) (sym texts) (same_writes tree map_too more same wrote_too) in
       record {
         one_status = s ∙ sym t;
-        same_lines = l ∙ ((λ i. done_line (traces i) (maps i) ∷ []) ∙ sym m);
+        same_lines = l ∙ ((λ i. done_line (traces i) (layouts i) ∷ []) ∙ sym m);
         same_files = one_write tree config map command files more wrote wrote_same;
       }
 
@@ -251,7 +251,7 @@ module _ (words : List (List ℕ)) (tree : Tree) (is_tree : IsTree tree) where
     by_files : (map : List ℕ) → Generates tree config map → CanWrite tree command config map → HasOutcome words tree
     by_files map generates can = record {
       status = 0;
-      lines = done_line generates.all generates.map ∷ [];
+      lines = done_line generates.all generates.layout ∷ [];
       after = can.after;
       outcome = record { files = can.files; comes = written command config map is generates can.writes refl refl; placed = can.placed };
     }

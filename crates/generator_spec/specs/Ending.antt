@@ -21,7 +21,7 @@ use Rattle.generator_spec.specs.declared.Refusal.{Refusal}
 use Rattle.generator_spec.specs.Checking.{check_status, check_lines}
 use Rattle.generator_spec.specs.Commands.{IsGenerating, IsMapText, Opens, IsRefusalOf, NewFile, Writes}
 use Rattle.generator_spec.specs.Generation.{Generates}
-use Rattle.generator_spec.specs.Serves.{Serves}
+use Rattle.generator_spec.specs.Serves.{Serves, KnowsModules}
 use Rattle.generator_spec.specs.Statuses.{done_status, read_fault_status, write_fault_status, memory_status}
 use Rattle.generator_spec.specs.Words.{IsConfigOf, RefusesWords}
 use Rattle.generator_spec.specs.Lines.{status_of, line_of, counts_line, done_line, differs_line}
@@ -42,7 +42,7 @@ pub record IsGenerated (words : List (List ℕ)) (tree : Tree) (map line : List 
   pub is_config : IsConfigOf words command config
   pub opens : Opens tree config command
   pub generates : Generates tree config map
-  pub says : line ≡ done_line generates.all generates.map
+  pub says : line ≡ done_line generates.all generates.layout
 
 -- own: where a browser finds the map: it is the file, or the raw text of the page's one import map element
 abbrev pub IsCarried : Command → List ℕ → NewFile → Type 0
@@ -52,12 +52,13 @@ IsCarried Check map file = ⊥
 
 -- own: the command's files are written, of which one carries the map, which is generation's on the tree before, and
 -- through it each request of the page and of each module that the page reaches leads to the file that Node's resolver
--- gives
+-- gives, whose digest it has
 pub record Linked (words : List (List ℕ)) (tree : Tree) (told : Option Tree) : Type 0 where
   pub map : List ℕ
   pub line : List ℕ
   pub generated : IsGenerated words tree map line
   pub serves : Serves tree generated.config map
+  pub knows : KnowsModules tree generated.config map
   pub files : List NewFile
   pub writes : Writes tree generated.config map generated.command files
   pub carrier : NewFile

@@ -14,25 +14,27 @@ use Rattle.trace_spec.specs.Walking.{the_page}
 use Rattle.trace_spec.specs.Modules.{Config, web_name}
 use Rattle.trace_spec.specs.Checks.{Gathered}
 use Rattle.trace_spec.specs.Traces.{traced}
+use Rattle.generator_spec.specs.Digests.{with_digests}
 
 -- own: the page's web name is no folder's
 abbrev pub PageIsFile : Config → Type 0
 PageIsFile config = (name : List ℕ) → web_name config the_page ≡ Some name → ends_in_slash name ≡ false
 
--- own: nothing is refused, and the bytes are the text of the agreed layout of the trace's needs: at most 67,108,864
+-- own: nothing is refused, and the bytes are the text of the agreed layout of the trace's needs with the digests of its
+-- modules: at most 67,108,864
 pub record Generates (tree : Tree) (config : Config) (bytes : List ℕ) : Type 0 where
   pub page_is_file : PageIsFile config
   pub all : Gathered
   pub is_traced : traced (get tree) config ≡ Ok all
-  pub map : ParsedMap
-  pub agreed : IsAgreedLayout all.needs map
-  pub text : bytes ≡ map_text map
+  pub layout : ParsedMap
+  pub agreed : IsAgreedLayout all.needs layout
+  pub text : bytes ≡ map_text (with_digests config all layout)
   pub within : length bytes ≤ limit_number Map
 
--- own: nothing of the trace is refused, and the text of the agreed layout of its needs has more bytes than that
+-- own: nothing of the trace is refused, and that text has more bytes
 pub record IsTooLarge (tree : Tree) (config : Config) : Type 0 where
   pub all : Gathered
   pub is_traced : traced (get tree) config ≡ Ok all
-  pub map : ParsedMap
-  pub agreed : IsAgreedLayout all.needs map
-  pub large : limit_number Map < length (map_text map)
+  pub layout : ParsedMap
+  pub agreed : IsAgreedLayout all.needs layout
+  pub large : limit_number Map < length (map_text (with_digests config all layout))

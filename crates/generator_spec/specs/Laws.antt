@@ -13,6 +13,7 @@ use Rattle.trace_spec.specs.Traces.{traced}
 use Rattle.generator_spec.specs.declared.Command.{Command}
 use Rattle.generator_spec.specs.declared.Refusal.{Refusal}
 use Rattle.generator_spec.specs.Words.{IsConfigOf, RefusesWords}
+use Rattle.generator_spec.specs.Digests.{with_digests}
 use Rattle.generator_spec.specs.Generation.{PageIsFile, Generates, IsTooLarge}
 use Rattle.generator_spec.specs.Outcome.{Outcome}
 use Rattle.generator_spec.specs.Ending.{EndsAs}
@@ -67,17 +68,17 @@ OneGeneration =
     (tree : Tree) (config : Config) (some other : List ℕ) → Generates tree config some → Generates tree config other
     → some ≡ other
 
--- the text of a trace's agreed layout
-pub record IsTextOf (all : Gathered) (bytes : List ℕ) : Type 0 where
-  pub map : ParsedMap
-  pub agreed : IsAgreedLayout all.needs map
-  pub text : bytes ≡ map_text map
+-- the text of a trace's agreed layout with the digests of its modules
+pub record IsTextOf (config : Config) (all : Gathered) (bytes : List ℕ) : Type 0 where
+  pub layout : ParsedMap
+  pub agreed : IsAgreedLayout all.needs layout
+  pub text : bytes ≡ map_text (with_digests config all layout)
 
 -- where the page has no folder's web name, each trace has a text, which is generated unless it is too large
 abbrev pub SomeGeneration : Type 0
 SomeGeneration =
     (tree : Tree) (config : Config) (all : Gathered) → PageIsFile config → traced (get tree) config ≡ Ok all
-    → (bytes : List ℕ) × IsTextOf all bytes × (Generates tree config bytes ⊎ IsTooLarge tree config)
+    → (bytes : List ℕ) × IsTextOf config all bytes × (Generates tree config bytes ⊎ IsTooLarge tree config)
 
 -- where something is generated, nothing of the trace is refused, and its map isn't too large
 abbrev pub NothingRefused : Type 0

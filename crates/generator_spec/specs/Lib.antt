@@ -1,6 +1,7 @@
 pub mod Statuses
 pub mod Words
 pub mod Commands
+pub mod Digests
 pub mod Generation
 pub mod Serves
 pub mod Lines

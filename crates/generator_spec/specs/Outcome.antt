@@ -35,7 +35,7 @@ pub data ComesTo (words : List (List ℕ)) (tree : Tree) (status : ℕ) (lines :
   written :
       (command : Command) (config : Config) (map : List ℕ) → IsConfigOf words command config
       → (generates : Generates tree config map) → Writes tree config map command files → status ≡ done_status
-      → lines ≡ done_line generates.all generates.map ∷ [] → ComesTo words tree status lines files
+      → lines ≡ done_line generates.all generates.layout ∷ [] → ComesTo words tree status lines files
   checked :
       (config : Config) (map : ParsedMap) (all : Gathered) → IsConfigOf words Check config → HoldsMap tree config map
       → traced (get tree) config ≡ Ok all → status ≡ check_status (difference_lines map all)

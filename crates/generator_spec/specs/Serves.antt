@@ -2,8 +2,11 @@
 --     Reachable tree config referrer    the page reaches it by requests
 --     Leads tree config map referrer name specifier      HTML's resolution leads to the file that Node's gives
 --     Serves tree config bytes          every request of whatever is reachable is led so through the map with this text
+--     IsKnown tree config map m         the map has the digest of the module's file, under the module's URL
+--     KnowsModules tree config bytes    the map with this text has that of each module that is reachable, and no other
 use Rattle.std.specs.Prelude.{◌≡◌, ℕ, List, Some, Contains, Ok}
 use Rattle.std.specs.FinMap.{get}
+use Rattle.tree_spec.specs.declared.Entry.TheVariants.{Stored}
 use Rattle.tree_spec.specs.Trees.{Tree}
 use Rattle.url_spec.specs.WebNames.{web}
 use Rattle.url_spec.specs.ServedPaths.{IsServed}
@@ -11,6 +14,7 @@ use Rattle.node_spec.specs.EsmResolve.{Resolves}
 use Rattle.import_map_spec.specs.ParsedMap.{ParsedMap}
 use Rattle.import_map_spec.specs.Parsing.{ParsesMap}
 use Rattle.import_map_spec.specs.Resolving as html
+use Rattle.integrity_spec.specs.DigestTexts.{digest_text}
 use Rattle.trace_spec.specs.Walking.{Referrer, the_page, a_module}
 use Rattle.trace_spec.specs.Modules.{Config, Module, path_of, web_name}
 use Rattle.trace_spec.specs.Traces.{requests}
@@ -51,3 +55,27 @@ pub record Serves (tree : Tree) (config : Config) (bytes : List ℕ) : Type 0 wh
   pub map : ParsedMap
   pub parses : ParsesMap map_base bytes (Ok map)
   pub all_lead : (referrer : Referrer Module) → Reachable tree config referrer → AllLead tree config map referrer
+
+-- HTML, import maps, integrity: the digest of the bytes that stand at the module's path
+pub record IsKnown (tree : Tree) (config : Config) (map : ParsedMap) (m : Module) : Type 0 where
+  pub url : List ℕ
+  pub named : web_name config (a_module m) ≡ Some url
+  pub bytes : List ℕ
+  pub stands : get tree m.path ≡ Some (Stored bytes)
+  pub digest : get map.integrity url ≡ Some (digest_text bytes)
+
+-- own: a module that the page reaches has this URL
+pub record IsNamedModule (tree : Tree) (config : Config) (url : List ℕ) : Type 0 where
+  pub m : Module
+  pub reachable : Reachable tree config (a_module m)
+  pub named : web_name config (a_module m) ≡ Some url
+
+-- own: parsed at the page's URL, the text is a map that has the digest of each module that the page reaches, and no
+-- other
+pub record KnowsModules (tree : Tree) (config : Config) (bytes : List ℕ) : Type 0 where
+  pub map_base : List ℕ
+  pub named : web_name config the_page ≡ Some map_base
+  pub map : ParsedMap
+  pub parses : ParsesMap map_base bytes (Ok map)
+  pub each : (m : Module) → Reachable tree config (a_module m) → IsKnown tree config map m
+  pub only : (url text : List ℕ) → get map.integrity url ≡ Some text → IsNamedModule tree config url

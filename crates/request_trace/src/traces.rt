@@ -7,7 +7,7 @@ ghost use Rattle.trace_walk.specs.Walking.{IsWhole};
 
 use need_table::Needs;
 use std::marker::Model;
-use trace_walk::{Spelling, Tables};
+use trace_walk::{Module, Spelling, Tables};
 use tree_model::Path;
 
 /// What a trace holds: the modules in trace order, the source of each, the needs, and how many requests were followed.
@@ -68,6 +68,16 @@ impl Trace {
         ensures few { result ≤ limit_number Requests }
     {
         self.tables.requests
+    }
+
+    /// The module at a place.
+    pub fn module(&self, place: usize) -> Option<&Module>
+        ensures { option_copied result ≡ slice_get self.now.modules place }
+    {
+        match self.tables.modules.get_index(place) {
+            None => None,
+            Some((module, _)) => Some(module),
+        }
     }
 
     /// The path of the module at a place.

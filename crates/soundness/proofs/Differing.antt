@@ -10,17 +10,17 @@ use Rattle.import_map_spec.specs.ParsedMap.{ParsedMap, MapFault}
 use Rattle.import_map_spec.specs.Resolving.{Resolved}
 use Rattle.check_spec.proofs.NeedLemmas.{specifiers_agree}
 use Rattle.check_spec.specs.Differences.{gets, is_url, differences, differences_from}
-use Rattle.layout_spec.proofs.AgreedLaws.{agreed_of_needs}
 use Rattle.layout_spec.proofs.Contained.{contains_here, contains_there}
 use Rattle.layout_spec.proofs.TextBack.{texts_read_back}
-use Rattle.layout_spec.proofs.Uncaptured.{agreed_layout_captures_nothing}
 use Rattle.layout_spec.specs.PrintedMap.{map_text}
 use Rattle.layout_spec.specs.Serving.{NoCapture, OfNeeds}
 use Rattle.layout_spec.specs.declared.Need.{Need}
-use Rattle.trace_spec.proofs.Traces.{needs_are_requests}
+use Rattle.generator_spec.specs.Digests.{with_digests}
+use Rattle.soundness.proofs.Digested.{has_digests}
 use Rattle.soundness.proofs.Kept.{map_kept}
 use Rattle.soundness.proofs.Leading.{need_leads}
-use Rattle.soundness.proofs.Reaching.{needs_name, asked_by_file}
+use Rattle.soundness.proofs.Reaching.{needs_name}
+use Rattle.soundness.proofs.Sound.{no_capture, of_needs}
 use Rattle.soundness.specs.Soundness.{NamesUrls, NothingDiffers}
 
 served : (m : ParsedMap) (need : Need) → gets m need ≡ Resolved need.target → is_url (gets m need) need.target ≡ true
@@ -42,11 +42,12 @@ same_map : (m parsed : ParsedMap) → ◌≡◌ {A = Result ParsedMap MapFault} 
 same_map m parsed e = cc
 
 pub nothing_differs : NothingDiffers
-nothing_differs tree config all m parsed base traces page_is_file agreed named parses =
+nothing_differs tree config all layout parsed base traces page_is_file agreed named parses =
     let files : (need : Need) → Contains all.needs need → NamesUrls need = needs_name tree config all traces in
-    let no_capture : NoCapture all.needs m = agreed_layout_captures_nothing all.needs m (needs_are_requests (get tree) config all traces).no_clash (asked_by_file tree config all traces page_is_file) agreed in
-    let of_needs : OfNeeds all.needs m = agreed_of_needs all.needs m agreed in
-    let kept = map_kept base (kept_urls.2 _ _ _ _ named) all.needs m of_needs files agreed.no_digests in
+    let m = with_digests config all layout in
+    let captures : NoCapture all.needs m = no_capture tree config all traces page_is_file layout agreed in
+    let mapped : OfNeeds all.needs m = of_needs tree config all traces page_is_file layout agreed in
+    let kept = map_kept base (kept_urls.2 _ _ _ _ named) all.needs m mapped files (has_digests tree config all traces layout) in
     subst (λ (map : ParsedMap). differences map all.needs ≡ [])
     (same_map m parsed (one_map base (map_text m) (Ok m) (Ok parsed) (texts_read_back base m kept) parses))
-    (all_served m 0 all.needs (gets_target all.needs m no_capture of_needs files))
+    (all_served m 0 all.needs (gets_target all.needs m captures mapped files))

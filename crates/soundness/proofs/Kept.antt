@@ -9,15 +9,14 @@ use Rattle.url_spec.proofs.OwnTexts.{utf8_url}
 use Rattle.url_spec.proofs.OwnUrls.{own_urls}
 use Rattle.url_spec.specs.Parsing.{IsUrl}
 use Rattle.url_spec.specs.Specifiers.{ends_in_slash}
-use Rattle.import_map_spec.proofs.Entries.{get_nowhere}
-use Rattle.import_map_spec.specs.ParsedMap.{Texts, Addresses, ParsedMap}
+use Rattle.import_map_spec.specs.ParsedMap.{Addresses, ParsedMap}
 use Rattle.import_map_spec.specs.Parsing.{is_empty, fitting}
 use Rattle.layout_spec.proofs.TextBack.{texts_read_back}
 use Rattle.layout_spec.specs.PrintedMap.{IsKeptAddress, IsKeptKey, IsKeptScope, IsKept}
 use Rattle.layout_spec.specs.Serving.{held, OfNeeds}
 use Rattle.layout_spec.specs.declared.Need.{Need}
 use Rattle.soundness.proofs.Leading.{scope_url}
-use Rattle.soundness.specs.Soundness.{MapsReadBack, NamesUrls}
+use Rattle.soundness.specs.Soundness.{HasDigests, MapsReadBack, NamesUrls}
 
 not_empty : (text : List ℕ) → text ≢ [] → is_empty text ≡ false
 not_empty [] some = absurd (some refl)
@@ -52,12 +51,12 @@ module _ (base : List ℕ) (is_base : IsUrl base) (needs : List Need) (m : Parse
       }
 
   -- keys and addresses stand as parsing leaves them
-  pub map_kept : m.integrity ≡ empty → IsKept base m
-  map_kept no_digests = record {
+  pub map_kept : HasDigests m → IsKept base m
+  map_kept digests = record {
     imports = λ key address e. key_kept [] key address e;
     scopes = scope_kept;
-    integrity = λ key text e. absurd (none-some text (sym (ap (λ (texts : Texts (List ℕ)). get texts key) no_digests ∙ get_nowhere key) ∙ e));
+    integrity = λ key text e. record { url = own_urls.0 base key (digests key text e).0; key_utf8 = utf8_url key (digests key text e).0; text_utf8 = (digests key text e).1 };
   }
 
 pub maps_read_back : MapsReadBack
-maps_read_back base needs m is_base of_needs files no_digests = texts_read_back base m (map_kept base is_base needs m of_needs files no_digests)
+maps_read_back base needs m is_base of_needs files digests = texts_read_back base m (map_kept base is_base needs m of_needs files digests)

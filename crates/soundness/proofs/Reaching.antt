@@ -18,7 +18,7 @@ use Rattle.trace_spec.proofs.Traces.{requests_pass, needs_are_requests}
 use Rattle.trace_spec.specs.Checks.{Gathered, page_opened, opens, nothing_gathered, rules}
 use Rattle.trace_spec.specs.Laws.{Passes}
 use Rattle.trace_spec.specs.Levels.{page as page_is_reached, requested as is_requested}
-use Rattle.trace_spec.specs.Modules.{Config, Module, path_of, web_name, served_at}
+use Rattle.trace_spec.specs.Modules.{Config, Module, IsServable, path_of, web_name, served_at}
 use Rattle.trace_spec.specs.Questions.{always}
 use Rattle.trace_spec.specs.Traces.{traced, requests, specifiers, if_ok, leads, ReachedByPage as IsReached}
 use Rattle.trace_spec.specs.Walking.{Referrer, the_page, a_module, Opened, followed, visited, walked}
@@ -51,6 +51,18 @@ module _ (tree : Tree) (config : Config) (all : Gathered) (is_traced : traced (g
       let at : Contains (specifiers (get tree) config referrer) specifier = subst (λ o. Contains (unwrap_or o []) specifier) (sym is_asking) asked in
       is_requested earlier (contains_given (leads (get tree) config referrer) specifier target (specifiers (get tree) config referrer) at (node_leads referrer specifier target answers))
 
+  -- and whatever the trace reaches is reached by Node's answers
+  pub reachable : (referrer : Referrer Module) → IsReached (get tree) config referrer → Reachable tree config referrer
+  reachable the_page _ = page
+  reachable (a_module target) (is_requested {referrer} before c) =
+      let given = given_from (leads (get tree) config referrer) target (specifiers (get tree) config referrer) c in
+      let pass = requests_pass (get tree) config all is_traced referrer before in
+      let at : Contains pass.specifiers given.item = subst (λ o. Contains (unwrap_or o []) given.item) pass.asks given.is_item in
+      let passes = pass.pass given.item at in
+      let same = same_Some passes.target target (sym (ap if_ok passes.answers) ∙ given.gives) in
+      requested referrer pass.specifiers given.item target (reachable referrer before) pass.asks at
+      (subst (λ m. Resolves tree config.conditions (path_of config referrer) given.item (Ok m)) same (sym passes.answers))
+
   -- ---- names
 
   page_named : IsNamed config the_page
@@ -76,6 +88,16 @@ module _ (tree : Tree) (config : Config) (all : Gathered) (is_traced : traced (g
       let pass = requests_pass (get tree) config all is_traced referrer before in
       let at : Contains pass.specifiers given.item = subst (λ o. Contains (unwrap_or o []) given.item) pass.asks given.is_item in
       target_named referrer given.item target (pass.pass given.item at) given.gives
+
+  -- a module that is reached is served at its web name
+  pub is_servable : (m : Module) → IsReached (get tree) config (a_module m) → (url : List ℕ) × IsServable config m.path m.suffix url
+  is_servable m (is_requested {referrer} before c) =
+      let given = given_from (leads (get tree) config referrer) m (specifiers (get tree) config referrer) c in
+      let pass = requests_pass (get tree) config all is_traced referrer before in
+      let at : Contains pass.specifiers given.item = subst (λ o. Contains (unwrap_or o []) given.item) pass.asks given.is_item in
+      let passes = pass.pass given.item at in
+      let same = same_Some passes.target m (sym (ap if_ok passes.answers) ∙ given.gives) in
+      (passes.need.target, subst (λ (n : Module). IsServable config n.path n.suffix passes.need.target) same passes.servable)
 
   pub needs_name : (need : Need) → Contains all.needs need → NamesUrls need
   needs_name need c =

@@ -1,7 +1,7 @@
 -- What is generated serves: a map of the needs of a trace does that captures none of them and has no mappings but theirs.
 use Rattle.std.proofs.Common.{refl, sym, ◌∙◌, subst}
 use Rattle.std.proofs.lemmas.Option.{same_Some}
-use Rattle.std.specs.FinMap.{get, empty}
+use Rattle.std.specs.FinMap.{get}
 use Rattle.std.specs.Prelude.{◌≡◌, ℕ, List, Some, Ok, Contains}
 use Rattle.tree_spec.specs.Trees.{Tree}
 use Rattle.url_spec.proofs.KeptUrls.{kept_urls}
@@ -28,12 +28,14 @@ use Rattle.trace_spec.specs.Modules.{Config, Module, web_name}
 use Rattle.trace_spec.specs.Traces.{traced}
 use Rattle.trace_spec.specs.Walking.{Referrer, the_page}
 use Rattle.generator_spec.specs.Generation.{PageIsFile}
-use Rattle.generator_spec.specs.Serves.{Reachable, Leads, AllLead, Serves}
+use Rattle.generator_spec.specs.Digests.{with_digests}
+use Rattle.generator_spec.specs.Serves.{Reachable, KnowsModules, Leads, AllLead, Serves}
 use Rattle.soundness.proofs.Asking.{asks_normal}
+use Rattle.soundness.proofs.Digested.{captures_none, has_digests, is_known, is_of_needs, only_modules}
 use Rattle.soundness.proofs.Kept.{map_kept}
 use Rattle.soundness.proofs.Leading.{need_leads}
 use Rattle.soundness.proofs.Reaching.{reached, is_named, needs_name, asked_by_file}
-use Rattle.soundness.specs.Soundness.{NamesUrls, MapsServe, AgreedMapsServe, Soundness, MapsArePlain, OneMapInPage}
+use Rattle.soundness.specs.Soundness.{HasDigests, NamesUrls, MapsServe, AgreedMapsServe, ModulesAreKnown, Soundness, MapsArePlain, OneMapInPage}
 
 -- through a map each need is led to its target, whatever text it is asked for by
 abbrev pub AreLed : Gathered → ParsedMap → Type 0
@@ -77,10 +79,10 @@ module _ (tree : Tree) (config : Config) (all : Gathered) (is_traced : traced (g
       led_requests tree config all is_traced m
       (λ need specifier c asks. need_leads all.needs m no_capture of_needs files need specifier c asks)
 
-  text_serves : m.integrity ≡ empty → (bytes : List ℕ) → bytes ≡ map_text m → Serves tree config bytes
-  text_serves no_digests bytes text =
+  text_serves : HasDigests m → (bytes : List ℕ) → bytes ≡ map_text m → Serves tree config bytes
+  text_serves digests bytes text =
       let page = is_named tree config all is_traced the_page page_is_reached in
-      let kept = map_kept page.name (kept_urls.2 _ _ _ _ page.named) all.needs m of_needs files no_digests in
+      let kept = map_kept page.name (kept_urls.2 _ _ _ _ page.named) all.needs m of_needs files digests in
       record {
         map_base = page.name;
         named = page.named;
@@ -89,42 +91,66 @@ module _ (tree : Tree) (config : Config) (all : Gathered) (is_traced : traced (g
         all_lead = all_lead;
       }
 
-  text_is_plain : m.integrity ≡ empty → (bytes : List ℕ) → bytes ≡ map_text m → IsPlainMap bytes
-  text_is_plain no_digests bytes text =
+  text_is_plain : HasDigests m → (bytes : List ℕ) → bytes ≡ map_text m → IsPlainMap bytes
+  text_is_plain digests bytes text =
       let page = is_named tree config all is_traced the_page page_is_reached in
-      let kept = map_kept page.name (kept_urls.2 _ _ _ _ page.named) all.needs m of_needs files no_digests in
+      let kept = map_kept page.name (kept_urls.2 _ _ _ _ page.named) all.needs m of_needs files digests in
       let plain = texts_are_plain page.name m kept in
       subst IsPlainMap (sym text) (record { utf8 = plain.0; no_markup = plain.1 })
 
 pub maps_serve : MapsServe
-maps_serve tree config all m traces no_capture of_needs no_digests =
-    text_serves tree config all traces m no_capture of_needs no_digests (map_text m) refl
+maps_serve tree config all m traces no_capture of_needs digests =
+    text_serves tree config all traces m no_capture of_needs digests (map_text m) refl
 
-module _ (tree : Tree) (config : Config) (all : Gathered) (traces : traced (get tree) config ≡ Ok all) (page_is_file : PageIsFile config) (m : ParsedMap) (agreed : IsAgreedLayout all.needs m) where
-  captures_none : NoCapture all.needs m
-  captures_none =
-      agreed_layout_captures_nothing all.needs m (needs_are_requests (get tree) config all traces).no_clash
-      (asked_by_file tree config all traces page_is_file) agreed
+module _ (tree : Tree) (config : Config) (all : Gathered) (traces : traced (get tree) config ≡ Ok all) (page_is_file : PageIsFile config) (layout : ParsedMap) (agreed : IsAgreedLayout all.needs layout) where
+  abbrev digested : ParsedMap
+  digested = with_digests config all layout
 
-  agreed_text_serves : (bytes : List ℕ) → bytes ≡ map_text m → Serves tree config bytes
+  pub no_capture : NoCapture all.needs digested
+  no_capture =
+      captures_none config all layout all.needs
+      (agreed_layout_captures_nothing all.needs layout (needs_are_requests (get tree) config all traces).no_clash
+      (asked_by_file tree config all traces page_is_file) agreed)
+
+  pub of_needs : OfNeeds all.needs digested
+  of_needs = is_of_needs config all layout all.needs (agreed_of_needs all.needs layout agreed)
+
+  agreed_text_serves : (bytes : List ℕ) → bytes ≡ map_text digested → Serves tree config bytes
   agreed_text_serves bytes text =
-      text_serves tree config all traces m captures_none (agreed_of_needs all.needs m agreed) agreed.no_digests bytes text
+      text_serves tree config all traces digested no_capture of_needs (has_digests tree config all traces layout) bytes text
 
-  agreed_text_is_plain : (bytes : List ℕ) → bytes ≡ map_text m → IsPlainMap bytes
+  agreed_text_is_plain : (bytes : List ℕ) → bytes ≡ map_text digested → IsPlainMap bytes
   agreed_text_is_plain bytes text =
-      text_is_plain tree config all traces m captures_none (agreed_of_needs all.needs m agreed) agreed.no_digests bytes text
+      text_is_plain tree config all traces digested no_capture of_needs (has_digests tree config all traces layout) bytes text
+
+  modules_known : (bytes : List ℕ) → bytes ≡ map_text digested → KnowsModules tree config bytes
+  modules_known bytes text =
+      let serves = agreed_text_serves bytes text in
+      let kept = map_kept serves.map_base (kept_urls.2 _ _ _ _ serves.named) all.needs digested of_needs (needs_name tree config all traces) (has_digests tree config all traces layout) in
+      record {
+        map_base = serves.map_base;
+        named = serves.named;
+        map = digested;
+        parses = subst (λ written. ParsesMap serves.map_base written (Ok digested)) (sym text) (texts_read_back serves.map_base digested kept);
+        each = is_known tree config all traces layout;
+        only = only_modules tree config all traces;
+      }
 
 pub agreed_maps_serve : AgreedMapsServe
-agreed_maps_serve tree config all m traces page_is_file agreed =
-    agreed_text_serves tree config all traces page_is_file m agreed (map_text m) refl
+agreed_maps_serve tree config all layout traces page_is_file agreed =
+    agreed_text_serves tree config all traces page_is_file layout agreed (map_text (with_digests config all layout)) refl
 
 pub sound : Soundness
 sound tree config bytes is =
-    agreed_text_serves tree config is.all is.is_traced is.page_is_file is.map is.agreed bytes is.text
+    agreed_text_serves tree config is.all is.is_traced is.page_is_file is.layout is.agreed bytes is.text
+
+pub modules_are_known : ModulesAreKnown
+modules_are_known tree config bytes is =
+    modules_known tree config is.all is.is_traced is.page_is_file is.layout is.agreed bytes is.text
 
 pub maps_are_plain : MapsArePlain
 maps_are_plain tree config map is =
-    agreed_text_is_plain tree config is.all is.is_traced is.page_is_file is.map is.agreed map is.text
+    agreed_text_is_plain tree config is.all is.is_traced is.page_is_file is.layout is.agreed map is.text
 
 pub one_map_in_page : OneMapInPage
 one_map_in_page tree config map page new is i = one_map_after map page new (maps_are_plain tree config map is) i

@@ -1,15 +1,18 @@
 -- The theorems of this project, and what they rest on.
 --     NamesUrls need      referrer and target are URLs, and what is asked for stands for itself
 --     MapsServe      a map that captures no need, and has no mappings but theirs, serves
+--     HasDigests map      in the map's integrity stand texts under URLs
 --     MapsReadBack      the text of such a map is read as that map
---     AgreedMapsServe      the agreed layout of the trace's needs serves
+--     AgreedMapsServe      the agreed layout of the trace's needs, with the digests of its modules, serves
 --     NothingDiffers      checked over the same tree, its text has no difference
 --     CheckedMapsServe      any text that is read as a map of which no need of the trace differs serves
 --     Soundness      what is generated serves
+--     ModulesAreKnown      what is generated has the digest of each module that the page reaches
 --     MapsArePlain      what is generated holds no markup
 --     OneMapInPage      a page into which it is put has it as its one map
-use Rattle.std.specs.FinMap.{get, empty}
+use Rattle.std.specs.FinMap.{get}
 use Rattle.std.specs.Prelude.{◌≡◌, ℕ, List, [], Some, Ok, Contains}
+use Rattle.std.specs.Str.{IsUtf8}
 use Rattle.tree_spec.specs.Trees.{Tree}
 use Rattle.url_spec.specs.Parsing.{IsUrl}
 use Rattle.import_map_spec.specs.ParsedMap.{ParsedMap}
@@ -27,15 +30,20 @@ use Rattle.trace_spec.specs.Checks.{Gathered}
 use Rattle.trace_spec.specs.Modules.{Config, web_name}
 use Rattle.trace_spec.specs.Traces.{traced}
 use Rattle.trace_spec.specs.Walking.{the_page}
+use Rattle.generator_spec.specs.Digests.{with_digests}
 use Rattle.generator_spec.specs.Generation.{PageIsFile, Generates}
-use Rattle.generator_spec.specs.Serves.{Serves}
+use Rattle.generator_spec.specs.Serves.{KnowsModules, Serves}
+
+-- own: in the map's integrity stand texts under URLs, whatever they are
+abbrev pub HasDigests : ParsedMap → Type 0
+HasDigests m = (url text : List ℕ) → get m.integrity url ≡ Some text → IsUrl url × IsUtf8 text
 
 -- own law: the text of a map serves, wherever its mappings stand, where it captures none of the trace's needs and has
--- no mappings but theirs
+-- no mappings but theirs, whatever digests it has
 abbrev pub MapsServe : Type 0
 MapsServe =
     (tree : Tree) (config : Config) (all : Gathered) (m : ParsedMap) → traced (get tree) config ≡ Ok all
-    → NoCapture all.needs m → OfNeeds all.needs m → m.integrity ≡ empty → Serves tree config (map_text m)
+    → NoCapture all.needs m → OfNeeds all.needs m → HasDigests m → Serves tree config (map_text m)
 
 -- own: referrer and target of the need are URLs, and what is asked for stands for itself and is no folder's
 pub record NamesUrls (need : Need) : Type 0 where
@@ -44,25 +52,26 @@ pub record NamesUrls (need : Need) : Type 0 where
   pub target : IsUrl need.target
 
 -- own law: the text of a map that has no mappings but those of such needs, read against a map base, is that map: no
--- mapping is dropped, replaced or made null
+-- mapping and no digest is dropped, replaced or made null
 abbrev pub MapsReadBack : Type 0
 MapsReadBack =
     (base : List ℕ) (needs : List Need) (m : ParsedMap) → IsUrl base → OfNeeds needs m
-    → ((need : Need) → Contains needs need → NamesUrls need) → m.integrity ≡ empty → ParsesMap base (map_text m) (Ok m)
+    → ((need : Need) → Contains needs need → NamesUrls need) → HasDigests m → ParsesMap base (map_text m) (Ok m)
 
--- own law: the text of the agreed layout of the trace's needs serves
+-- own law: the text of the agreed layout of the trace's needs, with the digests of its modules, serves
 abbrev pub AgreedMapsServe : Type 0
 AgreedMapsServe =
-    (tree : Tree) (config : Config) (all : Gathered) (m : ParsedMap) → traced (get tree) config ≡ Ok all
-    → PageIsFile config → IsAgreedLayout all.needs m → Serves tree config (map_text m)
+    (tree : Tree) (config : Config) (all : Gathered) (layout : ParsedMap) → traced (get tree) config ≡ Ok all
+    → PageIsFile config → IsAgreedLayout all.needs layout
+    → Serves tree config (map_text (with_digests config all layout))
 
--- own law: what the text of that layout is read as, against the page's URL, serves each of the trace's needs
+-- own law: what that text is read as, against the page's URL, serves each of the trace's needs
 abbrev pub NothingDiffers : Type 0
 NothingDiffers =
-    (tree : Tree) (config : Config) (all : Gathered) (m parsed : ParsedMap) (base : List ℕ)
-    → traced (get tree) config ≡ Ok all → PageIsFile config → IsAgreedLayout all.needs m
-    → web_name config the_page ≡ Some base → ParsesMap base (map_text m) (Ok parsed)
-    → differences parsed all.needs ≡ []
+    (tree : Tree) (config : Config) (all : Gathered) (layout parsed : ParsedMap) (base : List ℕ)
+    → traced (get tree) config ≡ Ok all → PageIsFile config → IsAgreedLayout all.needs layout
+    → web_name config the_page ≡ Some base
+    → ParsesMap base (map_text (with_digests config all layout)) (Ok parsed) → differences parsed all.needs ≡ []
 
 -- own law: a text serves, whoever wrote it, where what it is read as, against the page's URL, serves each of the
 -- trace's needs
@@ -75,6 +84,12 @@ CheckedMapsServe =
 -- own law: what is generated serves
 abbrev pub Soundness : Type 0
 Soundness = (tree : Tree) (config : Config) (bytes : List ℕ) → Generates tree config bytes → Serves tree config bytes
+
+-- own law: what is generated has, under the URL of each module that the page reaches, the digest of the file that stands
+-- at the module's path, and no other digest
+abbrev pub ModulesAreKnown : Type 0
+ModulesAreKnown =
+    (tree : Tree) (config : Config) (bytes : List ℕ) → Generates tree config bytes → KnowsModules tree config bytes
 
 -- own law: no tag of a page is read in what is generated
 abbrev pub MapsArePlain : Type 0

@@ -4,12 +4,18 @@
 #![tactic(auto)]
 
 ghost use Rattle.soundness.specs.Soundness.{AgreedMapsServe, CheckedMapsServe, MapsArePlain, MapsReadBack, MapsServe};
-ghost use Rattle.soundness.specs.Soundness.{NothingDiffers, OneMapInPage, Soundness};
+ghost use Rattle.soundness.specs.Soundness.{ModulesAreKnown, NothingDiffers, OneMapInPage, Soundness};
 
 /// Wherever generation gives a map's text, this text serves: through it every request of the page
 /// and of each module that the page reaches leads to exactly the file that Node's resolver gives.
 pub fn map_is_sound()
     ensures { Soundness }
+{}
+
+/// And this text has the digest of the file of each module that the page reaches, under the module's URL, and no other:
+/// what a browser loads through it has the bytes that were traced.
+pub fn modules_are_known()
+    ensures { ModulesAreKnown }
 {}
 
 /// What soundness rests on: a map's text serves wherever its mappings stand, if the map captures no need of the trace
@@ -18,17 +24,17 @@ pub fn maps_serve()
     ensures { MapsServe }
 {}
 
-/// The text of such a map, read against a map base, has exactly the map's mappings.
+/// The text of such a map, read against a map base, has exactly the map's mappings and digests.
 pub fn maps_read_back()
     ensures { MapsReadBack }
 {}
 
-/// So the agreed layout serves.
+/// So the agreed layout serves, with the digests of the trace's modules.
 pub fn agreed_maps_serve()
     ensures { AgreedMapsServe }
 {}
 
-/// Whoever checks that layout's text over the same tree, from the same page, finds no difference.
+/// Whoever checks that text over the same tree, from the same page, finds no difference.
 pub fn nothing_differs()
     ensures { NothingDiffers }
 {}

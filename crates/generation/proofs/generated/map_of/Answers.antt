@@ -1,10 +1,19 @@
+use Rattle.std.specs.FinMap.{entries}
 use Rattle.std.proofs.Common.{rules, ◌≡◌, ℕ, List, [], Option, Some, None, IfSome, sym, subst}
 use Rattle.import_map_spec.specs.ParsedMap.{ParsedMap}
 use Rattle.layout_spec.specs.Counting.{mapping_count}
 use Rattle.layout_spec.specs.declared.Need.{Need}
 use Rattle.map_flatten.specs.Laid.{AgreedLists}
 use Rattle.scope_builder.specs.Lists.{Lists}
+use Rattle.generator_spec.specs.Digests.{digests, with_digests}
+use Rattle.scope_builder.specs.declared.keyed.Layout.{Layout}
+use Rattle.trace_spec.specs.Checks.{Gathered}
+use Rattle.trace_spec.specs.Modules.{Config}
 use Rattle.generation.proofs.generated.map_of.Goals as goal
+
+-- the lists of a layout and of digests are those of the layout with the digests
+digested : (config : Config) (all : Gathered) (layout : Layout) (m : ParsedMap) (pairs : List (List ℕ × List ℕ)) → pairs ≡ entries (digests config all.modules all.sources) → Lists layout [] m → Lists layout pairs (with_digests config all m)
+digested config all layout m pairs are lists = record { imports = lists.imports; scopes = lists.scopes; integrity_texts = sym are }
 
 -- the number that is there
 number_there : (P : ℕ → Type 0) (found : Option ℕ) (number : ℕ) → IfSome found P → found ≡ Some number → P number
@@ -15,18 +24,18 @@ pub returns-in_err-map-clause-too_large : goal.returns-in_err-map-clause-too_lar
 returns-in_err-map-clause-too_large c = λ same.
     let needs : List Need = c.args.trace.now.needs in
     let laid : AgreedLists needs c.in_ok-layout.layout = subst (λ ns. AgreedLists ns c.in_ok-layout.layout) c.needs.ensures.needs c.in_ok-layout.ensures in
-    let printed : Lists c.in_ok-layout.layout c.new.result laid.m = subst (λ pairs. Lists c.in_ok-layout.layout pairs laid.m) (sym c.new.ensures) laid.lists in
-    record { layout = laid.m; agreed = laid.is_agreed; large = c.print_map-2.ensures.too_large (search (rules, same)) laid.m printed }
+    let printed = digested c.args.config.now c.args.trace.now c.in_ok-layout.layout laid.m c.in_ok-digests.digests c.in_ok-digests.ensures laid.lists in
+    record { layout = laid.m; agreed = laid.is_agreed; large = c.print_map-2.ensures.too_large (search (rules, same)) (with_digests c.args.config.now c.args.trace.now laid.m) printed }
 
 pub returns-clause-map : goal.returns-clause-map
 returns-clause-map c =
     let needs : List Need = c.args.trace.now.needs in
     let laid : AgreedLists needs c.in_ok-layout.layout = subst (λ ns. AgreedLists ns c.in_ok-layout.layout) c.needs.ensures.needs c.in_ok-layout.ensures in
-    let printed : Lists c.in_ok-layout.layout c.new.result laid.m = subst (λ pairs. Lists c.in_ok-layout.layout pairs laid.m) (sym c.new.ensures) laid.lists in
+    let printed = digested c.args.config.now c.args.trace.now c.in_ok-layout.layout laid.m c.in_ok-digests.digests c.in_ok-digests.ensures laid.lists in
     record {
       layout = laid.m;
       agreed = laid.is_agreed;
-      map = c.in_ok-map.ensures.printed.text laid.m printed;
+      map = c.in_ok-map.ensures.printed.text (with_digests c.args.config.now c.args.trace.now laid.m) printed;
       within = c.in_ok-map.ensures.printed.within;
       modules = c.len.ensures.modules;
       requests = c.request_count.ensures.requests;

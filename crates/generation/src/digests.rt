@@ -1,0 +1,70 @@
+ghost use Rattle.std.specs.Prelude.{◌≡◌, IfOk, OnOk};
+ghost use Rattle.std.specs.FinMap.{entries};
+ghost use Rattle.trace_spec.specs.Modules.{web_name};
+ghost use Rattle.trace_spec.specs.Walking.{a_module};
+ghost use Rattle.generator_spec.specs.Digests as definition;
+ghost use Rattle.generation.specs.Digesting.{IsPut, kept_texts};
+
+use integrity_digest::kept_digest;
+use primitives::{Memory, Text};
+use request_trace::{Config, Trace};
+use scope_builder::Mappings;
+use std::alloc::{AllocError, Global};
+use std::collections::BTreeMap;
+use trace_walk::Module;
+use web_url::{WebFault, WebUrl, web_of};
+
+/// Digests under URLs.
+type Digests = BTreeMap<Text, Text>;
+
+/// The digests of a trace's modules, each under the module's URL. A URL stands there once.
+pub(crate) fn digests(alloc: Global, config: &Config, trace: &Trace) -> Result<Mappings, Memory>
+    ensures { IfOk result (λ pairs. pairs ≡ entries (definition.digests config.now trace.now.modules trace.now.sources)) }
+{
+    let mut kept = Digests::new(alloc);
+    let mut place = trace.len();
+    while place > 0 {
+        place -= 1;
+        put(alloc, &mut kept, config, trace, place)?;
+    }
+    Mappings::from_map(alloc, kept)
+}
+
+// Puts the digest of the module at a place.
+fn put(
+    alloc: Global,
+    kept: &mut Digests,
+    config: &Config,
+    trace: &Trace,
+    place: usize,
+) -> Result<(), Memory>
+    ensures { OnOk result (IsPut config.now trace.now place (kept_texts kept.old) (kept_texts kept.new)) }
+{
+    let (Some(target), Some(bytes)) = (trace.module(place), trace.bytes(place)) else {
+        return Ok(());
+    };
+    match url_of(alloc, config, target)? {
+        None => Ok(()),
+        Some(url) => put_digest(alloc, kept, &url, bytes),
+    }
+}
+
+fn put_digest(alloc: Global, kept: &mut Digests, url: &WebUrl, bytes: &[u8]) -> Result<(), Memory>
+    ensures { OnOk result (kept_texts kept.new
+        ≡ definition.with_digest (Some url.now) bytes.now (kept_texts kept.old)) }
+{
+    let digest = kept_digest(alloc, bytes)?;
+    kept.insert(Text::of(alloc, url.as_str())?, digest)?;
+    Ok(())
+}
+
+// The URL of a module, whether or not it is served there.
+fn url_of(alloc: Global, config: &Config, target: &Module) -> Result<Option<WebUrl>, Memory>
+    ensures { IfOk result (λ found. web_name config.now (a_module target.now) ≡ found) }
+{
+    match web_of(alloc, config.base(), target.path(), target.suffix()) {
+        Ok(url) => Ok(Some(url)),
+        Err(WebFault::Unservable { url }) => Ok(url),
+        Err(WebFault::Memory) => Err(AllocError),
+    }
+}

@@ -1,0 +1,48 @@
+-- A text with digests in it is short, whatever the digests are.
+use Prim.Native.String.{String}
+use Rattle.std.proofs.Common.{◌≡◌, ◌≤◌, ◌+◌, ◌*◌, ℕ, List, [], ◌∷◌, ◌++◌, length, length-append, arith}
+use Rattle.std.proofs.lemmas.Bool.{cases_Bool, cond-true, cond-false}
+use Rattle.std.specs.Prelude.{◌==◌, ◌||◌, Bool, true, false, codes, nat_lt, flat_map, if◌then◌else◌}
+use mathlib.Core.Logic.{inl, inr}
+use Rattle.json_spec.specs.PrintedString.{escaped_byte, escaped, quoted, unicode_escape}
+use Rattle.integrity_spec.proofs.DigestTexts.{texts_have_71_bytes}
+use Rattle.integrity_spec.specs.DigestTexts.{digest_text}
+use Rattle.generator_examples.specs.Sites.{digest_line}
+
+byte_short : (b : ℕ) → length (escaped_byte b) ≤ 6
+byte_short b = by (b == 34 || b == 92) (nat_lt b 32 || b == 60)
+  where
+    by : (mark control : Bool) → length (if mark then 92 ∷ b ∷ [] else if control then unicode_escape b else b ∷ []) ≤ 6
+    by true control = omega arith
+    by false true = omega arith
+    by false false = omega arith
+
+escaped_short : (text : List ℕ) → length (escaped text) ≤ 6 * length text
+escaped_short [] = omega arith
+escaped_short (b ∷ text) =
+    let first = byte_short b in
+    let more = escaped_short text in
+    let all = length-append (escaped_byte b) (escaped text) in
+    omega (arith, first, more, all)
+
+digest_short : (bytes : List ℕ) → length (quoted (digest_text bytes)) ≤ 428
+digest_short bytes =
+    let inner = escaped_short (digest_text bytes) in
+    let size = texts_have_71_bytes bytes in
+    let all = length-append (escaped (digest_text bytes)) (34 ∷ []) in
+    omega (arith, inner, size, all)
+
+-- a line of at most 638 bytes, and what follows it
+pub line_short : (front : String) (bytes : List ℕ) (back : String) (rest : List ℕ) (n : ℕ) → length (codes front) ≤ 200 → length (codes back) ≤ 10 → length rest ≤ n → length (digest_line front bytes back rest) ≤ n + 638
+line_short front bytes back rest n a b c =
+    let whole = length-append (codes front) (quoted (digest_text bytes) ++ (codes back ++ rest)) in
+    let middle = length-append (quoted (digest_text bytes)) (codes back ++ rest) in
+    let last = length-append (codes back) rest in
+    let digest = digest_short bytes in
+    omega (arith, whole, middle, last, digest, a, b, c)
+
+-- behind a text of at most 2,000 bytes
+pub behind : (front rest : List ℕ) (n : ℕ) → length front ≤ 2000 → length rest ≤ n → n ≤ 60000000 → length (front ++ rest) ≤ 67108864
+behind front rest n a b c =
+    let whole = length-append front rest in
+    omega (arith, whole, a, b, c)
