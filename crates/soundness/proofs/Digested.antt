@@ -63,28 +63,27 @@ pub record IsDigestOf (config : Config) (modules : List Module) (url text : List
 behind : (config : Config) (first : Module) (modules : List Module) (url text : List ℕ) → IsDigestOf config modules url text → IsDigestOf config (first ∷ modules) url text
 behind config first modules url text is = record { m = is.m; is_module = contains_there is.m first modules is.is_module; named = is.named; bytes = is.bytes; digest = is.digest }
 
+-- what is put under a name, or what stands there besides
+digest_by : (config : Config) (first : Module) (modules : List Module) (bytes url text : List ℕ) (others : Texts (List ℕ)) → (get others url ≡ Some text → IsDigestOf config modules url text) → (name : Option (List ℕ)) → web_name config (a_module first) ≡ name → get (with_digest name bytes others) url ≡ Some text → IsDigestOf config (first ∷ modules) url text
+digest_by config first modules bytes url text others later None same found = behind config first modules url text (later found)
+digest_by config first modules bytes url text others later (Some name) same found =
+    let inserted : cond (same_key url name) (Some (digest_text bytes)) (get others url) ≡ Some text = sym (get_inserted others name (digest_text bytes) url) ∙ found in
+    elim (cases_Bool (same_key url name)) [
+      | inl here ↦ record {
+          m = first;
+          is_module = contains_here first modules;
+          named = same ∙ ap Some (sym (same_key_is url name here));
+          bytes = bytes;
+          digest = same_Some text (digest_text bytes) (sym inserted ∙ cond-true _ _ _ here);
+        }
+      | inr other ↦ behind config first modules url text (later (sym (cond-false _ _ _ other) ∙ inserted))
+    ]
+
 pub digest_is : (config : Config) (modules : List Module) (sources : List Source) (url text : List ℕ) → get (digests config modules sources) url ≡ Some text → IsDigestOf config modules url text
 digest_is config [] sources url text e = absurd (none-some text (sym (get_nowhere url) ∙ e))
 digest_is config (first ∷ modules) [] url text e = absurd (none-some text (sym (get_nowhere url) ∙ e))
-digest_is config (first ∷ modules) (own ∷ sources) url text e = by (web_name config (a_module first)) refl e
-  where
-    others : Texts (List ℕ)
-    others = digests config modules sources
-
-    by : (name : Option (List ℕ)) → web_name config (a_module first) ≡ name → get (with_digest name own.bytes others) url ≡ Some text → IsDigestOf config (first ∷ modules) url text
-    by None same found = behind config first modules url text (digest_is config modules sources url text found)
-    by (Some name) same found =
-        let inserted : cond (same_key url name) (Some (digest_text own.bytes)) (get others url) ≡ Some text = sym (get_inserted others name (digest_text own.bytes) url) ∙ found in
-        elim (cases_Bool (same_key url name)) [
-          | inl here ↦ record {
-              m = first;
-              is_module = contains_here first modules;
-              named = same ∙ ap Some (sym (same_key_is url name here));
-              bytes = own.bytes;
-              digest = same_Some text (digest_text own.bytes) (sym inserted ∙ cond-true _ _ _ here);
-            }
-          | inr other ↦ behind config first modules url text (digest_is config modules sources url text (sym (cond-false _ _ _ other) ∙ inserted))
-        ]
+digest_is config (first ∷ modules) (own ∷ sources) url text e =
+    digest_by config first modules own.bytes url text (digests config modules sources) (digest_is config modules sources url text) (web_name config (a_module first)) refl e
 
 -- ---- the digest of a module
 
