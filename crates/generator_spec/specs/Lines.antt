@@ -28,10 +28,13 @@ use Rattle.trace_spec.specs.declared.TraceFault.TheVariants.{Memory}
 use Rattle.trace_spec.specs.Checks.{Gathered}
 use Rattle.generator_spec.specs.declared.MapFileFault.{MapFileFault}
 use Rattle.generator_spec.specs.declared.MapFileFault.TheVariants as map_file
+use Rattle.generator_spec.specs.declared.ProjectFault.{ProjectFault}
+use Rattle.generator_spec.specs.declared.ProjectFault.TheVariants as project
 use Rattle.generator_spec.specs.declared.PageFault.{PageFault}
 use Rattle.generator_spec.specs.declared.PageFault.TheVariants.{Absent, TooLarge, KeepsMapsOut}
 use Rattle.generator_spec.specs.declared.Refusal.{Refusal}
-use Rattle.generator_spec.specs.declared.Refusal.TheVariants.{Words, BadBase, Page, MapFile, Trace}
+use Rattle.generator_spec.specs.declared.Refusal.TheVariants.{NotBuilt, BadBase, BadPath, BadConditions, Project}
+use Rattle.generator_spec.specs.declared.Refusal.TheVariants.{NoBase, NotLinked, Page, MapFile, Trace}
 use Rattle.generator_spec.specs.declared.Refusal.TheVariants as refusal
 use Rattle.generator_spec.specs.Commands.{map_file_limit}
 use Rattle.generator_spec.specs.Statuses.{refused_status, words_status, limit_status, read_fault_status, file_status}
@@ -65,9 +68,20 @@ map_file_status (map_file.NotJson at) = file_status
 map_file_status map_file.TooDeep = limit_status
 map_file_status (map_file.NotObject which) = file_status
 
+abbrev pub project_status : ProjectFault → ℕ
+project_status project.Absent = file_status
+project_status project.TooLarge = limit_status
+project_status (project.NotProject at) = file_status
+project_status (project.Above which) = limit_status
+
 abbrev pub status_of : Refusal → ℕ
-status_of Words = not_built_status
+status_of NotBuilt = not_built_status
 status_of (BadBase text) = words_status
+status_of (BadPath text) = words_status
+status_of (BadConditions text) = words_status
+status_of (Project fault) = project_status fault
+status_of NoBase = words_status
+status_of (NotLinked entry) = refused_status
 status_of (refusal.Limit which) = limit_status
 status_of (Page fault) = page_status fault
 status_of (MapFile fault) = map_file_status fault
@@ -165,9 +179,24 @@ map_file_line (map_file.NotJson at) = codes "bad file: map at " ++ (decimal at +
 map_file_line map_file.TooDeep = limit_line Depth
 map_file_line (map_file.NotObject which) = codes "bad file: map " ++ (part_name which ++ end_of_line)
 
+abbrev pub project_line : ProjectFault → List ℕ
+project_line project.Absent = codes "bad file: project absent" ++ end_of_line
+project_line project.TooLarge = limit_line File
+project_line (project.NotProject at) = codes "bad file: project at " ++ (decimal at ++ end_of_line)
+project_line (project.Above which) = limit_line which
+
+-- own: a text between these words and the end of the line, as a JSON string
+abbrev pub text_line : List ℕ → List ℕ → List ℕ
+text_line front text = front ++ (quoted text ++ end_of_line)
+
 abbrev pub line_of : Refusal → List ℕ
-line_of Words = codes "not built: words" ++ end_of_line
-line_of (BadBase text) = codes "words: BadBase " ++ (quoted text ++ end_of_line)
+line_of NotBuilt = codes "not built: words" ++ end_of_line
+line_of (BadBase text) = text_line (codes "words: BadBase ") text
+line_of (BadPath text) = text_line (codes "words: BadPath ") text
+line_of (BadConditions text) = text_line (codes "words: BadConditions ") text
+line_of (Project fault) = project_line fault
+line_of NoBase = codes "words: no base" ++ end_of_line
+line_of (NotLinked entry) = text_line (codes "refused: NotLinked ") entry
 line_of (refusal.Limit which) = limit_line which
 line_of (Page fault) = page_line fault
 line_of (MapFile fault) = map_file_line fault

@@ -15,12 +15,29 @@ use tree_spec::LimitName;
 /// What is asked for.
 #[derive(Clone, Copy, Debug, PartialEq, Eq)]
 pub enum Command {
-    /// The map, in a file of its own.
+    /// The map and the project, with these entries and options.
     Link,
+    /// The map and the project, without these entries.
+    Unlink,
+    /// The map of the project.
+    Refresh,
     /// The page, with the map in it.
     Inject,
     /// Which needs the map that is there doesn't serve.
     Check,
+}
+
+/// Why there is no project. A place is an offset in the file, in bytes.
+#[derive(Clone, Copy, Debug, PartialEq, Eq)]
+pub enum ProjectFault {
+    /// No file stands there.
+    Absent,
+    /// The file has more bytes than a file may.
+    TooLarge,
+    /// It isn't the file of a project.
+    NotProject { at: usize },
+    /// It passes this limit as it is read.
+    Above { which: LimitName },
 }
 
 /// Why there is no page to put a map into.
@@ -53,10 +70,20 @@ pub enum MapFileFault {
 #[derive(Debug, Drop)]
 pub enum Refusal {
     /// Words that aren't built.
-    Words,
+    NotBuilt,
     /// A text that gives no base.
     BadBase { text: Text },
-    /// A quantity of the words, or the map, passes its limit.
+    /// A text that is no page's path.
+    BadPath { text: Text },
+    /// A text that gives no conditions.
+    BadConditions { text: Text },
+    /// There is no project.
+    Project { fault: ProjectFault },
+    /// Neither the words nor a project give a base.
+    NoBase,
+    /// An entry that isn't there to be taken out.
+    NotLinked { entry: Text },
+    /// There are too many entries, or the map passes its limit.
     Limit { which: LimitName },
     /// There is no page to put the map into.
     Page { fault: PageFault },
