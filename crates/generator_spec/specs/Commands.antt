@@ -34,8 +34,8 @@ use Rattle.trace_spec.specs.Kinds.{IsOfTrace}
 use Rattle.trace_spec.specs.Modules.{Config, web_name}
 use Rattle.trace_spec.specs.Traces.{traced}
 use Rattle.trace_spec.specs.Walking.{the_page}
-use Rattle.generator_spec.specs.declared.Command.{Command}
-use Rattle.generator_spec.specs.declared.Command.TheVariants.{Link, Unlink, Refresh, Inject, Check}
+use Rattle.config_spec.specs.declared.Command.{Command}
+use Rattle.config_spec.specs.declared.Command.TheVariants.{Link, Unlink, Refresh, Inject, Check}
 use Rattle.generator_spec.specs.declared.MapFileFault.{MapFileFault}
 use Rattle.generator_spec.specs.declared.MapFileFault.TheVariants as map_fault
 use Rattle.generator_spec.specs.declared.PageFault.{PageFault}
@@ -43,7 +43,7 @@ use Rattle.generator_spec.specs.declared.PageFault.TheVariants.{Absent, TooLarge
 use Rattle.generator_spec.specs.declared.Refusal.{Refusal}
 use Rattle.generator_spec.specs.declared.Refusal.TheVariants.{Page, MapFile, Trace, Limit}
 use Rattle.generator_spec.specs.Generation.{IsTooLarge}
-use Rattle.generator_spec.specs.Projects.{project_path}
+use Rattle.config_spec.specs.Projects.{project_path}
 use Rattle.project_spec.specs.ProjectFiles.{project_text}
 
 -- own: `check` traces, and generates nothing

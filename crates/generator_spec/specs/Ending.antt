@@ -15,16 +15,18 @@ use Rattle.tree_spec.specs.Trees.{Tree}
 use Rattle.import_map_spec.specs.Resolving.{Resolution}
 use Rattle.page_spec.specs.ImportMaps.{IsOneMap}
 use Rattle.trace_spec.specs.Modules.{Config}
-use Rattle.generator_spec.specs.declared.Command.{Command}
-use Rattle.generator_spec.specs.declared.Command.TheVariants.{Link, Unlink, Refresh, Inject, Check}
+use Rattle.config_spec.specs.declared.Command.{Command}
+use Rattle.config_spec.specs.declared.Command.TheVariants.{Link, Unlink, Refresh, Inject, Check}
+use Rattle.config_spec.specs.declared.ConfigFault.{ConfigFault}
 use Rattle.generator_spec.specs.declared.Refusal.{Refusal}
+use Rattle.generator_spec.specs.declared.Refusal.TheVariants.{Config as Configured}
 use Rattle.generator_spec.specs.Checking.{check_status, check_lines}
 use Rattle.generator_spec.specs.Commands.{IsGenerating, IsMapText, Opens, IsRefusalOf, NewFile, Writes}
 use Rattle.generator_spec.specs.Generation.{Generates}
 use Rattle.generator_spec.specs.Serves.{Serves, KnowsModules}
 use Rattle.generator_spec.specs.Statuses.{done_status, words_status, read_fault_status, write_fault_status, memory_status}
-use Rattle.generator_spec.specs.Words.{IsCommandOf, IsPlain, RefusesWords}
-use Rattle.generator_spec.specs.Projects.{IsConfigOf, IsConfigFor, CanRefuseConfig}
+use Rattle.config_spec.specs.Words.{IsCommandOf, IsPlain, RefusesWords}
+use Rattle.config_spec.specs.Projects.{IsConfigOf, IsConfigFor, CanRefuseConfig}
 use Rattle.generator_spec.specs.Lines.{status_of, line_of, counts_line, done_line, differs_line}
 use Rattle.generator_spec.specs.Lines.{memory_line, read_fault_line, write_fault_line}
 use Rattle.generator_spec.specs.Outcome.{FilesPlaced, Outcome}
@@ -112,12 +114,12 @@ pub record IsChecked (words : List (List ℕ)) (status : ℕ) (lines : List (Lis
   pub says : lines ≡ check_lines needs differing
 
 -- own: a run of these words can be refused so, whatever the folder tells
-pub data CanRefuse (words : List (List ℕ)) (why : Refusal) : Type 0 where
-  by_words : RefusesWords words why → CanRefuse words why
-  by_project : CanRefuseConfig words why → CanRefuse words why
+pub data CanRefuse (words : List (List ℕ)) : Refusal → Type 0 where
+  by_words : (fault : ConfigFault) → RefusesWords words fault → CanRefuse words (Configured fault)
+  by_project : (fault : ConfigFault) → CanRefuseConfig words fault → CanRefuse words (Configured fault)
   by_tree :
-      (command : Command) (config : Config) → IsConfigFor words command config → IsRefusalOf config command why
-      → CanRefuse words why
+      (command : Command) (config : Config) (why : Refusal) → IsConfigFor words command config
+      → IsRefusalOf config command why → CanRefuse words why
 
 -- own: status and lines belong together, whatever the folder tells: they are those of words without a meaning, of a
 -- refusal, of a map that is written, or of a check

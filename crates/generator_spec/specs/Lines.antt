@@ -7,7 +7,7 @@
 use Rattle.std.specs.Prelude.{ℕ, List, [], ◌∷◌, ◌++◌, length, codes, unwrap_or}
 use Rattle.std.specs.Fmt.{decimal}
 use Rattle.tree_spec.specs.declared.LimitName.{LimitName}
-use Rattle.tree_spec.specs.declared.LimitName.TheVariants.{File, Depth}
+use Rattle.tree_spec.specs.declared.LimitName.TheVariants.{File, Depth, Entries}
 use Rattle.tree_spec.specs.Limits.{limit_number, limit_name}
 use Rattle.json_spec.specs.PrintedString.{quoted}
 use Rattle.node_spec.specs.declared.Reason.{Reason}
@@ -28,13 +28,16 @@ use Rattle.trace_spec.specs.declared.TraceFault.TheVariants.{Memory}
 use Rattle.trace_spec.specs.Checks.{Gathered}
 use Rattle.generator_spec.specs.declared.MapFileFault.{MapFileFault}
 use Rattle.generator_spec.specs.declared.MapFileFault.TheVariants as map_file
-use Rattle.generator_spec.specs.declared.ProjectFault.{ProjectFault}
-use Rattle.generator_spec.specs.declared.ProjectFault.TheVariants as project
+use Rattle.config_spec.specs.declared.ConfigFault.{ConfigFault}
+use Rattle.config_spec.specs.declared.ConfigFault.TheVariants.{NotBuilt, BadBase, BadPath, BadConditions, Project}
+use Rattle.config_spec.specs.declared.ConfigFault.TheVariants.{NoBase, NotLinked, TooManyEntries}
+use Rattle.config_spec.specs.declared.ProjectFault.{ProjectFault}
+use Rattle.config_spec.specs.declared.ProjectFault.TheVariants as project
 use Rattle.generator_spec.specs.declared.PageFault.{PageFault}
 use Rattle.generator_spec.specs.declared.PageFault.TheVariants.{Absent, TooLarge, KeepsMapsOut}
 use Rattle.generator_spec.specs.declared.Refusal.{Refusal}
-use Rattle.generator_spec.specs.declared.Refusal.TheVariants.{NotBuilt, BadBase, BadPath, BadConditions, Project}
-use Rattle.generator_spec.specs.declared.Refusal.TheVariants.{NoBase, NotLinked, Page, MapFile, Trace}
+use Rattle.generator_spec.specs.declared.Refusal.TheVariants.{Page, MapFile, Trace}
+use Rattle.generator_spec.specs.declared.Refusal.TheVariants.{Config as Configured}
 use Rattle.generator_spec.specs.declared.Refusal.TheVariants as refusal
 use Rattle.generator_spec.specs.Commands.{map_file_limit}
 use Rattle.generator_spec.specs.Statuses.{refused_status, words_status, limit_status, read_fault_status, file_status}
@@ -74,14 +77,18 @@ project_status project.TooLarge = limit_status
 project_status (project.NotProject at) = file_status
 project_status (project.Above which) = limit_status
 
+abbrev pub config_status : ConfigFault → ℕ
+config_status NotBuilt = not_built_status
+config_status (BadBase text) = words_status
+config_status (BadPath text) = words_status
+config_status (BadConditions text) = words_status
+config_status (Project fault) = project_status fault
+config_status NoBase = words_status
+config_status (NotLinked entry) = refused_status
+config_status TooManyEntries = limit_status
+
 abbrev pub status_of : Refusal → ℕ
-status_of NotBuilt = not_built_status
-status_of (BadBase text) = words_status
-status_of (BadPath text) = words_status
-status_of (BadConditions text) = words_status
-status_of (Project fault) = project_status fault
-status_of NoBase = words_status
-status_of (NotLinked entry) = refused_status
+status_of (Configured fault) = config_status fault
 status_of (refusal.Limit which) = limit_status
 status_of (Page fault) = page_status fault
 status_of (MapFile fault) = map_file_status fault
@@ -189,14 +196,18 @@ project_line (project.Above which) = limit_line which
 abbrev pub text_line : List ℕ → List ℕ → List ℕ
 text_line front text = front ++ (quoted text ++ end_of_line)
 
+abbrev pub config_line : ConfigFault → List ℕ
+config_line NotBuilt = codes "not built: words" ++ end_of_line
+config_line (BadBase text) = text_line (codes "words: BadBase ") text
+config_line (BadPath text) = text_line (codes "words: BadPath ") text
+config_line (BadConditions text) = text_line (codes "words: BadConditions ") text
+config_line (Project fault) = project_line fault
+config_line NoBase = codes "words: no base" ++ end_of_line
+config_line (NotLinked entry) = text_line (codes "refused: NotLinked ") entry
+config_line TooManyEntries = limit_line Entries
+
 abbrev pub line_of : Refusal → List ℕ
-line_of NotBuilt = codes "not built: words" ++ end_of_line
-line_of (BadBase text) = text_line (codes "words: BadBase ") text
-line_of (BadPath text) = text_line (codes "words: BadPath ") text
-line_of (BadConditions text) = text_line (codes "words: BadConditions ") text
-line_of (Project fault) = project_line fault
-line_of NoBase = codes "words: no base" ++ end_of_line
-line_of (NotLinked entry) = text_line (codes "refused: NotLinked ") entry
+line_of (Configured fault) = config_line fault
 line_of (refusal.Limit which) = limit_line which
 line_of (Page fault) = page_line fault
 line_of (MapFile fault) = map_file_line fault

@@ -11,25 +11,27 @@ use Rattle.import_map_spec.specs.ParsedMap.{ParsedMap}
 use Rattle.trace_spec.specs.Checks.{Gathered}
 use Rattle.trace_spec.specs.Modules.{Config}
 use Rattle.trace_spec.specs.Traces.{traced}
-use Rattle.generator_spec.specs.declared.Command.{Command}
-use Rattle.generator_spec.specs.declared.Command.TheVariants.{Check}
+use Rattle.config_spec.specs.declared.Command.{Command}
+use Rattle.config_spec.specs.declared.Command.TheVariants.{Check}
+use Rattle.config_spec.specs.declared.ConfigFault.{ConfigFault}
 use Rattle.generator_spec.specs.declared.Refusal.{Refusal}
+use Rattle.generator_spec.specs.declared.Refusal.TheVariants.{Config as Configured}
 use Rattle.generator_spec.specs.Checking.{difference_lines, check_status, check_lines}
 use Rattle.generator_spec.specs.Commands.{HoldsMap, Refuses, NewFile, Writes}
 use Rattle.generator_spec.specs.Generation.{Generates}
 use Rattle.generator_spec.specs.Statuses.{done_status, words_status}
-use Rattle.generator_spec.specs.Words.{IsPlain, RefusesWords}
-use Rattle.generator_spec.specs.Projects.{IsConfigOf, RefusesConfig}
+use Rattle.config_spec.specs.Words.{IsPlain, RefusesWords}
+use Rattle.config_spec.specs.Projects.{IsConfigOf, RefusesConfig}
 use Rattle.generator_spec.specs.Lines.{status_of, line_of, done_line}
 
 -- own: a refusal comes of the words, or else of the project, or else of what the command needs, or else it is the first
 -- one of the trace, or that of a map that is too large; it writes nothing
-pub data RefusesRun (words : List (List ℕ)) (tree : Tree) (why : Refusal) : Type 0 where
-  by_words : RefusesWords words why → RefusesRun words tree why
-  by_project : RefusesConfig words tree why → RefusesRun words tree why
+pub data RefusesRun (words : List (List ℕ)) (tree : Tree) : Refusal → Type 0 where
+  by_words : (fault : ConfigFault) → RefusesWords words fault → RefusesRun words tree (Configured fault)
+  by_project : (fault : ConfigFault) → RefusesConfig words tree fault → RefusesRun words tree (Configured fault)
   by_tree :
-      (command : Command) (config : Config) → IsConfigOf words tree command config → Refuses tree config command why
-      → RefusesRun words tree why
+      (command : Command) (config : Config) (why : Refusal) → IsConfigOf words tree command config
+      → Refuses tree config command why → RefusesRun words tree why
 
 -- own: a refusal writes nothing. Where nothing is refused, the command's files are written, with the map that is
 -- generated; or it is said which of the trace's needs the map that is there doesn't serve. Words without a meaning are

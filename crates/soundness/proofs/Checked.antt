@@ -28,7 +28,7 @@ all_get m number (first ∷ more) none need c =
     ]
 
 pub checked_maps_serve : CheckedMapsServe
-checked_maps_serve tree config all base bytes m traces page_is_file named parses none = record {
+checked_maps_serve tree config all base bytes m traces named parses none = record {
   map_base = base;
   named = named;
   map = m;

@@ -45,8 +45,8 @@ pub nothing_differs : NothingDiffers
 nothing_differs tree config all layout parsed base traces page_is_file agreed named parses =
     let files : (need : Need) → Contains all.needs need → NamesUrls need = needs_name tree config all traces in
     let m = with_digests config all layout in
-    let captures : NoCapture all.needs m = no_capture tree config all traces page_is_file layout agreed in
-    let mapped : OfNeeds all.needs m = of_needs tree config all traces page_is_file layout agreed in
+    let captures : NoCapture all.needs m = no_capture tree config all traces layout agreed page_is_file in
+    let mapped : OfNeeds all.needs m = of_needs tree config all traces layout agreed in
     let kept = map_kept base (kept_urls.2 _ _ _ _ named) all.needs m mapped files (has_digests tree config all traces layout) in
     subst (λ (map : ParsedMap). differences map all.needs ≡ [])
     (same_map m parsed (one_map base (map_text m) (Ok m) (Ok parsed) (texts_read_back base m kept) parses))
