@@ -3,7 +3,7 @@ use Rattle.trace_spec.specs.Checks.{Gathered}
 use Rattle.generation.specs.declared.stop.Stop.{Stop}
 use Rattle.generation.specs.Generating.{Tracing}
 use Rattle.generation.proofs.Generatings.{refused_so, generated, too_large}
-use Rattle.generation.proofs.generated.generate.Goals as goal
+use Rattle.generation.proofs.generated.generated_from.Goals as goal
 
 pub returns-in-Err-clause-generates : goal.returns-in-Err-clause-generates
 returns-in-Err-clause-generates g c =
