@@ -8,8 +8,8 @@
 --     HoldsMap tree config map            the map's file is read as this map
 --     RefusesMapFile tree config fault    there is no map to check
 --     Opens tree config command           what the command needs before its trace is there
---     Refuses tree config command why     the command is refused: before its trace, by the first refusal of that, or for
---                                         the size of its map
+--     Refuses tree config command why     the command is refused: before its trace, by the first refusal of that, or
+--                                         for the size of its map
 --     IsRefusalOf config command why      it can be refused so, whatever the tree holds
 --     NewFile                             a file that is written: its path and its bytes
 --     Writes tree config map command files      with the map the command writes these files, in this order

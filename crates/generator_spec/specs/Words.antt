@@ -4,7 +4,8 @@
 --     page_path, link_conditions        the path of the page, and the conditions
 --     IsConfigOf words command config   the words ask for this command with this config
 --     RefusesWords words why            the words are refused so
-use Rattle.std.specs.Prelude.{◌≡◌, ◌≢◌, ◌≤◌, ◌<◌, ℕ, List, [], ◌∷◌, ◌++◌, length, codes, bytes_eq, All, Some, None, if◌then◌else◌}
+use Rattle.std.specs.Prelude.{◌≡◌, ◌≢◌, ◌≤◌, ◌<◌, ◌++◌, if◌then◌else◌, ℕ, List, [], ◌∷◌, length, codes, bytes_eq}
+use Rattle.std.specs.Prelude.{All, Some, None}
 use Rattle.std.specs.List.{list_any}
 use Rattle.tree_spec.specs.declared.LimitName.TheVariants.{Entries}
 use Rattle.tree_spec.specs.Limits.{limit_number}
