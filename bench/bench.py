@@ -95,8 +95,9 @@ def esbuild(tree, tries):
 
 
 def node(tree, tries):
+    written = os.path.join(tree.folder, "..", "node-" + os.path.basename(tree.folder) + ".json")
     return best(["node", "--no-warnings", "--experimental-import-meta-resolve", os.path.join(HERE, "node_link.mjs"),
-                 "./app.mjs"], tree.folder, tries)
+                 "./app.mjs", written], tree.folder, tries)
 
 
 def measure(shape, work, modules, slack, tries, peers):

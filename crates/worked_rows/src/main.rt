@@ -15,7 +15,11 @@ mod escaped_page;
 #[cfg(test)]
 mod faults;
 #[cfg(test)]
+mod maps;
+#[cfg(test)]
 mod page_cases;
+#[cfg(test)]
+mod page_maps;
 #[cfg(test)]
 mod pages;
 #[cfg(test)]

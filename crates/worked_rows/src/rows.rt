@@ -1,6 +1,7 @@
 use crate::case::{Case, Fails, LINK, NONE, ended, ends, fits, outcome_of, put};
 use crate::cases::CASES;
 use crate::faults::FAULTS;
+use crate::maps::MAPS;
 use primitives::Memory;
 use std::alloc::Global;
 use std::test::Fail;
@@ -9,6 +10,19 @@ use tree_model::{MemFolder, PathFault};
 fn passes(alloc: Global, case: &Case, fails: &Fails) -> Result<bool, PathFault> {
     let outcome = outcome_of(alloc, case, fails)?;
     fits(alloc, &outcome, case)
+}
+
+#[test]
+fn each_map_is_written(rt: HostRuntime) -> Result<(), Fail> {
+    for (number, case) in MAPS.iter().enumerate() {
+        assert!(rt;
+            passes(rt.alloc(), case, &NONE)?,
+            "map {number}: {} must write its map and say {}",
+            case.words,
+            case.line
+        );
+    }
+    Ok(())
 }
 
 #[test]
