@@ -17,6 +17,8 @@ mod faults;
 #[cfg(test)]
 mod maps;
 #[cfg(test)]
+mod package_looks;
+#[cfg(test)]
 mod page_cases;
 #[cfg(test)]
 mod page_maps;
