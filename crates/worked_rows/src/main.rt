@@ -9,6 +9,8 @@
 mod case;
 #[cfg(test)]
 mod cases;
+#[cfg(test)]
+mod check_cases;
 mod endings;
 #[cfg(test)]
 mod escaped_page;
