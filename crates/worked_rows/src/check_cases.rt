@@ -18,7 +18,7 @@ const NEAREST_FIRST: &str =
     "{\"scopes\":{\"/app.mjs\":{\"z\":\"/node_modules/z/z.mjs\"},\"/\":{\"z\":\"/1\"}}}";
 
 /// Maps that are read, with what they don't serve.
-pub static MAPS: [Case; 10] = [
+pub static CHECKED_MAPS: [Case; 10] = [
     Case {
         words: CHECK,
         files: &[

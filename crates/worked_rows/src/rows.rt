@@ -1,6 +1,6 @@
 use crate::case::{Case, Fails, LINK, NONE, ended, ends, fits, outcome_of, put};
 use crate::cases::CASES;
-use crate::check_cases::{IN_ORDER, MAPS, NO_MAPS};
+use crate::check_cases::{CHECKED_MAPS, IN_ORDER, NO_MAPS};
 use crate::faults::FAULTS;
 use crate::maps::MAPS;
 use primitives::Memory;
@@ -42,7 +42,7 @@ fn each_row_ends_as_it_must(rt: HostRuntime) -> Result<(), Fail> {
 
 #[test]
 fn each_map_is_checked_as_it_must(rt: HostRuntime) -> Result<(), Fail> {
-    for (number, case) in MAPS.iter().enumerate() {
+    for (number, case) in CHECKED_MAPS.iter().enumerate() {
         assert!(rt;
             passes(rt.alloc(), case, &NONE)?,
             "map {number} must end with {} {}",
