@@ -39,6 +39,26 @@ packages() {
         diff examples/expected-packages.json "$kept/packages/importmap.json"
 }
 
+# The SHA-384 digest of a file in standard Base64, by two programs.
+by_sha384sum() {
+    sha384sum <"$1" | cut -d ' ' -f 1 | tr a-f A-F | basenc --base16 -d | base64 -w 0
+}
+
+by_openssl() {
+    openssl dgst -sha384 -binary "$1" | openssl base64 -A
+}
+
+# The map of the example with packages has the digests that both give for two of the files, and nine in all.
+digests() {
+    map=$kept/packages/importmap.json
+    for path in app.js node_modules/cards/parts/price.js; do
+        for tool in by_sha384sum by_openssl; do
+            grep -qF "\"https://app.test/$path\": \"sha384-$($tool "$kept/packages/$path")\"" "$map" || return 1
+        done
+    done
+    [ "$(grep -c '": "sha384-' "$map")" = 9 ]
+}
+
 # The page of the examples gets the map that was typed by hand, once and again, in a copy, and nothing else is written.
 injected() {
     program=$PWD/build/salimgub
@@ -80,6 +100,7 @@ injected_packages() {
 check "build.sh" ./build.sh
 check "the example" example
 check "the example with packages" packages
+check "digests by other programs" digests
 check "the page of the examples" injected
 check "the page of packages" injected_packages
 check "the example with a map written by hand" checked

@@ -1,6 +1,6 @@
 #!/bin/sh
 # Whole runs of build/salimgub in folders on disk: the status, the line, and the map where one is written, each typed by
-# hand. Every row that fails is named; the status tells whether all passed.
+# hand; the digests are those of `openssl dgst -sha384`. Every row that fails is named; the status tells whether all passed.
 program=$(cd "$(dirname "$0")/.." && pwd)/build/salimgub
 kept=$(mktemp -d) || exit 1
 trap 'rm -rf "$kept"' EXIT
@@ -26,14 +26,21 @@ row() {
 mkdir "$kept/smallest" && : >"$kept/smallest/app.mjs"
 row smallest ./app.mjs 0 'ok: 1 modules, 1 requests, 0 mappings' <<'MAP'
 {
-  "imports": {}
+  "imports": {},
+  "integrity": {
+    "https://app.test/app.mjs": "sha384-OLBgp1GsljhM2TJ+sbHjaiH9txEUvgdDTAzHv2P24donTt6/529l+9Ua0vFImLlb"
+  }
 }
 MAP
 
 mkdir "$kept/pair" && echo 'import "./b.mjs";' >"$kept/pair/app.mjs" && : >"$kept/pair/b.mjs"
 row pair ./app.mjs 0 'ok: 2 modules, 2 requests, 0 mappings' <<'MAP'
 {
-  "imports": {}
+  "imports": {},
+  "integrity": {
+    "https://app.test/app.mjs": "sha384-CARr8KN4VOyO5/iC6v7LMnOnPYn+q5g05VYptal7pBKkAhn+NTiEUY1BYehfzvj+",
+    "https://app.test/b.mjs": "sha384-OLBgp1GsljhM2TJ+sbHjaiH9txEUvgdDTAzHv2P24donTt6/529l+9Ua0vFImLlb"
+  }
 }
 MAP
 
@@ -42,6 +49,10 @@ row escaped ./app.mjs 0 'ok: 2 modules, 2 requests, 1 mappings' <<'MAP'
 {
   "imports": {
     "https://app.test/a%62.mjs": "https://app.test/ab.mjs"
+  },
+  "integrity": {
+    "https://app.test/ab.mjs": "sha384-OLBgp1GsljhM2TJ+sbHjaiH9txEUvgdDTAzHv2P24donTt6/529l+9Ua0vFImLlb",
+    "https://app.test/app.mjs": "sha384-RCKpZDrWVkPtSiqtxJIo7E8uYuAPL3252cYMCQ1jvTqlQBGX/5EE0u0gNqpU7rbv"
   }
 }
 MAP
@@ -49,7 +60,11 @@ MAP
 mkdir "$kept/quotes" && echo "  import './b.mjs'" >"$kept/quotes/app.mjs" && echo 'export {};' >"$kept/quotes/b.mjs"
 row quotes ./app.mjs 0 'ok: 2 modules, 2 requests, 0 mappings' <<'MAP'
 {
-  "imports": {}
+  "imports": {},
+  "integrity": {
+    "https://app.test/app.mjs": "sha384-UlWUf8rOSuoxcuJB8tHuU8cq2Fb6TRfLU7rI+S+YUQVV4p/2SxSejXFy0iIYp1dX",
+    "https://app.test/b.mjs": "sha384-z0dQZuTpVhlJhRpzBVjQTCgdq+BUSh89DMD4c8ea5gn4XTF+416jeLVKPWSl2O8q"
+  }
 }
 MAP
 
@@ -80,6 +95,13 @@ row ui ./src/main.js 0 'ok: 5 modules, 6 requests, 3 mappings' <<'MAP'
     "@ui/core": "https://app.test/node_modules/ui/node_modules/@ui/core/lib/index.mjs",
     "ui": "https://app.test/node_modules/ui/b.js",
     "ui/x/menu": "https://app.test/node_modules/ui/x/menu.js"
+  },
+  "integrity": {
+    "https://app.test/node_modules/ui/b.js": "sha384-fTcfCsVu7yvt3g9LFfritgiUikMnzZIA/dqPyUjnKoSENf1koQGxmoHfLywoFTKk",
+    "https://app.test/node_modules/ui/node_modules/@ui/core/lib/index.mjs": "sha384-+3DuLD1KVPQ/lPGKLn93I26CtkmxsZ+pS5BUSKiE0lPEIIL3vWUWVsHz2RRuZjMi",
+    "https://app.test/node_modules/ui/x/menu.js": "sha384-Pjmj++s7Y5Oncr97J9gE44YFFOrmurNsWYdf/c83rf/G+VXf3tloacfn+LWUXLfl",
+    "https://app.test/src/main.js": "sha384-YRNCTOcCt/aVJClBCjXNfc7kVQN5YXbHVNVz21nHQnQyDHN3d0RApSqZQvSi2pea",
+    "https://app.test/src/style.js": "sha384-OLBgp1GsljhM2TJ+sbHjaiH9txEUvgdDTAzHv2P24donTt6/529l+9Ua0vFImLlb"
   }
 }
 MAP
@@ -93,6 +115,13 @@ row order ./src/main.js 0 'ok: 5 modules, 5 requests, 3 mappings' <<'MAP'
     "@ui/core": "https://app.test/node_modules/ui/node_modules/@ui/core/lib/index.mjs",
     "ui": "https://app.test/node_modules/ui/n.js",
     "ui/x/menu": "https://app.test/node_modules/ui/x/menu.js"
+  },
+  "integrity": {
+    "https://app.test/node_modules/ui/n.js": "sha384-eVYa5/aOGk/vpqRCoKm8w+PIvo26WOQ7DatXj0ggBM+Hrbvb/r11FnPNdzaBL5xX",
+    "https://app.test/node_modules/ui/node_modules/@ui/core/lib/index.mjs": "sha384-+3DuLD1KVPQ/lPGKLn93I26CtkmxsZ+pS5BUSKiE0lPEIIL3vWUWVsHz2RRuZjMi",
+    "https://app.test/node_modules/ui/x/menu.js": "sha384-Pjmj++s7Y5Oncr97J9gE44YFFOrmurNsWYdf/c83rf/G+VXf3tloacfn+LWUXLfl",
+    "https://app.test/src/main.js": "sha384-YRNCTOcCt/aVJClBCjXNfc7kVQN5YXbHVNVz21nHQnQyDHN3d0RApSqZQvSi2pea",
+    "https://app.test/src/style.js": "sha384-OLBgp1GsljhM2TJ+sbHjaiH9txEUvgdDTAzHv2P24donTt6/529l+9Ua0vFImLlb"
   }
 }
 MAP
@@ -115,6 +144,13 @@ row versions ./app.mjs 0 'ok: 5 modules, 5 requests, 2 mappings' <<'MAP'
     "https://app.test/b/": {
       "c": "https://app.test/b/node_modules/c/index.mjs"
     }
+  },
+  "integrity": {
+    "https://app.test/a/m.mjs": "sha384-qruC7+aG5XKl6IkvoF88DVnWrFP02u8KOmb9+fpRn/TPxBSChNrBB11UHLDvQ7SZ",
+    "https://app.test/a/node_modules/c/index.mjs": "sha384-OLBgp1GsljhM2TJ+sbHjaiH9txEUvgdDTAzHv2P24donTt6/529l+9Ua0vFImLlb",
+    "https://app.test/app.mjs": "sha384-/A+xpvXvObiDjDvSl3Gju723X/VIJDFxW/1O86XYxM9gyvugLoqDSIOI6JeLUsQm",
+    "https://app.test/b/m.mjs": "sha384-qruC7+aG5XKl6IkvoF88DVnWrFP02u8KOmb9+fpRn/TPxBSChNrBB11UHLDvQ7SZ",
+    "https://app.test/b/node_modules/c/index.mjs": "sha384-OLBgp1GsljhM2TJ+sbHjaiH9txEUvgdDTAzHv2P24donTt6/529l+9Ua0vFImLlb"
   }
 }
 MAP
@@ -128,6 +164,10 @@ row fallback ./app.mjs 0 'ok: 2 modules, 2 requests, 1 mappings' <<'MAP'
 {
   "imports": {
     "#d": "https://app.test/fb.mjs"
+  },
+  "integrity": {
+    "https://app.test/app.mjs": "sha384-s6a8r1PXN9L5JpteOj2engtZjWTdrGN1hUb4CBHiDkvlVAo1Ez7u9TTBEMDFTExO",
+    "https://app.test/fb.mjs": "sha384-OLBgp1GsljhM2TJ+sbHjaiH9txEUvgdDTAzHv2P24donTt6/529l+9Ua0vFImLlb"
   }
 }
 MAP
@@ -152,6 +192,10 @@ row package ./app.mjs 0 'ok: 2 modules, 3 requests, 1 mappings' <<'MAP'
 {
   "imports": {
     "ui/x.mjs": "https://app.test/node_modules/ui/x.mjs"
+  },
+  "integrity": {
+    "https://app.test/app.mjs": "sha384-95SHRkT0zBY5QSGZ80yJ4ZVQoL+0gk0JJhCzk9eIeSypT0+t74qdJEsk2P3vrXvd",
+    "https://app.test/node_modules/ui/x.mjs": "sha384-OLBgp1GsljhM2TJ+sbHjaiH9txEUvgdDTAzHv2P24donTt6/529l+9Ua0vFImLlb"
   }
 }
 MAP
@@ -180,7 +224,10 @@ page() {
 mkdir "$kept/paged" && echo '<head></head>' >"$kept/paged/index.html" && : >"$kept/paged/app.mjs"
 page paged 0 'ok: 1 modules, 1 requests, 0 mappings' <<'PAGE'
 <head><script type="importmap">{
-  "imports": {}
+  "imports": {},
+  "integrity": {
+    "https://app.test/app.mjs": "sha384-OLBgp1GsljhM2TJ+sbHjaiH9txEUvgdDTAzHv2P24donTt6/529l+9Ua0vFImLlb"
+  }
 }
 </script>
 </head>
@@ -227,5 +274,10 @@ checked wrongmap 6 <<'LINES'
 differs: from "/app.mjs" for "./b.mjs?x" wants "https://app.test/b.mjs?x" gets "https://app.test/app.mjs"
 1 differences
 LINES
+
+# The digests of a map aren't compared.
+mkdir "$kept/otherdigest" && : >"$kept/otherdigest/app.mjs" &&
+    echo '{"integrity":{"/app.mjs":"sha384-another","/b.mjs":"sha384-another"}}' >"$kept/otherdigest/importmap.json"
+echo 'ok: 1 needs served' | checked otherdigest 0
 
 exit "$failed"

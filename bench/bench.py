@@ -6,11 +6,14 @@ import sys
 import tempfile
 import time
 
+import maps
 import trees
 
 HERE = os.path.dirname(os.path.abspath(__file__))
 PROGRAM = os.path.join(HERE, "..", "build", "salimgub")
-WORDS = ["link", "--base", "https://app.test/", "./app.mjs"]
+BASE = ["--base", maps.BASE]
+ENTRY = "./app.mjs"
+WORDS = ["link"] + BASE + [ENTRY]
 MIB = 1024 * 1024
 # Below this a time says more about the machine than about the program.
 NOISE = 0.05
@@ -69,6 +72,28 @@ def link(tree, tries):
     return run
 
 
+def check(folder, entries, needs, tries, label):
+    """The fastest of a few checks of a folder's map, where each serves so many needs."""
+    run = best([PROGRAM, "check"] + BASE + entries, folder, tries)
+    wanted = f"ok: {needs} needs served\n"
+    if run.status != 0 or run.out != wanted:
+        say(False, f"{label}: status {run.status}, out {run.out[:200]!r}, wanted {wanted!r}")
+    return run
+
+
+def put_map(folder, shape, size):
+    """Writes the map of a folder, and says how many bytes it has. Its text is made in a process of its own, since the
+    memory of this one would count as that of the programs that it starts."""
+    path = os.path.join(folder, "importmap.json")
+    child = os.fork()
+    if child == 0:
+        with open(path, "w", encoding="utf-8") as file:
+            file.write(shape(size))
+        os._exit(0)
+    os.waitpid(child, 0)
+    return os.path.getsize(path)
+
+
 def floor(tree, tries):
     """Reads and digests each file of the tree that is looked at, once."""
     names = os.path.join(tree.folder, "..", os.path.basename(tree.folder) + ".list")
@@ -95,8 +120,9 @@ def esbuild(tree, tries):
 
 
 def node(tree, tries):
+    written = os.path.join(tree.folder, "..", "node-" + os.path.basename(tree.folder) + ".json")
     return best(["node", "--no-warnings", "--experimental-import-meta-resolve", os.path.join(HERE, "node_link.mjs"),
-                 "./app.mjs"], tree.folder, tries)
+                 "./app.mjs", written], tree.folder, tries)
 
 
 def measure(shape, work, modules, slack, tries, peers):
@@ -167,6 +193,59 @@ def measure_layout(work, modules, slack, tries):
         say(ratio <= 2.5, f"{label}: {ratio:.2f} times as long as for half of them, {once.seconds:.3f} s, at most 2.5")
 
 
+def measure_check(work, count, slack, tries):
+    """Measures a check of packages by the map that `link` writes there."""
+    label = f"check of {count} packages"
+    tree = trees.packages(os.path.join(work, f"checked-{count}"), count)
+    linked = link(tree, tries)
+    run = check(tree.folder, [ENTRY], tree.requests, tries, label)
+    say(run.seconds <= max(1.3 * slack * linked.seconds, NOISE),
+        f"{label}: {run.times()}, {run.seconds / linked.seconds:.2f} times as long as link, {linked.times()}, "
+        f"at most {1.3 * slack:g}")
+
+
+def measure_maps(work, size, slack, tries):
+    """Measures the reading of maps of one size, which is nearly all that a check without entries does. The map that is
+    in the form of `link` has a pace and a share of memory to keep, besides its own bytes; a hostile one a time."""
+    folder = os.path.join(work, "maps")
+    os.makedirs(folder)
+
+    def read(name, shape):
+        length = put_map(folder, shape, size)
+        run = check(folder, [], 0, tries, name)
+        run.pace, run.share = length / 1e6 / run.seconds, run.memory / length - 1
+        run.said = (f"{name}, {length / MIB:.1f} MiB: {run.times()}, {run.pace:.1f} MB/s, "
+                    f"{run.share:.2f} times its bytes")
+        return run
+
+    run = read("a map as link prints it", maps.printed)
+    say(run.pace >= 40 / slack, f"{run.said}, at least {40 / slack:g} MB/s")
+    # The program alone takes more than a small map.
+    say(run.memory <= 4 * slack * size + size + 16 * MIB, f"{run.said}, at most {4 * slack} times")
+    for name, shape in maps.OTHERS.items():
+        print(f"      {read(name, shape).said}", flush=True)
+    for name, shape in maps.HOSTILE.items():
+        run = read(name, shape)
+        say(run.seconds <= 10, f"{run.said}, at most 10 s")
+
+
+def measure_needs(work, modules, count, slack, tries):
+    """Measures what a need costs by a large map and by a small one: how much longer a check with entries takes than one
+    without them, so with the trace of the need."""
+    tree = trees.shared(os.path.join(work, f"needs-{modules}"), modules)
+
+    def cost(shape, number, label):
+        put_map(tree.folder, shape, number)
+        run = check(tree.folder, [ENTRY], tree.requests, tries, label)
+        return max(run.seconds - check(tree.folder, [], 0, tries, label).seconds, 0.001) / tree.requests
+
+    for name, shape in (("scopes", maps.scopes), ("keys that end in /", maps.folders)):
+        label = f"a need of {tree.requests} by {count} {name}"
+        large, small = cost(shape, count, label), cost(shape, 1, label)
+        say(large <= 3 * slack * small, f"{label}: {large * 1e6:.2f} us, {large / small:.2f} times as long as by one, "
+                                        f"{small * 1e6:.2f} us, at most {3 * slack}")
+
+
 def main():
     smoke = sys.argv[1:] == ["smoke"]
     if sys.argv[1:] and not smoke:
@@ -184,10 +263,16 @@ def main():
             measure_packages(work, 200, 10, 2, False)
             measure_names(work, 2000, 10, 2)
             measure_layout(work, 2000, 10, 2)
+            measure_check(work, 200, 10, 2)
+            measure_maps(work, MIB, 10, 2)
+            measure_needs(work, 2000, 10000, 10, 2)
         else:
             measure_packages(work, 2000, 1, 3, True)
             measure_names(work, 18000, 1, 2)
             measure_layout(work, 19000, 1, 3)
+            measure_check(work, 2000, 1, 3)
+            measure_maps(work, 64 * MIB, 1, 2)
+            measure_needs(work, 20000, 100000, 1, 3)
     finally:
         shutil.rmtree(work)
     print(f"{failures} failed" if failures else "all passed")

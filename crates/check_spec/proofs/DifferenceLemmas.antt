@@ -2,6 +2,7 @@
 use Rattle.std.proofs.Common.{◌≡◌, ℕ, zero, suc, ◌<◌, ◌≤◌, ◌+◌, true, false, List, [], ◌∷◌, length, Some, refl, sym, ap, ◌∙◌, subst, arith}
 use Rattle.std.specs.Prelude.{◌≢◌, ⊤, map, slice_get, slice_index, Contains}
 use Rattle.std.proofs.lemmas.Bool.{cases_Bool, cond-true, cond-false, true≢false}
+use Rattle.std.proofs.lemmas.Option.{same_Some}
 use Rattle.std.proofs.lemmas.Slice.Eq.{bytes_eq-Decides}
 use mathlib.Core.Logic.{inl, inr}
 use Rattle.import_map_spec.specs.ParsedMap.{ParsedMap}
@@ -71,13 +72,10 @@ module _ (m : ParsedMap) where
         | inr other ↦ subst (λ xs. Contains xs d) (sym (cond-false _ _ _ other)) (subst (λ x. Contains (x ∷ differences_from m (suc number) more) d) (sym here) (contains_here d _))
       ]
 
-  same_need : (a b : Need) → Some a ≡ Some b → a ≡ b
-  same_need a b e = cc
-
   to_list : (number : ℕ) (needs : List Need) (d : Difference) (place : ℕ) (need : Need) → d.need ≡ number + place → slice_get needs place ≡ Some need → gets m need ≡ d.got → d.got ≢ Resolved need.target → Contains (differences_from m number needs) d
   to_list number [] d place need e s g f = absurd (cc)
   to_list number (first ∷ more) d zero need e s g f =
-      let same = same_need first need s in
+      let same = same_Some first need s in
       at_first number first more d (omega arith) (ap (gets m) same ∙ g) (subst (λ (x : Need). d.got ≢ Resolved x.target) (sym same) f)
   to_list number (first ∷ more) d (suc place) need e s g f = behind number first more d (to_list (suc number) more d place need (omega arith) s g f)
 

@@ -14,10 +14,11 @@ pub record Difference : Type 0 where
   pub need : ℕ
   pub got : Resolution
 
--- HTML, import maps, resolve a module specifier, from the normalized specifier on: where that is a URL, it is the URL of
--- its specifier
+-- HTML, import maps, resolve a module specifier, from the normalized specifier on: where that is a URL, it is the URL
+-- of its specifier
 abbrev pub gets : ParsedMap → Need → Resolution
-gets map need = resolve_normalized (get map.imports) (scope_addresses map.scopes) need.referrer (parse_alone need.asked) need.asked
+gets map need =
+    resolve_normalized (get map.imports) (scope_addresses map.scopes) need.referrer (parse_alone need.asked) need.asked
 
 -- the resolution is that of this URL
 abbrev pub is_url : Resolution → List ℕ → Bool

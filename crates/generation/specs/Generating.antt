@@ -7,7 +7,8 @@
 --     AsksFootprint config holds old after      where a tree is told, all further paths are of its footprint
 --     Tracing config before result after      the trace of a folder, and what is left of that
 --     Generating config before result after      what the call that generates gives for a folder, and what it leaves
-use Rattle.std.specs.Prelude.{◌≡◌, ◌≢◌, ◌≤◌, ◌<◌, ◌++◌, ⊤, ℕ, List, length, bytes_eq, All, Contains, Option, Some, Result, Ok, Err, IfOk, IfErr, IfSome}
+use Rattle.std.specs.Prelude.{◌≡◌, ◌≢◌, ◌≤◌, ◌<◌, ◌++◌, ⊤, ℕ, List, length, bytes_eq, All, Contains}
+use Rattle.std.specs.Prelude.{Option, Some, Result, Ok, Err, IfOk, IfErr, IfSome}
 use Rattle.std.specs.FinMap.{get}
 use Rattle.std.specs.List.{IsDistinct}
 use Rattle.tree_spec.specs.declared.LimitName.TheVariants.{Map}
@@ -98,7 +99,8 @@ pub record Generating (config : Config) (before : FolderState) (result : Result 
   pub refused :
       IfErr result (IfRefused (λ why. IfSome before.holds (λ tree. (command : Command) → IsGenerating command
       → Opens tree config command → Refuses tree config command why)))
-  pub kind : IfErr result (IfRefused (λ why. (command : Command) → IsGenerating command → IsRefusalOf config command why))
+  pub kind :
+      IfErr result (IfRefused (λ why. (command : Command) → IsGenerating command → IsRefusalOf config command why))
   pub asked : IfSome before.asked (λ old. AsksNoPathTwice old after)
   pub footprint : IfSome before.asked (λ old. AsksFootprint config before.holds old after)
   pub looks : OnlyLooks before after (result ≡ Err ReadFault)

@@ -19,7 +19,8 @@ type Digests = BTreeMap<Text, Text>;
 
 /// The digests of a trace's modules, each under the module's URL. A URL stands there once.
 pub(crate) fn digests(alloc: Global, config: &Config, trace: &Trace) -> Result<Mappings, Memory>
-    ensures { IfOk result (λ pairs. pairs ≡ entries (definition.digests config.now trace.now.modules trace.now.sources)) }
+    ensures { IfOk result (λ pairs. pairs
+        ≡ entries (definition.digests config.now trace.now.modules trace.now.sources)) }
 {
     let mut kept = Digests::new(alloc);
     let mut place = trace.len();

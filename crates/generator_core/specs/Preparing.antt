@@ -7,7 +7,8 @@
 --     IsMapFile generated prepared      the file is the map that was generated
 --     IsPageFile config page generated prepared      the file is the page with that map
 --     Prepares command config before result after      the command has its file, or it is told why not
-use Rattle.std.specs.Prelude.{◌≡◌, ◌≤◌, ◌⊎◌, ◌++◌, [], ◌∷◌, ℕ, List, length, bytes_eq, All, Contains, Option, Some, Result, Ok, IfOk, IfErr, IfSome}
+use Rattle.std.specs.Prelude.{◌≡◌, ◌≤◌, ◌⊎◌, ◌++◌, [], ◌∷◌, ℕ, List, length, bytes_eq, All, Contains}
+use Rattle.std.specs.Prelude.{Option, Some, Result, Ok, IfOk, IfErr, IfSome}
 use Rattle.std.specs.FinMap.{get}
 use Rattle.std.specs.List.{IsDistinct}
 use Rattle.tree_spec.specs.declared.LimitName.TheVariants.{Map}
@@ -106,7 +107,8 @@ pub record IsPrepared (command : Command) (config : Config) (tree : Tree) (prepa
       Writes tree config (map_text (with_digests config all layout)) command
       (new_file prepared.path prepared.file.items ∷ [])
 
-pub record IsReady (command : Command) (config : Config) (before after : FolderState) (prepared : Prepared) : Type 0 where
+pub record IsReady (command : Command) (config : Config) (before after : FolderState)
+    (prepared : Prepared) : Type 0 where
   pub is_prepared : IfSome before.holds (λ tree. IsPrepared command config tree prepared)
   pub looks : OnlyLooks before after ⊥
 

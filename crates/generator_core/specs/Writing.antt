@@ -18,7 +18,8 @@ use Rattle.generator_core.specs.declared.prepared.Prepared.{Prepared}
 pub data SaysWrite (before after : FolderState) (path file done : List ℕ) (status : ℕ)
     (line : List ℕ) : Type 0 where
   written :
-      status ≡ done_status → line ≡ done → IfSome before.holds (λ tree. AreWritten tree (new_file path file ∷ []) after.holds)
+      status ≡ done_status → line ≡ done
+      → IfSome before.holds (λ tree. AreWritten tree (new_file path file ∷ []) after.holds)
       → after.write_faults ≡ before.write_faults → SaysWrite before after path file done status line
   write_fault :
       status ≡ write_fault_status → line ≡ write_fault_line → after.holds ≡ before.holds

@@ -1,5 +1,5 @@
 -- The worked examples.
-use Rattle.std.proofs.Common.{◌≡◌, ◌≢◌, ◌⊎◌, inl, inr, refl, sym, ap, ◌∙◌, lit≤, ◌++◌, Ok}
+use Rattle.std.proofs.Common.{◌≡◌, ◌≢◌, ◌⊎◌, inl, inr, refl, sym, ap, ◌∙◌, lit≤, ◌++◌, Ok, subst, append_assoc}
 use Rattle.std.specs.Prelude.{◌≤◌, ℕ, List, [], ◌∷◌, length, drop, codes, Some, None}
 use Rattle.std.specs.Fmt.{digits}
 use Rattle.url.proofs.OnLiterals.{url_on_literals}
@@ -57,9 +57,9 @@ use Rattle.std.specs.Str.{is_utf8, chars}
 use Rattle.generator_spec.specs.Words.RefusesWords.{bad_base}
 use Rattle.soundness.proofs.Sound.{sound, modules_are_known}
 use Rattle.generator_examples.specs.Sites.{Files, tree_of, based, links, injects, levels, spelling, spelling_all, spelling_map, site, site_all, site_map, paged, paged_after, missing, clashing}
-use Rattle.generator_examples.specs.Sites.{map_end, spelled_text, site_app_text, greet_text, id_text, home_text}
-use Rattle.generator_examples.specs.Packages.{app_text, b_text, menu_text, packages, packages_all, packages_map}
-use Rattle.generator_examples.proofs.ShortTexts.{behind, line_short}
+use Rattle.generator_examples.specs.Sites.{spelling_imports, site_imports, spelled_text, site_app_text, greet_text, id_text, home_text}
+use Rattle.generator_examples.specs.Packages.{app_text, b_text, menu_text, packages, packages_all, packages_imports, packages_map}
+use Rattle.generator_examples.proofs.ShortTexts.{behind, short_end, short_line}
 use Rattle.generator_examples.specs.Examples.{IsTraced, IsMapped, with_map, Trees, TraceExamples, MapExamples, EndExamples, WorkedExamples}
 use Rattle.generator_examples.proofs.TracedExamples.{traced_examples}
 use Rattle.generator_examples.proofs.Growing.{grown}
@@ -179,24 +179,21 @@ packages_text = refl
 -- each map is short, whatever its digests are
 spelling_short : length spelling_map ≤ limit_number Map
 spelling_short =
-    behind _ _ _ (lit≤ tt) (line_short "    \"https://app.test/ab.mjs\": " [] ",\n" _ _ (lit≤ tt) (lit≤ tt)
-    (line_short "    \"https://app.test/app.mjs\": " spelled_text "\n" map_end 10 (lit≤ tt) (lit≤ tt) (lit≤ tt))) (lit≤ tt)
+    behind spelling_imports
+    (short_line "    \"https://app.test/ab.mjs\": " [] ",\n" (short_line "    \"https://app.test/app.mjs\": " spelled_text "\n" short_end (lit≤ tt) (lit≤ tt)) (lit≤ tt) (lit≤ tt))
+    (lit≤ tt) (lit≤ tt)
 
 site_short : length site_map ≤ limit_number Map
 site_short =
-    behind _ _ _ (lit≤ tt) (line_short "    \"https://app.test/app.mjs\": " site_app_text ",\n" _ _ (lit≤ tt) (lit≤ tt)
-    (line_short "    \"https://app.test/lib/greet.mjs\": " greet_text ",\n" _ _ (lit≤ tt) (lit≤ tt)
-    (line_short "    \"https://app.test/lib/words.mjs\": " [] ",\n" _ _ (lit≤ tt) (lit≤ tt)
-    (line_short "    \"https://app.test/pages/%5Bid%5D.mjs\": " id_text ",\n" _ _ (lit≤ tt) (lit≤ tt)
-    (line_short "    \"https://app.test/pages/home.mjs\": " home_text "\n" map_end 10 (lit≤ tt) (lit≤ tt) (lit≤ tt)))))) (lit≤ tt)
+    behind site_imports
+    (short_line "    \"https://app.test/app.mjs\": " site_app_text ",\n" (short_line "    \"https://app.test/lib/greet.mjs\": " greet_text ",\n" (short_line "    \"https://app.test/lib/words.mjs\": " [] ",\n" (short_line "    \"https://app.test/pages/%5Bid%5D.mjs\": " id_text ",\n" (short_line "    \"https://app.test/pages/home.mjs\": " home_text "\n" short_end (lit≤ tt) (lit≤ tt)) (lit≤ tt) (lit≤ tt)) (lit≤ tt) (lit≤ tt)) (lit≤ tt) (lit≤ tt)) (lit≤ tt) (lit≤ tt))
+    (lit≤ tt) (lit≤ tt)
 
 packages_short : length packages_map ≤ limit_number Map
 packages_short =
-    behind _ _ _ (lit≤ tt) (line_short "    \"https://app.test/app.js\": " app_text ",\n" _ _ (lit≤ tt) (lit≤ tt)
-    (line_short "    \"https://app.test/node_modules/ui/b.js\": " b_text ",\n" _ _ (lit≤ tt) (lit≤ tt)
-    (line_short "    \"https://app.test/node_modules/ui/node_modules/@ui/core/lib/index.mjs\": " (codes "export const h = 1;") ",\n" _ _ (lit≤ tt) (lit≤ tt)
-    (line_short "    \"https://app.test/node_modules/ui/x/menu.js\": " menu_text ",\n" _ _ (lit≤ tt) (lit≤ tt)
-    (line_short "    \"https://app.test/own.js\": " (codes "export const own = 0;") "\n" map_end 10 (lit≤ tt) (lit≤ tt) (lit≤ tt)))))) (lit≤ tt)
+    behind packages_imports
+    (short_line "    \"https://app.test/app.js\": " app_text ",\n" (short_line "    \"https://app.test/node_modules/ui/b.js\": " b_text ",\n" (short_line "    \"https://app.test/node_modules/ui/node_modules/@ui/core/lib/index.mjs\": " (codes "export const h = 1;") ",\n" (short_line "    \"https://app.test/node_modules/ui/x/menu.js\": " menu_text ",\n" (short_line "    \"https://app.test/own.js\": " (codes "export const own = 0;") "\n" short_end (lit≤ tt) (lit≤ tt)) (lit≤ tt) (lit≤ tt)) (lit≤ tt) (lit≤ tt)) (lit≤ tt) (lit≤ tt)) (lit≤ tt) (lit≤ tt))
+    (lit≤ tt) (lit≤ tt)
 
 mapped : (files : Files) (config : Config) (text : List ℕ) → Generates (tree_of files) config text → IsMapped files config text
 mapped files config text is = record { generates = is; serves = sound (tree_of files) config text is; knows = modules_are_known (tree_of files) config text is }
@@ -249,9 +246,24 @@ page_pieces : Pieces None page_text page_parts
 unfolding first_piece
 page_pieces = piece refl refl (piece refl refl (piece refl refl (none refl)))
 
-page_takes : Injection spelling_map page_text (Ok page_after)
+abbrev element_end : List ℕ
+element_end = codes "</script>" ++ 10 ∷ []
+
+abbrev page_end : List ℕ
+page_end = codes "</head>" ++ 10 ∷ []
+
+abbrev page_start : List ℕ
+page_start = codes "<head><script type=\"importmap\">"
+
+page_is_after : page_start ++ ((spelling_map ++ element_end) ++ page_end) ≡ page_after
+page_is_after = ap (λ rest. page_start ++ rest) (append_assoc spelling_map element_end page_end)
+
+page_injected : Injection spelling_map page_text (Ok (page_start ++ ((spelling_map ++ element_end) ++ page_end)))
 unfolding attribute is_map_start is_utf8 chars lib.Utf8.encode
-page_takes = utf8 refl page_pieces
+page_injected = utf8 refl page_pieces
+
+page_takes : Injection spelling_map page_text (Ok page_after)
+page_takes = subst (λ new. Injection spelling_map page_text (Ok new)) page_is_after page_injected
 
 page_stands : IsPage (tree_of paged) (based "https://app.test/" ("./app.mjs" ∷ [])) page_text
 page_stands = record { stands = get_here (tree_of spelling) page_path (Stored page_text); small = lit≤ tt }

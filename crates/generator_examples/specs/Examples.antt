@@ -15,7 +15,8 @@ use Rattle.trace_spec.specs.Traces.{traced}
 use Rattle.generator_spec.specs.Generation.{Generates}
 use Rattle.generator_spec.specs.Serves.{KnowsModules, Serves}
 use Rattle.generator_spec.specs.Outcome.{Outcome}
-use Rattle.generator_examples.specs.Sites.{Files, tree_of, file, based, links, injects, levels, levels_all, spelling, spelling_all, spelling_map, site, site_all, site_map}
+use Rattle.generator_examples.specs.Sites.{Files, tree_of, file, based, links, injects, levels, levels_all, spelling}
+use Rattle.generator_examples.specs.Sites.{spelling_all, spelling_map, site, site_all, site_map}
 use Rattle.generator_examples.specs.Sites.{paged, paged_after, missing, clashing}
 use Rattle.generator_examples.specs.Traced.{TracedExamples}
 use Rattle.generator_examples.specs.Packages.{packages, packages_all, packages_map}

@@ -1,7 +1,7 @@
 -- A site with two packages, one inside the other: conditions, a pattern, a main file, a self reference and `imports`.
 --     packages                  the site
 --     packages_all              the tables of its trace
---     packages_map              the text of its map
+--     packages_map              the text of its map, which begins with packages_imports
 use Rattle.std.specs.Prelude.{ℕ, List, [], ◌∷◌, ◌++◌, codes}
 use Rattle.layout_spec.specs.WorkedExamples.{need}
 use Rattle.trace_spec.specs.Checks.{Gathered}
@@ -109,8 +109,8 @@ packages_all = record {
   requests = 7;
 }
 
-abbrev pub packages_map : List ℕ
-packages_map =
+abbrev pub packages_imports : List ℕ
+packages_imports =
     lines
     ("{"
     ∷ "  \"imports\": {"
@@ -122,6 +122,10 @@ packages_map =
     ∷ "  },"
     ∷ "  \"integrity\": {"
     ∷ [])
+
+abbrev pub packages_map : List ℕ
+packages_map =
+    packages_imports
     ++ digest_line "    \"https://app.test/app.js\": " app_text ",\n"
     (digest_line "    \"https://app.test/node_modules/ui/b.js\": " b_text ",\n"
     (digest_line "    \"https://app.test/node_modules/ui/node_modules/@ui/core/lib/index.mjs\": "

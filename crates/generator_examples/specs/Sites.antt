@@ -10,7 +10,7 @@
 --     source bytes asked        the source with these bytes, which asks for these specifiers
 --     levels, spelling, site, paged, missing, clashing      the sites
 --     levels_all, spelling_all, site_all      the tables of their traces
---     spelling_map, site_map    the texts of their maps
+--     spelling_map, site_map    the texts of their maps, which begin with spelling_imports, site_imports
 --     paged_after               the files of a site whose page has its map
 use Rattle.std.specs.Prelude.{ℕ, List, [], ◌∷◌, ◌++◌, map, codes}
 use Prim.Native.String.{String}
@@ -135,8 +135,8 @@ spelling_all = record {
   requests = 2;
 }
 
-abbrev pub spelling_map : List ℕ
-spelling_map =
+abbrev pub spelling_imports : List ℕ
+spelling_imports =
     lines
     ("{"
     ∷ "  \"imports\": {"
@@ -144,6 +144,10 @@ spelling_map =
     ∷ "  },"
     ∷ "  \"integrity\": {"
     ∷ [])
+
+abbrev pub spelling_map : List ℕ
+spelling_map =
+    spelling_imports
     ++ digest_line "    \"https://app.test/ab.mjs\": " [] ",\n"
     (digest_line "    \"https://app.test/app.mjs\": " spelled_text "\n" map_end)
 
@@ -244,8 +248,8 @@ site_all = record {
   requests = 8;
 }
 
-abbrev pub site_map : List ℕ
-site_map =
+abbrev pub site_imports : List ℕ
+site_imports =
     lines
     ("{"
     ∷ "  \"imports\": {"
@@ -253,6 +257,10 @@ site_map =
     ∷ "  },"
     ∷ "  \"integrity\": {"
     ∷ [])
+
+abbrev pub site_map : List ℕ
+site_map =
+    site_imports
     ++ digest_line "    \"https://app.test/app.mjs\": " site_app_text ",\n"
     (digest_line "    \"https://app.test/lib/greet.mjs\": " greet_text ",\n"
     (digest_line "    \"https://app.test/lib/words.mjs\": " [] ",\n"

@@ -9,8 +9,8 @@
 --     RefusesMapFile tree config fault    there is no map to check
 --     IsMapping command                   the command writes the map's file
 --     Opens tree config command           what the command needs before its trace is there
---     Refuses tree config command why     the command is refused: before its trace, by the first refusal of that, or for
---                                         the size of its map
+--     Refuses tree config command why     the command is refused: before its trace, by the first refusal of that, or
+--                                         for the size of its map
 --     IsRefusalOf config command why      it can be refused so, whatever the tree holds
 --     NewFile                             a file that is written: its path and its bytes
 --     map_and_project config map          the map's file, and then the project's

@@ -6,7 +6,8 @@
 --     Says words before after status lines      why a command ends with this status and these lines
 --     Ends status text out out_after result     the text went out and the status is answered, or the output failed
 --     TellsRefusal why out out_after result     the same of a refusal, or of want of memory in its place
-use Rattle.std.specs.Prelude.{◌≡◌, ◌≤◌, ◌<◌, ◌⊎◌, ◌++◌, ℕ, List, [], ◌∷◌, length, All, Contains, Option, Some, None, IfSome}
+use Rattle.std.specs.Prelude.{◌≡◌, ◌≤◌, ◌<◌, ◌⊎◌, ◌++◌, ℕ, List, [], ◌∷◌, length, All, Contains}
+use Rattle.std.specs.Prelude.{Option, Some, None, IfSome}
 use Rattle.std.specs.Prelude.{option_map, take}
 use Rattle.std.specs.List.{concat}
 use Rattle.tree_spec.specs.Counts.{Rose}
@@ -148,7 +149,8 @@ pub record StopsWriting (words : List (List ℕ)) (tree : Tree) (line : List ℕ
 pub data Says (words : List (List ℕ)) (before after : FolderState) (status : ℕ) (lines : List (List ℕ)) : Type 0 where
   outcome :
       Shaped words status lines
-      → IfSome before.holds (λ tree. (later : Tree) × Outcome words tree status lines later × (after.holds ≡ Some later))
+      → IfSome before.holds
+      (λ tree. (later : Tree) × Outcome words tree status lines later × (after.holds ≡ Some later))
       → after.look_faults ≡ before.look_faults → after.write_faults ≡ before.write_faults
       → Says words before after status lines
   memory :

@@ -15,7 +15,8 @@ use Rattle.page_spec.specs.Faults.{holds_ampersand, raw_fault, fault_at, or_late
 use Rattle.page_spec.specs.Injection.{span_or, map_span, is_place, place, unless_faulted}
 use Rattle.page_spec.specs.Places.{Reaches, IsPieceOf, text_at, part_at}
 use Rattle.page_spec.proofs.Existence.{size, smaller, some_pieces_within}
-use Rattle.page_spec.proofs.Reading.{nothing_read, read_further, one_more_page}
+use Rattle.page_spec.proofs.Putting.{map_of_alike}
+use Rattle.page_spec.proofs.Reading.{nothing_read, read_further, one_more, one_more_page}
 use Rattle.html_scan.specs.Steps.{NextIs}
 use Rattle.html_scan.proofs.Spans.{text_length}
 use Rattle.html_inject.specs.declared.search.Found.{Found}
@@ -91,9 +92,6 @@ paired page view piece next after left found s n o =
 fault_alike : (n : ℕ) (seen : Bool) (p : Part) (parts others : List Part) → raw_behind parts ≡ raw_behind others → fault_at n seen p parts ≡ fault_at n seen p others
 fault_alike n seen p parts others e = ap (λ raw. if (is_broken p.kind || is_start_of (codes "base") p || is_script p && holds_ampersand (attribute_text (codes "type") p.text) || is_some (if is_map_start p then raw else None) && is_some (attribute_text (codes "src") p.text)) then Some (PageUnclear n) else if seen && is_some (if is_map_start p then raw else None) then Some (TwoMaps n) else if is_script p then raw_fault (n + length p.text) raw else None) e
 
-map_alike : (p : Part) (parts others : List Part) → raw_behind parts ≡ raw_behind others → map_of p parts ≡ map_of p others
-map_alike p parts others e = ap (λ raw. if is_map_start p then raw else None) e
-
 abbrev some_span : ℕ → ℕ → Option (ℕ × ℕ)
 some_span n m = Some (n, m)
 
@@ -138,9 +136,6 @@ sooner_none : {A : Type 0} (x : Option A) → sooner x None ≡ x
 sooner_none None = refl
 sooner_none (Some a) = refl
 
-one_more : (before : List Part) (p : Part) (parts : List Part) → (before ++ p ∷ []) ++ parts ≡ before ++ p ∷ parts
-one_more before p parts = append_assoc before (p ∷ []) parts
-
 -- the offset behind a piece
 behind_place : (page : List ℕ) (before : List Part) (piece : Piece) → IsPieceOf page piece → piece.from ≡ length (page_of before) → length (page_of before) + length (text_at page piece) ≡ length (page_of (before ++ part_at page piece ∷ []))
 behind_place page before piece o e = sym (ap length (one_more_page before (part_at page piece)) ∙ length-append (page_of before) (text_at page piece))
@@ -151,7 +146,7 @@ faults_on page before piece next after left found q go none_here parts f =
     let n = length (page_of before) in
     let seen = is_some found.map in
     let here : fault_at n seen p parts ≡ None = fault_alike n seen p parts (parts_behind page next) f ∙ (ap (λ m. fault_at m seen p (parts_behind page next)) (sym q.from) ∙ none_here) in
-    let begun : begins_map p parts ≡ is_some (map_at page piece next) = ap is_some (map_alike p parts (parts_behind page next) f) ∙ begins_is page piece next in
+    let begun : begins_map p parts ≡ is_some (map_at page piece next) = ap is_some (map_of_alike p parts (parts_behind page next) f) ∙ begins_is page piece next in
     let seen_now : (seen || begins_map p parts) ≡ is_some (sooner found.map (map_at page piece next)) = ap (λ c. seen || c) begun ∙ some_or found.map (map_at page piece next) in
     let m = behind_place page before piece q.pair.first q.from in
     ap (λ ps. first_fault 0 false ps) (one_more before p parts) ∙ (go parts ∙ (ap (λ o. or_later o (first_fault (n + length p.text) (seen || begins_map p parts) parts)) here ∙ (ap (λ k. first_fault k (seen || begins_map p parts) parts) m ∙ ap (λ c. first_fault (length (page_of (before ++ p ∷ []))) c parts) seen_now)))
@@ -164,7 +159,7 @@ maps_on page before piece next after left found q go parts f =
     let t : n + length p.text ≡ piece.to = m ∙ q.to in
     let later = map_span (length (page_of (before ++ p ∷ []))) parts in
     let here : span_or (n + length p.text) (map_of p parts) (map_span (n + length p.text) parts) ≡ sooner (map_at page piece next) later =
-    ap (λ k. span_or (n + length p.text) (map_of p parts) (map_span k parts)) m ∙ (ap (λ k. span_or k (map_of p parts) later) t ∙ (ap (λ o. span_or piece.to o later) (map_alike p parts (parts_behind page next) f) ∙ map_is page piece next q.pair later)) in
+    ap (λ k. span_or (n + length p.text) (map_of p parts) (map_span k parts)) m ∙ (ap (λ k. span_or k (map_of p parts) later) t ∙ (ap (λ o. span_or piece.to o later) (map_of_alike p parts (parts_behind page next) f) ∙ map_is page piece next q.pair later)) in
     ap (λ ps. map_span 0 ps) (one_more before p parts) ∙ (go parts ∙ (ap (λ o. sooner found.map o) here ∙ sooner_assoc found.map (map_at page piece next) later))
 
 places_on : (page : List ℕ) (before : List Part) (piece : Piece) (next : Option Piece) (after : Option RawElement) (left : List ℕ) (found : Found) → (q : Pair page before piece next after left) → ((parts : List Part) → place 0 (before ++ part_at page piece ∷ parts) ≡ sooner found.place (place (length (page_of before)) (part_at page piece ∷ parts))) → (parts : List Part) → place 0 ((before ++ part_at page piece ∷ []) ++ parts) ≡ sooner (sooner found.place (place_at page piece)) (place (length (page_of (before ++ part_at page piece ∷ []))) parts)

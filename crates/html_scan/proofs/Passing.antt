@@ -1,6 +1,7 @@
 -- Runs of bytes that leave a tokenizer's state as it is.
 use Rattle.std.specs.Char.{is_ascii_whitespace}
 use Rattle.std.proofs.Common.{◌≡◌, ℕ, ◌==◌, ◌&&◌, ◌||◌, List, [], ◌∷◌, Bool, true, false, Some, if◌then◌else◌, refl, sym, ◌∙◌, ap}
+use Rattle.std.proofs.Math.Bool.{and-false}
 use Rattle.page_spec.specs.declared.kinds.State.{State}
 use Rattle.page_spec.specs.declared.kinds.State.TheVariants.{BogusComment, Comment, CommentEndDash, TagName, BeforeAttributeName, AttributeName, AfterAttributeName, BeforeAttributeValue, AttributeValueDoubleQuoted, AttributeValueSingleQuoted, AttributeValueUnquoted}
 use Rattle.page_spec.specs.Tokenizer.{is_last, next_state, behind_markup}
@@ -21,10 +22,6 @@ passed state is_end stays (b ∷ rest) = by_test (is_end b) refl (passed state i
   by_test true e later = refl
   by_test false e later = later ∙ sym (one_byte state b rest (stays b e))
 
-and_false : (x : Bool) → (x && false) ≡ false
-and_false true = refl
-and_false false = refl
-
 first_false : (x y : Bool) → (x || y) ≡ false → x ≡ false
 first_false true y e = e
 first_false false y e = refl
@@ -37,13 +34,13 @@ pub bogus_comment : (bytes : List ℕ) → behind_markup BogusComment (behind (�
 bogus_comment = passed BogusComment (λ b. b == 62) (λ b e. record { goes_on = ap (λ c. c && true) e; same = refl })
 
 pub comment : (bytes : List ℕ) → behind_markup Comment (behind (λ b. b == 45) bytes) ≡ behind_markup Comment bytes
-comment = passed Comment (λ b. b == 45) (λ b e. record { goes_on = and_false (b == 62); same = ap (λ c. if c then CommentEndDash else Comment) e })
+comment = passed Comment (λ b. b == 45) (λ b e. record { goes_on = and-false (b == 62); same = ap (λ c. if c then CommentEndDash else Comment) e })
 
 pub double_quoted : (bytes : List ℕ) → behind_markup AttributeValueDoubleQuoted (behind (λ b. b == 34) bytes) ≡ behind_markup AttributeValueDoubleQuoted bytes
-double_quoted = passed AttributeValueDoubleQuoted (λ b. b == 34) (λ b e. record { goes_on = and_false (b == 62); same = ap (λ c. if c then BeforeAttributeName else AttributeValueDoubleQuoted) e })
+double_quoted = passed AttributeValueDoubleQuoted (λ b. b == 34) (λ b e. record { goes_on = and-false (b == 62); same = ap (λ c. if c then BeforeAttributeName else AttributeValueDoubleQuoted) e })
 
 pub single_quoted : (bytes : List ℕ) → behind_markup AttributeValueSingleQuoted (behind (λ b. b == 39) bytes) ≡ behind_markup AttributeValueSingleQuoted bytes
-single_quoted = passed AttributeValueSingleQuoted (λ b. b == 39) (λ b e. record { goes_on = and_false (b == 62); same = ap (λ c. if c then BeforeAttributeName else AttributeValueSingleQuoted) e })
+single_quoted = passed AttributeValueSingleQuoted (λ b. b == 39) (λ b e. record { goes_on = and-false (b == 62); same = ap (λ c. if c then BeforeAttributeName else AttributeValueSingleQuoted) e })
 
 pub unquoted : (bytes : List ℕ) → behind_markup AttributeValueUnquoted (behind ends_unquoted bytes) ≡ behind_markup AttributeValueUnquoted bytes
 unquoted = passed AttributeValueUnquoted ends_unquoted (λ b e. record { goes_on = ap (λ c. c && true) (second_false (is_ascii_whitespace b) (b == 62) e); same = ap (λ c. if c then BeforeAttributeName else AttributeValueUnquoted) (first_false (is_ascii_whitespace b) (b == 62) e) })

@@ -1,6 +1,7 @@
 -- Pieces without a fault, in a form that no offset enters.
 use Rattle.std.specs.Prelude.{◌&&◌, ◌||◌, codes, is_some, option_map}
 use Rattle.std.proofs.Common.{◌≡◌, ℕ, ◌+◌, List, [], ◌∷◌, length, Bool, true, false, Option, Some, None, if◌then◌else◌, refl, ◌∙◌, ap, subst}
+use Rattle.std.proofs.Math.Bool.{and-false}
 use Rattle.std.proofs.lemmas.Option.{same_Some}
 use Rattle.page_spec.specs.declared.kinds.InjectFault.{InjectFault}
 use Rattle.page_spec.specs.declared.kinds.InjectFault.TheVariants.{PageUnclear, TwoMaps}
@@ -100,7 +101,4 @@ fine_moved seen p parts others e plain f = record {
 
 -- an import map element that came before makes no fault of a piece that begins none
 pub fine_seen : (seen more : Bool) (p : Part) (parts : List Part) → begins_map p parts ≡ false → Fine seen p parts → Fine more p parts
-fine_seen seen more p parts n f = record { clear = f.clear; single = ap (λ c. more && c) n ∙ never more; plain = f.plain } where
-  never : (b : Bool) → (b && false) ≡ false
-  never true = refl
-  never false = refl
+fine_seen seen more p parts n f = record { clear = f.clear; single = ap (λ c. more && c) n ∙ and-false more; plain = f.plain }

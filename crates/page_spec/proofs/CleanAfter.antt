@@ -1,6 +1,7 @@
 -- Pieces among which a map was put have no fault, and one import map element.
 use Rattle.std.specs.Prelude.{◌&&◌, ◌||◌, codes, is_some}
 use Rattle.std.proofs.Common.{◌≡◌, ℕ, ◌+◌, List, [], ◌∷◌, All, Bool, true, false, ◌==◌, Some, None, if◌then◌else◌, refl, sym, ◌∙◌, ap, subst}
+use Rattle.std.proofs.Math.Bool.{and-false}
 use Rattle.std.proofs.lemmas.Option.{same_Some}
 use Rattle.std.proofs.lemmas.List.Elements.{All-head, All-tail}
 use Rattle.page_spec.specs.declared.kinds.PieceKind.TheVariants.{Text, Start, End, Raw}
@@ -30,10 +31,7 @@ raw_begins_none text parts = ap is_some (no_start (part Raw text) parts (raw_is_
 raw_fine : (seen : Bool) (text : List ℕ) (parts : List Part) → Fine seen (part Raw text) parts
 raw_fine seen text parts =
     let n = raw_begins_none text parts in
-    record { clear = ap (λ c. c && is_some (attribute_text (codes "src") text)) n; single = ap (λ c. seen && c) n ∙ never seen; plain = λ s. absurd (cc) } where
-      never : (b : Bool) → (b && false) ≡ false
-      never true = refl
-      never false = refl
+    record { clear = ap (λ c. c && is_some (attribute_text (codes "src") text)) n; single = ap (λ c. seen && c) n ∙ and-false seen; plain = λ s. absurd (cc) }
 
 raw_part_behind : (q : Part) (parts : List Part) → is_raw q.kind ≡ true → raw_behind (q ∷ parts) ≡ Some q.text
 raw_part_behind q parts k = rw k refl

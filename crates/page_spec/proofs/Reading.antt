@@ -14,7 +14,7 @@ use Rattle.page_spec.proofs.Existence.{some_pieces_within}
 pub nothing_read : (page : List ℕ) → Reaches page [] None page
 nothing_read page = record { cut = refl; onward = λ parts x. x }
 
-one_more : (before : List Part) (p : Part) (parts : List Part) → (before ++ p ∷ []) ++ parts ≡ before ++ p ∷ parts
+pub one_more : (before : List Part) (p : Part) (parts : List Part) → (before ++ p ∷ []) ++ parts ≡ before ++ p ∷ parts
 one_more before p parts = append_assoc before (p ∷ []) parts
 
 pub one_more_page : (before : List Part) (p : Part) → page_of (before ++ p ∷ []) ≡ page_of before ++ p.text

@@ -87,8 +87,8 @@ Soundness =
     (tree : Tree) (config : Config) (bytes : List ℕ) → PageIsFile config → Generates tree config bytes
     → Serves tree config bytes
 
--- own law: what is generated has, under the URL of each module that the page reaches, the digest of the file that stands
--- at the module's path, and no other digest
+-- own law: what is generated has, under the URL of each module that the page reaches, the digest of the file at the
+-- module's path, and no other digest
 abbrev pub ModulesAreKnown : Type 0
 ModulesAreKnown =
     (tree : Tree) (config : Config) (bytes : List ℕ) → Generates tree config bytes → KnowsModules tree config bytes

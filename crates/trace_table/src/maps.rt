@@ -22,6 +22,13 @@ static ORDINARY_MAP: &str = r#"{
     "@ui/core": "https://app.test/node_modules/ui/node_modules/@ui/core/lib/index.mjs",
     "ui": "https://app.test/node_modules/ui/b.js",
     "ui/x/menu": "https://app.test/node_modules/ui/x/menu.js"
+  },
+  "integrity": {
+    "https://app.test/node_modules/ui/b.js": "sha384-fTcfCsVu7yvt3g9LFfritgiUikMnzZIA/dqPyUjnKoSENf1koQGxmoHfLywoFTKk",
+    "https://app.test/node_modules/ui/node_modules/@ui/core/lib/index.mjs": "sha384-+3DuLD1KVPQ/lPGKLn93I26CtkmxsZ+pS5BUSKiE0lPEIIL3vWUWVsHz2RRuZjMi",
+    "https://app.test/node_modules/ui/x/menu.js": "sha384-Pjmj++s7Y5Oncr97J9gE44YFFOrmurNsWYdf/c83rf/G+VXf3tloacfn+LWUXLfl",
+    "https://app.test/src/main.js": "sha384-YRNCTOcCt/aVJClBCjXNfc7kVQN5YXbHVNVz21nHQnQyDHN3d0RApSqZQvSi2pea",
+    "https://app.test/src/style.js": "sha384-OLBgp1GsljhM2TJ+sbHjaiH9txEUvgdDTAzHv2P24donTt6/529l+9Ua0vFImLlb"
   }
 }
 "#;
@@ -39,6 +46,10 @@ static ORDERED: &str = r#"
 static ORDERED_MAP: &str = r#"{
   "imports": {
     "ui": "https://app.test/node_modules/ui/n.js"
+  },
+  "integrity": {
+    "https://app.test/node_modules/ui/n.js": "sha384-eVYa5/aOGk/vpqRCoKm8w+PIvo26WOQ7DatXj0ggBM+Hrbvb/r11FnPNdzaBL5xX",
+    "https://app.test/src/main.js": "sha384-gmqzmhkbNVSdOexsYkTXpqePMEIU5jGX/dhZddTh8Ji7/D4uDTxyKLHKD1f/aBmu"
   }
 }
 "#;
@@ -63,6 +74,12 @@ static VERSIONS_MAP: &str = r#"{
     "https://app.test/b/": {
       "c": "https://app.test/b/node_modules/c/index.mjs"
     }
+  },
+  "integrity": {
+    "https://app.test/a/m.mjs": "sha384-qruC7+aG5XKl6IkvoF88DVnWrFP02u8KOmb9+fpRn/TPxBSChNrBB11UHLDvQ7SZ",
+    "https://app.test/a/node_modules/c/index.mjs": "sha384-OLBgp1GsljhM2TJ+sbHjaiH9txEUvgdDTAzHv2P24donTt6/529l+9Ua0vFImLlb",
+    "https://app.test/b/m.mjs": "sha384-qruC7+aG5XKl6IkvoF88DVnWrFP02u8KOmb9+fpRn/TPxBSChNrBB11UHLDvQ7SZ",
+    "https://app.test/b/node_modules/c/index.mjs": "sha384-OLBgp1GsljhM2TJ+sbHjaiH9txEUvgdDTAzHv2P24donTt6/529l+9Ua0vFImLlb"
   }
 }
 "#;
@@ -93,6 +110,13 @@ static INNER_MAP: &str = r##"{
     "https://app.test/node_modules/": {
       "b": "https://app.test/node_modules/a/node_modules/b/index.mjs"
     }
+  },
+  "integrity": {
+    "https://app.test/app.mjs": "sha384-WObMFie7Rkk7U4WcadKOEjEUpMuUjsU5OWrTe3o/bzrTMVT8h5TXye6WbJPgbltb",
+    "https://app.test/node_modules/a/a.mjs": "sha384-Ot9meU8qPplA4fyJIdLCH0V1z6AAi+foaAlk8WVzYsWKCztWB25NSndrFL5meG7h",
+    "https://app.test/node_modules/a/index.mjs": "sha384-x4WYp+JLVA1PhKQLOVJkxNH2DRVgVmWv9c842bjah8SwTg7QrHGd3KH8eoFYkfUa",
+    "https://app.test/node_modules/a/node_modules/b/index.mjs": "sha384-OLBgp1GsljhM2TJ+sbHjaiH9txEUvgdDTAzHv2P24donTt6/529l+9Ua0vFImLlb",
+    "https://app.test/node_modules/b/index.mjs": "sha384-OLBgp1GsljhM2TJ+sbHjaiH9txEUvgdDTAzHv2P24donTt6/529l+9Ua0vFImLlb"
   }
 }
 "##;
@@ -108,6 +132,11 @@ static SUFFIXES: &str = r#"
 static SUFFIXES_MAP: &str = r#"{
   "imports": {
     "c": "https://app.test/node_modules/c/index.mjs"
+  },
+  "integrity": {
+    "https://app.test/m.mjs?a/x": "sha384-qruC7+aG5XKl6IkvoF88DVnWrFP02u8KOmb9+fpRn/TPxBSChNrBB11UHLDvQ7SZ",
+    "https://app.test/m.mjs?b/x": "sha384-qruC7+aG5XKl6IkvoF88DVnWrFP02u8KOmb9+fpRn/TPxBSChNrBB11UHLDvQ7SZ",
+    "https://app.test/node_modules/c/index.mjs": "sha384-OLBgp1GsljhM2TJ+sbHjaiH9txEUvgdDTAzHv2P24donTt6/529l+9Ua0vFImLlb"
   }
 }
 "#;

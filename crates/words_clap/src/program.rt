@@ -2,7 +2,8 @@ ghost use Rattle.std.specs.Prelude.{◌≡◌, false, IfOk, true};
 ghost use Rattle.clap.specs.Words.{app_of, rule_of};
 ghost use Rattle.clap.specs.declared.builder.Command.TheViews.{out-Command as fields_of};
 ghost use Rattle.words_clap_spec.specs.Program as spec;
-ghost use Rattle.words_clap_spec.specs.Program.{entries_rule, link_command, measure_command, number_rule, option_rule, program, unlink_command};
+ghost use Rattle.words_clap_spec.specs.Program.{entries_rule, link_command, measure_command, number_rule, option_rule};
+ghost use Rattle.words_clap_spec.specs.Program.{program, unlink_command};
 
 use crate::help;
 use clap::{Arg, ArgAction, Command};

@@ -8,13 +8,14 @@ use Rattle.clap.specs.declared.parser.matches.ValueSource.TheVariants.{CommandLi
 use Rattle.std.specs.List.{All}
 use Rattle.std.specs.Option.{option_map_or}
 use Rattle.std.proofs.Common.{◌≡◌, ◌≢◌, ◌&&◌, ◌||◌, ℕ, List, [], ◌∷◌, ◌++◌, append-nil, append_assoc, codes, find, Bool, true, false, Some, None, if◌then◌else◌, refl, sym, ap, ◌∙◌}
+use Rattle.std.proofs.Math.Bool.{and-false}
 use Rattle.std.proofs.lemmas.List.Elements.{All-head, All-tail}
 use Rattle.words_spec.specs.PlainWords.{IsValue}
 use Rattle.words_spec.proofs.Values.{no_hyphen_first}
 use Rattle.words_clap_spec.specs.Holding.{as_text, is_row, row}
 use Rattle.words_clap_spec.specs.Program.{entries_rule}
 use Rattle.words_clap_spec.proofs.Rows.{at_row-none, at_row-append}
-use Rattle.words_clap_spec.proofs.Turns.{Ends, among, and_false, begun, ends_step, ends_with, plain_met, plain_passes}
+use Rattle.words_clap_spec.proofs.Turns.{Ends, among, begun, ends_step, ends_with, plain_met, plain_passes}
 
 -- the argument as it is built
 abbrev pub entries_argument : Bool → Rule
@@ -35,7 +36,7 @@ entry_first rules required has held b bs ne =
     let taken : to_positional rules (arg_by_index rules 1) (b ∷ bs) (begun held) held ≡ to_positional rules (Some (entries_argument required)) (b ∷ bs) (begun held) held =
     ap (λ found. to_positional rules found (b ∷ bs) (begun held) held) has.by_index in
     let pushes : to_positional rules (Some (entries_argument required)) (b ∷ bs) (begun held) held ≡ among (after_entry rules (b ∷ bs) held) =
-    ap (λ test. among (pushed (codes "entries") (b ∷ bs) (if test then held else settled rules held))) (and_false (is_pending (entries_argument required) held.pending)) in
+    ap (λ test. among (pushed (codes "entries") (b ∷ bs) (if test then held else settled rules held))) (and-false (is_pending (entries_argument required) held.pending)) in
     met ∙ taken ∙ pushes
 
 entry_more : (rules : List Rule) (required : Bool) → TakesEntries rules required → (held : Held) (b : ℕ) (bs : List ℕ) → b ≢ 45 → walked rules [] (among held) (b ∷ bs) ≡ among (after_entry rules (b ∷ bs) held)
@@ -46,14 +47,14 @@ entry_more rules required has held b bs ne =
     let taken : to_positional rules (arg_by_index rules 1) (b ∷ bs) (among held) held ≡ to_positional rules (Some (entries_argument required)) (b ∷ bs) (among held) held =
     ap (λ found. to_positional rules found (b ∷ bs) (among held) held) has.by_index in
     let pushes : to_positional rules (Some (entries_argument required)) (b ∷ bs) (among held) held ≡ among (after_entry rules (b ∷ bs) held) =
-    ap (λ test. among (pushed (codes "entries") (b ∷ bs) (if test then held else settled rules held))) (and_false (is_pending (entries_argument required) held.pending)) in
+    ap (λ test. among (pushed (codes "entries") (b ∷ bs) (if test then held else settled rules held))) (and-false (is_pending (entries_argument required) held.pending)) in
     met ∙ taken ∙ pushes
 
 -- a word that is no flag passes where what is held before it does
 entry_passes : (s : Shape) (required : Bool) → TakesEntries s.rules required → (held : Held) → settle_passes s.rules s.args_override_self held ≡ true → option_map_or (λ a. positional_passes s.rules s.args_override_self a held) (arg_by_index s.rules 1) false ≡ true
 entry_passes s required has held passes =
     ap (λ found. option_map_or (λ a. positional_passes s.rules s.args_override_self a held) found false) has.by_index
-    ∙ ap (λ test. test || settle_passes s.rules s.args_override_self held) (and_false (is_pending (entries_argument required) held.pending))
+    ∙ ap (λ test. test || settle_passes s.rules s.args_override_self held) (and-false (is_pending (entries_argument required) held.pending))
     ∙ passes
 
 pub entry_turn_first : (s : Shape) (required : Bool) → TakesEntries s.rules required → (held : Held) (b : ℕ) (bs : List ℕ) → b ≢ 45 → settle_passes s.rules s.args_override_self held ≡ true → turn_passes s [] (begun held) (b ∷ bs) ≡ true

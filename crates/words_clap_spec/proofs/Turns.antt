@@ -10,10 +10,6 @@ use Rattle.std.specs.Str.{bytes_eq}
 use Rattle.std.proofs.Common.{◌≡◌, ◌≢◌, ◌&&◌, ◌||◌, ℕ, List, [], ◌∷◌, Bool, true, false, None, if◌then◌else◌, refl, ap, ap₂, ◌∙◌}
 use Rattle.std.proofs.lemmas.Bool.{ne_eqb}
 
-pub and_false : (b : Bool) → (b && false) ≡ false
-and_false true = refl
-and_false false = refl
-
 -- before the first positional
 abbrev pub begun : Held → Walk
 begun held = record { held = held; waiting = idle; position = 1; is_trailing = false; stopped = None }

@@ -10,7 +10,8 @@ use Rattle.std.specs.Fmt.{decimal}
 use Rattle.std.specs.Prelude.{◌≡◌, ℕ, List, [], ◌∷◌, codes, Bool, bytes_eq, find, Option, Some, None, option_map}
 use Rattle.words_spec.specs.declared.LinkOption.{LinkOption}
 use Rattle.words_spec.specs.declared.LinkOption.TheVariants.{Base, Page, Conditions}
-use Rattle.words_spec.specs.PlainWords.{Asked, LinkOptions, value_of, linking, unlinking, refreshing, checking, listing, injecting, editing, measuring}
+use Rattle.words_spec.specs.PlainWords.{Asked, LinkOptions, value_of, linking, unlinking, refreshing, checking, listing}
+use Rattle.words_spec.specs.PlainWords.{injecting, editing, measuring}
 use Rattle.words_clap_spec.specs.Program.{entries_rule}
 
 -- values are read as the texts that they are

@@ -1,5 +1,6 @@
 -- What a fault of words says of them.
---     Explains words fault      the fault is right of the words: `clap` refuses them, or takes them and they aren't plain
+--     Explains words fault      the fault is right of the words: `clap` refuses them, or it takes them and they
+--         aren't plain
 use Rattle.std.specs.Prelude.{ℕ, List, ⊤}
 use Rattle.words_clap_spec.specs.Refusing.{IsRefused, IsTaken}
 use Rattle.words_read.specs.Shown.{AsksNothing}

@@ -9,7 +9,8 @@ use Rattle.words_read.specs.declared.command.Command.{Command}
 use Rattle.words_read.specs.declared.command.Command.TheVariants as command
 use Rattle.words_read.specs.declared.spelling.Spelling.{Spelling}
 use Rattle.words_read.specs.declared.spelling.Spelling.TheVariants as spelling
-use Rattle.words_spec.specs.PlainWords.{Asked, Asks, LinkOptions, linking, unlinking, refreshing, checking, listing, injecting, editing, measuring}
+use Rattle.words_spec.specs.PlainWords.{Asked, Asks, LinkOptions, linking, unlinking, refreshing, checking, listing}
+use Rattle.words_spec.specs.PlainWords.{injecting, editing, measuring}
 use Rattle.words_spec.specs.Reading as reading
 
 abbrev pub options_of : LinkValues → LinkOptions

@@ -4,10 +4,12 @@
 --     spelling_of word      whether a word after `link` spells an option, with its value or without
 --     number_in text number      the number that the digits of a text go on to
 use Rattle.std.specs.List.{list_all}
-use Rattle.std.specs.Prelude.{◌==◌, ◌+◌, ◌-◌, ◌*◌, ◌&&◌, ◌||◌, not, false, Bool, ℕ, List, [], ◌∷◌, codes, bytes_eq, Option, Some, None, if◌then◌else◌, nat_lt, is_some, option_map, option_and_then}
+use Rattle.std.specs.Prelude.{◌==◌, ◌+◌, ◌-◌, ◌*◌, ◌&&◌, ◌||◌, not, false, Bool, ℕ, List, [], ◌∷◌, codes, bytes_eq}
+use Rattle.std.specs.Prelude.{Option, Some, None, if◌then◌else◌, nat_lt, is_some, option_map, option_and_then}
 use Rattle.words_spec.specs.declared.LinkOption.{LinkOption}
 use Rattle.words_spec.specs.declared.LinkOption.TheVariants.{Base, Page, Conditions}
-use Rattle.words_spec.specs.PlainWords.{Asked, LinkOptions, no_options, spelled, value_of, with_value, linking, unlinking, refreshing, checking, listing, injecting, editing, measuring}
+use Rattle.words_spec.specs.PlainWords.{Asked, LinkOptions, no_options, spelled, value_of, with_value, linking}
+use Rattle.words_spec.specs.PlainWords.{unlinking, refreshing, checking, listing, injecting, editing, measuring}
 
 abbrev pub is_value : List ℕ → Bool
 is_value [] = false

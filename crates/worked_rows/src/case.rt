@@ -35,10 +35,17 @@ pub const NONE: Fails = Fails {
 
 pub const LINK: &str = "link --base https://app.test/ ./app.mjs";
 
+pub const ALONE: &[(&str, &str)] = &[("/app.mjs", "")];
+
 pub const PAIR: &[(&str, &str)] = &[("/app.mjs", "import \"./b.mjs\";"), ("/b.mjs", "")];
 
-pub const NO_MAPPINGS: &str = "{
-  \"imports\": {}
+/// The map of `PAIR`; the digests are those of `openssl dgst -sha384`.
+pub const PAIR_MAP: &str = "{
+  \"imports\": {},
+  \"integrity\": {
+    \"https://app.test/app.mjs\": \"sha384-/ELoIcbrTCtrZ5AQjbXfszMd0bBzwE3mrIT9SxbEH4U1htpcUkLylqfcUdBzUIHZ\",
+    \"https://app.test/b.mjs\": \"sha384-OLBgp1GsljhM2TJ+sbHjaiH9txEUvgdDTAzHv2P24donTt6/529l+9Ua0vFImLlb\"
+  }
 }
 ";
 

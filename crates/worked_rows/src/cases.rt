@@ -1,109 +1,11 @@
-//! Runs in which every call of the outside succeeds.
+//! Runs of `link` that write no map, in which every call of the outside succeeds.
 
-use crate::case::{Case, LINK, NO_MAPPINGS, PAIR};
+use crate::case::{ALONE, Case, LINK};
 
 pub const MISSING: &[(&str, &str)] = &[("/app.mjs", "import \"./q.mjs\";")];
 
-const ALONE: &[(&str, &str)] = &[("/app.mjs", "")];
-
-const ESCAPED: &str = "{
-  \"imports\": {
-    \"https://app.test/a%62.mjs\": \"https://app.test/ab.mjs\"
-  }
-}
-";
-
-const BELOW_BASE: &str = "{
-  \"imports\": {},
-  \"scopes\": {
-    \"https://app.test/app/m.mjs\": {
-      \"https://app.test/app/x.mjs\": \"https://app.test/app/app/x.mjs\"
-    }
-  }
-}
-";
-
-/// The rows: maps, refusals, and words that aren't built.
-pub static CASES: [Case; 37] = [
-    Case {
-        words: LINK,
-        files: ALONE,
-        status: 0,
-        line: "ok: 1 modules, 1 requests, 0 mappings\n",
-        map: Some(NO_MAPPINGS),
-    },
-    Case {
-        words: LINK,
-        files: PAIR,
-        status: 0,
-        line: "ok: 2 modules, 2 requests, 0 mappings\n",
-        map: Some(NO_MAPPINGS),
-    },
-    Case {
-        words: LINK,
-        files: &[("/app.mjs", "import \"./a%62.mjs\";"), ("/ab.mjs", "")],
-        status: 0,
-        line: "ok: 2 modules, 2 requests, 1 mappings\n",
-        map: Some(ESCAPED),
-    },
-    Case {
-        words: "link --base https://app.test/",
-        files: &[],
-        status: 0,
-        line: "ok: 0 modules, 0 requests, 0 mappings\n",
-        map: Some(NO_MAPPINGS),
-    },
-    Case {
-        words: "link --base https://app.test/ ./app.mjs ./app.mjs",
-        files: ALONE,
-        status: 0,
-        line: "ok: 1 modules, 1 requests, 0 mappings\n",
-        map: Some(NO_MAPPINGS),
-    },
-    Case {
-        words: "link --base https://app.test/ ./m.mjs?a ./m.mjs?b",
-        files: &[("/m.mjs", "")],
-        status: 0,
-        line: "ok: 2 modules, 2 requests, 0 mappings\n",
-        map: Some(NO_MAPPINGS),
-    },
-    Case {
-        words: LINK,
-        files: &[("/app.mjs", ""), ("/importmap.json", "old")],
-        status: 0,
-        line: "ok: 1 modules, 1 requests, 0 mappings\n",
-        map: Some(NO_MAPPINGS),
-    },
-    Case {
-        words: LINK,
-        files: &[("/app.mjs", ""), ("/importmap.json", NO_MAPPINGS)],
-        status: 0,
-        line: "ok: 1 modules, 1 requests, 0 mappings\n",
-        map: Some(NO_MAPPINGS),
-    },
-    Case {
-        words: LINK,
-        files: &[
-            ("/app.mjs", " \t\r\nimport\"./b.mjs\" ;import\n\"./c.mjs\";"),
-            ("/b.mjs", "import \"./c.mjs\";"),
-            ("/c.mjs", "import \"./app.mjs\";"),
-        ],
-        status: 0,
-        line: "ok: 3 modules, 5 requests, 0 mappings\n",
-        map: Some(NO_MAPPINGS),
-    },
-    Case {
-        words: "link --base https://app.test/app/ ./m.mjs ./n.mjs",
-        files: &[
-            ("/m.mjs", "import \"../app/x.mjs\";"),
-            ("/n.mjs", "import \"./x.mjs\";"),
-            ("/x.mjs", ""),
-            ("/app/x.mjs", ""),
-        ],
-        status: 0,
-        line: "ok: 4 modules, 4 requests, 1 mappings\n",
-        map: Some(BELOW_BASE),
-    },
+/// The rows: refusals, and words that aren't built.
+pub static CASES: [Case; 26] = [
     Case {
         words: "link --base https://app.test/ ./a.mjs ./b.mjs",
         files: &[
@@ -173,13 +75,6 @@ pub static CASES: [Case; 37] = [
         status: 2,
         line: "words: BadBase \"ftp://h/\"\n",
         map: None,
-    },
-    Case {
-        words: LINK,
-        files: &[("/app.mjs", "  import './b.mjs';"), ("/b.mjs", "")],
-        status: 0,
-        line: "ok: 2 modules, 2 requests, 0 mappings\n",
-        map: Some(NO_MAPPINGS),
     },
     Case {
         words: "link --base https://app.test/ ui",

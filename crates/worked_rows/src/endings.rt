@@ -1,6 +1,6 @@
 //! How a run may end of which one allocation fails.
 
-use crate::case::{Case, LINK, NO_MAPPINGS, NONE, PAIR, fits, outcome_of};
+use crate::case::{Case, LINK, NONE, PAIR, PAIR_MAP, fits, outcome_of};
 use std::alloc::Global;
 use tree_model::PathFault;
 
@@ -13,7 +13,7 @@ static ENDINGS: [(&str, Case); 4] = [
             files: PAIR,
             status: 0,
             line: "ok: 2 modules, 2 requests, 0 mappings\n",
-            map: Some(NO_MAPPINGS),
+            map: Some(PAIR_MAP),
         },
     ),
     (
@@ -45,7 +45,7 @@ static ENDINGS: [(&str, Case); 4] = [
             files: PAIR,
             status: 5,
             line: "",
-            map: Some(NO_MAPPINGS),
+            map: Some(PAIR_MAP),
         },
     ),
 ];

@@ -15,6 +15,10 @@ const DONE: &str = "ok: 2 modules, 2 requests, 1 mappings\n";
 const INJECTED: &str = "<head><script type=\"importmap\">{
   \"imports\": {
     \"#\\u003c/script>\": \"https://app.test/x.mjs\"
+  },
+  \"integrity\": {
+    \"https://app.test/app.mjs\": \"sha384-eG6mIyBC/cBOaqav9zsoLWJSkEyIg/+obiqquHl0RfogjW9VsEBDl9gK12AX60Ef\",
+    \"https://app.test/x.mjs\": \"sha384-OLBgp1GsljhM2TJ+sbHjaiH9txEUvgdDTAzHv2P24donTt6/529l+9Ua0vFImLlb\"
   }
 }
 </script>

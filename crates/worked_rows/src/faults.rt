@@ -1,6 +1,6 @@
 //! Runs in which calls of the outside fail.
 
-use crate::case::{Case, Fails, LINK, NO_MAPPINGS, PAIR};
+use crate::case::{Case, Fails, LINK, PAIR, PAIR_MAP};
 use crate::cases::MISSING;
 
 /// One run in which calls fail.
@@ -63,7 +63,7 @@ pub static FAULTS: [Fault; 18] = [
             files: PAIR,
             status: 0,
             line: "ok: 2 modules, 2 requests, 0 mappings\n",
-            map: Some(NO_MAPPINGS),
+            map: Some(PAIR_MAP),
         },
     },
     Fault {
@@ -91,7 +91,7 @@ pub static FAULTS: [Fault; 18] = [
             files: PAIR,
             status: 0,
             line: "ok: 2 modules, 2 requests, 0 mappings\n",
-            map: Some(NO_MAPPINGS),
+            map: Some(PAIR_MAP),
         },
     },
     Fault {
@@ -105,7 +105,7 @@ pub static FAULTS: [Fault; 18] = [
             files: PAIR,
             status: 5,
             line: "",
-            map: Some(NO_MAPPINGS),
+            map: Some(PAIR_MAP),
         },
     },
     Fault {
@@ -119,7 +119,7 @@ pub static FAULTS: [Fault; 18] = [
             files: PAIR,
             status: 0,
             line: "ok: 2 modules, 2 requests, 0 mappings\n",
-            map: Some(NO_MAPPINGS),
+            map: Some(PAIR_MAP),
         },
     },
     Fault {
@@ -203,7 +203,7 @@ pub static FAULTS: [Fault; 18] = [
             files: OLD_MAP,
             status: 5,
             line: "",
-            map: Some(NO_MAPPINGS),
+            map: Some(PAIR_MAP),
         },
     },
     Fault {

@@ -9,13 +9,21 @@
 mod case;
 #[cfg(test)]
 mod cases;
+#[cfg(test)]
+mod check_cases;
 mod endings;
 #[cfg(test)]
 mod escaped_page;
 #[cfg(test)]
 mod faults;
 #[cfg(test)]
+mod maps;
+#[cfg(test)]
+mod package_looks;
+#[cfg(test)]
 mod page_cases;
+#[cfg(test)]
+mod page_maps;
 #[cfg(test)]
 mod pages;
 #[cfg(test)]

@@ -17,13 +17,17 @@ pub struct PageCase {
 
 pub const INJECT: &str = "inject --base https://app.test/ ./app.mjs";
 
-const DONE: &str = "ok: 2 modules, 2 requests, 0 mappings\n";
+pub const DONE: &str = "ok: 2 modules, 2 requests, 0 mappings\n";
 
-const HEAD: &str = "<head></head>\n";
+pub const HEAD: &str = "<head></head>\n";
 
-/// `HEAD` with the map of no mappings.
+/// `HEAD` with the map of its modules.
 pub const WITH_MAP: &str = "<head><script type=\"importmap\">{
-  \"imports\": {}
+  \"imports\": {},
+  \"integrity\": {
+    \"https://app.test/app.mjs\": \"sha384-/ELoIcbrTCtrZ5AQjbXfszMd0bBzwE3mrIT9SxbEH4U1htpcUkLylqfcUdBzUIHZ\",
+    \"https://app.test/b.mjs\": \"sha384-OLBgp1GsljhM2TJ+sbHjaiH9txEUvgdDTAzHv2P24donTt6/529l+9Ua0vFImLlb\"
+  }
 }
 </script>
 </head>
@@ -31,14 +35,8 @@ pub const WITH_MAP: &str = "<head><script type=\"importmap\">{
 
 const TWO_MAPS: &str = "<script type=importmap></script><script type=importmap></script>";
 
-const PAGED: &[(&str, &str)] = &[
+pub const PAGED: &[(&str, &str)] = &[
     ("/index.html", HEAD),
-    ("/app.mjs", "import \"./b.mjs\";"),
-    ("/b.mjs", ""),
-];
-
-const INJECTED: &[(&str, &str)] = &[
-    ("/index.html", WITH_MAP),
     ("/app.mjs", "import \"./b.mjs\";"),
     ("/b.mjs", ""),
 ];
@@ -53,61 +51,9 @@ const LOOKS: Fails = Fails {
     gives: &[],
 };
 
-/// Pages with their maps, what keeps a map out, and in which order that is seen: the base, the page, the trace. The
-/// page is looked at once, before the modules; each look, the write and the give fail in turn.
-pub static PAGE_CASES: [PageCase; 19] = [
-    PageCase {
-        words: INJECT,
-        files: PAGED,
-        fails: NONE,
-        status: 0,
-        line: DONE,
-        page: Some(WITH_MAP),
-    },
-    PageCase {
-        words: INJECT,
-        files: INJECTED,
-        fails: NONE,
-        status: 0,
-        line: DONE,
-        page: Some(WITH_MAP),
-    },
-    PageCase {
-        words: "inject --base https://app.test/site/ ./app.mjs",
-        files: &[
-            (
-                "/index.html",
-                "<script type='ImportMap'>{\"imports\":{\"a\":\"/a.mjs\"}}</script><p>",
-            ),
-            ("/app.mjs", "import \"/b.mjs\";"),
-            ("/b.mjs", ""),
-        ],
-        fails: NONE,
-        status: 0,
-        line: "ok: 2 modules, 2 requests, 1 mappings\n",
-        page: Some(
-            "<script type='ImportMap'>{
-  \"imports\": {
-    \"https://app.test/b.mjs\": \"https://app.test/site/b.mjs\"
-  }
-}
-</script><p>",
-        ),
-    },
-    PageCase {
-        words: "inject --base https://app.test/",
-        files: &[("/index.html", "<link>")],
-        fails: NONE,
-        status: 0,
-        line: "ok: 0 modules, 0 requests, 0 mappings\n",
-        page: Some(
-            "<script type=\"importmap\">{
-  \"imports\": {}
-}
-</script>
-<link>",
-        ),
-    },
+/// What keeps a map out of a page, and in which order that is seen: the base, the page, the trace. The page is looked at
+/// once, before the modules; each look, the write and the give fail in turn.
+pub static PAGE_CASES: [PageCase; 14] = [
     PageCase {
         words: INJECT,
         files: WITHOUT_PAGE,
@@ -163,31 +109,6 @@ pub static PAGE_CASES: [PageCase; 19] = [
         status: 1,
         line: "refused: NotFound from \"/app.mjs\" for \"./q.mjs\"\n",
         page: Some(HEAD),
-    },
-    PageCase {
-        words: INJECT,
-        files: &[
-            ("/index.html", HEAD),
-            (
-                "/package.json",
-                "{\"imports\":{\"#</script>\":\"./x.mjs\"}}",
-            ),
-            ("/app.mjs", "import \"#</script>\";"),
-            ("/x.mjs", ""),
-        ],
-        fails: NONE,
-        status: 0,
-        line: "ok: 2 modules, 2 requests, 1 mappings\n",
-        page: Some(
-            "<head><script type=\"importmap\">{
-  \"imports\": {
-    \"#\\u003c/script>\": \"https://app.test/x.mjs\"
-  }
-}
-</script>
-</head>
-",
-        ),
     },
     PageCase {
         words: "inject --base ftp://h/ x",

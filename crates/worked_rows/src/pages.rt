@@ -1,5 +1,6 @@
 use crate::case::{MAP_PATH, NONE, PAGE_PATH, are_kept, ended, ends, folder_of, put, stands};
 use crate::page_cases::{CUTS, FULL_PAGES, INJECT, PAGE_CASES, PageCase, WITH_MAP};
+use crate::page_maps::PAGE_MAPS;
 use std::alloc::Global;
 use std::test::Fail;
 use tree_model::PathFault;
@@ -13,6 +14,18 @@ pub fn passes(alloc: Global, case: &PageCase) -> Result<bool, PathFault> {
             && stands(alloc, &outcome.folder, MAP_PATH, None)?
             && are_kept(alloc, &outcome.folder, case.files, PAGE_PATH)?,
     )
+}
+
+#[test]
+fn each_page_gets_its_map(rt: HostRuntime) -> Result<(), Fail> {
+    for (number, case) in PAGE_MAPS.iter().enumerate() {
+        assert!(rt;
+            passes(rt.alloc(), case)?,
+            "page {number}: {} must put its map in",
+            case.words
+        );
+    }
+    Ok(())
 }
 
 #[test]
@@ -79,11 +92,11 @@ fn a_page_with_its_map_stays_as_it_is(rt: HostRuntime) -> Result<(), Fail> {
     let first = ended(
         alloc,
         INJECT,
-        folder_of(alloc, PAGE_CASES[0].files, &NONE)?,
+        folder_of(alloc, PAGE_MAPS[0].files, &NONE)?,
         &[],
     )?;
     let second = ended(alloc, INJECT, first.folder, &[])?;
-    assert!(rt; ends(&second, 0, PAGE_CASES[0].line));
+    assert!(rt; ends(&second, 0, PAGE_MAPS[0].line));
     assert!(rt; stands(alloc, &second.folder, PAGE_PATH, Some(WITH_MAP))?);
     Ok(())
 }

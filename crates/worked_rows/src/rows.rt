@@ -1,6 +1,8 @@
 use crate::case::{Case, Fails, LINK, NONE, ended, ends, fits, outcome_of, put};
 use crate::cases::CASES;
+use crate::check_cases::{CHECKED_MAPS, IN_ORDER, NO_MAPS};
 use crate::faults::FAULTS;
+use crate::maps::MAPS;
 use primitives::Memory;
 use std::alloc::Global;
 use std::test::Fail;
@@ -12,6 +14,19 @@ fn passes(alloc: Global, case: &Case, fails: &Fails) -> Result<bool, PathFault> 
 }
 
 #[test]
+fn each_map_is_written(rt: HostRuntime) -> Result<(), Fail> {
+    for (number, case) in MAPS.iter().enumerate() {
+        assert!(rt;
+            passes(rt.alloc(), case, &NONE)?,
+            "map {number}: {} must write its map and say {}",
+            case.words,
+            case.line
+        );
+    }
+    Ok(())
+}
+
+#[test]
 fn each_row_ends_as_it_must(rt: HostRuntime) -> Result<(), Fail> {
     for (number, case) in CASES.iter().enumerate() {
         assert!(rt;
@@ -20,6 +35,45 @@ fn each_row_ends_as_it_must(rt: HostRuntime) -> Result<(), Fail> {
             case.words,
             case.status,
             case.line
+        );
+    }
+    Ok(())
+}
+
+#[test]
+fn each_map_is_checked_as_it_must(rt: HostRuntime) -> Result<(), Fail> {
+    for (number, case) in CHECKED_MAPS.iter().enumerate() {
+        assert!(rt;
+            passes(rt.alloc(), case, &NONE)?,
+            "map {number} must end with {} {}",
+            case.status,
+            case.line
+        );
+    }
+    Ok(())
+}
+
+#[test]
+fn what_is_no_map_ends_as_it_must(rt: HostRuntime) -> Result<(), Fail> {
+    for (number, case) in NO_MAPS.iter().enumerate() {
+        assert!(rt;
+            passes(rt.alloc(), case, &NONE)?,
+            "bad map {number} must end with {} {}",
+            case.status,
+            case.line
+        );
+    }
+    Ok(())
+}
+
+#[test]
+fn each_check_goes_in_order(rt: HostRuntime) -> Result<(), Fail> {
+    for (number, check) in IN_ORDER.iter().enumerate() {
+        assert!(rt;
+            passes(rt.alloc(), &check.case, &check.fails)?,
+            "check {number} must end with {} {}",
+            check.case.status,
+            check.case.line
         );
     }
     Ok(())
