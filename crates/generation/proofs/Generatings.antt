@@ -172,6 +172,10 @@ module _ (config : Config) (before after : FolderState) where
 
 -- ---- a page that isn't served
 
+none_twice : IsDistinct bytes_eq []
+unfolding IsDistinct
+none_twice = tt
+
 page_shown : (config : Config) → shown config the_page ≡ config.page
 page_shown config = append-nil config.page
 

@@ -22,7 +22,7 @@ use Rattle.trace_spec.specs.Modules.{Config, path_of, shown, served_name, web_na
 use Rattle.trace_spec.specs.Traces.{traced}
 use Rattle.trace_spec.specs.Walking.{the_page}
 use Rattle.generator_spec.proofs.Nameless.{nameless_is_refused}
-use Rattle.generator_spec.specs.declared.Command.TheVariants.{Check}
+use Rattle.config_spec.specs.declared.Command.TheVariants.{Check}
 use Rattle.generator_spec.specs.declared.MapFileFault.{MapFileFault}
 use Rattle.generator_spec.specs.declared.MapFileFault.TheVariants as map_fault
 use Rattle.generator_spec.specs.declared.Refusal.TheVariants.{MapFile, Trace}

@@ -15,7 +15,7 @@ use Rattle.trace_spec.specs.Checks.{Gathered}
 use Rattle.trace_spec.specs.Modules.{Config, shown, web_name}
 use Rattle.trace_spec.specs.Traces.{traced}
 use Rattle.trace_spec.specs.Walking.{the_page}
-use Rattle.generator_spec.specs.declared.Command.TheVariants.{Check}
+use Rattle.config_spec.specs.declared.Command.TheVariants.{Check}
 use Rattle.generator_spec.specs.declared.Refusal.TheVariants.{MapFile, Trace}
 use Rattle.generator_spec.specs.Checking.{difference_lines, check_status, check_lines}
 use Rattle.generator_spec.specs.Commands.{map_path, IsMapText, ReadsMap, HoldsMap, map_file_fault}

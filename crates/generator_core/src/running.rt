@@ -1,8 +1,8 @@
 ghost use Rattle.std.specs.Prelude.{◌≡◌, ◌≤◌, ◌+◌, List, ℕ, IfSome};
 ghost use Rattle.tree_spec.specs.declared.LimitName.TheVariants.{Modules, Requests};
 ghost use Rattle.tree_spec.specs.Limits.{limit_number};
-ghost use Rattle.generator_spec.specs.declared.Command.{Command as Commanded};
-ghost use Rattle.generator_spec.specs.declared.Command.TheVariants.{Link, Inject, Check};
+ghost use Rattle.config_spec.specs.declared.Command.{Command as Commanded};
+ghost use Rattle.config_spec.specs.declared.Command.TheVariants.{Link, Inject, Check};
 ghost use Rattle.generator_spec.specs.declared.Refusal.{Refusal};
 ghost use Rattle.generator_spec.specs.Statuses.{done_status};
 ghost use Rattle.generator_spec.specs.Commands.{IsGenerating};

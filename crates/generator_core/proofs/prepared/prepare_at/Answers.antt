@@ -1,5 +1,5 @@
 use Rattle.std.proofs.Common.{subst}
-use Rattle.generator_spec.specs.declared.Command.TheVariants.{Inject}
+use Rattle.config_spec.specs.declared.Command.TheVariants.{Inject}
 use Rattle.generation.specs.Generating.{Generating}
 use Rattle.generator_core.proofs.Preparings.{lacks, page_stopped, page_ready}
 use Rattle.generator_core.proofs.prepared.prepare_at.Goals as goal

@@ -1,5 +1,5 @@
 use Rattle.std.proofs.Common.{subst}
-use Rattle.generator_spec.specs.declared.Command.TheVariants.{Link}
+use Rattle.config_spec.specs.declared.Command.TheVariants.{Link}
 use Rattle.generation.specs.Generating.{Generating}
 use Rattle.generator_core.proofs.Preparings.{stopped, lacks, link_opens, map_ready}
 use Rattle.generator_core.proofs.prepared.prepare_map.Goals as goal

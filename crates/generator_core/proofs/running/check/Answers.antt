@@ -1,5 +1,5 @@
 use Rattle.std.proofs.Common.{subst}
-use Rattle.generator_spec.specs.declared.Command.TheVariants.{Check}
+use Rattle.config_spec.specs.declared.Command.TheVariants.{Check}
 use Rattle.generator_spec.specs.Ending.{Ends}
 use Rattle.generator_core.specs.Checking.{Checks}
 use Rattle.generator_core.proofs.Checkings.{check_ends}

@@ -1,5 +1,5 @@
 use Rattle.std.proofs.Common.{subst}
-use Rattle.generator_spec.specs.declared.Command.TheVariants.{Link}
+use Rattle.config_spec.specs.declared.Command.TheVariants.{Link}
 use Rattle.generator_core.specs.Preparing.{Prepares, own_file}
 use Rattle.generator_core.proofs.Endings.{stop_end, write_end, stop_not_done, spends_few}
 use Rattle.generator_core.proofs.Preparings.{still_few}

@@ -1,6 +1,6 @@
 use Rattle.std.proofs.Common.{Err, refl, ap, ◌∙◌, subst}
 use Rattle.generator_spec.proofs.Configs.{refused_or_config}
-use Rattle.generator_spec.specs.declared.Command.TheVariants.{Link, Inject, Check}
+use Rattle.config_spec.specs.declared.Command.TheVariants.{Link, Inject, Check}
 use Rattle.generator_spec.specs.Ending.{Ends}
 use Rattle.command_words.specs.Splitting.{texts}
 use Rattle.generator_core.specs.Preparing.{own_file}
