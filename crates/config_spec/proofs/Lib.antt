@@ -1,3 +1,4 @@
 pub mod Options
 pub mod WordsJudged
 pub mod ProjectsRead
+pub mod Configs
