@@ -2,3 +2,5 @@ pub mod Options
 pub mod WordsJudged
 pub mod ProjectsRead
 pub mod Configs
+pub mod ConfigsFit
+pub mod FaultsOfWords
