@@ -37,7 +37,9 @@ WordsAreJudged = (words : List (List ℕ)) → WordsDecide words
 
 -- own law: what stands at the project's path holds one thing
 pub record ProjectDecides (tree : Tree) : Type 0 where
-  pub one : (some other : Result (Option Config) ProjectFault) → HoldsProject tree some → HoldsProject tree other → some ≡ other
+  pub one :
+      (some other : Result (Option Config) ProjectFault) → HoldsProject tree some → HoldsProject tree other
+      → some ≡ other
   pub some : (found : Result (Option Config) ProjectFault) × HoldsProject tree found
 
 abbrev pub ProjectsAreRead : Type 0
@@ -55,7 +57,9 @@ pub record ConfigDecides (words : List (List ℕ)) (tree : Tree) : Type 0 where
   pub one :
       (some other : Command) (outcome second : Result Config ConfigFault) → Configures words tree some outcome
       → Configures words tree other second → SameConfiguring some other outcome second
-  pub some : (command : Command) → IsCommandOf words command → (outcome : Result Config ConfigFault) × Configures words tree command outcome
+  pub some :
+      (command : Command) → IsCommandOf words command
+      → (outcome : Result Config ConfigFault) × Configures words tree command outcome
 
 abbrev pub ConfigsAreJudged : Type 0
 ConfigsAreJudged = (words : List (List ℕ)) (tree : Tree) → ConfigDecides words tree

@@ -1,0 +1,6 @@
+pub mod Options
+pub mod WordsJudged
+pub mod ProjectsRead
+pub mod Configs
+pub mod ConfigsFit
+pub mod FaultsOfWords
