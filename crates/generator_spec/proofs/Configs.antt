@@ -8,7 +8,8 @@ use Rattle.config_spec.specs.declared.ConfigFault.{ConfigFault}
 use Rattle.config_spec.specs.Words.{IsCommandOf, IsPlain, RefusesWords}
 use Rattle.config_spec.specs.Words.RefusesWords.{not_built, bad_option}
 use Rattle.config_spec.specs.Projects.{Configures, IsConfigOf, IsConfigFor, RefusesConfig}
-use Rattle.config_spec.proofs.Configs.{configs_are_judged, configs_are_projects}
+use Rattle.config_spec.proofs.Configs.{configs_are_judged}
+use Rattle.config_spec.proofs.ConfigsFit.{configs_are_projects}
 use Rattle.config_spec.proofs.WordsJudged.{words_are_judged}
 
 pub record SameConfig (some other : Command) (config second : Config) : Type 0 where

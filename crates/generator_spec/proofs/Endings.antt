@@ -170,9 +170,9 @@ kept_where_refused words status lines (Some tree) told untold other here =
 
 -- ---- a write that failed
 
-if_stopped : {words : List (List ℕ)} (held told : Option Tree) (line : List ℕ) → IfSome held (λ tree. StopsWriting words tree line told) → IfSome held (λ tree. HasStopped words tree told)
-if_stopped None told line stops = tt
-if_stopped (Some tree) told line stops = record { line = line; stops = stops }
+if_stopped : (words : List (List ℕ)) (held told : Option Tree) (line : List ℕ) → IfSome held (λ tree. StopsWriting words tree line told) → IfSome held (λ tree. HasStopped words tree told)
+if_stopped words None told line stops = tt
+if_stopped words (Some tree) told line stops = record { line = line; stops = stops }
 
 -- ---- one line
 
@@ -240,7 +240,7 @@ module _ (words : List (List ℕ)) (before after : FolderState) (status : ℕ) (
       ⊎_elim (λ zero. inr (inl zero)) (λ refusing. inl (kept (no_refusing status refusing).0)) (shaped_status words status lines shape)
   kept_or_done untold (says.memory s t k l w) = inl k
   kept_or_done untold (says.read_fault command is_command s t k rose w) = inl k
-  kept_or_done untold (says.write_fault line counted stops s t l rose) = inr (inr (if_stopped before.holds after.holds line stops))
+  kept_or_done untold (says.write_fault line counted stops s t l rose) = inr (inr (if_stopped words before.holds after.holds line stops))
 
   -- ---- words that are refused
 

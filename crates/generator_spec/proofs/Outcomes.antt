@@ -304,9 +304,11 @@ module _ (words : List (List ℕ)) (tree : Tree) (is_tree : IsTree tree) where
   two_files config map = (
     insert tree map_path (Stored map),
     inserted_places tree map_path (Stored map) above_map,
-    insert (insert tree map_path (Stored map)) project_path (Stored (project_text config)),
-    inserted_places (insert tree map_path (Stored map)) project_path (Stored (project_text config)) (λ folder above. after_map map folder (in_root_above project_path folder project_in_root above)),
-    refl,
+    (
+      insert (insert tree map_path (Stored map)) project_path (Stored (project_text config)),
+      inserted_places (insert tree map_path (Stored map)) project_path (Stored (project_text config)) (λ folder above. after_map map folder (in_root_above project_path folder project_in_root above)),
+      refl,
+    ),
   )
 
   by_why : (why : Refusal) → RefusesRun words tree why → HasOutcome words tree

@@ -104,6 +104,7 @@ module _ (tree : Tree) (config : Config) where
       no_way_in text other page new reason (same_stored found other page is_too.stands is.stands) keeps i
 
   refused_or_opened : (fault : PageFault) → RefusesPage tree config fault → Opens tree config Inject → ⊥
+  refused_or_opened fault refused (opens.nothing _ is) = elim is [ ]
   refused_or_opened fault refused (opens.page page is takes) = let put = takes [] in refused_takes_none fault [] page put.new refused is put.injection
 
   -- ---- the map's file
@@ -167,6 +168,7 @@ module _ (tree : Tree) (config : Config) where
       absurd (cc)
 
   map_refused_or_opened : (fault : MapFileFault) → RefusesMapFile tree config fault → Opens tree config Check → ⊥
+  map_refused_or_opened fault refused (opens.nothing _ is) = elim is [ ]
   map_refused_or_opened fault refused (opens.has_map map holds) = no_map_text fault holds.text map refused holds.stands holds.reads
   map_refused_or_opened fault refused (opens.no_base text is nameless) = no_base_text fault text refused is nameless
 
