@@ -129,7 +129,7 @@ module _ (tree : Tree) (config : Config) (all : Gathered) (traces : traced (get 
 
   modules_known : (bytes : List ℕ) → bytes ≡ map_text digested → KnowsModules tree config bytes
   modules_known bytes text =
-      let named = is_named tree config all traces the_page page_is_reached in
+      let named = page tree config all traces digested of_needs digests in
       record {
         map_base = named.name;
         named = named.named;
