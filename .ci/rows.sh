@@ -6,17 +6,19 @@ kept=$(mktemp -d) || exit 1
 trap 'rm -rf "$kept"' EXIT
 failed=0
 
-# Links ENTRY in the folder $kept/NAME: row NAME ENTRY STATUS LINE, and the map on the standard input. No other file may be
-# written, and without a map none.
+# Links ENTRY in the folder $kept/NAME: row NAME ENTRY STATUS LINE [TOLD], and the map on the standard input. No other file
+# may be written, and without a map none. TOLD is what is said on standard error, which is nothing without it.
 row() {
     cat >"$kept/map"
     before=$(cd "$kept/$1" && find . | sort)
-    (cd "$kept/$1" && "$program" link --base https://app.test/ "$2" >"$kept/out")
+    (cd "$kept/$1" && "$program" link --base https://app.test/ "$2" >"$kept/out" 2>"$kept/told")
     status=$?
     written=/dev/null
     [ ! -e "$kept/$1/importmap.json" ] || written=$kept/$1/importmap.json
     after=$(cd "$kept/$1" && find . ! -path ./importmap.json | sort)
-    if [ "$status" = "$3" ] && echo "$4" | diff - "$kept/out" && diff "$kept/map" "$written" && [ "$before" = "$after" ]; then
+    if [ "$status" = "$3" ] && echo "$4" | diff - "$kept/out" && diff "$kept/map" "$written" &&
+        [ "$before" = "$after" ] && printf '%s' "${5:+$5
+}" | diff - "$kept/told"; then
         return
     fi
     echo "$1: status $status"
@@ -279,5 +281,13 @@ LINES
 mkdir "$kept/otherdigest" && : >"$kept/otherdigest/app.mjs" &&
     echo '{"integrity":{"/app.mjs":"sha384-another","/b.mjs":"sha384-another"}}' >"$kept/otherdigest/importmap.json"
 echo 'ok: 1 needs served' | checked otherdigest 0
+
+
+# What the disk doesn't give is told on standard error.
+mkdir "$kept/linked" && echo 'import "./b.mjs";' >"$kept/linked/app.mjs" && ln -s app.mjs "$kept/linked/b.mjs"
+row linked ./app.mjs 4 'fault: read' 'salimgub: ./b.mjs: symbolic link' </dev/null
+
+mkdir "$kept/special" && echo 'import "./b.mjs";' >"$kept/special/app.mjs" && mkfifo "$kept/special/b.mjs"
+row special ./app.mjs 4 'fault: read' 'salimgub: ./b.mjs: special file' </dev/null
 
 exit "$failed"

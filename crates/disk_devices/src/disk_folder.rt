@@ -4,6 +4,7 @@ ghost use Rattle.tree_spec.specs.Counts.{Rose};
 ghost use Rattle.disk_devices.specs.Contents.{IsContent};
 
 use crate::faults::one_more;
+use crate::trouble::{Obstacle, Trouble};
 use std::alloc::{AllocError, Global};
 use std::collections::HashMap;
 use std::fs::OpenOptions;
@@ -24,6 +25,7 @@ pub struct DiskFolder<'a, R> {
     disk: Disk<'a, R>,
     look_faults: u64,
     write_faults: u64,
+    trouble: Option<Trouble>,
 }
 
 impl<'a, R> DiskFolder<'a, R> {
@@ -38,21 +40,37 @@ impl<'a, R> DiskFolder<'a, R> {
             },
             look_faults: 0,
             write_faults: 0,
+            trouble: None,
         }
     }
 
-    /// The fault of a look that an error of the disk makes, counted where it isn't want of memory.
-    fn look_fault(&mut self, fault: io::Error) -> LookFault
+    /// What failed last, and why; None where nothing did, or where there was no memory to keep it.
+    pub fn trouble(&self) -> Option<&Trouble> {
+        self.trouble.as_ref()
+    }
+
+    /// The fault of a look that an obstacle makes, kept and counted where it isn't want of memory.
+    fn look_fault(&mut self, path: &str, obstacle: Obstacle) -> LookFault
         ensures failed { result ≡ LookFault.Failed → Rose self.old.look_faults self.new.look_faults }
         ensures quiet { result ≢ LookFault.Failed → self.new.look_faults ≡ self.old.look_faults }
         ensures later { self.old.look_faults ≤ self.new.look_faults }
         ensures writes { self.new.write_faults ≡ self.old.write_faults }
     {
-        if fault.kind() == ErrorKind::OutOfMemory {
-            return LookFault::Memory;
+        if let Obstacle::System { error } = &obstacle {
+            if error.kind() == ErrorKind::OutOfMemory {
+                return LookFault::Memory;
+            }
         }
+        self.trouble = trouble_of(&self.disk, path, obstacle);
         self.look_faults = one_more(self.look_faults);
         LookFault::Failed
+    }
+}
+
+fn trouble_of<R>(disk: &Disk<'_, R>, path: &str, obstacle: Obstacle) -> Option<Trouble> {
+    match disk.name_of(disk.alloc, path) {
+        Ok(name) => Some(Trouble::of(obstacle, name)),
+        Err(_) => None,
     }
 }
 
@@ -71,14 +89,15 @@ impl<'a, R: Files> Folder for DiskFolder<'a, R> {
     fn look(&mut self, alloc: Global, path: &Path, limit: u64) -> Result<Look, LookFault> {
         match self.disk.look(alloc, path.as_str(), limit) {
             Ok(look) => Ok(look),
-            Err(fault) => Err(self.look_fault(fault)),
+            Err(obstacle) => Err(self.look_fault(path.as_str(), obstacle)),
         }
     }
 
     fn write(&mut self, path: &Path, bytes: &[u8]) -> Result<(), Failed> {
         match self.disk.write(path.as_str(), bytes) {
             Ok(()) => Ok(()),
-            Err(_) => {
+            Err(obstacle) => {
+                self.trouble = trouble_of(&self.disk, path.as_str(), obstacle);
                 self.write_faults = one_more(self.write_faults);
                 Err(Failed)
             }
@@ -105,9 +124,25 @@ struct Disk<'a, R> {
     ways: HashMap<String, bool>,
 }
 
+impl<'a, R> Disk<'a, R> {
+    /// The name on the disk of what stands at a path.
+    fn name_of(&self, alloc: Global, path: &str) -> Result<String, AllocError> {
+        let mut name = String::with_capacity(alloc, self.root.len().saturating_add(path.len()))?;
+        name.push_str(self.root)?;
+        name.push_str(path)?;
+        Ok(name)
+    }
+
+    /// Keeps whether a folder stands under a name.
+    fn keep(&mut self, name: String, is_reached: bool) -> Result<(), AllocError> {
+        self.ways.insert(name, is_reached)?;
+        Ok(())
+    }
+}
+
 impl<'a, R: Files> Disk<'a, R> {
     /// What stands at a path, where a file may have at most `limit` bytes.
-    fn look(&mut self, alloc: Global, path: &str, limit: u64) -> io::Result<Look> {
+    fn look(&mut self, alloc: Global, path: &str, limit: u64) -> Result<Look, Obstacle> {
         let name = self.name_of(alloc, path)?;
         if !self.reaches(above(name.as_str()))? {
             return Ok(Look::Absent);
@@ -115,7 +150,7 @@ impl<'a, R: Files> Disk<'a, R> {
         match self.standing(name.as_str())? {
             Standing::Absent => Ok(Look::Absent),
             Standing::Folder => {
-                self.ways.insert(name, true)?;
+                self.keep(name, true)?;
                 Ok(Look::Folder)
             }
             Standing::File(size) => {
@@ -124,13 +159,13 @@ impl<'a, R: Files> Disk<'a, R> {
                 }
                 let file = fs::open(&self.rt, name.as_str())?;
                 // No file is so long that the greatest number makes a difference.
-                content(alloc, file, size, limit.min(u64::MAX - 1))
+                Ok(content(alloc, file, size, limit.min(u64::MAX - 1))?)
             }
         }
     }
 
     /// Makes a file of these bytes, or leaves what stands there.
-    fn write(&mut self, path: &str, bytes: &[u8]) -> io::Result<()> {
+    fn write(&mut self, path: &str, bytes: &[u8]) -> Result<(), Obstacle> {
         let alloc = self.alloc;
         let goal = self.name_of(alloc, path)?;
         let above = above(goal.as_str());
@@ -141,7 +176,7 @@ impl<'a, R: Files> Disk<'a, R> {
             fs::create_dir_all(&self.rt, above)?;
         }
         if let Standing::Folder = self.standing(goal.as_str())? {
-            return Err(io::Error::from(ErrorKind::IsADirectory));
+            return Err(Obstacle::from(io::Error::from(ErrorKind::IsADirectory)));
         }
         // Written beside the goal and moved over it, so that a write that fails leaves what was there.
         let (draft, mut file) = self.draft(alloc, above)?;
@@ -155,19 +190,11 @@ impl<'a, R: Files> Disk<'a, R> {
             // The fault to tell is the one before, whether or not the draft can be taken away.
             let _ = fs::remove_file(&self.rt, draft.as_str());
         }
-        moved
-    }
-
-    /// The name on the disk of what stands at a path.
-    fn name_of(&self, alloc: Global, path: &str) -> Result<String, AllocError> {
-        let mut name = String::with_capacity(alloc, self.root.len().saturating_add(path.len()))?;
-        name.push_str(self.root)?;
-        name.push_str(path)?;
-        Ok(name)
+        Ok(moved?)
     }
 
     /// What stands under a name, a link not followed.
-    fn standing(&self, name: &str) -> io::Result<Standing> {
+    fn standing(&self, name: &str) -> Result<Standing, Obstacle> {
         match fs::symlink_metadata(&self.rt, name) {
             Ok(found) => {
                 if found.is_file() {
@@ -175,20 +202,24 @@ impl<'a, R: Files> Disk<'a, R> {
                 } else if found.is_dir() {
                     Ok(Standing::Folder)
                 } else {
-                    Err(io::Error::from(ErrorKind::Unsupported))
+                    let name = String::from_str(self.alloc, name)?;
+                    if found.is_symlink() {
+                        return Err(Obstacle::Link { name });
+                    }
+                    Err(Obstacle::Special { name })
                 }
             }
             Err(fault) => match fault.kind() {
                 ErrorKind::NotFound | ErrorKind::NotADirectory | ErrorKind::InvalidFilename => {
                     Ok(Standing::Absent)
                 }
-                _ => Err(fault),
+                _ => Err(Obstacle::from(fault)),
             },
         }
     }
 
     /// Whether a folder stands under a name, and above it, from the root folder on, folders alone.
-    fn reaches(&mut self, name: &str) -> io::Result<bool> {
+    fn reaches(&mut self, name: &str) -> Result<bool, Obstacle> {
         if name.len() <= self.root.len() {
             return Ok(true);
         }
@@ -200,8 +231,7 @@ impl<'a, R: Files> Disk<'a, R> {
             return Ok(false);
         }
         let is_reached = matches!(self.standing(name)?, Standing::Folder);
-        self.ways
-            .insert(String::from_str(self.alloc, name)?, is_reached)?;
+        self.keep(String::from_str(self.alloc, name)?, is_reached)?;
         Ok(is_reached)
     }
 
@@ -279,6 +309,12 @@ mod tests {
         }
     }
 
+    /// What failed last, and why, as it is told.
+    fn shown(alloc: Global, folder: &DiskFolder<'_, HostRuntime>) -> Result<String, Fail> {
+        let trouble = folder.trouble().ok_or("no trouble")?;
+        Ok(format!(in alloc; "{trouble}")?)
+    }
+
     static LOOKS: [(&str, u64, Seen); 12] = [
         ("/", 9, Seen::Folder),
         ("/folder", 0, Seen::Folder),
@@ -335,6 +371,8 @@ mod tests {
             );
         }
         assert_eq!(rt; folder.look_faults, 3);
+        let linked = format!(in alloc; "{root}/linked_folder: symbolic link")?;
+        assert!(rt; shown(alloc, &folder)? == linked);
         let mut devices = DiskFolder::new(rt, alloc, "/dev");
         let null = Path::parse(alloc, "/null")?;
         assert_eq!(rt;
@@ -342,6 +380,7 @@ mod tests {
             Seen::Failed,
             "a special file"
         );
+        assert!(rt; shown(alloc, &devices)?.as_str() == "/dev/null: special file");
         fs::remove_dir_all(&rt, root.as_str())?;
         Ok(())
     }

@@ -4,6 +4,8 @@
 mod disk_folder;
 mod faults;
 mod streams;
+mod trouble;
 
 pub use disk_folder::DiskFolder;
 pub use streams::{StdSink, StdSource};
+pub use trouble::Trouble;

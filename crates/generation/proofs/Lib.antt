@@ -1,1 +1,2 @@
 pub mod Generatings
+pub mod Digestings

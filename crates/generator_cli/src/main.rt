@@ -1,5 +1,5 @@
 //! The program: it makes the folder, the streams, the counter and the words, and leaves every decision to `run`, but
-//! the one where there is no memory for the words.
+//! the one where there is no memory for the words. On standard error it tells what failed on the disk, and why.
 #![tactic(auto)]
 
 ghost use Rattle.std.specs.Prelude.{◌≡◌, ◌<◌, ℕ};
@@ -32,14 +32,19 @@ fn start<R: Runtime + AllocGlobal, L: Ledger>(rt: &R, words: &[String], blank: B
     let mut input = StdSource::new(rt.reader());
     let mut output = StdSink::new(io::writer(rt));
     let mut steps = Steps::<L>::start(blank);
-    run(
+    let status = run(
         rt.alloc(),
         words,
         &mut folder,
         &mut input,
         &mut output,
         &mut steps,
-    )
+    );
+    if let Some(trouble) = folder.trouble() {
+        // The status tells of the fault also where nothing can be said of it.
+        let _ = eprintln!(rt; "salimgub: {trouble}");
+    }
+    status
 }
 
 /// The status where the words find no memory.

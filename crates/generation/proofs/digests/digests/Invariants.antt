@@ -5,7 +5,10 @@ use Rattle.generation.specs.Digesting.{kept_texts}
 use Rattle.generation.proofs.digests.digests.Given as goal
 
 -- the digests of the modules from the place on
-abbrev pub invariant-loop : goal.invariant-loop
-invariant-loop l =
-    (l.place ≤ length l.fn.trace.now.modules)
-    × (kept_texts l.kept ≡ digests l.fn.config.now (drop l.place l.fn.trace.now.modules) (drop l.place l.fn.trace.now.sources))
+abbrev pub invariant-loop-place : goal.invariant-loop-place
+invariant-loop-place l =
+    (l.place ≤ length l.fn.trace.modules)
+    × (kept_texts l.kept ≡ digests l.fn.config (drop l.place l.fn.trace.modules) (drop l.place l.fn.trace.sources))
+
+abbrev pub decreases-loop-place : goal.decreases-loop-place
+decreases-loop-place l = l.place

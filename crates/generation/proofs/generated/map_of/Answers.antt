@@ -25,7 +25,7 @@ returns-in_err-map-clause-too_large c = λ same.
     let needs : List Need = c.args.trace.now.needs in
     let laid : AgreedLists needs c.in_ok-layout.layout = subst (λ ns. AgreedLists ns c.in_ok-layout.layout) c.needs.ensures.needs c.in_ok-layout.ensures in
     let printed = digested c.args.config.now c.args.trace.now c.in_ok-layout.layout laid.m c.in_ok-digests.digests c.in_ok-digests.ensures laid.lists in
-    record { layout = laid.m; agreed = laid.is_agreed; large = c.print_map-2.ensures.too_large (search (rules, same)) (with_digests c.args.config.now c.args.trace.now laid.m) printed }
+    record { layout = laid.m; agreed = laid.is_agreed; large = c.print_map.ensures.too_large (search (rules, same)) (with_digests c.args.config.now c.args.trace.now laid.m) printed }
 
 pub returns-clause-map : goal.returns-clause-map
 returns-clause-map c =
