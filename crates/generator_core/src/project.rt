@@ -1,8 +1,9 @@
 //! The config of a command: what its words ask for, over the project that the folder holds.
 
-ghost use Rattle.std.specs.Prelude.{◌≡◌, ℕ, List, IfSome};
+ghost use Rattle.std.specs.Prelude.{◌≡◌, ℕ, List, Result, Ok, Err};
+ghost use Rattle.command_words.specs.Orders.{IsOrder, command_ordered};
 ghost use Rattle.config_spec.specs.Projects as spec;
-ghost use Rattle.generator_core.specs.Configuring.{FindsProject, Configures, IsOrderOf};
+ghost use Rattle.generator_core.specs.Configuring.{FindsProject, Configures};
 
 use crate::paths::project_path;
 use command_words::Order;
@@ -17,9 +18,13 @@ use tree_model::{Folder, Look, LookFault, Path};
 use tree_spec::{LimitName, MOST_FILE_BYTES};
 
 /// Looks at the project's file, once, and gives the config of the command.
-pub fn configured<F: Folder>(alloc: Global, folder: &mut F, order: &Order<'_>) -> Result<Config, Stop>
-    ensures { (words : List (List ℕ)) → IsOrderOf words order.now
-        → Configures words order.now (F.state folder.old) result (F.state folder.new) }
+pub fn configured<F: Folder>(
+    alloc: Global,
+    folder: &mut F,
+    order: Order<'_>,
+) -> Result<Config, Stop>
+    ensures { (words : List (List ℕ)) → IsOrder words order.entry
+        → Configures words (command_ordered order.entry) (F.state folder.old) result (F.state folder.new) }
 {
     match project_in(alloc, folder) {
         Err(stop) => Err(stop),

@@ -124,6 +124,9 @@ reason_text (reason.Unreadable at) = codes "Unreadable at " ++ decimal at
 abbrev pub pair_line : List ℕ → List ℕ → List ℕ → List ℕ → List ℕ
 pair_line front first between second = front ++ (quoted first ++ (between ++ (quoted second ++ end_of_line)))
 
+abbrev pub not_plain_line : List ℕ
+not_plain_line = codes "words: not plain" ++ end_of_line
+
 abbrev pub memory_line : List ℕ
 memory_line = codes "memory" ++ end_of_line
 
