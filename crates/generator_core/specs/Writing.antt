@@ -1,6 +1,7 @@
 -- What the end of a command does.
 --     WritesFiles files before done after      the files were written, or the write of one failed
 --     SaysWrite before after files done status line      what is said of the writes of the files
+--     TellsWords fault out out_after result      it is told why the words are refused
 --     TellsStop stop out out_after result      it is told why nothing is written
 --     SpendsFew out out_after before after      the line of a map went out, with so many modules and requests that they
 --                                               are no fewer than the steps
@@ -10,10 +11,14 @@ use Rattle.std.specs.Prelude.{option_map}
 use Rattle.tree_spec.specs.Trees.{Tree}
 use Rattle.tree_spec.specs.Counts.{Rose}
 use Rattle.tree_spec.specs.States.{FolderState, SinkState}
-use Rattle.generator_spec.specs.Statuses.{done_status, read_fault_status, write_fault_status, memory_status}
+use Rattle.generator_spec.specs.declared.Refusal.TheVariants.{Config as Configured}
+use Rattle.generator_spec.specs.Statuses.{done_status, words_status, read_fault_status, write_fault_status, memory_status}
 use Rattle.generator_spec.specs.Lines.{counts_line, memory_line, read_fault_line, write_fault_line}
 use Rattle.generator_spec.specs.Commands.{NewFile}
 use Rattle.generator_spec.specs.Ending.{AreWritten, Ends, TellsRefusal}
+use Rattle.command_words.specs.declared.fault.WordsFault.{WordsFault}
+use Rattle.command_words.specs.declared.fault.WordsFault.TheVariants.{Told, NotPlain}
+use Rattle.command_words.specs.declared.fault.WordsFault.TheVariants as words
 use Rattle.generation.specs.declared.stop.Stop.{Stop}
 use Rattle.generation.specs.declared.stop.Stop.TheVariants.{Refused, ReadFault, Memory}
 use Rattle.generator_core.specs.Preparing.{shown_files}
@@ -52,6 +57,16 @@ pub data SaysWrite (before after : FolderState) (files : List NewFile) (done : L
   memory :
       status ≡ memory_status → line ≡ memory_line → after.holds ≡ before.holds
       → after.write_faults ≡ before.write_faults → SaysWrite before after files done status line
+
+-- words that have no meaning are answered with some text
+pub data TellsNoMeaning (out out_after : SinkState) (result : ℕ) : Type 0 where
+  text : (text : List ℕ) → Ends words_status text out out_after result → TellsNoMeaning out out_after result
+
+abbrev pub TellsWords : WordsFault → SinkState → SinkState → ℕ → Type 0
+TellsWords (Told text) out out_after result = TellsNoMeaning out out_after result
+TellsWords NotPlain out out_after result = TellsNoMeaning out out_after result
+TellsWords (words.Refused fault) out out_after result = TellsRefusal (Configured fault) out out_after result
+TellsWords words.Memory out out_after result = Ends memory_status memory_line out out_after result
 
 -- want of memory may take the place of a refusal, but not of a look that failed
 abbrev pub TellsStop : Stop → SinkState → SinkState → ℕ → Type 0

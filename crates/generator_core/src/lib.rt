@@ -5,6 +5,7 @@
 mod checking;
 mod paths;
 mod prepared;
+mod project;
 mod running;
 
 pub use running::run;

@@ -54,11 +54,7 @@ fn project_in<F: Folder>(alloc: Global, folder: &mut F) -> Result<Option<Config>
     }
 }
 
-fn project_at<F: Folder>(
-    alloc: Global,
-    folder: &mut F,
-    path: &Path,
-) -> Result<Option<Config>, Stop>
+fn project_at<F: Folder>(alloc: Global, folder: &mut F, path: &Path) -> Result<Option<Config>, Stop>
     ensures { path.now ≡ spec.project_path → FindsProject (F.state folder.old) result (F.state folder.new) }
 {
     match folder.look(alloc, path, MOST_FILE_BYTES) {
