@@ -29,9 +29,10 @@ use Rattle.generator_spec.specs.declared.Refusal.TheVariants.{MapFile, Trace}
 use Rattle.generator_spec.specs.Checking.{need_at, spelling_at, difference_line, difference_lines, check_status, check_lines}
 use Rattle.generator_spec.specs.Commands.{map_path, map_file_limit, map_file_fault, IsMapText, ReadsMap, HoldsMap, RefusesMapFile, RefusesMapFile as refuses_map}
 use Rattle.generator_spec.specs.Commands.{Opens, Opens as opens, Refuses, Refuses as refuses, IsRefusalOf as kind}
-use Rattle.generator_spec.specs.Words.{IsConfigOf}
+use Rattle.config_spec.specs.Projects.{IsConfigOf}
 use Rattle.generator_spec.specs.Outcome.{ComesTo as comes, Outcome}
-use Rattle.generator_spec.specs.Ending.{IsDifference, Says, Ends, EndsAs, Shaped as shaped, Says as says}
+use Rattle.generator_spec.specs.Ending.{IsDifference, IsDone, IsDone as done, Says, Ends, EndsAs, Shaped as shaped, Says as says}
+use Rattle.generator_core.specs.Configuring.{IsConfigAt}
 use Rattle.generation.specs.declared.stop.Stop.{Stop}
 use Rattle.generation.specs.declared.stop.Stop.TheVariants.{Refused, ReadFault, Memory}
 use Rattle.generation.specs.Generating.{Tracing, AsksNoPathTwice}
@@ -40,7 +41,7 @@ use Rattle.generator_core.specs.Preparing.{EndsBefore, AsksOwn}
 use Rattle.generator_core.specs.Checking.{IsMapTextFound, FindsMapText, IsMapStop, FindsMap, IsNameless, IsReport, IsChecked, IsReported, ChecksBy, Checks}
 use Rattle.generator_core.specs.Checking.{IsMapStop as map_stop, IsNameless as nameless}
 use Rattle.generator_core.proofs.Preparings.{if_some, if_two, if_all, looks_as, then_looks, earlier_end, own_asked, own_alone, own_then}
-use Rattle.generator_core.proofs.Endings.{ends_as}
+use Rattle.generator_core.proofs.Endings.{command_for, ends_as, serves_where_done}
 
 -- ---- the look at the map's file
 
@@ -236,23 +237,28 @@ all_differ all (d ∷ more) =
       says = refl;
     }) (all_differ all more)
 
-module _ (words : List (List ℕ)) (config : Config) (is_config : IsConfigOf words Check config) (before after : FolderState) (out out_after : SinkState) (result : ℕ) (report : Report) (is : IsReported config before after report) where
+module _ (words : List (List ℕ)) (config : Config) (before after : FolderState) (out out_after : SinkState) (result : ℕ) (report : Report) (is_config : IsConfigAt words Check config before) (is : IsReported config before after report) where
   abbrev lines : List (List ℕ)
   lines = check_lines (length is.all.needs) (difference_lines is.map is.all)
 
-  outcome_told : (held told : Option Tree) → told ≡ held → IfSome held (λ tree. IsChecked config tree is.map is.all)
+  outcome_told : (held told : Option Tree) → told ≡ held → IfSome held (λ tree. IsConfigOf words tree Check config) → IfSome held (λ tree. IsChecked config tree is.map is.all)
       → IfSome held (λ tree. (later : Tree) × Outcome words tree report.status lines later × (told ≡ Some later))
-  outcome_told None told same checked = tt
-  outcome_told (Some tree) told same checked =
-      (tree, record { files = []; comes = comes.checked config is.map is.all is_config checked.holds checked.is_traced is.is_report.status refl refl; placed = refl }, same)
+  outcome_told None told same of checked = tt
+  outcome_told (Some tree) told same of checked =
+      (tree, record { files = []; comes = comes.checked config is.map is.all of checked.holds checked.is_traced is.is_report.status refl refl; placed = refl }, same)
 
   report_says : Says words before after report.status lines
   report_says =
       says.outcome
-      (shaped.checked (record { config = config; is_config = is_config; needs = length is.all.needs; differing = difference_lines is.map is.all; are_differences = all_differ is.all (differences is.map is.all.needs); ends = is.is_report.status; says = refl }))
-      (outcome_told before.holds after.holds is.looks.tree is.told) (is.looks.quiet (λ e. e)) is.looks.writes
+      (shaped.checked (record { is_command = command_for words Check config is_config.can; needs = length is.all.needs; differing = difference_lines is.map is.all; are_differences = all_differ is.all (differences is.map is.all.needs); ends = is.is_report.status; says = refl }))
+      (outcome_told before.holds after.holds is.looks.tree is_config.told is.told) (is.looks.quiet (λ e. e)) is.looks.writes
+
+  served_told : (held told : Option Tree) → told ≡ held → IfSome held (λ tree. IsConfigOf words tree Check config) → IfSome held (λ tree. IsChecked config tree is.map is.all) → report.status ≡ 0 → IfSome held (λ tree. IsDone words tree told)
+  served_told None told same of checked zero = tt
+  served_told (Some tree) told same of checked zero =
+      done.served (serves_where_done words tree config is.map is.all of checked.holds checked.is_traced (sym is.is_report.status ∙ zero)) same
 
   pub check_ends : Ends report.status report.text.items out out_after result → out.faults ≤ out_after.faults → EndsAs words before after out out_after result
   check_ends told more =
-      ends_as words before after out out_after result report.status lines (λ none. is.looks.tree ∙ none) report_says
+      ends_as words before after out out_after result report.status lines (λ none. is.looks.tree ∙ none) (served_told before.holds after.holds is.looks.tree is_config.told is.told) report_says
       (subst (λ text. Ends report.status text out out_after result) is.is_report.text told) is.looks.later (let w = is.looks.writes in omega (arith, w)) more

@@ -1,31 +1,37 @@
 -- How a command comes to its config.
---     Holds outcome      some tree holds this at the project's path
+--     CanBeHeld outcome      what a file can give at the project's path
 --     FindsProject before result after      the project's file is read, or it is told why not
 --     IsConfigAt words command config state      a told tree gives the words this config; whatever is told, they can have it
 --     StopsConfig words before after stop      why there is no config
 --     AsksInOrder words before old after      what the folder is asked for in the whole run
 --     Configures words command before result after      the command has its config, or it is told why not
-use Rattle.std.specs.Prelude.{◌≡◌, ◌⊎◌, ◌++◌, [], ◌∷◌, ⊤, ⊥, ℕ, List, Option, Some, Result, Ok, Err, IfOk, IfErr, IfSome}
+use Rattle.std.specs.Prelude.{◌≡◌, ◌⊎◌, ◌≤◌, ◌++◌, [], ◌∷◌, ⊥, ℕ, List, length, Option, Some, Result, Ok, Err, IfOk, IfErr, IfSome}
 use Rattle.tree_spec.specs.States.{FolderState, OnlyLooks}
 use Rattle.tree_spec.specs.Trees.{Tree}
+use Rattle.tree_spec.specs.declared.LimitName.TheVariants.{Entries}
+use Rattle.tree_spec.specs.Limits.{limit_number}
+use Rattle.project_spec.specs.ProjectFiles.{IsProject}
 use Rattle.trace_spec.specs.Modules.{Config}
 use Rattle.config_spec.specs.declared.Command.{Command}
 use Rattle.config_spec.specs.declared.ConfigFault.{ConfigFault}
 use Rattle.config_spec.specs.declared.ConfigFault.TheVariants.{Project}
 use Rattle.config_spec.specs.declared.ProjectFault.{ProjectFault}
-use Rattle.config_spec.specs.Projects.{project_path, HoldsProject, IsConfigOf, IsConfigFor, RefusesConfig, CanRefuseConfig}
+use Rattle.config_spec.specs.Projects.{project_path, HoldsProject, IsReadFault, IsConfigOf, IsConfigFor, RefusesConfig, CanRefuseConfig}
 use Rattle.generator_spec.specs.declared.Refusal.TheVariants.{Config as Configured, Limit, Page, MapFile, Trace}
 use Rattle.generation.specs.declared.stop.Stop.{Stop}
 use Rattle.generation.specs.declared.stop.Stop.TheVariants.{Refused, ReadFault, Memory}
 use Rattle.generator_core.specs.Preparing.{AsksOwn, AsksFew, own_file}
 
-abbrev pub Holds : Result (Option Config) ProjectFault → Type 0
-Holds outcome = (tree : Tree) × HoldsProject tree outcome
+-- a config can stand in a project's file, and a fault is one of reading
+pub record CanBeHeld (outcome : Result (Option Config) ProjectFault) : Type 0 where
+  pub is_project : (old : Config) → outcome ≡ Ok (Some old) → IsProject old
+  pub few : (old : Config) → outcome ≡ Ok (Some old) → length old.entries ≤ limit_number Entries
+  pub faults : (fault : ProjectFault) → outcome ≡ Err fault → IsReadFault fault
 
--- what was read, of a told tree and of some tree
+-- what was read, of a told tree and of any other
 pub record IsRead (before after : FolderState) (outcome : Result (Option Config) ProjectFault) : Type 0 where
   pub told : IfSome before.holds (λ tree. HoldsProject tree outcome)
-  pub holds : Holds outcome
+  pub can : CanBeHeld outcome
   pub looks : OnlyLooks before after ⊥
 
 pub data StopsProject (before after : FolderState) (stop : Stop) : Type 0 where
