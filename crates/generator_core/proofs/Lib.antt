@@ -2,3 +2,4 @@ pub mod Preparings
 pub mod Endings
 pub mod Checkings
 pub mod ReportLemmas
+pub mod Configurings
