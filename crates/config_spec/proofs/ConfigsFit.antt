@@ -1,21 +1,19 @@
 -- The config that words and a tree give can be written as a project, with the values of the options.
-use Rattle.std.proofs.Common.{◌≡◌, ◌≢◌, ◌≤◌, ◌<◌, ◌+◌, ℕ, Bool, true, false, cond, List, [], ◌∷◌, ◌++◌, All, refl, sym, ap, ◌∙◌, subst, inl, inr, length, lit≤, arith}
+use Rattle.std.proofs.Common.{◌≡◌, ◌≤◌, ℕ, Bool, true, false, cond, List, [], ◌∷◌, ◌++◌, refl, sym, ap, subst, length, lit≤, arith}
 use Rattle.std.specs.Cmp.{IsEquivalence}
-use Rattle.std.specs.List.{AllByRecursion, IsDistinct, list_all, list_any}
+use Rattle.std.specs.List.{AllByRecursion, IsDistinct, list_any}
 use Rattle.std.specs.Prelude.{codes, bytes_eq, filter, nat_lt, not, Option, Some, None, unwrap_or, Result, Ok, Err, if◌then◌else◌}
-use Rattle.std.proofs.lemmas.Bool.{and_parts, ltb-false}
+use Rattle.std.proofs.lemmas.Bool.{ltb-false}
 use Rattle.std.proofs.lemmas.Cmp.{nat_list_eq_equiv}
-use Rattle.std.proofs.lemmas.List.Elements.{All-nil, All-cons}
 use Rattle.std.proofs.lemmas.Map.Keys.{IsDistinct-push}
 use Rattle.tree_spec.proofs.ByteLists.{texts_differ}
 use Rattle.tree_spec.specs.Limits.{limit_number}
-use Rattle.tree_spec.specs.Paths.{IsPath}
 use Rattle.tree_spec.specs.Trees.{Tree}
 use Rattle.tree_spec.specs.declared.LimitName.TheVariants.{Entries}
 use Rattle.url_spec.proofs.Bases.{bases_stay}
 use Rattle.url_spec.proofs.PathDecisions.{path_by_test}
-use Rattle.url_spec.specs.Bases.{base_of, IsBase}
-use Rattle.condition_match.specs.Conditions.{is_name_byte, AreConditions, IsCondition}
+use Rattle.url_spec.specs.Bases.{IsBase}
+use Rattle.condition_match.specs.Conditions.{AreConditions}
 use Rattle.trace_spec.specs.Modules.{Config}
 use Rattle.words_spec.specs.PlainWords.{Asked, LinkOptions, no_options, linking, unlinking, refreshing, checking}
 use Rattle.words_spec.specs.PlainWords.{listing, injecting, editing, measuring}
@@ -23,8 +21,9 @@ use Rattle.project_spec.proofs.ReadBack.{read_projects}
 use Rattle.project_spec.specs.ProjectFiles as project
 use Rattle.project_spec.specs.ProjectFiles.{IsProject, ReadsProject}
 use Rattle.config_spec.proofs.Options.{one_settings}
+use Rattle.config_spec.proofs.TwoConditions.{two_conditions}
 use Rattle.config_spec.specs.Laws.{ConfigsAreProjects}
-use Rattle.config_spec.specs.Projects.{config_by, config_in, HoldsProject, if_there, IsConfigFor, link_conditions, linked, new_project, once_onto, page_path, read_outcome, set_over, unlinked, with_few, without}
+use Rattle.config_spec.specs.Projects.{config_by, config_in, HoldsProject, if_there, link_conditions, linked, new_project, once_onto, page_path, read_outcome, set_over, unlinked, with_few, without}
 use Rattle.config_spec.specs.Projects.HoldsProject.{absent, folder, reads, too_large}
 use Rattle.config_spec.specs.Words.{IsPagePath, options_of, Sets, SetsBase, SetsConditions, SetsPage, Settings}
 use Rattle.config_spec.specs.Words.SetsBase.{none as no_base, given as some_base}
@@ -162,37 +161,11 @@ nothing_keeps settings config sets =
 page_of_project : IsPagePath page_path
 page_of_project = record { is_path = path_by_test page_path refl; no_root = texts_differ page_path (codes "/") refl }
 
-plain_by_test : (name : List ℕ) → list_all is_name_byte name ≡ true → All (λ b. is_name_byte b ≡ true) name
-plain_by_test [] e = All-nil (λ b. is_name_byte b ≡ true)
-plain_by_test (b ∷ name) e =
-    let parts = and_parts (is_name_byte b) (list_all is_name_byte name) e in
-    All-cons (λ c. is_name_byte c ≡ true) b name parts.0 (plain_by_test name parts.1)
-
-is_condition :
-    (name : List ℕ) → 0 < length name → length name ≤ 64 → list_all is_name_byte name ≡ true
-    → bytes_eq name (codes "default") ≡ false → IsCondition name
-is_condition name nonempty short e other = record {
-  nonempty = nonempty;
-  short = short;
-  plain = plain_by_test name e;
-  other = texts_differ name (codes "default") other;
-}
-
 are_conditions : AreConditions link_conditions
 are_conditions =
-    let browser = is_condition (codes "browser") (lit≤ tt) (lit≤ tt) refl refl in
-    let imports = is_condition (codes "import") (lit≤ tt) (lit≤ tt) refl refl in
-    record {
-      few = lit≤ tt;
-      each =
-          All-cons IsCondition (codes "browser") (codes "import" ∷ []) browser
-          (All-cons IsCondition (codes "import") [] imports (All-nil IsCondition));
-      distinct = (
-        All-cons (λ other. codes "browser" ≢ other) (codes "import") []
-            (texts_differ (codes "browser") (codes "import") refl) (All-nil (λ other. codes "browser" ≢ other)),
-        (All-nil (λ other. codes "import" ≢ other), tt),
-      );
-    }
+    two_conditions (codes "browser") (codes "import")
+    (record { nonempty = lit≤ tt; short = lit≤ tt; plain = refl; other = refl })
+    (record { nonempty = lit≤ tt; short = lit≤ tt; plain = refl; other = refl }) refl
 
 -- ---- the config
 

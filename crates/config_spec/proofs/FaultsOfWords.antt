@@ -1,5 +1,5 @@
 -- Whatever the tree holds, words are refused for these reasons alone.
-use Rattle.std.proofs.Common.{◌≡◌, ℕ, Bool, true, false, List, [], ◌∷◌, refl, sym, ap, ◌∙◌, subst}
+use Rattle.std.proofs.Common.{◌≡◌, ℕ, Bool, true, false, List, [], ◌∷◌, refl, subst}
 use Rattle.std.specs.List.{list_any}
 use Rattle.std.specs.Prelude.{bytes_eq, nat_lt, length, Contains, Option, Some, None, Result, Ok, Err, if◌then◌else◌}
 use Rattle.std.proofs.lemmas.List.Elements.{Contains-append_left, Contains-append_right, Contains-push}
@@ -23,9 +23,8 @@ use Rattle.config_spec.specs.Projects.RefusesAsked.{bad_project, no_project as n
 use Rattle.config_spec.specs.Words.{options_of, Sets, SetsBase, Settings}
 use Rattle.config_spec.specs.Words.SetsBase.{none as no_base, given as some_base}
 use Rattle.config_spec.specs.declared.ConfigFault.{ConfigFault}
-use Rattle.config_spec.specs.declared.ConfigFault.TheVariants.{NoBase, NotLinked, Project, TooManyEntries}
+use Rattle.config_spec.specs.declared.ConfigFault.TheVariants.{NotLinked, TooManyEntries}
 use Rattle.config_spec.specs.declared.ProjectFault.{ProjectFault}
-use Rattle.config_spec.specs.declared.ProjectFault.TheVariants.{Absent}
 
 -- ---- the file
 

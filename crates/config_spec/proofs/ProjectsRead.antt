@@ -1,5 +1,5 @@
 -- What stands at the path of the project's file holds one thing.
-use Rattle.std.proofs.Common.{◌≡◌, ◌≤◌, ◌<◌, ℕ, List, Option, Some, None, refl, sym, ap, ◌∙◌, subst, inl, inr, length, arith}
+use Rattle.std.proofs.Common.{◌≡◌, ◌≤◌, ◌<◌, ℕ, List, Option, Some, None, refl, ap, subst, inl, inr, length, arith}
 use Rattle.std.specs.FinMap.{get}
 use Rattle.std.specs.Prelude.{Result, Ok, Err}
 use Rattle.std.proofs.lemmas.Bool.{cases_lt}
@@ -11,8 +11,8 @@ use Rattle.tree_spec.specs.declared.LimitName.TheVariants.{File}
 use Rattle.trace_spec.specs.Modules.{Config}
 use Rattle.project_spec.proofs.OneProject.{one_project}
 use Rattle.project_spec.proofs.SomeProject.{some_project}
-use Rattle.project_spec.specs.ProjectFiles.{Fault, ReadsProject}
-use Rattle.config_spec.specs.Laws.{ProjectDecides, ProjectsAreRead}
+use Rattle.project_spec.specs.ProjectFiles.{ReadsProject}
+use Rattle.config_spec.specs.Laws.{ProjectsAreRead}
 use Rattle.config_spec.specs.Projects.{HoldsProject, project_path, read_outcome}
 use Rattle.config_spec.specs.Projects.HoldsProject.{absent, folder, reads, too_large}
 use Rattle.config_spec.specs.declared.ProjectFault.{ProjectFault}

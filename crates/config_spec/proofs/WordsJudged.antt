@@ -5,8 +5,8 @@ use Rattle.words_spec.proofs.ReadIsPlain.{read_is_plain}
 use Rattle.words_spec.specs.PlainWords.{Asked, Asks}
 use Rattle.words_spec.specs.Reading.{reading_of}
 use Rattle.config_spec.proofs.Options.{one_options_fault, set_or_fault, set_or_refused}
-use Rattle.config_spec.specs.Laws.{WordsAreJudged, WordsDecide}
-use Rattle.config_spec.specs.Words.{command_of, IsCommandOf, IsPlain, options_of, RefusesOptions, RefusesWords, Sets, Settings}
+use Rattle.config_spec.specs.Laws.{WordsAreJudged}
+use Rattle.config_spec.specs.Words.{command_of, IsCommandOf, IsPlain, options_of, RefusesOptions, RefusesWords}
 use Rattle.config_spec.specs.Words.RefusesWords.{bad_option, not_built}
 use Rattle.config_spec.specs.declared.Command.{Command}
 use Rattle.config_spec.specs.declared.ConfigFault.{ConfigFault}
