@@ -15,20 +15,22 @@ use Rattle.url_spec.proofs.PathDecisions.{path_by_test}
 use Rattle.url_spec.specs.Bases.{IsBase}
 use Rattle.condition_match.specs.Conditions.{AreConditions}
 use Rattle.trace_spec.specs.Modules.{Config}
-use Rattle.words_spec.specs.PlainWords.{Asked, LinkOptions, no_options, linking, unlinking, refreshing, checking}
+use Rattle.words_spec.specs.PlainWords.{Asked, Asks, LinkOptions, no_options, linking, unlinking, refreshing, checking}
 use Rattle.words_spec.specs.PlainWords.{listing, injecting, editing, measuring}
 use Rattle.project_spec.proofs.ReadBack.{read_projects}
 use Rattle.project_spec.specs.ProjectFiles as project
 use Rattle.project_spec.specs.ProjectFiles.{IsProject, ReadsProject}
+use Rattle.config_spec.proofs.Entries.{filtered_distinct, filtered_fewer, no_entry_twice, onto_distinct}
 use Rattle.config_spec.proofs.Options.{one_settings}
 use Rattle.config_spec.proofs.TwoConditions.{two_conditions}
 use Rattle.config_spec.specs.Laws.{ConfigsAreProjects}
-use Rattle.config_spec.specs.Projects.{config_by, config_in, HoldsProject, if_there, link_conditions, linked, new_project, once_onto, page_path, read_outcome, set_over, unlinked, with_few, without}
+use Rattle.config_spec.specs.Projects.{config_by, config_in, HoldsProject, if_there, IsConfigFor, link_conditions, linked, new_project, once_onto, page_path, read_outcome, set_over, unlinked, with_few, without}
 use Rattle.config_spec.specs.Projects.HoldsProject.{absent, folder, reads, too_large}
-use Rattle.config_spec.specs.Words.{IsPagePath, options_of, Sets, SetsBase, SetsConditions, SetsPage, Settings}
+use Rattle.config_spec.specs.Words.{command_of, IsPagePath, options_of, Sets, SetsBase, SetsConditions, SetsPage, Settings}
 use Rattle.config_spec.specs.Words.SetsBase.{none as no_base, given as some_base}
 use Rattle.config_spec.specs.Words.SetsConditions.{none as no_names, given as some_names}
 use Rattle.config_spec.specs.Words.SetsPage.{none as no_page, given as some_page}
+use Rattle.config_spec.specs.declared.Command.{Command}
 use Rattle.config_spec.specs.declared.ConfigFault.{ConfigFault}
 use Rattle.config_spec.specs.declared.ConfigFault.TheVariants.{NotLinked, TooManyEntries}
 use Rattle.config_spec.specs.declared.ProjectFault.{ProjectFault}
@@ -46,55 +48,6 @@ good config = Ok config
 
 same_result : {some other : Config} → good some ≡ good other → some ≡ other
 same_result e = cc
-
--- ---- entries
-
-equal_bytes : IsEquivalence bytes_eq
-equal_bytes = nat_list_eq_equiv
-
-no_entry_twice : IsDistinct bytes_eq []
-unfolding IsDistinct
-no_entry_twice = tt
-
-onto_distinct : (seen texts : List (List ℕ)) → IsDistinct bytes_eq seen → IsDistinct bytes_eq (once_onto seen texts)
-onto_distinct seen [] distinct = distinct
-onto_distinct seen (text ∷ texts) distinct =
-    onto_distinct (if list_any (bytes_eq text) seen then seen else seen ++ text ∷ []) texts
-    (by (list_any (bytes_eq text) seen) refl)
-  where
-    by : (there : Bool) → list_any (bytes_eq text) seen ≡ there → IsDistinct bytes_eq (if there then seen else seen ++ text ∷ [])
-    by true e = distinct
-    by false e = IsDistinct-push equal_bytes seen text distinct e
-
-filtered_apart :
-    (text : List ℕ) (test : List ℕ → Bool) (texts : List (List ℕ)) → AllByRecursion (λ other. bytes_eq text other ≡ false) texts
-    → AllByRecursion (λ other. bytes_eq text other ≡ false) (filter test texts)
-filtered_apart text test [] apart = tt
-filtered_apart text test (other ∷ texts) apart = by (test other) (filtered_apart text test texts apart.1)
-  where
-    by : (b : Bool) → AllByRecursion (λ x. bytes_eq text x ≡ false) (filter test texts)
-        → AllByRecursion (λ x. bytes_eq text x ≡ false) (cond b (other ∷ filter test texts) (filter test texts))
-    by true rest = (apart.0, rest)
-    by false rest = rest
-
-filtered_distinct : (test : List ℕ → Bool) (texts : List (List ℕ)) → IsDistinct bytes_eq texts → IsDistinct bytes_eq (filter test texts)
-unfolding IsDistinct
-filtered_distinct test [] distinct = tt
-filtered_distinct test (text ∷ texts) distinct = by (test text) (filtered_distinct test texts distinct.1)
-  where
-    by : (b : Bool) → IsDistinct bytes_eq (filter test texts)
-        → IsDistinct bytes_eq (cond b (text ∷ filter test texts) (filter test texts))
-    by true rest = (filtered_apart text test texts distinct.0, rest)
-    by false rest = rest
-
-filtered_fewer : (test : List ℕ → Bool) (texts : List (List ℕ)) → length (filter test texts) ≤ length texts
-filtered_fewer test [] = lit≤ tt
-filtered_fewer test (text ∷ texts) = by (test text) (filtered_fewer test texts)
-  where
-    by : (b : Bool) → length (filter test texts) ≤ length texts
-        → length (cond b (text ∷ filter test texts) (filter test texts)) ≤ length (text ∷ texts)
-    by true more = omega (arith, more)
-    by false more = omega (arith, more)
 
 -- ---- options over a config
 
@@ -288,7 +241,7 @@ read_fits bytes (Ok config) old read is =
     subst Fits same (record { is_project = fits.0; few = fits.1 })
 read_fits bytes (Err fault) old read is = absurd (cc)
 
-held_fits : {tree : Tree} (found : Found) (old : Config) → HoldsProject tree found → found ≡ Ok (Some old) → Fits old
+pub held_fits : {tree : Tree} (found : Found) (old : Config) → HoldsProject tree found → found ≡ Ok (Some old) → Fits old
 held_fits _ old (absent is) e = absurd (cc)
 held_fits _ old (folder is) e = absurd (cc)
 held_fits _ old (too_large bytes is many) e = absurd (cc)
@@ -302,17 +255,26 @@ comes_by asked settings (Err fault) result sets fits is = absurd (cc)
 comes_by asked settings (Ok found) result sets fits is =
     comes_in asked settings found result sets (λ old e. fits old (ap Ok e)) is
 
+-- whatever gave what is found
+pub config_for :
+    (words : List (List ℕ)) (command : Command) (config : Config) (asked : Asked) (settings : Settings) (found : Found)
+    → Asks words asked → command_of asked ≡ Some command → Sets (options_of asked) settings
+    → ((old : Config) → found ≡ Ok (Some old) → Fits old) → Ok config ≡ config_by asked settings found
+    → IsConfigFor words command config
+config_for words command config asked settings found asks is sets fits comes =
+    let given = comes_by asked settings found config sets fits comes in
+    record {
+      asked = asked;
+      asks = asks;
+      is = is;
+      settings = settings;
+      sets = sets;
+      kept = given.kept;
+      is_project = given.fits.is_project;
+      few = given.fits.few;
+    }
+
 pub configs_are_projects : ConfigsAreProjects
 configs_are_projects words tree command config is =
-    let comes =
-    comes_by is.asked is.settings is.found config is.sets (λ old. held_fits is.found old is.holds) is.comes in
-    record {
-      asked = is.asked;
-      asks = is.asks;
-      is = is.is;
-      settings = is.settings;
-      sets = is.sets;
-      kept = comes.kept;
-      is_project = comes.fits.is_project;
-      few = comes.fits.few;
-    }
+    config_for words command config is.asked is.settings is.found is.asks is.is is.sets
+    (λ old. held_fits is.found old is.holds) is.comes
