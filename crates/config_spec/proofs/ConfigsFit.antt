@@ -1,11 +1,9 @@
 -- The config that words and a tree give can be written as a project, with the values of the options.
-use Rattle.std.proofs.Common.{◌≡◌, ◌≤◌, ℕ, Bool, true, false, cond, List, [], ◌∷◌, ◌++◌, refl, sym, ap, subst, length, lit≤, arith}
-use Rattle.std.specs.Cmp.{IsEquivalence}
-use Rattle.std.specs.List.{AllByRecursion, IsDistinct, list_any}
-use Rattle.std.specs.Prelude.{codes, bytes_eq, filter, nat_lt, not, Option, Some, None, unwrap_or, Result, Ok, Err, if◌then◌else◌}
+use Rattle.std.proofs.Common.{All, Contains, ◌≡◌, ◌≤◌, ℕ, Bool, true, false, List, [], ◌∷◌, refl, sym, ap, subst, length, lit≤, arith}
+use Rattle.std.specs.List.{IsDistinct, list_any}
+use Rattle.std.specs.Prelude.{codes, bytes_eq, nat_lt, not, Option, Some, None, unwrap_or, Result, Ok, Err, if◌then◌else◌}
 use Rattle.std.proofs.lemmas.Bool.{ltb-false}
-use Rattle.std.proofs.lemmas.Cmp.{nat_list_eq_equiv}
-use Rattle.std.proofs.lemmas.Map.Keys.{IsDistinct-push}
+use Rattle.std.proofs.lemmas.List.Elements.{All-nil, All-cons}
 use Rattle.tree_spec.proofs.ByteLists.{texts_differ}
 use Rattle.tree_spec.specs.Limits.{limit_number}
 use Rattle.tree_spec.specs.Trees.{Tree}
@@ -20,11 +18,11 @@ use Rattle.words_spec.specs.PlainWords.{listing, injecting, editing, measuring}
 use Rattle.project_spec.proofs.ReadBack.{read_projects}
 use Rattle.project_spec.specs.ProjectFiles as project
 use Rattle.project_spec.specs.ProjectFiles.{IsProject, ReadsProject}
-use Rattle.config_spec.proofs.Entries.{filtered_distinct, filtered_fewer, no_entry_twice, onto_distinct}
+use Rattle.config_spec.proofs.Entries.{filtered_distinct, filtered_fewer, no_entry_twice, onto_distinct, onto_holds, without_lacks, without_within}
 use Rattle.config_spec.proofs.Options.{one_settings}
 use Rattle.config_spec.proofs.TwoConditions.{two_conditions}
 use Rattle.config_spec.specs.Laws.{ConfigsAreProjects}
-use Rattle.config_spec.specs.Projects.{config_by, config_in, HoldsProject, if_there, IsConfigFor, link_conditions, linked, new_project, once_onto, page_path, read_outcome, set_over, unlinked, with_few, without}
+use Rattle.config_spec.specs.Projects.{config_by, config_in, HasEntriesOf, HoldsProject, if_there, IsConfigFor, link_conditions, linked, new_project, once_onto, page_path, read_outcome, set_over, unlinked, with_few, without}
 use Rattle.config_spec.specs.Projects.HoldsProject.{absent, folder, reads, too_large}
 use Rattle.config_spec.specs.Words.{command_of, IsPagePath, options_of, Sets, SetsBase, SetsConditions, SetsPage, Settings}
 use Rattle.config_spec.specs.Words.SetsBase.{none as no_base, given as some_base}
@@ -122,10 +120,11 @@ are_conditions =
 
 -- ---- the config
 
--- it fits, with the values of the options
-record Comes (settings : Settings) (config : Config) : Type 0 where
+-- it fits, with the values of the options and the entries
+record Comes (asked : Asked) (settings : Settings) (config : Config) : Type 0 where
   kept : Keeps settings config
   fits : Fits config
+  entries : HasEntriesOf asked config.entries
 
 few_kept :
     (config result : Config) → Ok result ≡ with_few config → (config ≡ result) × (length config.entries ≤ limit_number Entries)
@@ -137,34 +136,39 @@ few_kept config result is = by (nat_lt (limit_number Entries) (length config.ent
     by false e is = (sym (same_result is), ltb-false (limit_number Entries) (length config.entries) e)
 
 few_comes :
-    (settings : Settings) (config result : Config) → Ok result ≡ with_few config → Keeps settings config
-    → IsProject config → Comes settings result
-few_comes settings config result is kept is_project =
+    (asked : Asked) (settings : Settings) (config result : Config) → Ok result ≡ with_few config
+    → Keeps settings config → IsProject config → HasEntriesOf asked config.entries → Comes asked settings result
+few_comes asked settings config result is kept is_project entries =
     let few = few_kept config result is in
-    subst (Comes settings) few.0 (record { kept = kept; fits = record { is_project = is_project; few = few.1 } })
+    subst (Comes asked settings) few.0
+    (record { kept = kept; fits = record { is_project = is_project; few = few.1 }; entries = entries })
 
 new_comes :
     (options : LinkOptions) (settings : Settings) (given : Option (List ℕ)) (entries : List (List ℕ)) (result : Config)
     → Sets options settings → settings.base ≡ given → Ok result ≡ new_project settings given entries
-    → Comes settings result
+    → Comes (linking options entries) settings result
 new_comes options settings None entries result sets e is = absurd (cc)
 new_comes options settings (Some base) entries result sets e is =
-    few_comes settings _ result is (set_keeps settings base page_path link_conditions (once_onto [] entries))
+    few_comes (linking options entries) settings _ result is
+    (set_keeps settings base page_path link_conditions (once_onto [] entries))
     (set_is_project options settings base page_path link_conditions (once_onto [] entries) sets
     (set_base_fits base sets.base e) page_of_project are_conditions (onto_distinct [] entries no_entry_twice))
+    (onto_holds [] entries)
 
 linked_comes :
     (options : LinkOptions) (settings : Settings) (entries : List (List ℕ)) (found : Option Config) (result : Config)
     → Sets options settings → ((old : Config) → found ≡ Some old → Fits old)
-    → Ok result ≡ linked settings entries found → Comes settings result
+    → Ok result ≡ linked settings entries found → Comes (linking options entries) settings result
 linked_comes options settings entries None result sets fits is =
     new_comes options settings settings.base entries result sets refl is
 linked_comes options settings entries (Some old) result sets fits is =
     let held = (fits old refl).is_project in
     let on_page : IsPagePath old.page = record { is_path = held.page; no_root = held.no_root } in
-    few_comes settings _ result is (set_keeps settings old.base old.page old.conditions (once_onto old.entries entries))
+    few_comes (linking options entries) settings _ result is
+    (set_keeps settings old.base old.page old.conditions (once_onto old.entries entries))
     (set_is_project options settings old.base old.page old.conditions (once_onto old.entries entries) sets held.base
     on_page held.conditions (onto_distinct old.entries entries held.distinct))
+    (onto_holds old.entries entries)
 
 without_fits : (entry : List ℕ) (config : Config) → Fits config → Fits (record config { entries = without entry config.entries })
 without_fits entry config fits =
@@ -198,34 +202,89 @@ unlinked_fits (entry ∷ more) config result fits is =
     by true rest is = rest is
     by false rest is = absurd (cc)
 
+unlinked_within :
+    (entries : List (List ℕ)) (config result : Config) (text : List ℕ) → Ok result ≡ unlinked entries config
+    → Contains result.entries text → Contains config.entries text
+unlinked_within [] config result text is held = subst (λ c. Contains c.entries text) (same_result is) held
+unlinked_within (entry ∷ more) config result text is held =
+    by (list_any (bytes_eq entry) config.entries)
+    (λ rest. unlinked_within more (record config { entries = without entry config.entries }) result text rest held) is
+  where
+    by : (there : Bool)
+        → (Ok result ≡ unlinked more (record config { entries = without entry config.entries })
+        → Contains (without entry config.entries) text)
+        → Ok result ≡ (if there then unlinked more (record config { entries = without entry config.entries }) else Err (NotLinked entry))
+        → Contains config.entries text
+    by true rest is = without_within entry config.entries text (rest is)
+    by false rest is = absurd (cc)
+
+abbrev Lacks : Config → List ℕ → Type 0
+Lacks config entry = Contains config.entries entry → ⊥
+
+unlinked_gone :
+    (entries : List (List ℕ)) (config result : Config) → Ok result ≡ unlinked entries config
+    → All (Lacks result) entries
+unlinked_gone [] config result is = All-nil (Lacks result)
+unlinked_gone (entry ∷ more) config result is =
+    by (list_any (bytes_eq entry) config.entries)
+    (unlinked_gone more (record config { entries = without entry config.entries }) result) is
+  where
+    by : (there : Bool)
+        → (Ok result ≡ unlinked more (record config { entries = without entry config.entries }) → All (Lacks result) more)
+        → Ok result ≡ (if there then unlinked more (record config { entries = without entry config.entries }) else Err (NotLinked entry))
+        → All (Lacks result) (entry ∷ more)
+    by true rest is =
+        All-cons (Lacks result) entry more
+        (λ held. without_lacks entry config.entries
+        (unlinked_within more (record config { entries = without entry config.entries }) result entry is held)) (rest is)
+    by false rest is = absurd (cc)
+
+-- a project that is there, and what comes of it
+record Fitting (asked : Asked) (result : Config) : Type 0 where
+  fits : Fits result
+  entries : HasEntriesOf asked result.entries
+
 -- what is taken from a project that is there
 taken_comes :
-    (settings : Settings) (next : Config → Result Config ConfigFault) (found : Option Config) (result : Config)
-    → Sets no_options settings → ((old : Config) → found ≡ Some old → Fits old)
-    → ((old : Config) → Fits old → Ok result ≡ next old → Fits result) → Ok result ≡ if_there found next
-    → Comes settings result
-taken_comes settings next None result sets fits step is = absurd (cc)
-taken_comes settings next (Some old) result sets fits step is =
-    record { kept = nothing_keeps settings result sets; fits = step old (fits old refl) is }
+    (asked : Asked) (settings : Settings) (next : Config → Result Config ConfigFault) (found : Option Config)
+    (result : Config) → Sets no_options settings → ((old : Config) → found ≡ Some old → Fits old)
+    → ((old : Config) → Fits old → Ok result ≡ next old → Fitting asked result) → Ok result ≡ if_there found next
+    → Comes asked settings result
+taken_comes asked settings next None result sets fits step is = absurd (cc)
+taken_comes asked settings next (Some old) result sets fits step is =
+    let given = step old (fits old refl) is in
+    record { kept = nothing_keeps settings result sets; fits = given.fits; entries = given.entries }
 
-same_fits : (result old : Config) → Fits old → good result ≡ good old → Fits result
-same_fits result old fits is = subst Fits (sym (same_result is)) fits
+same_fits :
+    (asked : Asked) (result : Config) → HasEntriesOf asked result.entries → (old : Config) → Fits old
+    → good result ≡ good old → Fitting asked result
+same_fits asked result entries old fits is =
+    record { fits = subst Fits (sym (same_result is)) fits; entries = entries }
 
 comes_in :
     (asked : Asked) (settings : Settings) (found : Option Config) (result : Config) → Sets (options_of asked) settings
     → ((old : Config) → found ≡ Some old → Fits old) → Ok result ≡ config_in asked settings found
-    → Comes settings result
+    → Comes asked settings result
 comes_in (linking options entries) settings found result sets fits is =
     linked_comes options settings entries found result sets fits is
 comes_in (unlinking entries) settings found result sets fits is =
-    taken_comes settings (unlinked entries) found result sets fits (λ old. unlinked_fits entries old result) is
-comes_in refreshing settings found result sets fits is = taken_comes settings Ok found result sets fits (same_fits result) is
-comes_in checking settings found result sets fits is = taken_comes settings Ok found result sets fits (same_fits result) is
-comes_in listing settings found result sets fits is = taken_comes settings Ok found result sets fits (same_fits result) is
-comes_in injecting settings found result sets fits is = taken_comes settings Ok found result sets fits (same_fits result) is
-comes_in editing settings found result sets fits is = taken_comes settings Ok found result sets fits (same_fits result) is
+    taken_comes (unlinking entries) settings (unlinked entries) found result sets fits
+    (λ old held comes. record {
+      fits = unlinked_fits entries old result held comes;
+      entries = unlinked_gone entries old result comes;
+    }) is
+comes_in refreshing settings found result sets fits is =
+    taken_comes refreshing settings Ok found result sets fits (same_fits refreshing result tt) is
+comes_in checking settings found result sets fits is =
+    taken_comes checking settings Ok found result sets fits (same_fits checking result tt) is
+comes_in listing settings found result sets fits is =
+    taken_comes listing settings Ok found result sets fits (same_fits listing result tt) is
+comes_in injecting settings found result sets fits is =
+    taken_comes injecting settings Ok found result sets fits (same_fits injecting result tt) is
+comes_in editing settings found result sets fits is =
+    taken_comes editing settings Ok found result sets fits (same_fits editing result tt) is
 comes_in (measuring number) settings found result sets fits is =
-    taken_comes settings Ok found result sets fits (same_fits result) is
+    taken_comes (measuring number) settings Ok found result sets fits (same_fits (measuring number) result tt) is
 
 -- ---- the project that is held
 
@@ -250,7 +309,7 @@ held_fits _ old (reads bytes outcome is few read) e = read_fits bytes outcome ol
 comes_by :
     (asked : Asked) (settings : Settings) (found : Found) (result : Config) → Sets (options_of asked) settings
     → ((old : Config) → found ≡ Ok (Some old) → Fits old) → Ok result ≡ config_by asked settings found
-    → Comes settings result
+    → Comes asked settings result
 comes_by asked settings (Err fault) result sets fits is = absurd (cc)
 comes_by asked settings (Ok found) result sets fits is =
     comes_in asked settings found result sets (λ old e. fits old (ap Ok e)) is
@@ -271,6 +330,7 @@ config_for words command config asked settings found asks is sets fits comes =
       sets = sets;
       kept = given.kept;
       is_project = given.fits.is_project;
+      entries = given.entries;
       few = given.fits.few;
     }
 
