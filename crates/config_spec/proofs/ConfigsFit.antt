@@ -1,7 +1,9 @@
 -- The config that words and a tree give can be written as a project, with the values of the options.
-use Rattle.std.proofs.Common.{All, Contains, ◌≡◌, ◌≤◌, ℕ, Bool, true, false, List, [], ◌∷◌, refl, sym, ap, subst, length, lit≤, arith}
+use Rattle.std.proofs.Common.{All, Contains, ◌≡◌, ◌≤◌, ℕ, Bool, true, false, List, [], ◌∷◌, refl, sym, ap, subst}
+use Rattle.std.proofs.Common.{length, lit≤, arith}
 use Rattle.std.specs.List.{IsDistinct, list_any}
-use Rattle.std.specs.Prelude.{codes, bytes_eq, nat_lt, not, Option, Some, None, unwrap_or, Result, Ok, Err, if◌then◌else◌}
+use Rattle.std.specs.Prelude.{codes, bytes_eq, nat_lt, not, Option, Some, None, unwrap_or, Result, Ok, Err}
+use Rattle.std.specs.Prelude.{if◌then◌else◌}
 use Rattle.std.proofs.lemmas.Bool.{ltb-false}
 use Rattle.std.proofs.lemmas.List.Elements.{All-nil, All-cons}
 use Rattle.tree_spec.proofs.ByteLists.{texts_differ}
@@ -18,13 +20,17 @@ use Rattle.words_spec.specs.PlainWords.{listing, injecting, editing, measuring}
 use Rattle.project_spec.proofs.ReadBack.{read_projects}
 use Rattle.project_spec.specs.ProjectFiles as project
 use Rattle.project_spec.specs.ProjectFiles.{IsProject, ReadsProject}
-use Rattle.config_spec.proofs.Entries.{filtered_distinct, filtered_fewer, no_entry_twice, onto_distinct, onto_holds, without_lacks, without_within}
+use Rattle.config_spec.proofs.Entries.{filtered_distinct, filtered_fewer, no_entry_twice, onto_distinct, onto_holds}
+use Rattle.config_spec.proofs.Entries.{without_lacks, without_within}
 use Rattle.config_spec.proofs.Options.{one_settings}
 use Rattle.config_spec.proofs.TwoConditions.{two_conditions}
 use Rattle.config_spec.specs.Laws.{ConfigsAreProjects}
-use Rattle.config_spec.specs.Projects.{config_by, config_in, HasEntriesOf, HoldsProject, if_there, IsConfigFor, link_conditions, linked, new_project, once_onto, page_path, read_outcome, set_over, unlinked, with_few, without}
+use Rattle.config_spec.specs.Projects.{config_by, config_in, HasEntriesOf, HoldsProject, if_there, IsConfigFor}
+use Rattle.config_spec.specs.Projects.{link_conditions, linked, new_project, once_onto, page_path, read_outcome}
+use Rattle.config_spec.specs.Projects.{set_over, unlinked, with_few, without}
 use Rattle.config_spec.specs.Projects.HoldsProject.{absent, folder, reads, too_large}
-use Rattle.config_spec.specs.Words.{command_of, IsPagePath, options_of, Sets, SetsBase, SetsConditions, SetsPage, Settings}
+use Rattle.config_spec.specs.Words.{command_of, IsPagePath, options_of, Sets, SetsBase, SetsConditions, SetsPage}
+use Rattle.config_spec.specs.Words.{Settings}
 use Rattle.config_spec.specs.Words.SetsBase.{none as no_base, given as some_base}
 use Rattle.config_spec.specs.Words.SetsConditions.{none as no_names, given as some_names}
 use Rattle.config_spec.specs.Words.SetsPage.{none as no_page, given as some_page}
@@ -58,7 +64,9 @@ set_base_fits url no_base e = absurd (cc)
 set_base_fits url (some_base text other gives) e =
     let same : other ≡ url = cc in subst IsBase same (bases_stay text other gives)
 
-page_fits : {text set : Option (List ℕ)} (old : List ℕ) → SetsPage text set → IsPagePath old → IsPagePath (unwrap_or set old)
+page_fits :
+    {text set : Option (List ℕ)} (old : List ℕ) → SetsPage text set → IsPagePath old
+    → IsPagePath (unwrap_or set old)
 page_fits old no_page is = is
 page_fits old (some_page text is_too) is = is_too
 
@@ -127,11 +135,13 @@ record Comes (asked : Asked) (settings : Settings) (config : Config) : Type 0 wh
   entries : HasEntriesOf asked config.entries
 
 few_kept :
-    (config result : Config) → Ok result ≡ with_few config → (config ≡ result) × (length config.entries ≤ limit_number Entries)
+    (config result : Config) → Ok result ≡ with_few config
+    → (config ≡ result) × (length config.entries ≤ limit_number Entries)
 few_kept config result is = by (nat_lt (limit_number Entries) (length config.entries)) refl is
   where
     by : (many : Bool) → nat_lt (limit_number Entries) (length config.entries) ≡ many
-        → Ok result ≡ (if many then Err TooManyEntries else Ok config) → (config ≡ result) × (length config.entries ≤ limit_number Entries)
+        → Ok result ≡ (if many then Err TooManyEntries else Ok config)
+        → (config ≡ result) × (length config.entries ≤ limit_number Entries)
     by true e is = absurd (cc)
     by false e is = (sym (same_result is), ltb-false (limit_number Entries) (length config.entries) e)
 
@@ -170,7 +180,8 @@ linked_comes options settings entries (Some old) result sets fits is =
     on_page held.conditions (onto_distinct old.entries entries held.distinct))
     (onto_holds old.entries entries)
 
-without_fits : (entry : List ℕ) (config : Config) → Fits config → Fits (record config { entries = without entry config.entries })
+without_fits : (entry : List ℕ) (config : Config) → Fits config
+    → Fits (record config { entries = without entry config.entries })
 without_fits entry config fits =
     let is = fits.is_project in
     let few = fits.few in
@@ -300,7 +311,8 @@ read_fits bytes (Ok config) old read is =
     subst Fits same (record { is_project = fits.0; few = fits.1 })
 read_fits bytes (Err fault) old read is = absurd (cc)
 
-pub held_fits : {tree : Tree} (found : Found) (old : Config) → HoldsProject tree found → found ≡ Ok (Some old) → Fits old
+pub held_fits :
+    {tree : Tree} (found : Found) (old : Config) → HoldsProject tree found → found ≡ Ok (Some old) → Fits old
 held_fits _ old (absent is) e = absurd (cc)
 held_fits _ old (folder is) e = absurd (cc)
 held_fits _ old (too_large bytes is many) e = absurd (cc)

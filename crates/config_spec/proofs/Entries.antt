@@ -1,10 +1,12 @@
 -- Entries that are put to those of a project, and entries that are taken out.
-use Rattle.std.proofs.Common.{◌≡◌, ◌≤◌, refl, ℕ, Bool, true, false, cond, List, [], ◌∷◌, ◌++◌, length, lit≤, arith, All, Contains, sym, ap, ◌∙◌, true≢false}
+use Rattle.std.proofs.Common.{◌≡◌, ◌≤◌, refl, ℕ, Bool, true, false, cond, List, [], ◌∷◌, ◌++◌, length, lit≤, arith}
+use Rattle.std.proofs.Common.{All, Contains, sym, ap, ◌∙◌, true≢false}
 use Rattle.std.specs.Cmp.{IsEquivalence}
 use Rattle.std.specs.List.{AllByRecursion, IsDistinct, list_any}
 use Rattle.std.specs.Prelude.{bytes_eq, filter, not, if◌then◌else◌}
 use Rattle.std.proofs.lemmas.Cmp.{nat_list_eq_equiv}
-use Rattle.std.proofs.lemmas.List.Elements.{All-nil, All-cons, All-contains, All-contains_itself, All-filter, filter_passes, Contains-append_left, Contains-push}
+use Rattle.std.proofs.lemmas.List.Elements.{All-nil, All-cons, All-contains, All-contains_itself, All-filter}
+use Rattle.std.proofs.lemmas.List.Elements.{filter_passes, Contains-append_left, Contains-push}
 use Rattle.std.proofs.lemmas.Map.Views.{Contains-from_any}
 use Rattle.std.proofs.lemmas.Slice.Eq.{bytes_eq-Decides}
 use Rattle.std.proofs.lemmas.Map.Keys.{IsDistinct-push}
@@ -23,12 +25,14 @@ onto_distinct seen (text ∷ texts) distinct =
     onto_distinct (if list_any (bytes_eq text) seen then seen else seen ++ text ∷ []) texts
     (by (list_any (bytes_eq text) seen) refl)
   where
-    by : (there : Bool) → list_any (bytes_eq text) seen ≡ there → IsDistinct bytes_eq (if there then seen else seen ++ text ∷ [])
+    by : (there : Bool) → list_any (bytes_eq text) seen ≡ there
+        → IsDistinct bytes_eq (if there then seen else seen ++ text ∷ [])
     by true e = distinct
     by false e = IsDistinct-push equal_bytes seen text distinct e
 
 filtered_apart :
-    (text : List ℕ) (test : List ℕ → Bool) (texts : List (List ℕ)) → AllByRecursion (λ other. bytes_eq text other ≡ false) texts
+    (text : List ℕ) (test : List ℕ → Bool) (texts : List (List ℕ))
+    → AllByRecursion (λ other. bytes_eq text other ≡ false) texts
     → AllByRecursion (λ other. bytes_eq text other ≡ false) (filter test texts)
 filtered_apart text test [] apart = tt
 filtered_apart text test (other ∷ texts) apart = by (test other) (filtered_apart text test texts apart.1)
@@ -38,7 +42,9 @@ filtered_apart text test (other ∷ texts) apart = by (test other) (filtered_apa
     by true rest = (apart.0, rest)
     by false rest = rest
 
-pub filtered_distinct : (test : List ℕ → Bool) (texts : List (List ℕ)) → IsDistinct bytes_eq texts → IsDistinct bytes_eq (filter test texts)
+pub filtered_distinct :
+    (test : List ℕ → Bool) (texts : List (List ℕ)) → IsDistinct bytes_eq texts
+    → IsDistinct bytes_eq (filter test texts)
 unfolding IsDistinct
 filtered_distinct test [] distinct = tt
 filtered_distinct test (text ∷ texts) distinct = by (test text) (filtered_distinct test texts distinct.1)
@@ -77,7 +83,8 @@ onto_holds seen (text ∷ texts) =
     All-cons (Contains (once_onto next texts)) text texts
     (onto_keeps next texts text (by (list_any (bytes_eq text) seen) refl)) (onto_holds next texts)
   where
-    by : (there : Bool) → list_any (bytes_eq text) seen ≡ there → Contains (if there then seen else seen ++ text ∷ []) text
+    by : (there : Bool) → list_any (bytes_eq text) seen ≡ there
+        → Contains (if there then seen else seen ++ text ∷ []) text
     by true e = Contains-from_any {eq = bytes_eq} (λ one other same. (bytes_eq-Decides one other).0 same) text seen e
     by false e = Contains-push seen text
 

@@ -1,5 +1,6 @@
 -- The worked examples.
-use Rattle.std.proofs.Common.{◌≡◌, ◌∙◌, ℕ, Bool, true, false, List, [], ◌∷◌, ◌++◌, ◌+◌, Some, None, ◌≢◌, lit≤, refl, sym, ap, length, length-append, true≢false}
+use Rattle.std.proofs.Common.{◌≡◌, ◌∙◌, ℕ, Bool, true, false, List, [], ◌∷◌, ◌++◌, ◌+◌, Some, None, ◌≢◌, lit≤, refl}
+use Rattle.std.proofs.Common.{sym, ap, length, length-append, true≢false}
 use Rattle.std.specs.Cmp.Lexicographic.{slice_cmp}
 use Rattle.std.specs.FinMap.{empty, get-empty}
 use Rattle.std.specs.List.{list_any}
@@ -31,7 +32,8 @@ use Rattle.config_spec.specs.Words.SetsConditions.{none as no_names, given as so
 use Rattle.config_spec.specs.Words.SetsPage.{none as no_page}
 use Rattle.config_spec.specs.declared.ConfigFault.{ConfigFault}
 use Rattle.config_spec.specs.declared.ConfigFault.TheVariants.{TooManyEntries}
-use Rattle.config_spec.specs.WorkedExamples.{OptionExamples, LinkExamples, ProjectExamples, EntryExamples, WordExamples, WorkedExamples}
+use Rattle.config_spec.specs.WorkedExamples.{OptionExamples, LinkExamples, ProjectExamples, EntryExamples}
+use Rattle.config_spec.specs.WorkedExamples.{WordExamples, WorkedExamples}
 
 -- ---- options
 

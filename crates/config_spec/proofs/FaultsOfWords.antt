@@ -13,13 +13,17 @@ use Rattle.trace_spec.specs.Modules.{Config}
 use Rattle.words_spec.specs.PlainWords.{Asked, Asks, LinkOptions, linking, unlinking, refreshing, checking}
 use Rattle.words_spec.specs.PlainWords.{listing, injecting, editing, measuring}
 use Rattle.project_spec.specs.ProjectFiles as project
-use Rattle.project_spec.specs.ProjectFiles.{BadFile, Gives, PassesLimit, ReadsProject, reads_project, many_entries, no_project, no_json, deep_json}
+use Rattle.project_spec.specs.ProjectFiles.{BadFile, Gives, PassesLimit, ReadsProject, reads_project, many_entries}
+use Rattle.project_spec.specs.ProjectFiles.{no_project, no_json, deep_json}
 use Rattle.config_spec.specs.Laws.{FaultsAreOfWords}
-use Rattle.config_spec.specs.Projects.{CanRefuseConfig, config_by, config_in, HoldsProject, if_there, IsReadFault, IsReadLimit, linked, new_project, read_outcome, RefusesAsked, unlinked, with_few, without}
+use Rattle.config_spec.specs.Projects.{CanRefuseConfig, config_by, config_in, HoldsProject, if_there, IsReadFault}
+use Rattle.config_spec.specs.Projects.{IsReadLimit, linked, new_project, read_outcome, RefusesAsked, unlinked}
+use Rattle.config_spec.specs.Projects.{with_few, without}
 use Rattle.config_spec.specs.Projects.HoldsProject.{absent, folder, reads, too_large}
 use Rattle.config_spec.specs.Projects.IsReadFault.{too_large as large_fault, not_project, above}
 use Rattle.config_spec.specs.Projects.IsReadLimit.{of_depth, of_entries}
-use Rattle.config_spec.specs.Projects.RefusesAsked.{bad_project, no_project as needs_project, no_base as needs_base, too_many_entries, not_linked}
+use Rattle.config_spec.specs.Projects.RefusesAsked.{bad_project, no_project as needs_project, no_base as needs_base}
+use Rattle.config_spec.specs.Projects.RefusesAsked.{too_many_entries, not_linked}
 use Rattle.config_spec.specs.Words.{command_of, options_of, Sets, SetsBase, Settings}
 use Rattle.config_spec.specs.Words.SetsBase.{none as no_base, given as some_base}
 use Rattle.config_spec.specs.declared.Command.{Command}
@@ -29,7 +33,8 @@ use Rattle.config_spec.specs.declared.ProjectFault.{ProjectFault}
 
 -- ---- the file
 
-limit_by : {value : Result Json json.Fault} (which : LimitName) → Gives value (Err (PassesLimit which)) → IsReadLimit which
+limit_by :
+    {value : Result Json json.Fault} (which : LimitName) → Gives value (Err (PassesLimit which)) → IsReadLimit which
 limit_by _ (many_entries describes many) = of_entries
 limit_by _ deep_json = of_depth
 
@@ -46,7 +51,9 @@ read_fault bytes (Err (PassesLimit which)) fault read is = subst IsReadFault (cc
 abbrev Found : Type 0
 Found = Result (Option Config) ProjectFault
 
-pub held_fault : {tree : Tree} (found : Found) (fault : ProjectFault) → HoldsProject tree found → found ≡ Err fault → IsReadFault fault
+pub held_fault :
+    {tree : Tree} (found : Found) (fault : ProjectFault) → HoldsProject tree found → found ≡ Err fault
+    → IsReadFault fault
 held_fault _ fault (absent is) e = absurd (cc)
 held_fault _ fault (folder is) e = absurd (cc)
 held_fault _ fault (too_large bytes is many) e = subst IsReadFault (cc) large_fault

@@ -117,7 +117,8 @@ base_given text = by (base_of text) refl
     by None e = inr (λ is. let f : None ≡ Some is.0 = sym e ∙ is.1 in absurd (cc))
     by (Some url) e = inl (url, e)
 
-none_given : (text : List ℕ) (found : Option (List ℕ)) → base_of text ≡ found → (GivesBase text → ⊥) → base_of text ≡ None
+none_given :
+    (text : List ℕ) (found : Option (List ℕ)) → base_of text ≡ found → (GivesBase text → ⊥) → base_of text ≡ None
 none_given text None e none = e
 none_given text (Some url) e none = absurd (none (url, e))
 

@@ -21,7 +21,9 @@ use Rattle.config_spec.specs.declared.ProjectFault.TheVariants.{TooLarge}
 abbrev Found : Type 0
 Found = Result (Option Config) ProjectFault
 
-same_bytes : {found : Option Entry} {some other : List ℕ} → found ≡ Some (Stored some) → found ≡ Some (Stored other) → some ≡ other
+same_bytes :
+    {found : Option Entry} {some other : List ℕ} → found ≡ Some (Stored some) → found ≡ Some (Stored other)
+    → some ≡ other
 same_bytes e f = cc
 
 -- a file that is read isn't too large
@@ -54,7 +56,8 @@ one_held tree some other (reads bytes outcome is few r) (reads bytes_too outcome
     ap read_outcome (one_project bytes outcome outcome_too r (subst (λ b. ReadsProject b outcome_too) same r_too))
 
 file_holds :
-    (tree : Tree) (bytes : List ℕ) → get tree project_path ≡ Some (Stored bytes) → (found : Found) × HoldsProject tree found
+    (tree : Tree) (bytes : List ℕ) → get tree project_path ≡ Some (Stored bytes)
+    → (found : Found) × HoldsProject tree found
 file_holds tree bytes is = elim (cases_lt (limit_number File) (length bytes)) [
   | inl many ↦ (Err TooLarge, too_large bytes is many)
   | inr few ↦ (let read = some_project bytes in (read_outcome read.0, reads bytes read.0 is few read.1))

@@ -11,8 +11,8 @@ use Rattle.trace_spec.specs.Modules.{Config}
 use Rattle.words_spec.specs.PlainWords.{LinkOptions, no_options, linking, unlinking, refreshing, checking, injecting}
 use Rattle.config_spec.specs.declared.Command.TheVariants.{Link}
 use Rattle.config_spec.specs.declared.ProjectFault.TheVariants.{Absent, TooLarge, NotProject}
-use Rattle.config_spec.specs.declared.ConfigFault.TheVariants.{NotBuilt, BadBase, BadPath, BadConditions, Project, NoBase}
-use Rattle.config_spec.specs.declared.ConfigFault.TheVariants.{NotLinked, TooManyEntries}
+use Rattle.config_spec.specs.declared.ConfigFault.TheVariants.{NotBuilt, BadBase, BadPath, BadConditions, Project}
+use Rattle.config_spec.specs.declared.ConfigFault.TheVariants.{NoBase, NotLinked, TooManyEntries}
 use Rattle.config_spec.specs.Words.{Settings, Sets, RefusesOptions, RefusesWords}
 use Rattle.config_spec.specs.Projects.{config_by, IsConfigOf, RefusesConfig}
 
