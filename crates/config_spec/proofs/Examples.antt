@@ -1,5 +1,6 @@
 -- The worked examples.
-use Rattle.std.proofs.Common.{◌≡◌, ◌∙◌, ℕ, Bool, true, false, List, [], ◌∷◌, ◌++◌, ◌+◌, Some, None, ◌≢◌, lit≤, refl}
+use Rattle.std.proofs.Common.{Option, subst, ◌≡◌, ◌∙◌, ℕ, Bool, true, false, List, [], ◌∷◌, ◌++◌, ◌+◌, Some, None}
+use Rattle.std.proofs.Common.{◌≢◌, lit≤, refl}
 use Rattle.std.proofs.Common.{sym, ap, length, length-append, true≢false}
 use Rattle.std.specs.Cmp.Lexicographic.{slice_cmp}
 use Rattle.std.specs.FinMap.{empty, get-empty}
@@ -9,7 +10,7 @@ use Rattle.std.specs.Prelude.{codes, bytes_eq, nat_lt, Result, Ok, Err, if◌the
 use Rattle.std.proofs.lemmas.List.Elements.{All-head}
 use Rattle.tree_spec.proofs.ByteLists.{texts_differ}
 use Rattle.tree_spec.proofs.Insertion.{get_other}
-use Rattle.tree_spec.specs.Trees.{bare_tree}
+use Rattle.tree_spec.specs.Trees.{bare_tree, Tree}
 use Rattle.tree_spec.specs.declared.Entry.TheVariants.{Directory}
 use Rattle.url_spec.proofs.Bases.{bases_stay}
 use Rattle.url_spec.proofs.examples.WorkedExamples.{worked_examples as url_examples}
@@ -20,18 +21,23 @@ use Rattle.url_spec.specs.WorkedExamples.{BaseExamples}
 use Rattle.condition_match.specs.Conditions.{AreConditions, IsCondition}
 use Rattle.trace_spec.specs.Modules.{Config}
 use Rattle.words_spec.proofs.ReadIsPlain.{read_is_plain}
-use Rattle.words_spec.specs.PlainWords.{no_options}
+use Rattle.words_spec.specs.PlainWords.{Asked, no_options, linking, refreshing}
+use Rattle.words_spec.specs.Reading.{reading_of}
 use Rattle.config_spec.proofs.TwoConditions.{two_conditions}
-use Rattle.config_spec.specs.Projects.{HoldsProject, project_path, with_few}
-use Rattle.config_spec.specs.Projects.HoldsProject.{absent}
-use Rattle.config_spec.specs.Words.{IsPagePath, Sets}
+use Rattle.config_spec.specs.Projects.{config_by, HoldsProject, project_path, RefusesConfig, with_few}
+use Rattle.config_spec.specs.Projects.HoldsProject.{absent, folder, too_large}
+use Rattle.config_spec.specs.Words.{command_of, IsPagePath, options_of, Settings, Sets}
 use Rattle.config_spec.specs.Words.RefusesOptions.{bad_base, bad_conditions, bad_path}
 use Rattle.config_spec.specs.Words.RefusesWords.{not_built}
 use Rattle.config_spec.specs.Words.SetsBase.{none as no_base, given as some_base}
 use Rattle.config_spec.specs.Words.SetsConditions.{none as no_names, given as some_names}
 use Rattle.config_spec.specs.Words.SetsPage.{none as no_page}
 use Rattle.config_spec.specs.declared.ConfigFault.{ConfigFault}
-use Rattle.config_spec.specs.declared.ConfigFault.TheVariants.{TooManyEntries}
+use Rattle.config_spec.specs.declared.ConfigFault.TheVariants.{NoBase, Project, TooManyEntries}
+use Rattle.config_spec.specs.declared.Command.{Command}
+use Rattle.config_spec.specs.declared.Command.TheVariants.{Link, Refresh}
+use Rattle.config_spec.specs.declared.ProjectFault.{ProjectFault}
+use Rattle.config_spec.specs.declared.ProjectFault.TheVariants.{Absent, TooLarge}
 use Rattle.config_spec.specs.WorkedExamples.{OptionExamples, LinkExamples, ProjectExamples, EntryExamples}
 use Rattle.config_spec.specs.WorkedExamples.{WordExamples, WorkedExamples}
 
@@ -146,42 +152,50 @@ no_project =
     (get_other empty (codes "/") Directory project_path (texts_differ project_path (codes "/") refl)
     ∙ get-empty (slice_cmp nat_cmp) project_path)
 
-nothing_set : Sets no_options (record { base = None; page = None; conditions = None })
+abbrev nothing : Settings
+nothing = record { base = None; page = None; conditions = None }
+
+nothing_set : Sets no_options nothing
 nothing_set = record { base = no_base; page = no_page; conditions = no_names }
+
+-- words without options are refused for what is found
+refused_by :
+    (words : List (List ℕ)) (tree : Tree) (asked : Asked) (command : Command) (found : Result (Option Config) ProjectFault)
+    (fault : ConfigFault) → reading_of words ≡ Some asked → command_of asked ≡ Some command
+    → options_of asked ≡ no_options → HoldsProject tree found → Err fault ≡ config_by asked nothing found
+    → RefusesConfig words tree fault
+refused_by words tree asked command found fault read is none holds comes = record {
+  command = command;
+  configures =
+      record {
+        asked = asked;
+        asks = read_is_plain words asked read;
+        is = is;
+        settings = nothing;
+        sets = subst (λ options. Sets options nothing) (sym none) nothing_set;
+        found = found;
+        holds = holds;
+        comes = comes;
+      };
+}
 
 word_examples : WordExamples
 word_examples = record {
   not_built = not_built _ (read_is_plain (codes "list" ∷ []) _ refl) refl;
   no_base =
-      record {
-        command = _;
-        configures =
-            record {
-              asked = _;
-              asks = read_is_plain (codes "link" ∷ codes "./app.mjs" ∷ []) _ refl;
-              is = refl;
-              settings = _;
-              sets = nothing_set;
-              found = _;
-              holds = no_project;
-              comes = refl;
-            };
-      };
+      refused_by (codes "link" ∷ codes "./app.mjs" ∷ []) bare_tree (linking no_options (codes "./app.mjs" ∷ [])) Link
+      (Ok None) NoBase refl refl refl no_project refl;
   refresh_nothing =
-      record {
-        command = _;
-        configures =
-            record {
-              asked = _;
-              asks = read_is_plain (codes "refresh" ∷ []) _ refl;
-              is = refl;
-              settings = _;
-              sets = nothing_set;
-              found = _;
-              holds = no_project;
-              comes = refl;
-            };
-      };
+      refused_by (codes "refresh" ∷ []) bare_tree refreshing Refresh (Ok None) (Project Absent) refl refl refl no_project
+      refl;
+  folder = λ tree is.
+      refused_by (codes "refresh" ∷ []) tree refreshing Refresh (Ok None) (Project Absent) refl refl refl (folder is)
+      refl;
+  link_by_folder = λ tree is.
+      refused_by (codes "link" ∷ []) tree (linking no_options []) Link (Ok None) NoBase refl refl refl (folder is) refl;
+  large = λ tree bytes is many.
+      refused_by (codes "link" ∷ []) tree (linking no_options []) Link (Err TooLarge) (Project TooLarge) refl refl refl
+      (too_large bytes is many) refl;
   new =
       record {
         asked = _;

@@ -3,10 +3,12 @@
 --     LinkExamples        what `link` comes to
 --     ProjectExamples     what the other commands come to
 --     EntryExamples       at most 1,024 entries
---     WordExamples        words over the tree that holds the root alone
+--     WordExamples        words over a tree
+use Rattle.std.specs.FinMap.{get}
 use Rattle.std.specs.List.{list_any}
-use Rattle.std.specs.Prelude.{◌≡◌, ℕ, true, false, List, [], ◌∷◌, length, codes, bytes_eq, Some, None, Ok, Err}
-use Rattle.tree_spec.specs.Trees.{bare_tree}
+use Rattle.std.specs.Prelude.{◌≡◌, ◌<◌, ℕ, true, false, List, [], ◌∷◌, length, codes, bytes_eq, Some, None, Ok, Err}
+use Rattle.tree_spec.specs.Trees.{bare_tree, Tree}
+use Rattle.tree_spec.specs.declared.Entry.TheVariants.{Stored, Directory}
 use Rattle.trace_spec.specs.Modules.{Config}
 use Rattle.words_spec.specs.PlainWords.{LinkOptions, no_options, linking, unlinking, refreshing, checking, injecting}
 use Rattle.config_spec.specs.declared.Command.TheVariants.{Link}
@@ -151,10 +153,21 @@ pub record EntryExamples : Type 0 where
 
 -- ---- whole words
 
+abbrev file_path : List ℕ
+file_path = codes "/importmap.project.json"
+
 pub record WordExamples : Type 0 where
   pub not_built : RefusesWords (codes "list" ∷ []) NotBuilt
   pub no_base : RefusesConfig (codes "link" ∷ codes "./app.mjs" ∷ []) bare_tree NoBase
   pub refresh_nothing : RefusesConfig (codes "refresh" ∷ []) bare_tree (Project Absent)
+  pub folder :
+      (tree : Tree) → get tree file_path ≡ Some Directory
+      → RefusesConfig (codes "refresh" ∷ []) tree (Project Absent)
+  pub link_by_folder :
+      (tree : Tree) → get tree file_path ≡ Some Directory → RefusesConfig (codes "link" ∷ []) tree NoBase
+  pub large :
+      (tree : Tree) (bytes : List ℕ) → get tree file_path ≡ Some (Stored bytes) → 16777216 < length bytes
+      → RefusesConfig (codes "link" ∷ []) tree (Project TooLarge)
   pub new :
       IsConfigOf (codes "link" ∷ codes "--base=HTTPS://H/a/" ∷ codes "./app.mjs" ∷ []) bare_tree Link
       (record {
