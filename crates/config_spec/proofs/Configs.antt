@@ -1,5 +1,5 @@
 -- Words and a tree have one config or one fault.
-use Rattle.std.proofs.Common.{◌≡◌, ℕ, List, Option, Some, refl, sym, ap, ◌∙◌, subst}
+use Rattle.std.proofs.Common.{◌≡◌, ℕ, List, refl, sym, ◌∙◌, subst}
 use Rattle.std.specs.Prelude.{Result}
 use Rattle.tree_spec.specs.Trees.{Tree}
 use Rattle.trace_spec.specs.Modules.{Config}
@@ -7,7 +7,7 @@ use Rattle.words_spec.proofs.PlainIsRead.{one_asked}
 use Rattle.config_spec.proofs.Options.{one_settings}
 use Rattle.config_spec.proofs.ProjectsRead.{one_held, some_held}
 use Rattle.config_spec.proofs.WordsJudged.{same_command}
-use Rattle.config_spec.specs.Laws.{ConfigDecides, ConfigsAreJudged, SameConfiguring}
+use Rattle.config_spec.specs.Laws.{ConfigsAreJudged, SameConfiguring}
 use Rattle.config_spec.specs.Projects.{Configures, config_by}
 use Rattle.config_spec.specs.Words.{IsCommandOf, options_of, Sets}
 use Rattle.config_spec.specs.declared.Command.{Command}

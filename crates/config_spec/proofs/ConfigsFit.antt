@@ -1,35 +1,40 @@
 -- The config that words and a tree give can be written as a project, with the values of the options.
-use Rattle.std.proofs.Common.{◌≡◌, ◌≢◌, ◌≤◌, ◌<◌, ◌+◌, ℕ, Bool, true, false, cond, List, [], ◌∷◌, ◌++◌, All, refl, sym, ap, ◌∙◌, subst, inl, inr, length, lit≤, arith}
-use Rattle.std.specs.Cmp.{IsEquivalence}
-use Rattle.std.specs.List.{AllByRecursion, IsDistinct, list_all, list_any}
-use Rattle.std.specs.Prelude.{codes, bytes_eq, filter, nat_lt, not, Option, Some, None, unwrap_or, Result, Ok, Err, if◌then◌else◌}
-use Rattle.std.proofs.lemmas.Bool.{and_parts, ltb-false}
-use Rattle.std.proofs.lemmas.Cmp.{nat_list_eq_equiv}
+use Rattle.std.proofs.Common.{All, Contains, ◌≡◌, ◌≤◌, ℕ, Bool, true, false, List, [], ◌∷◌, refl, sym, ap, subst}
+use Rattle.std.proofs.Common.{length, lit≤, arith}
+use Rattle.std.specs.List.{IsDistinct, list_any}
+use Rattle.std.specs.Prelude.{codes, bytes_eq, nat_lt, not, Option, Some, None, unwrap_or, Result, Ok, Err}
+use Rattle.std.specs.Prelude.{if◌then◌else◌}
+use Rattle.std.proofs.lemmas.Bool.{ltb-false}
 use Rattle.std.proofs.lemmas.List.Elements.{All-nil, All-cons}
-use Rattle.std.proofs.lemmas.Map.Keys.{IsDistinct-push}
 use Rattle.tree_spec.proofs.ByteLists.{texts_differ}
 use Rattle.tree_spec.specs.Limits.{limit_number}
-use Rattle.tree_spec.specs.Paths.{IsPath}
 use Rattle.tree_spec.specs.Trees.{Tree}
 use Rattle.tree_spec.specs.declared.LimitName.TheVariants.{Entries}
 use Rattle.url_spec.proofs.Bases.{bases_stay}
 use Rattle.url_spec.proofs.PathDecisions.{path_by_test}
-use Rattle.url_spec.specs.Bases.{base_of, IsBase}
-use Rattle.condition_match.specs.Conditions.{is_name_byte, AreConditions, IsCondition}
+use Rattle.url_spec.specs.Bases.{IsBase}
+use Rattle.condition_match.specs.Conditions.{AreConditions}
 use Rattle.trace_spec.specs.Modules.{Config}
-use Rattle.words_spec.specs.PlainWords.{Asked, LinkOptions, no_options, linking, unlinking, refreshing, checking}
+use Rattle.words_spec.specs.PlainWords.{Asked, Asks, LinkOptions, no_options, linking, unlinking, refreshing, checking}
 use Rattle.words_spec.specs.PlainWords.{listing, injecting, editing, measuring}
 use Rattle.project_spec.proofs.ReadBack.{read_projects}
 use Rattle.project_spec.specs.ProjectFiles as project
 use Rattle.project_spec.specs.ProjectFiles.{IsProject, ReadsProject}
+use Rattle.config_spec.proofs.Entries.{filtered_distinct, filtered_fewer, no_entry_twice, onto_distinct, onto_holds}
+use Rattle.config_spec.proofs.Entries.{without_lacks, without_within}
 use Rattle.config_spec.proofs.Options.{one_settings}
+use Rattle.config_spec.proofs.TwoConditions.{two_conditions}
 use Rattle.config_spec.specs.Laws.{ConfigsAreProjects}
-use Rattle.config_spec.specs.Projects.{config_by, config_in, HoldsProject, if_there, IsConfigFor, link_conditions, linked, new_project, once_onto, page_path, read_outcome, set_over, unlinked, with_few, without}
+use Rattle.config_spec.specs.Projects.{config_by, config_in, HasEntriesOf, HoldsProject, if_there, IsConfigFor}
+use Rattle.config_spec.specs.Projects.{link_conditions, linked, new_project, once_onto, page_path, read_outcome}
+use Rattle.config_spec.specs.Projects.{set_over, unlinked, with_few, without}
 use Rattle.config_spec.specs.Projects.HoldsProject.{absent, folder, reads, too_large}
-use Rattle.config_spec.specs.Words.{IsPagePath, options_of, Sets, SetsBase, SetsConditions, SetsPage, Settings}
+use Rattle.config_spec.specs.Words.{command_of, IsPagePath, options_of, Sets, SetsBase, SetsConditions, SetsPage}
+use Rattle.config_spec.specs.Words.{Settings}
 use Rattle.config_spec.specs.Words.SetsBase.{none as no_base, given as some_base}
 use Rattle.config_spec.specs.Words.SetsConditions.{none as no_names, given as some_names}
 use Rattle.config_spec.specs.Words.SetsPage.{none as no_page, given as some_page}
+use Rattle.config_spec.specs.declared.Command.{Command}
 use Rattle.config_spec.specs.declared.ConfigFault.{ConfigFault}
 use Rattle.config_spec.specs.declared.ConfigFault.TheVariants.{NotLinked, TooManyEntries}
 use Rattle.config_spec.specs.declared.ProjectFault.{ProjectFault}
@@ -48,55 +53,6 @@ good config = Ok config
 same_result : {some other : Config} → good some ≡ good other → some ≡ other
 same_result e = cc
 
--- ---- entries
-
-equal_bytes : IsEquivalence bytes_eq
-equal_bytes = nat_list_eq_equiv
-
-no_entry_twice : IsDistinct bytes_eq []
-unfolding IsDistinct
-no_entry_twice = tt
-
-onto_distinct : (seen texts : List (List ℕ)) → IsDistinct bytes_eq seen → IsDistinct bytes_eq (once_onto seen texts)
-onto_distinct seen [] distinct = distinct
-onto_distinct seen (text ∷ texts) distinct =
-    onto_distinct (if list_any (bytes_eq text) seen then seen else seen ++ text ∷ []) texts
-    (by (list_any (bytes_eq text) seen) refl)
-  where
-    by : (there : Bool) → list_any (bytes_eq text) seen ≡ there → IsDistinct bytes_eq (if there then seen else seen ++ text ∷ [])
-    by true e = distinct
-    by false e = IsDistinct-push equal_bytes seen text distinct e
-
-filtered_apart :
-    (text : List ℕ) (test : List ℕ → Bool) (texts : List (List ℕ)) → AllByRecursion (λ other. bytes_eq text other ≡ false) texts
-    → AllByRecursion (λ other. bytes_eq text other ≡ false) (filter test texts)
-filtered_apart text test [] apart = tt
-filtered_apart text test (other ∷ texts) apart = by (test other) (filtered_apart text test texts apart.1)
-  where
-    by : (b : Bool) → AllByRecursion (λ x. bytes_eq text x ≡ false) (filter test texts)
-        → AllByRecursion (λ x. bytes_eq text x ≡ false) (cond b (other ∷ filter test texts) (filter test texts))
-    by true rest = (apart.0, rest)
-    by false rest = rest
-
-filtered_distinct : (test : List ℕ → Bool) (texts : List (List ℕ)) → IsDistinct bytes_eq texts → IsDistinct bytes_eq (filter test texts)
-unfolding IsDistinct
-filtered_distinct test [] distinct = tt
-filtered_distinct test (text ∷ texts) distinct = by (test text) (filtered_distinct test texts distinct.1)
-  where
-    by : (b : Bool) → IsDistinct bytes_eq (filter test texts)
-        → IsDistinct bytes_eq (cond b (text ∷ filter test texts) (filter test texts))
-    by true rest = (filtered_apart text test texts distinct.0, rest)
-    by false rest = rest
-
-filtered_fewer : (test : List ℕ → Bool) (texts : List (List ℕ)) → length (filter test texts) ≤ length texts
-filtered_fewer test [] = lit≤ tt
-filtered_fewer test (text ∷ texts) = by (test text) (filtered_fewer test texts)
-  where
-    by : (b : Bool) → length (filter test texts) ≤ length texts
-        → length (cond b (text ∷ filter test texts) (filter test texts)) ≤ length (text ∷ texts)
-    by true more = omega (arith, more)
-    by false more = omega (arith, more)
-
 -- ---- options over a config
 
 base_fits : {text set : Option (List ℕ)} (old : List ℕ) → SetsBase text set → IsBase old → IsBase (unwrap_or set old)
@@ -108,7 +64,9 @@ set_base_fits url no_base e = absurd (cc)
 set_base_fits url (some_base text other gives) e =
     let same : other ≡ url = cc in subst IsBase same (bases_stay text other gives)
 
-page_fits : {text set : Option (List ℕ)} (old : List ℕ) → SetsPage text set → IsPagePath old → IsPagePath (unwrap_or set old)
+page_fits :
+    {text set : Option (List ℕ)} (old : List ℕ) → SetsPage text set → IsPagePath old
+    → IsPagePath (unwrap_or set old)
 page_fits old no_page is = is
 page_fits old (some_page text is_too) is = is_too
 
@@ -162,85 +120,68 @@ nothing_keeps settings config sets =
 page_of_project : IsPagePath page_path
 page_of_project = record { is_path = path_by_test page_path refl; no_root = texts_differ page_path (codes "/") refl }
 
-plain_by_test : (name : List ℕ) → list_all is_name_byte name ≡ true → All (λ b. is_name_byte b ≡ true) name
-plain_by_test [] e = All-nil (λ b. is_name_byte b ≡ true)
-plain_by_test (b ∷ name) e =
-    let parts = and_parts (is_name_byte b) (list_all is_name_byte name) e in
-    All-cons (λ c. is_name_byte c ≡ true) b name parts.0 (plain_by_test name parts.1)
-
-is_condition :
-    (name : List ℕ) → 0 < length name → length name ≤ 64 → list_all is_name_byte name ≡ true
-    → bytes_eq name (codes "default") ≡ false → IsCondition name
-is_condition name nonempty short e other = record {
-  nonempty = nonempty;
-  short = short;
-  plain = plain_by_test name e;
-  other = texts_differ name (codes "default") other;
-}
-
 are_conditions : AreConditions link_conditions
 are_conditions =
-    let browser = is_condition (codes "browser") (lit≤ tt) (lit≤ tt) refl refl in
-    let imports = is_condition (codes "import") (lit≤ tt) (lit≤ tt) refl refl in
-    record {
-      few = lit≤ tt;
-      each =
-          All-cons IsCondition (codes "browser") (codes "import" ∷ []) browser
-          (All-cons IsCondition (codes "import") [] imports (All-nil IsCondition));
-      distinct = (
-        All-cons (λ other. codes "browser" ≢ other) (codes "import") []
-            (texts_differ (codes "browser") (codes "import") refl) (All-nil (λ other. codes "browser" ≢ other)),
-        (All-nil (λ other. codes "import" ≢ other), tt),
-      );
-    }
+    two_conditions (codes "browser") (codes "import")
+    (record { nonempty = lit≤ tt; short = lit≤ tt; plain = refl; other = refl })
+    (record { nonempty = lit≤ tt; short = lit≤ tt; plain = refl; other = refl }) refl
 
 -- ---- the config
 
--- it fits, with the values of the options
-record Comes (settings : Settings) (config : Config) : Type 0 where
+-- it fits, with the values of the options and the entries
+record Comes (asked : Asked) (settings : Settings) (config : Config) : Type 0 where
   kept : Keeps settings config
   fits : Fits config
+  entries : HasEntriesOf asked config.entries
 
 few_kept :
-    (config result : Config) → Ok result ≡ with_few config → (config ≡ result) × (length config.entries ≤ limit_number Entries)
+    (config result : Config) → Ok result ≡ with_few config
+    → (config ≡ result) × (length config.entries ≤ limit_number Entries)
 few_kept config result is = by (nat_lt (limit_number Entries) (length config.entries)) refl is
   where
     by : (many : Bool) → nat_lt (limit_number Entries) (length config.entries) ≡ many
-        → Ok result ≡ (if many then Err TooManyEntries else Ok config) → (config ≡ result) × (length config.entries ≤ limit_number Entries)
+        → Ok result ≡ (if many then Err TooManyEntries else Ok config)
+        → (config ≡ result) × (length config.entries ≤ limit_number Entries)
     by true e is = absurd (cc)
     by false e is = (sym (same_result is), ltb-false (limit_number Entries) (length config.entries) e)
 
 few_comes :
-    (settings : Settings) (config result : Config) → Ok result ≡ with_few config → Keeps settings config
-    → IsProject config → Comes settings result
-few_comes settings config result is kept is_project =
+    (asked : Asked) (settings : Settings) (config result : Config) → Ok result ≡ with_few config
+    → Keeps settings config → IsProject config → HasEntriesOf asked config.entries → Comes asked settings result
+few_comes asked settings config result is kept is_project entries =
     let few = few_kept config result is in
-    subst (Comes settings) few.0 (record { kept = kept; fits = record { is_project = is_project; few = few.1 } })
+    subst (Comes asked settings) few.0
+    (record { kept = kept; fits = record { is_project = is_project; few = few.1 }; entries = entries })
 
 new_comes :
     (options : LinkOptions) (settings : Settings) (given : Option (List ℕ)) (entries : List (List ℕ)) (result : Config)
     → Sets options settings → settings.base ≡ given → Ok result ≡ new_project settings given entries
-    → Comes settings result
+    → Comes (linking options entries) settings result
 new_comes options settings None entries result sets e is = absurd (cc)
 new_comes options settings (Some base) entries result sets e is =
-    few_comes settings _ result is (set_keeps settings base page_path link_conditions (once_onto [] entries))
+    few_comes (linking options entries) settings _ result is
+    (set_keeps settings base page_path link_conditions (once_onto [] entries))
     (set_is_project options settings base page_path link_conditions (once_onto [] entries) sets
     (set_base_fits base sets.base e) page_of_project are_conditions (onto_distinct [] entries no_entry_twice))
+    (onto_holds [] entries)
 
 linked_comes :
     (options : LinkOptions) (settings : Settings) (entries : List (List ℕ)) (found : Option Config) (result : Config)
     → Sets options settings → ((old : Config) → found ≡ Some old → Fits old)
-    → Ok result ≡ linked settings entries found → Comes settings result
+    → Ok result ≡ linked settings entries found → Comes (linking options entries) settings result
 linked_comes options settings entries None result sets fits is =
     new_comes options settings settings.base entries result sets refl is
 linked_comes options settings entries (Some old) result sets fits is =
     let held = (fits old refl).is_project in
     let on_page : IsPagePath old.page = record { is_path = held.page; no_root = held.no_root } in
-    few_comes settings _ result is (set_keeps settings old.base old.page old.conditions (once_onto old.entries entries))
+    few_comes (linking options entries) settings _ result is
+    (set_keeps settings old.base old.page old.conditions (once_onto old.entries entries))
     (set_is_project options settings old.base old.page old.conditions (once_onto old.entries entries) sets held.base
     on_page held.conditions (onto_distinct old.entries entries held.distinct))
+    (onto_holds old.entries entries)
 
-without_fits : (entry : List ℕ) (config : Config) → Fits config → Fits (record config { entries = without entry config.entries })
+without_fits : (entry : List ℕ) (config : Config) → Fits config
+    → Fits (record config { entries = without entry config.entries })
 without_fits entry config fits =
     let is = fits.is_project in
     let few = fits.few in
@@ -272,34 +213,89 @@ unlinked_fits (entry ∷ more) config result fits is =
     by true rest is = rest is
     by false rest is = absurd (cc)
 
+unlinked_within :
+    (entries : List (List ℕ)) (config result : Config) (text : List ℕ) → Ok result ≡ unlinked entries config
+    → Contains result.entries text → Contains config.entries text
+unlinked_within [] config result text is held = subst (λ c. Contains c.entries text) (same_result is) held
+unlinked_within (entry ∷ more) config result text is held =
+    by (list_any (bytes_eq entry) config.entries)
+    (λ rest. unlinked_within more (record config { entries = without entry config.entries }) result text rest held) is
+  where
+    by : (there : Bool)
+        → (Ok result ≡ unlinked more (record config { entries = without entry config.entries })
+        → Contains (without entry config.entries) text)
+        → Ok result ≡ (if there then unlinked more (record config { entries = without entry config.entries }) else Err (NotLinked entry))
+        → Contains config.entries text
+    by true rest is = without_within entry config.entries text (rest is)
+    by false rest is = absurd (cc)
+
+abbrev Lacks : Config → List ℕ → Type 0
+Lacks config entry = Contains config.entries entry → ⊥
+
+unlinked_gone :
+    (entries : List (List ℕ)) (config result : Config) → Ok result ≡ unlinked entries config
+    → All (Lacks result) entries
+unlinked_gone [] config result is = All-nil (Lacks result)
+unlinked_gone (entry ∷ more) config result is =
+    by (list_any (bytes_eq entry) config.entries)
+    (unlinked_gone more (record config { entries = without entry config.entries }) result) is
+  where
+    by : (there : Bool)
+        → (Ok result ≡ unlinked more (record config { entries = without entry config.entries }) → All (Lacks result) more)
+        → Ok result ≡ (if there then unlinked more (record config { entries = without entry config.entries }) else Err (NotLinked entry))
+        → All (Lacks result) (entry ∷ more)
+    by true rest is =
+        All-cons (Lacks result) entry more
+        (λ held. without_lacks entry config.entries
+        (unlinked_within more (record config { entries = without entry config.entries }) result entry is held)) (rest is)
+    by false rest is = absurd (cc)
+
+-- a project that is there, and what comes of it
+record Fitting (asked : Asked) (result : Config) : Type 0 where
+  fits : Fits result
+  entries : HasEntriesOf asked result.entries
+
 -- what is taken from a project that is there
 taken_comes :
-    (settings : Settings) (next : Config → Result Config ConfigFault) (found : Option Config) (result : Config)
-    → Sets no_options settings → ((old : Config) → found ≡ Some old → Fits old)
-    → ((old : Config) → Fits old → Ok result ≡ next old → Fits result) → Ok result ≡ if_there found next
-    → Comes settings result
-taken_comes settings next None result sets fits step is = absurd (cc)
-taken_comes settings next (Some old) result sets fits step is =
-    record { kept = nothing_keeps settings result sets; fits = step old (fits old refl) is }
+    (asked : Asked) (settings : Settings) (next : Config → Result Config ConfigFault) (found : Option Config)
+    (result : Config) → Sets no_options settings → ((old : Config) → found ≡ Some old → Fits old)
+    → ((old : Config) → Fits old → Ok result ≡ next old → Fitting asked result) → Ok result ≡ if_there found next
+    → Comes asked settings result
+taken_comes asked settings next None result sets fits step is = absurd (cc)
+taken_comes asked settings next (Some old) result sets fits step is =
+    let given = step old (fits old refl) is in
+    record { kept = nothing_keeps settings result sets; fits = given.fits; entries = given.entries }
 
-same_fits : (result old : Config) → Fits old → good result ≡ good old → Fits result
-same_fits result old fits is = subst Fits (sym (same_result is)) fits
+same_fits :
+    (asked : Asked) (result : Config) → HasEntriesOf asked result.entries → (old : Config) → Fits old
+    → good result ≡ good old → Fitting asked result
+same_fits asked result entries old fits is =
+    record { fits = subst Fits (sym (same_result is)) fits; entries = entries }
 
 comes_in :
     (asked : Asked) (settings : Settings) (found : Option Config) (result : Config) → Sets (options_of asked) settings
     → ((old : Config) → found ≡ Some old → Fits old) → Ok result ≡ config_in asked settings found
-    → Comes settings result
+    → Comes asked settings result
 comes_in (linking options entries) settings found result sets fits is =
     linked_comes options settings entries found result sets fits is
 comes_in (unlinking entries) settings found result sets fits is =
-    taken_comes settings (unlinked entries) found result sets fits (λ old. unlinked_fits entries old result) is
-comes_in refreshing settings found result sets fits is = taken_comes settings Ok found result sets fits (same_fits result) is
-comes_in checking settings found result sets fits is = taken_comes settings Ok found result sets fits (same_fits result) is
-comes_in listing settings found result sets fits is = taken_comes settings Ok found result sets fits (same_fits result) is
-comes_in injecting settings found result sets fits is = taken_comes settings Ok found result sets fits (same_fits result) is
-comes_in editing settings found result sets fits is = taken_comes settings Ok found result sets fits (same_fits result) is
+    taken_comes (unlinking entries) settings (unlinked entries) found result sets fits
+    (λ old held comes. record {
+      fits = unlinked_fits entries old result held comes;
+      entries = unlinked_gone entries old result comes;
+    }) is
+comes_in refreshing settings found result sets fits is =
+    taken_comes refreshing settings Ok found result sets fits (same_fits refreshing result tt) is
+comes_in checking settings found result sets fits is =
+    taken_comes checking settings Ok found result sets fits (same_fits checking result tt) is
+comes_in listing settings found result sets fits is =
+    taken_comes listing settings Ok found result sets fits (same_fits listing result tt) is
+comes_in injecting settings found result sets fits is =
+    taken_comes injecting settings Ok found result sets fits (same_fits injecting result tt) is
+comes_in editing settings found result sets fits is =
+    taken_comes editing settings Ok found result sets fits (same_fits editing result tt) is
 comes_in (measuring number) settings found result sets fits is =
-    taken_comes settings Ok found result sets fits (same_fits result) is
+    taken_comes (measuring number) settings Ok found result sets fits (same_fits (measuring number) result tt) is
 
 -- ---- the project that is held
 
@@ -315,7 +311,8 @@ read_fits bytes (Ok config) old read is =
     subst Fits same (record { is_project = fits.0; few = fits.1 })
 read_fits bytes (Err fault) old read is = absurd (cc)
 
-held_fits : {tree : Tree} (found : Found) (old : Config) → HoldsProject tree found → found ≡ Ok (Some old) → Fits old
+pub held_fits :
+    {tree : Tree} (found : Found) (old : Config) → HoldsProject tree found → found ≡ Ok (Some old) → Fits old
 held_fits _ old (absent is) e = absurd (cc)
 held_fits _ old (folder is) e = absurd (cc)
 held_fits _ old (too_large bytes is many) e = absurd (cc)
@@ -324,22 +321,32 @@ held_fits _ old (reads bytes outcome is few read) e = read_fits bytes outcome ol
 comes_by :
     (asked : Asked) (settings : Settings) (found : Found) (result : Config) → Sets (options_of asked) settings
     → ((old : Config) → found ≡ Ok (Some old) → Fits old) → Ok result ≡ config_by asked settings found
-    → Comes settings result
+    → Comes asked settings result
 comes_by asked settings (Err fault) result sets fits is = absurd (cc)
 comes_by asked settings (Ok found) result sets fits is =
     comes_in asked settings found result sets (λ old e. fits old (ap Ok e)) is
 
+-- whatever gave what is found
+pub config_for :
+    (words : List (List ℕ)) (command : Command) (config : Config) (asked : Asked) (settings : Settings) (found : Found)
+    → Asks words asked → command_of asked ≡ Some command → Sets (options_of asked) settings
+    → ((old : Config) → found ≡ Ok (Some old) → Fits old) → Ok config ≡ config_by asked settings found
+    → IsConfigFor words command config
+config_for words command config asked settings found asks is sets fits comes =
+    let given = comes_by asked settings found config sets fits comes in
+    record {
+      asked = asked;
+      asks = asks;
+      is = is;
+      settings = settings;
+      sets = sets;
+      kept = given.kept;
+      is_project = given.fits.is_project;
+      entries = given.entries;
+      few = given.fits.few;
+    }
+
 pub configs_are_projects : ConfigsAreProjects
 configs_are_projects words tree command config is =
-    let comes =
-    comes_by is.asked is.settings is.found config is.sets (λ old. held_fits is.found old is.holds) is.comes in
-    record {
-      asked = is.asked;
-      asks = is.asks;
-      is = is.is;
-      settings = is.settings;
-      sets = is.sets;
-      kept = comes.kept;
-      is_project = comes.fits.is_project;
-      few = comes.fits.few;
-    }
+    config_for words command config is.asked is.settings is.found is.asks is.is is.sets
+    (λ old. held_fits is.found old is.holds) is.comes

@@ -1,5 +1,5 @@
 -- Whatever the tree holds, words are refused for these reasons alone.
-use Rattle.std.proofs.Common.{◌≡◌, ℕ, Bool, true, false, List, [], ◌∷◌, refl, sym, ap, ◌∙◌, subst}
+use Rattle.std.proofs.Common.{◌≡◌, ℕ, Bool, true, false, List, [], ◌∷◌, refl, subst}
 use Rattle.std.specs.List.{list_any}
 use Rattle.std.specs.Prelude.{bytes_eq, nat_lt, length, Contains, Option, Some, None, Result, Ok, Err, if◌then◌else◌}
 use Rattle.std.proofs.lemmas.List.Elements.{Contains-append_left, Contains-append_right, Contains-push}
@@ -10,26 +10,31 @@ use Rattle.tree_spec.specs.Trees.{Tree}
 use Rattle.tree_spec.specs.declared.LimitName.{LimitName}
 use Rattle.tree_spec.specs.declared.LimitName.TheVariants.{Entries}
 use Rattle.trace_spec.specs.Modules.{Config}
-use Rattle.words_spec.specs.PlainWords.{Asked, LinkOptions, linking, unlinking, refreshing, checking}
+use Rattle.words_spec.specs.PlainWords.{Asked, Asks, LinkOptions, linking, unlinking, refreshing, checking}
 use Rattle.words_spec.specs.PlainWords.{listing, injecting, editing, measuring}
 use Rattle.project_spec.specs.ProjectFiles as project
-use Rattle.project_spec.specs.ProjectFiles.{BadFile, Gives, PassesLimit, ReadsProject, reads_project, many_entries, no_project, no_json, deep_json}
+use Rattle.project_spec.specs.ProjectFiles.{BadFile, Gives, PassesLimit, ReadsProject, reads_project, many_entries}
+use Rattle.project_spec.specs.ProjectFiles.{no_project, no_json, deep_json}
 use Rattle.config_spec.specs.Laws.{FaultsAreOfWords}
-use Rattle.config_spec.specs.Projects.{config_by, config_in, HoldsProject, if_there, IsReadFault, IsReadLimit, linked, new_project, read_outcome, RefusesAsked, unlinked, with_few, without}
+use Rattle.config_spec.specs.Projects.{CanRefuseConfig, config_by, config_in, HoldsProject, if_there, IsReadFault}
+use Rattle.config_spec.specs.Projects.{IsReadLimit, linked, new_project, read_outcome, RefusesAsked, unlinked}
+use Rattle.config_spec.specs.Projects.{with_few, without}
 use Rattle.config_spec.specs.Projects.HoldsProject.{absent, folder, reads, too_large}
 use Rattle.config_spec.specs.Projects.IsReadFault.{too_large as large_fault, not_project, above}
 use Rattle.config_spec.specs.Projects.IsReadLimit.{of_depth, of_entries}
-use Rattle.config_spec.specs.Projects.RefusesAsked.{bad_project, no_project as needs_project, no_base as needs_base, too_many_entries, not_linked}
-use Rattle.config_spec.specs.Words.{options_of, Sets, SetsBase, Settings}
+use Rattle.config_spec.specs.Projects.RefusesAsked.{bad_project, no_project as needs_project, no_base as needs_base}
+use Rattle.config_spec.specs.Projects.RefusesAsked.{too_many_entries, not_linked}
+use Rattle.config_spec.specs.Words.{command_of, options_of, Sets, SetsBase, Settings}
 use Rattle.config_spec.specs.Words.SetsBase.{none as no_base, given as some_base}
+use Rattle.config_spec.specs.declared.Command.{Command}
 use Rattle.config_spec.specs.declared.ConfigFault.{ConfigFault}
-use Rattle.config_spec.specs.declared.ConfigFault.TheVariants.{NoBase, NotLinked, Project, TooManyEntries}
+use Rattle.config_spec.specs.declared.ConfigFault.TheVariants.{NotLinked, TooManyEntries}
 use Rattle.config_spec.specs.declared.ProjectFault.{ProjectFault}
-use Rattle.config_spec.specs.declared.ProjectFault.TheVariants.{Absent}
 
 -- ---- the file
 
-limit_by : {value : Result Json json.Fault} (which : LimitName) → Gives value (Err (PassesLimit which)) → IsReadLimit which
+limit_by :
+    {value : Result Json json.Fault} (which : LimitName) → Gives value (Err (PassesLimit which)) → IsReadLimit which
 limit_by _ (many_entries describes many) = of_entries
 limit_by _ deep_json = of_depth
 
@@ -46,7 +51,9 @@ read_fault bytes (Err (PassesLimit which)) fault read is = subst IsReadFault (cc
 abbrev Found : Type 0
 Found = Result (Option Config) ProjectFault
 
-held_fault : {tree : Tree} (found : Found) (fault : ProjectFault) → HoldsProject tree found → found ≡ Err fault → IsReadFault fault
+pub held_fault :
+    {tree : Tree} (found : Found) (fault : ProjectFault) → HoldsProject tree found → found ≡ Err fault
+    → IsReadFault fault
 held_fault _ fault (absent is) e = absurd (cc)
 held_fault _ fault (folder is) e = absurd (cc)
 held_fault _ fault (too_large bytes is many) e = subst IsReadFault (cc) large_fault
@@ -162,13 +169,23 @@ refuses_by asked settings (Err fault) why sets read is =
     subst (RefusesAsked asked) (cc) (bad_project asked fault (read fault refl))
 refuses_by asked settings (Ok found) why sets read is = refuses_in asked settings found why sets is
 
-pub faults_are_of_words : FaultsAreOfWords
-faults_are_of_words words tree command fault is = record {
+-- whatever gave what is found
+pub fault_for :
+    (words : List (List ℕ)) (command : Command) (why : ConfigFault) (asked : Asked) (settings : Settings) (found : Found)
+    → Asks words asked → command_of asked ≡ Some command → Sets (options_of asked) settings
+    → ((fault : ProjectFault) → found ≡ Err fault → IsReadFault fault) → Err why ≡ config_by asked settings found
+    → CanRefuseConfig words why
+fault_for words command why asked settings found asks is sets read comes = record {
   command = command;
-  asked = is.asked;
-  asks = is.asks;
-  is = is.is;
-  settings = is.settings;
-  sets = is.sets;
-  refuses = refuses_by is.asked is.settings is.found fault is.sets (λ why. held_fault is.found why is.holds) is.comes;
+  asked = asked;
+  asks = asks;
+  is = is;
+  settings = settings;
+  sets = sets;
+  refuses = refuses_by asked settings found why sets read comes;
 }
+
+pub faults_are_of_words : FaultsAreOfWords
+faults_are_of_words words tree command fault is =
+    fault_for words command fault is.asked is.settings is.found is.asks is.is is.sets
+    (λ why. held_fault is.found why is.holds) is.comes

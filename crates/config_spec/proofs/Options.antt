@@ -1,5 +1,5 @@
 -- The options of words set one thing or are refused in one way.
-use Rattle.std.proofs.Common.{◌≡◌, ◌≢◌, ◌⊎◌, ℕ, List, Option, Some, None, refl, sym, ap, ◌∙◌, subst, inl, inr}
+use Rattle.std.proofs.Common.{◌≡◌, ◌⊎◌, ℕ, List, Option, Some, None, refl, sym, ap, ◌∙◌, subst, inl, inr}
 use Rattle.std.specs.Prelude.{codes}
 use Rattle.tree_spec.proofs.ByteLists.{text_same_or_not}
 use Rattle.tree_spec.proofs.DecidedTrees.{path_or_not}
@@ -8,7 +8,7 @@ use Rattle.url_spec.specs.Bases.{base_of}
 use Rattle.condition_match.specs.Conditions.{AreConditions, names_in}
 use Rattle.words_spec.specs.PlainWords.{LinkOptions}
 use Rattle.project_spec.proofs.SomeProject.{OrNot, conditions_or_not}
-use Rattle.config_spec.specs.Laws.{OptionsDecide, OptionsAreJudged}
+use Rattle.config_spec.specs.Laws.{OptionsAreJudged}
 use Rattle.config_spec.specs.Words.{IsPagePath, RefusesOptions, Sets, SetsBase, SetsConditions, SetsPage, Settings}
 use Rattle.config_spec.specs.Words.RefusesOptions.{bad_base, bad_conditions, bad_path}
 use Rattle.config_spec.specs.Words.SetsBase.{none as no_base, given as some_base}
@@ -117,7 +117,8 @@ base_given text = by (base_of text) refl
     by None e = inr (λ is. let f : None ≡ Some is.0 = sym e ∙ is.1 in absurd (cc))
     by (Some url) e = inl (url, e)
 
-none_given : (text : List ℕ) (found : Option (List ℕ)) → base_of text ≡ found → (GivesBase text → ⊥) → base_of text ≡ None
+none_given :
+    (text : List ℕ) (found : Option (List ℕ)) → base_of text ≡ found → (GivesBase text → ⊥) → base_of text ≡ None
 none_given text None e none = e
 none_given text (Some url) e none = absurd (none (url, e))
 

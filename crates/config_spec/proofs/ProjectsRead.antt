@@ -1,5 +1,5 @@
 -- What stands at the path of the project's file holds one thing.
-use Rattle.std.proofs.Common.{◌≡◌, ◌≤◌, ◌<◌, ℕ, List, Option, Some, None, refl, sym, ap, ◌∙◌, subst, inl, inr, length, arith}
+use Rattle.std.proofs.Common.{◌≡◌, ◌≤◌, ◌<◌, ℕ, List, Option, Some, None, refl, ap, subst, inl, inr, length, arith}
 use Rattle.std.specs.FinMap.{get}
 use Rattle.std.specs.Prelude.{Result, Ok, Err}
 use Rattle.std.proofs.lemmas.Bool.{cases_lt}
@@ -11,8 +11,8 @@ use Rattle.tree_spec.specs.declared.LimitName.TheVariants.{File}
 use Rattle.trace_spec.specs.Modules.{Config}
 use Rattle.project_spec.proofs.OneProject.{one_project}
 use Rattle.project_spec.proofs.SomeProject.{some_project}
-use Rattle.project_spec.specs.ProjectFiles.{Fault, ReadsProject}
-use Rattle.config_spec.specs.Laws.{ProjectDecides, ProjectsAreRead}
+use Rattle.project_spec.specs.ProjectFiles.{ReadsProject}
+use Rattle.config_spec.specs.Laws.{ProjectsAreRead}
 use Rattle.config_spec.specs.Projects.{HoldsProject, project_path, read_outcome}
 use Rattle.config_spec.specs.Projects.HoldsProject.{absent, folder, reads, too_large}
 use Rattle.config_spec.specs.declared.ProjectFault.{ProjectFault}
@@ -21,7 +21,9 @@ use Rattle.config_spec.specs.declared.ProjectFault.TheVariants.{TooLarge}
 abbrev Found : Type 0
 Found = Result (Option Config) ProjectFault
 
-same_bytes : {found : Option Entry} {some other : List ℕ} → found ≡ Some (Stored some) → found ≡ Some (Stored other) → some ≡ other
+same_bytes :
+    {found : Option Entry} {some other : List ℕ} → found ≡ Some (Stored some) → found ≡ Some (Stored other)
+    → some ≡ other
 same_bytes e f = cc
 
 -- a file that is read isn't too large
@@ -54,7 +56,8 @@ one_held tree some other (reads bytes outcome is few r) (reads bytes_too outcome
     ap read_outcome (one_project bytes outcome outcome_too r (subst (λ b. ReadsProject b outcome_too) same r_too))
 
 file_holds :
-    (tree : Tree) (bytes : List ℕ) → get tree project_path ≡ Some (Stored bytes) → (found : Found) × HoldsProject tree found
+    (tree : Tree) (bytes : List ℕ) → get tree project_path ≡ Some (Stored bytes)
+    → (found : Found) × HoldsProject tree found
 file_holds tree bytes is = elim (cases_lt (limit_number File) (length bytes)) [
   | inl many ↦ (Err TooLarge, too_large bytes is many)
   | inr few ↦ (let read = some_project bytes in (read_outcome read.0, reads bytes read.0 is few read.1))

@@ -5,8 +5,8 @@ use Rattle.words_spec.proofs.ReadIsPlain.{read_is_plain}
 use Rattle.words_spec.specs.PlainWords.{Asked, Asks}
 use Rattle.words_spec.specs.Reading.{reading_of}
 use Rattle.config_spec.proofs.Options.{one_options_fault, set_or_fault, set_or_refused}
-use Rattle.config_spec.specs.Laws.{WordsAreJudged, WordsDecide}
-use Rattle.config_spec.specs.Words.{command_of, IsCommandOf, IsPlain, options_of, RefusesOptions, RefusesWords, Sets, Settings}
+use Rattle.config_spec.specs.Laws.{WordsAreJudged}
+use Rattle.config_spec.specs.Words.{command_of, IsCommandOf, IsPlain, options_of, RefusesOptions, RefusesWords}
 use Rattle.config_spec.specs.Words.RefusesWords.{bad_option, not_built}
 use Rattle.config_spec.specs.declared.Command.{Command}
 use Rattle.config_spec.specs.declared.ConfigFault.{ConfigFault}
@@ -21,7 +21,9 @@ same_command some other first second same is is_too =
     let e : Some first ≡ Some second = sym is ∙ (ap command_of same ∙ is_too) in cc
 
 -- what is built isn't unbuilt
-built : (some other : Asked) (command : Command) → some ≡ other → command_of some ≡ Some command → command_of other ≡ None → ⊥
+built :
+    (some other : Asked) (command : Command) → some ≡ other → command_of some ≡ Some command
+    → command_of other ≡ None → ⊥
 built some other command same is none =
     let e : Some command ≡ None = sym is ∙ (ap command_of same ∙ none) in absurd (cc)
 
@@ -44,7 +46,9 @@ one_fault words some other (bad_option asked command fault asks is refuses)
     one_options_fault (options_of asked) some other refuses
     (subst (λ a. RefusesOptions (options_of a) other) same refuses_too)
 
-not_both : (words : List (List ℕ)) (command : Command) (fault : ConfigFault) → IsCommandOf words command → RefusesWords words fault → ⊥
+not_both :
+    (words : List (List ℕ)) (command : Command) (fault : ConfigFault) → IsCommandOf words command
+    → RefusesWords words fault → ⊥
 not_both words command fault is (not_built asked asks none) =
     built is.asked asked command (one_asked words is.asked asked is.asks asks) is.is none
 not_both words command fault is (bad_option asked command_too fault_too asks is_too refuses) =
@@ -60,7 +64,9 @@ HaveCommand words = (command : Command) × IsCommandOf words command
 abbrev AreRefused : List (List ℕ) → Type 0
 AreRefused words = (fault : ConfigFault) × RefusesWords words fault
 
-command_by : (words : List (List ℕ)) (asked : Asked) → Asks words asked → (found : Option Command) → command_of asked ≡ found → HaveCommand words ⊎ AreRefused words
+command_by :
+    (words : List (List ℕ)) (asked : Asked) → Asks words asked → (found : Option Command)
+    → command_of asked ≡ found → HaveCommand words ⊎ AreRefused words
 command_by words asked asks None e = inr (NotBuilt, not_built asked asks e)
 command_by words asked asks (Some command) e =
     elim (set_or_fault (options_of asked)) [

@@ -1,3 +1,4 @@
 pub mod Words
 pub mod Projects
 pub mod Laws
+pub mod WorkedExamples

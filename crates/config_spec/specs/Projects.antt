@@ -10,7 +10,7 @@
 use Rattle.std.specs.FinMap.{get}
 use Rattle.std.specs.List.{list_any}
 use Rattle.std.specs.Prelude.{◌≡◌, ◌≤◌, ◌<◌, ℕ, nat_lt, not, List, [], ◌∷◌, ◌++◌, length, filter, codes, bytes_eq}
-use Rattle.std.specs.Prelude.{Option, Some, None, unwrap_or, Result, Ok, Err, Contains, if◌then◌else◌}
+use Rattle.std.specs.Prelude.{Option, Some, None, unwrap_or, Result, Ok, Err, All, Contains, if◌then◌else◌}
 use Rattle.tree_spec.specs.declared.Entry.TheVariants.{Stored, Directory}
 use Rattle.tree_spec.specs.declared.LimitName.{LimitName}
 use Rattle.tree_spec.specs.declared.LimitName.TheVariants.{File, Entries, Depth}
@@ -141,7 +141,18 @@ pub record RefusesConfig (words : List (List ℕ)) (tree : Tree) (fault : Config
 
 -- ---- whatever the tree holds
 
--- own: a project whose file can be written; and where an option is given, its value stands
+-- own: after `link` each of its entries is there, and after `unlink` none of them is
+abbrev pub HasEntriesOf : Asked → List (List ℕ) → Type 0
+HasEntriesOf (linking options named) entries = All (Contains entries) named
+HasEntriesOf (unlinking named) entries = All (λ entry. Contains entries entry → ⊥) named
+HasEntriesOf refreshing entries = Unit {0}
+HasEntriesOf checking entries = Unit {0}
+HasEntriesOf listing entries = Unit {0}
+HasEntriesOf injecting entries = Unit {0}
+HasEntriesOf editing entries = Unit {0}
+HasEntriesOf (measuring number) entries = Unit {0}
+
+-- own: a project whose file can be written; where an option is given, its value stands; and so for the entries
 pub record IsConfigFor (words : List (List ℕ)) (command : Command) (config : Config) : Type 0 where
   pub asked : Asked
   pub asks : Asks words asked
@@ -150,6 +161,7 @@ pub record IsConfigFor (words : List (List ℕ)) (command : Command) (config : C
   pub sets : Sets (options_of asked) settings
   pub kept : config ≡ set_over settings config.base config.page config.conditions config.entries
   pub is_project : IsProject config
+  pub entries : HasEntriesOf asked config.entries
   pub few : length config.entries ≤ limit_number Entries
 
 -- own: a limit that the file of a project can pass as it is read

@@ -6,7 +6,7 @@
 --     IsPlain words                     the words have a meaning
 --     IsCommandOf words command         they ask for this command, and none of their texts is refused
 --     RefusesWords words fault            plain words that ask for no command that is built, or have such a text
-use Rattle.std.specs.Prelude.{◌≡◌, ◌≢◌, ℕ, List, [], codes, Option, Some, None}
+use Rattle.std.specs.Prelude.{◌≡◌, ◌≢◌, ℕ, List, codes, Option, Some, None}
 use Rattle.tree_spec.specs.Paths.{IsPath}
 use Rattle.url_spec.specs.Bases.{base_of}
 use Rattle.condition_match.specs.Conditions.{AreConditions, names_in}

@@ -5,6 +5,7 @@
 
 ghost use Rattle.config_spec.specs.Laws.{OptionsAreJudged, WordsAreJudged, ProjectsAreRead, ConfigsAreJudged};
 ghost use Rattle.config_spec.specs.Laws.{ConfigsAreProjects, FaultsAreOfWords};
+ghost use Rattle.config_spec.specs.WorkedExamples.{WorkedExamples};
 
 use primitives::Text;
 use tree_spec::LimitName;
@@ -86,4 +87,9 @@ pub fn configs_are_projects()
 /// Whatever the tree holds, words are refused for these reasons alone.
 pub fn faults_are_of_words()
     ensures { FaultsAreOfWords }
+{}
+
+/// Worked examples.
+pub fn worked_examples()
+    ensures { WorkedExamples }
 {}
