@@ -41,12 +41,12 @@ limit_by _ deep_json = of_depth
 read_limit : (bytes : List ℕ) (which : LimitName) → ReadsProject bytes (Err (PassesLimit which)) → IsReadLimit which
 read_limit bytes which (reads_project value read gives) = limit_by which gives
 
-read_fault :
+pub read_fault_is :
     (bytes : List ℕ) (outcome : Result Config project.Fault) (fault : ProjectFault) → ReadsProject bytes outcome
     → read_outcome outcome ≡ Err fault → IsReadFault fault
-read_fault bytes (Ok config) fault read is = absurd (cc)
-read_fault bytes (Err (BadFile at)) fault read is = subst IsReadFault (cc) (not_project at)
-read_fault bytes (Err (PassesLimit which)) fault read is = subst IsReadFault (cc) (above which (read_limit bytes which read))
+read_fault_is bytes (Ok config) fault read is = absurd (cc)
+read_fault_is bytes (Err (BadFile at)) fault read is = subst IsReadFault (cc) (not_project at)
+read_fault_is bytes (Err (PassesLimit which)) fault read is = subst IsReadFault (cc) (above which (read_limit bytes which read))
 
 abbrev Found : Type 0
 Found = Result (Option Config) ProjectFault
@@ -57,7 +57,7 @@ pub held_fault :
 held_fault _ fault (absent is) e = absurd (cc)
 held_fault _ fault (folder is) e = absurd (cc)
 held_fault _ fault (too_large bytes is many) e = subst IsReadFault (cc) large_fault
-held_fault _ fault (reads bytes outcome is few read) e = read_fault bytes outcome fault read e
+held_fault _ fault (reads bytes outcome is few read) e = read_fault_is bytes outcome fault read e
 
 -- ---- the commands
 
