@@ -1,6 +1,7 @@
 """Texts of import maps for `check`."""
 
 BASE = "https://app.test/"
+DIGEST = "sha384-" + 64 * "d"
 
 
 def entries(size, entry):
@@ -37,12 +38,15 @@ def scope(i):
 
 
 def printed(size):
-    """Keys and scopes, half of the text each, in the form that `link` prints."""
-    half = (size - 100) // 2
-    imports = entries(half, lambda i: f'    "p{i}": "{address(i)}"')
-    scopes = entries(half, scope)
-    return ('{\n  "imports": {\n' + ",\n".join(imports) + '\n  },\n  "scopes": {\n' + ",\n".join(scopes)
-            + "\n  }\n}\n")
+    """Keys, scopes and digests, a third of the text each, in the form that `link` prints."""
+    third = (size - 100) // 3
+    parts = {
+        "imports": entries(third, lambda i: f'    "p{i}": "{address(i)}"'),
+        "scopes": entries(third, scope),
+        "integrity": entries(third, lambda i: f'    "{address(i)}": "{DIGEST}"'),
+    }
+    texts = (f'  "{name}": {{\n' + ",\n".join(made) + "\n  }" for name, made in parts.items())
+    return "{\n" + ",\n".join(texts) + "\n}\n"
 
 
 def relative(size):
@@ -52,8 +56,7 @@ def relative(size):
 
 def digests(size):
     """Digests of modules."""
-    digest = "sha384-" + 64 * "d"
-    return filled(size, "integrity", lambda i: f'"{address(i)}":"{digest}"')
+    return filled(size, "integrity", lambda i: f'"{address(i)}":"{DIGEST}"')
 
 
 def scopes(count):
