@@ -1,7 +1,6 @@
 """Texts of import maps for `check`."""
 
 BASE = "https://app.test/"
-DIGEST = "sha384-" + 64 * "d"
 
 
 def entries(size, entry):
@@ -37,26 +36,24 @@ def scope(i):
     return f'    "{BASE}node_modules/p{i}/": {{\n      "c": "{BASE}node_modules/c/index.mjs"\n    }}'
 
 
+def digest(i):
+    return f'    "{address(i)}": "sha384-{i:064}"'
+
+
 def printed(size):
     """Keys, scopes and digests, a third of the text each, in the form that `link` prints."""
     third = (size - 100) // 3
-    parts = {
-        "imports": entries(third, lambda i: f'    "p{i}": "{address(i)}"'),
-        "scopes": entries(third, scope),
-        "integrity": entries(third, lambda i: f'    "{address(i)}": "{DIGEST}"'),
-    }
-    texts = (f'  "{name}": {{\n' + ",\n".join(made) + "\n  }" for name, made in parts.items())
-    return "{\n" + ",\n".join(texts) + "\n}\n"
+    parts = [
+        ("imports", entries(third, lambda i: f'    "p{i}": "{address(i)}"')),
+        ("scopes", entries(third, scope)),
+        ("integrity", entries(third, digest)),
+    ]
+    return "{\n" + ",\n".join(f'  "{name}": {{\n' + ",\n".join(made) + "\n  }" for name, made in parts) + "\n}\n"
 
 
 def relative(size):
     """Addresses that have to be read against the base."""
     return filled(size, "imports", lambda i: f'"p{i}":"/node_modules/p{i}/index.js"')
-
-
-def digests(size):
-    """Digests of modules."""
-    return filled(size, "integrity", lambda i: f'"{address(i)}":"{DIGEST}"')
 
 
 def scopes(count):
@@ -90,7 +87,6 @@ def in_part(name, entry):
 # Maps in other forms.
 OTHERS = {
     "addresses against the base": relative,
-    "digests": digests,
 }
 
 # What a map may have to make its reading slow. Each one is read whole.
