@@ -15,6 +15,8 @@ mod escaped_page;
 #[cfg(test)]
 mod faults;
 #[cfg(test)]
+mod limit_rows;
+#[cfg(test)]
 mod page_cases;
 #[cfg(test)]
 mod pages;
