@@ -3,7 +3,7 @@ use Rattle.std.proofs.Common.{◌≡◌, ℕ, suc, List, [], ◌∷◌, All, len
 use Rattle.std.specs.List.{IsDistinct}
 use Rattle.std.specs.Prelude.{◌≢◌, ◌≤◌, codes, bytes_eq, Option, Some, None, Result, Ok, Err, IfOk, MatchOption, MatchResult}
 use Rattle.tree_spec.specs.Limits.{limit_number}
-use Rattle.tree_spec.specs.declared.LimitName.TheVariants.{Depth}
+use Rattle.tree_spec.specs.declared.LimitName.TheVariants.{Depth, Entries}
 use Rattle.json_spec.specs.Grammar.{NotJson, TooDeep, ReadsJson}
 use Rattle.json_spec.specs.PropertyOrder.{pairs_of}
 use Rattle.json_spec.specs.Value.{Json, a_null, a_bool, a_number, a_text, a_list, an_object, Items, Members}
