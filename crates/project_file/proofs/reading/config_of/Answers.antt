@@ -1,4 +1,4 @@
-use Rattle.project_spec.specs.ProjectFiles.{a_project, many_entries, no_project}
+use Rattle.project_spec.specs.ProjectFiles.{many_entries, no_project}
 use Rattle.project_file.proofs.PartLemmas.{few_given}
 use Rattle.project_file.proofs.reading.config_of.Goals as goal
 
