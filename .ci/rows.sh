@@ -209,6 +209,68 @@ row nearest ./lib/m.mjs 1 'refused: NotFound from "/lib/m.mjs" for "ui"' </dev/n
 mkdir "$kept/unread" && printf 'import "./b.mjs' >"$kept/unread/app.mjs"
 row unread ./app.mjs 1 'refused: NotModule "/app.mjs" Unreadable at 7' </dev/null
 
+# Links ENTRIES, a space between each two, in the folder $kept/NAME: at NAME ENTRIES STATUS LINE. What the map says isn't
+# told; it is written exactly where the status is 0.
+at() {
+    rm -f "$kept/$1/importmap.json"
+    (cd "$kept/$1" && "$program" link --base https://app.test/ $2 >"$kept/out")
+    status=$?
+    written=1
+    [ ! -e "$kept/$1/importmap.json" ] || written=0
+    if [ "$status" = "$3" ] && echo "$4" | diff - "$kept/out" && { [ "$3" = 0 ]; [ "$?" = "$written" ]; }; then
+        return
+    fi
+    echo "$1: status $status"
+    failed=1
+}
+
+# As many bytes as a file may have, and one more.
+mkdir "$kept/file" && head -c 16777216 /dev/zero | tr '\0' ' ' >"$kept/file/app.mjs"
+at file ./app.mjs 0 'ok: 1 modules, 1 requests, 0 mappings'
+cp "$kept/file/app.mjs" "$kept/file/more.mjs" && printf ' ' >>"$kept/file/more.mjs"
+at file ./more.mjs 3 'limit: file above 16777216'
+
+# Sixteen names of a file with as many bytes as one may have: 268,435,456. One more byte, in a further file, is too many.
+mkdir "$kept/bytes" && printf ' ' >"$kept/bytes/more.mjs"
+entries=
+for number in 0 1 2 3 4 5 6 7 8 9 10 11 12 13 14 15; do
+    ln "$kept/file/app.mjs" "$kept/bytes/$number.mjs"
+    entries="$entries ./$number.mjs"
+done
+at bytes "$entries" 0 'ok: 16 modules, 16 requests, 0 mappings'
+at bytes "$entries ./more.mjs" 3 'limit: bytes above 268435456'
+
+# From a folder 47 below the root, the name of a package is looked for in 48 folders, and its record and its module are
+# looked at: 50 looks for each of 7,999 packages. The two modules that ask for them, and the place of a record in each of
+# the 48 folders, are 50 more: 400,000. A third entry is one too many.
+mkdir "$kept/looks" && python3 - "$kept/looks" <<'TREE'
+import os
+import sys
+
+top = sys.argv[1]
+deep = top + "/a" * 47
+statements = [f'import "p{number}";' for number in range(7999)]
+
+
+def write(path, text):
+    with open(path, "w") as file:
+        file.write(text)
+
+
+for number in range(7999):
+    package = f"{top}/node_modules/p{number}"
+    os.makedirs(package)
+    write(package + "/package.json", '{"exports":"./i.mjs"}')
+    write(package + "/i.mjs", "")
+os.makedirs(deep)
+write(deep + "/m0.mjs", "".join(statements[:4000]))
+write(deep + "/m1.mjs", "".join(statements[4000:]))
+write(top + "/more.mjs", "")
+TREE
+deep=.$(printf '/a%.0s' $(seq 47))
+at looks "$deep/m0.mjs $deep/m1.mjs" 0 'ok: 8001 modules, 8001 requests, 7999 mappings'
+at looks "$deep/m0.mjs $deep/m1.mjs ./more.mjs" 3 'limit: looks above 400000'
+
 # Injects into the folder $kept/NAME: page NAME STATUS LINE, and the page as it is afterwards on the standard input.
 page() {
     cat >"$kept/wanted"

@@ -36,24 +36,24 @@ def scope(i):
     return f'    "{BASE}node_modules/p{i}/": {{\n      "c": "{BASE}node_modules/c/index.mjs"\n    }}'
 
 
+def digest(i):
+    return f'    "{address(i)}": "sha384-{i:064}"'
+
+
 def printed(size):
-    """Keys and scopes, half of the text each, in the form that `link` prints."""
-    half = (size - 100) // 2
-    imports = entries(half, lambda i: f'    "p{i}": "{address(i)}"')
-    scopes = entries(half, scope)
-    return ('{\n  "imports": {\n' + ",\n".join(imports) + '\n  },\n  "scopes": {\n' + ",\n".join(scopes)
-            + "\n  }\n}\n")
+    """Keys, scopes and digests, a third of the text each, in the form that `link` prints."""
+    third = (size - 100) // 3
+    parts = [
+        ("imports", entries(third, lambda i: f'    "p{i}": "{address(i)}"')),
+        ("scopes", entries(third, scope)),
+        ("integrity", entries(third, digest)),
+    ]
+    return "{\n" + ",\n".join(f'  "{name}": {{\n' + ",\n".join(made) + "\n  }" for name, made in parts) + "\n}\n"
 
 
 def relative(size):
     """Addresses that have to be read against the base."""
     return filled(size, "imports", lambda i: f'"p{i}":"/node_modules/p{i}/index.js"')
-
-
-def digests(size):
-    """Digests of modules."""
-    digest = "sha384-" + 64 * "d"
-    return filled(size, "integrity", lambda i: f'"{address(i)}":"{digest}"')
 
 
 def scopes(count):
@@ -87,7 +87,6 @@ def in_part(name, entry):
 # Maps in other forms.
 OTHERS = {
     "addresses against the base": relative,
-    "digests": digests,
 }
 
 # What a map may have to make its reading slow. Each one is read whole.

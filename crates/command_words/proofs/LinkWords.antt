@@ -1,8 +1,12 @@
 -- Words of a command line.
-use Rattle.std.proofs.Common.{◌≡◌, ◌<◌, ◌+◌, ℕ, List, [], ◌∷◌, ◌++◌, length, take, map, get_or, All, sym, refl, ap, ◌∙◌, if◌then◌else◌}
+use Rattle.std.proofs.Common.{◌≡◌, ◌<◌, ◌+◌, ℕ, List, [], ◌∷◌, ◌++◌, length, take, map, get_or, All, sym, refl, ap, subst, ◌∙◌, if◌then◌else◌, inl, inr}
 use Rattle.std.specs.Prelude.{bytes_eq}
-use Rattle.std.specs.List.{list_any}
+use Rattle.std.specs.Cmp.{IsEquivalence}
+use Rattle.std.specs.List.{list_any, IsDistinct}
+use Rattle.std.proofs.lemmas.Bool.{cases_Bool, cond-true, cond-false}
+use Rattle.std.proofs.lemmas.Cmp.{nat_list_eq_equiv}
 use Rattle.std.proofs.lemmas.List.{take_more}
+use Rattle.std.proofs.lemmas.Map.Keys.{IsDistinct-push}
 use Rattle.std.proofs.lemmas.List.Elements.{All-head, All-tail, All-cons, All-nil, All-same}
 use Rattle.indexmap.specs.IndexSet.{insert_key}
 use Rattle.generator_spec.specs.Words.{IsEntry, once_onto}
@@ -23,6 +27,26 @@ one_more f xs i x old new text within is so_far same e =
     ∙ ((λ j. insert_key bytes_eq (so_far j) (same j))
     ∙ (sym (once_onto-append [] (map f (take i xs)) (f x ∷ []))
     ∙ ap (once_onto []) (sym (map-append f (take i xs) (x ∷ [])) ∙ ap (map f) (ap (λ y. take i xs ++ y ∷ []) is ∙ sym (take_more xs i x within)))))
+
+equal_bytes : IsEquivalence bytes_eq
+equal_bytes = nat_list_eq_equiv
+
+distinct_onto : (seen texts : List (List ℕ)) → IsDistinct bytes_eq seen → IsDistinct bytes_eq (once_onto seen texts)
+distinct_onto seen [] distinct = distinct
+distinct_onto seen (text ∷ texts) distinct =
+    distinct_onto (if list_any (bytes_eq text) seen then seen else seen ++ text ∷ []) texts
+    (elim (cases_Bool (list_any (bytes_eq text) seen)) [
+      | inl there ↦ subst (IsDistinct bytes_eq) (sym (cond-true (list_any (bytes_eq text) seen) seen (seen ++ text ∷ []) there)) distinct
+      | inr new ↦ subst (IsDistinct bytes_eq) (sym (cond-false (list_any (bytes_eq text) seen) seen (seen ++ text ∷ []) new)) (IsDistinct-push equal_bytes seen text distinct new)
+    ])
+
+none_twice : IsDistinct bytes_eq []
+unfolding IsDistinct
+none_twice = tt
+
+-- texts that are counted once stand once
+pub counted_once : (found texts : List (List ℕ)) → found ≡ once_onto [] texts → IsDistinct bytes_eq found
+counted_once found texts is = subst (IsDistinct bytes_eq) (sym is) (distinct_onto [] texts none_twice)
 
 -- what holds of each image holds of each
 pub all_of_map : {A : Type 0} (P : List ℕ → Type 0) (f : A → List ℕ) (xs : List A) → All P (map f xs) → All (λ x. P (f x)) xs

@@ -1,6 +1,7 @@
 -- The search for the place of a map, piece by piece.
 use Rattle.std.specs.Prelude.{◌&&◌, ◌||◌, is_some, codes, IfSome}
-use Rattle.std.proofs.Common.{◌≡◌, ℕ, ◌+◌, ◌-◌, ◌<◌, List, [], ◌∷◌, ◌++◌, length, take, drop, Bool, true, false, Option, Some, None, Err, append_assoc, if◌then◌else◌, refl, sym, ◌∙◌, ap, subst, arith}
+use Rattle.std.proofs.Common.{◌≡◌, ℕ, ◌+◌, ◌-◌, ◌<◌, List, [], ◌∷◌, ◌++◌, length, take, drop, Bool, true, false, Option, Some, None, Err, if◌then◌else◌, refl, sym, ◌∙◌, ap, subst, arith}
+use Rattle.std.specs.Option.{option_or}
 use Rattle.std.proofs.Math.Seq.{take-append_seam, drop-append_seam}
 use Rattle.std.proofs.lemmas.List.{length-append, append-nil}
 use Rattle.page_spec.specs.declared.kinds.InjectFault.{InjectFault}
@@ -20,7 +21,7 @@ use Rattle.page_spec.proofs.Reading.{nothing_read, read_further, one_more, one_m
 use Rattle.html_scan.specs.Steps.{NextIs}
 use Rattle.html_scan.proofs.Spans.{text_length}
 use Rattle.html_inject.specs.declared.search.Found.{Found}
-use Rattle.html_inject.specs.Search.{IsBehind, AreNext, parts_behind, map_at, sooner, place_at, found_more, chosen, IsSite}
+use Rattle.html_inject.specs.Search.{IsBehind, AreNext, parts_behind, map_at, place_at, found_more, chosen, IsSite}
 
 -- the pieces before the next one were read, and the reader stands behind that one
 abbrev IsRead : List ℕ → List ℕ × (Option RawElement × List ℕ) → List Part → Option Piece → Type 0
@@ -37,8 +38,8 @@ pub record Searching (page : List ℕ) (view : List ℕ × (Option RawElement ×
   pub read : IsRead page view before next
   pub behind : IsBehind page (length (page_of before)) next
   pub faults : (parts : List Part) → Follow page next parts → first_fault 0 false (before ++ parts) ≡ first_fault (length (page_of before)) (is_some found.map) parts
-  pub maps : (parts : List Part) → Follow page next parts → map_span 0 (before ++ parts) ≡ sooner found.map (map_span (length (page_of before)) parts)
-  pub places : (parts : List Part) → place 0 (before ++ parts) ≡ sooner found.place (place (length (page_of before)) parts)
+  pub maps : (parts : List Part) → Follow page next parts → map_span 0 (before ++ parts) ≡ option_or found.map (map_span (length (page_of before)) parts)
+  pub places : (parts : List Part) → place 0 (before ++ parts) ≡ option_or found.place (place (length (page_of before)) parts)
 
 -- ---- a call of the reader, with the pieces so far
 
@@ -99,7 +100,7 @@ abbrev holds_text : Option (List ℕ) → Bool
 holds_text o = is_some o
 
 -- the span of the map that begins with the piece
-map_is : (page : List ℕ) (piece : Piece) (next : Option Piece) → AreNext page piece next → (later : Option (ℕ × ℕ)) → span_or piece.to (map_of (part_at page piece) (parts_behind page next)) later ≡ sooner (map_at page piece next) later
+map_is : (page : List ℕ) (piece : Piece) (next : Option Piece) → AreNext page piece next → (later : Option (ℕ × ℕ)) → span_or piece.to (map_of (part_at page piece) (parts_behind page next)) later ≡ option_or (map_at page piece next) later
 map_is page piece None a later = by_start (is_map_start (part_at page piece)) where
   by_start : (c : Bool) → span_or piece.to (if c then None else None) later ≡ later
   by_start true = refl
@@ -108,7 +109,7 @@ map_is page piece (Some q) a later = by_start (is_map_start (part_at page piece)
   spans : some_span piece.to (piece.to + length (text_at page q)) ≡ some_span q.from q.to
   spans = ap (λ n. some_span n (n + length (text_at page q))) (sym a.second.1) ∙ ap (λ m. some_span q.from m) (text_length page q a.second.0)
 
-  by_start : (c d : Bool) → span_or piece.to (if c then (if d then Some (text_at page q) else None) else None) later ≡ sooner (if c then (if d then Some (q.from, q.to) else None) else None) later
+  by_start : (c d : Bool) → span_or piece.to (if c then (if d then Some (text_at page q) else None) else None) later ≡ option_or (if c then (if d then Some (q.from, q.to) else None) else None) later
   by_start true true = spans
   by_start true false = refl
   by_start false d = refl
@@ -124,54 +125,54 @@ begins_is page piece (Some q) = by_start (is_map_start (part_at page piece)) (is
   by_start true false = refl
   by_start false d = refl
 
-some_or : {A : Type 0} (x y : Option A) → (is_some x || is_some y) ≡ is_some (sooner x y)
+some_or : {A : Type 0} (x y : Option A) → (is_some x || is_some y) ≡ is_some (option_or x y)
 some_or None y = refl
 some_or (Some a) y = refl
 
-sooner_assoc : {A : Type 0} (x y z : Option A) → sooner x (sooner y z) ≡ sooner (sooner x y) z
-sooner_assoc None y z = refl
-sooner_assoc (Some a) y z = refl
+or_assoc : {A : Type 0} (x y z : Option A) → option_or x (option_or y z) ≡ option_or (option_or x y) z
+or_assoc None y z = refl
+or_assoc (Some a) y z = refl
 
-sooner_none : {A : Type 0} (x : Option A) → sooner x None ≡ x
-sooner_none None = refl
-sooner_none (Some a) = refl
+or_none : {A : Type 0} (x : Option A) → option_or x None ≡ x
+or_none None = refl
+or_none (Some a) = refl
 
 -- the offset behind a piece
 behind_place : (page : List ℕ) (before : List Part) (piece : Piece) → IsPieceOf page piece → piece.from ≡ length (page_of before) → length (page_of before) + length (text_at page piece) ≡ length (page_of (before ++ part_at page piece ∷ []))
 behind_place page before piece o e = sym (ap length (one_more_page before (part_at page piece)) ∙ length-append (page_of before) (text_at page piece))
 
-faults_on : (page : List ℕ) (before : List Part) (piece : Piece) (next : Option Piece) (after : Option RawElement) (left : List ℕ) (found : Found) → (q : Pair page before piece next after left) → ((parts : List Part) → first_fault 0 false (before ++ part_at page piece ∷ parts) ≡ first_fault (length (page_of before)) (is_some found.map) (part_at page piece ∷ parts)) → fault_at piece.from (is_some found.map) (part_at page piece) (parts_behind page next) ≡ None → (parts : List Part) → raw_behind parts ≡ raw_behind (parts_behind page next) → first_fault 0 false ((before ++ part_at page piece ∷ []) ++ parts) ≡ first_fault (length (page_of (before ++ part_at page piece ∷ []))) (is_some (sooner found.map (map_at page piece next))) parts
+faults_on : (page : List ℕ) (before : List Part) (piece : Piece) (next : Option Piece) (after : Option RawElement) (left : List ℕ) (found : Found) → (q : Pair page before piece next after left) → ((parts : List Part) → first_fault 0 false (before ++ part_at page piece ∷ parts) ≡ first_fault (length (page_of before)) (is_some found.map) (part_at page piece ∷ parts)) → fault_at piece.from (is_some found.map) (part_at page piece) (parts_behind page next) ≡ None → (parts : List Part) → raw_behind parts ≡ raw_behind (parts_behind page next) → first_fault 0 false ((before ++ part_at page piece ∷ []) ++ parts) ≡ first_fault (length (page_of (before ++ part_at page piece ∷ []))) (is_some (option_or found.map (map_at page piece next))) parts
 faults_on page before piece next after left found q go none_here parts f =
     let p = part_at page piece in
     let n = length (page_of before) in
     let seen = is_some found.map in
     let here : fault_at n seen p parts ≡ None = fault_alike n seen p parts (parts_behind page next) f ∙ (ap (λ m. fault_at m seen p (parts_behind page next)) (sym q.from) ∙ none_here) in
     let begun : begins_map p parts ≡ is_some (map_at page piece next) = ap is_some (map_of_alike p parts (parts_behind page next) f) ∙ begins_is page piece next in
-    let seen_now : (seen || begins_map p parts) ≡ is_some (sooner found.map (map_at page piece next)) = ap (λ c. seen || c) begun ∙ some_or found.map (map_at page piece next) in
+    let seen_now : (seen || begins_map p parts) ≡ is_some (option_or found.map (map_at page piece next)) = ap (λ c. seen || c) begun ∙ some_or found.map (map_at page piece next) in
     let m = behind_place page before piece q.pair.first q.from in
     ap (λ ps. first_fault 0 false ps) (one_more before p parts) ∙ (go parts ∙ (ap (λ o. or_later o (first_fault (n + length p.text) (seen || begins_map p parts) parts)) here ∙ (ap (λ k. first_fault k (seen || begins_map p parts) parts) m ∙ ap (λ c. first_fault (length (page_of (before ++ p ∷ []))) c parts) seen_now)))
 
-maps_on : (page : List ℕ) (before : List Part) (piece : Piece) (next : Option Piece) (after : Option RawElement) (left : List ℕ) (found : Found) → (q : Pair page before piece next after left) → ((parts : List Part) → map_span 0 (before ++ part_at page piece ∷ parts) ≡ sooner found.map (map_span (length (page_of before)) (part_at page piece ∷ parts))) → (parts : List Part) → raw_behind parts ≡ raw_behind (parts_behind page next) → map_span 0 ((before ++ part_at page piece ∷ []) ++ parts) ≡ sooner (sooner found.map (map_at page piece next)) (map_span (length (page_of (before ++ part_at page piece ∷ []))) parts)
+maps_on : (page : List ℕ) (before : List Part) (piece : Piece) (next : Option Piece) (after : Option RawElement) (left : List ℕ) (found : Found) → (q : Pair page before piece next after left) → ((parts : List Part) → map_span 0 (before ++ part_at page piece ∷ parts) ≡ option_or found.map (map_span (length (page_of before)) (part_at page piece ∷ parts))) → (parts : List Part) → raw_behind parts ≡ raw_behind (parts_behind page next) → map_span 0 ((before ++ part_at page piece ∷ []) ++ parts) ≡ option_or (option_or found.map (map_at page piece next)) (map_span (length (page_of (before ++ part_at page piece ∷ []))) parts)
 maps_on page before piece next after left found q go parts f =
     let p = part_at page piece in
     let n = length (page_of before) in
     let m = behind_place page before piece q.pair.first q.from in
     let t : n + length p.text ≡ piece.to = m ∙ q.to in
     let later = map_span (length (page_of (before ++ p ∷ []))) parts in
-    let here : span_or (n + length p.text) (map_of p parts) (map_span (n + length p.text) parts) ≡ sooner (map_at page piece next) later =
+    let here : span_or (n + length p.text) (map_of p parts) (map_span (n + length p.text) parts) ≡ option_or (map_at page piece next) later =
     ap (λ k. span_or (n + length p.text) (map_of p parts) (map_span k parts)) m ∙ (ap (λ k. span_or k (map_of p parts) later) t ∙ (ap (λ o. span_or piece.to o later) (map_of_alike p parts (parts_behind page next) f) ∙ map_is page piece next q.pair later)) in
-    ap (λ ps. map_span 0 ps) (one_more before p parts) ∙ (go parts ∙ (ap (λ o. sooner found.map o) here ∙ sooner_assoc found.map (map_at page piece next) later))
+    ap (λ ps. map_span 0 ps) (one_more before p parts) ∙ (go parts ∙ (ap (λ o. option_or found.map o) here ∙ or_assoc found.map (map_at page piece next) later))
 
-places_on : (page : List ℕ) (before : List Part) (piece : Piece) (next : Option Piece) (after : Option RawElement) (left : List ℕ) (found : Found) → (q : Pair page before piece next after left) → ((parts : List Part) → place 0 (before ++ part_at page piece ∷ parts) ≡ sooner found.place (place (length (page_of before)) (part_at page piece ∷ parts))) → (parts : List Part) → place 0 ((before ++ part_at page piece ∷ []) ++ parts) ≡ sooner (sooner found.place (place_at page piece)) (place (length (page_of (before ++ part_at page piece ∷ []))) parts)
+places_on : (page : List ℕ) (before : List Part) (piece : Piece) (next : Option Piece) (after : Option RawElement) (left : List ℕ) (found : Found) → (q : Pair page before piece next after left) → ((parts : List Part) → place 0 (before ++ part_at page piece ∷ parts) ≡ option_or found.place (place (length (page_of before)) (part_at page piece ∷ parts))) → (parts : List Part) → place 0 ((before ++ part_at page piece ∷ []) ++ parts) ≡ option_or (option_or found.place (place_at page piece)) (place (length (page_of (before ++ part_at page piece ∷ []))) parts)
 places_on page before piece next after left found q go parts =
     let p = part_at page piece in
     let n = length (page_of before) in
     let m = behind_place page before piece q.pair.first q.from in
     let later = place (length (page_of (before ++ p ∷ []))) parts in
-    let here : (if is_place p then Some n else place (n + length p.text) parts) ≡ sooner (place_at page piece) later =
+    let here : (if is_place p then Some n else place (n + length p.text) parts) ≡ option_or (place_at page piece) later =
     ap (λ k. if is_place p then Some n else place k parts) m ∙ (ap (λ k. if is_place p then Some k else later) (sym q.from) ∙ by_place (is_place p) piece.from later) in
-    ap (λ ps. place 0 ps) (one_more before p parts) ∙ (go parts ∙ (ap (λ o. sooner found.place o) here ∙ sooner_assoc found.place (place_at page piece) later)) where
-      by_place : (c : Bool) (k : ℕ) (later : Option ℕ) → (if c then Some k else later) ≡ sooner (if c then Some k else None) later
+    ap (λ ps. place 0 ps) (one_more before p parts) ∙ (go parts ∙ (ap (λ o. option_or found.place o) here ∙ or_assoc found.place (place_at page piece) later)) where
+      by_place : (c : Bool) (k : ℕ) (later : Option ℕ) → (if c then Some k else later) ≡ option_or (if c then Some k else None) later
       by_place true k later = refl
       by_place false k later = refl
 
@@ -203,8 +204,8 @@ pub search_ends : (page : List ℕ) (view : List ℕ × (Option RawElement × Li
 search_ends page view found s =
     let same = append-nil s.before in
     let f : first_fault 0 false s.before ≡ None = ap (λ ps. first_fault 0 false ps) (sym same) ∙ s.faults [] refl in
-    let m : map_span 0 s.before ≡ found.map = ap (λ ps. map_span 0 ps) (sym same) ∙ (s.maps [] refl ∙ sooner_none found.map) in
-    let p : place 0 s.before ≡ found.place = ap (λ ps. place 0 ps) (sym same) ∙ (s.places [] ∙ sooner_none found.place) in
+    let m : map_span 0 s.before ≡ found.map = ap (λ ps. map_span 0 ps) (sym same) ∙ (s.maps [] refl ∙ or_none found.map) in
+    let p : place 0 s.before ≡ found.place = ap (λ ps. place 0 ps) (sym same) ∙ (s.places [] ∙ or_none found.place) in
     record { parts = s.before; pieces = s.read; is = sym (ap (λ o. unless_faulted o (chosen (map_span 0 s.before) (place 0 s.before))) f ∙ (ap (λ o. chosen o (place 0 s.before)) m ∙ ap (λ o. chosen found.map o) p)) }
 
 -- all pieces of a page, from those before a piece on

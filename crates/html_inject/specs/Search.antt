@@ -8,7 +8,9 @@
 --     site parts                      where a map goes among the pieces, or the fault that decides
 --     IsSite page out                 the same of a page
 --     IsSiteOf page site              a map goes there in the page
-use Rattle.std.specs.Prelude.{◌≡◌, ◌||◌, codes, ℕ, ⊤, false, List, [], ◌∷◌, if◌then◌else◌, Option, Some, None, Result, Ok, Err, IsUtf8}
+use Rattle.std.specs.Prelude.{◌≡◌, ◌||◌, codes, ℕ, ⊤, false, List, [], ◌∷◌, if◌then◌else◌, Option, Some, None, Result}
+use Rattle.std.specs.Prelude.{Ok, Err, IsUtf8}
+use Rattle.std.specs.Option.{option_or}
 use Rattle.page_spec.specs.declared.kinds.InjectFault.{InjectFault}
 use Rattle.page_spec.specs.declared.kinds.InjectFault.TheVariants.{PageUnclear, NoPlace}
 use Rattle.page_spec.specs.declared.kinds.Piece.{Piece}
@@ -42,16 +44,12 @@ map_at page piece (Some next) =
 abbrev pub plain_fault : ℕ → Part → Option InjectFault
 plain_fault n p = if is_broken p.kind || is_start_of (codes "base") p then Some (PageUnclear n) else None
 
-abbrev pub sooner : {A : Type 0} → Option A → Option A → Option A
-sooner None later = later
-sooner (Some x) later = Some x
-
 abbrev pub place_at : List ℕ → Piece → Option ℕ
 place_at page piece = if is_place (part_at page piece) then Some piece.from else None
 
 abbrev pub found_more : List ℕ → Found → Piece → Option Piece → Found
 found_more page found piece next =
-    record { map = sooner found.map (map_at page piece next); place = sooner found.place (place_at page piece) }
+    record { map = option_or found.map (map_at page piece next); place = option_or found.place (place_at page piece) }
 
 abbrev pub chosen : Option (ℕ × ℕ) → Option ℕ → Result Site InjectFault
 chosen (Some span) n = Ok (Map span.0 span.1)

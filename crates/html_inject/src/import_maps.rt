@@ -1,8 +1,10 @@
 ghost use Rattle.std.specs.Char.{is_ascii_whitespace, to_ascii_lowercase};
 ghost use Rattle.std.specs.List.{list_any};
-ghost use Rattle.std.specs.Prelude.{◌≡◌, ◌==◌, ◌&&◌, ◌||◌, not, false, true, [], ◌∷◌, None, Some, codes, bytes_eq, reverse, option_map, is_some};
+ghost use Rattle.std.specs.Prelude.{◌≡◌, ◌==◌, ◌&&◌, ◌||◌, not, false, true, [], ◌∷◌, None, Some, codes, bytes_eq};
+ghost use Rattle.std.specs.Prelude.{reverse, option_map, is_some};
 ghost use Rattle.page_spec.specs.Attributes.{skip_whitespace, attribute_text};
-ghost use Rattle.page_spec.specs.ImportMaps.{is_broken, is_script, is_start_of, is_end_of, stripped, is_map_text, is_map_type, is_map_start, begins_map, raw_behind};
+ghost use Rattle.page_spec.specs.ImportMaps.{is_broken, is_script, is_start_of, is_end_of, stripped, is_map_text};
+ghost use Rattle.page_spec.specs.ImportMaps.{is_map_type, is_map_start, begins_map, raw_behind};
 ghost use Rattle.page_spec.specs.Faults.{holds_ampersand, is_unclear};
 ghost use Rattle.page_spec.specs.Injection.{is_place};
 ghost use Rattle.page_spec.specs.Places.{IsPieceOf, part_at, text_at};

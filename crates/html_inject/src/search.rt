@@ -2,7 +2,8 @@ ghost use Rattle.std.specs.Prelude.{◌≡◌, ℕ, None, Some, Ok, Err, false, 
 ghost use Rattle.page_spec.specs.Places.{IsPieceOf, part_at};
 ghost use Rattle.page_spec.specs.Faults.{raw_fault, fault_at};
 ghost use Rattle.page_spec.specs.ImportMaps.{is_script, raw_behind};
-ghost use Rattle.html_inject.specs.Search.{IsBehind, AreNext, parts_behind, map_at, plain_fault, found_more, sooner, chosen, IsSite};
+ghost use Rattle.html_inject.specs.Search.{IsBehind, AreNext, parts_behind, map_at, plain_fault, found_more, chosen};
+ghost use Rattle.html_inject.specs.Search.{IsSite};
 
 use crate::comments::comment_at;
 use crate::import_maps::{begins_map, is_base, is_broken, is_script, is_unclear, map_at, place_at};

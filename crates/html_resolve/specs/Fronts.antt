@@ -1,7 +1,7 @@
 -- The fronts of a text that end in `/`, one after another.
 --     HasNoFront text n      no front of at most n bytes does
---     IsNextFront text n front rest before      of those of at most n bytes, this is the longest one, with what follows it and with what
---         stands before its `/`
+--     IsNextFront text n front rest before      of those of at most n bytes, this is the longest one, with what follows
+--         it and with what stands before its `/`
 use Rattle.std.specs.Prelude.{◌≡◌, ◌<◌, ◌≤◌, ◌++◌, ◌+◌, ℕ, false, true, List, length, take}
 use Rattle.url_spec.specs.Specifiers.{ends_in_slash}
 

@@ -3,7 +3,8 @@ ghost use Rattle.std.specs.FinMap.{get};
 ghost use Rattle.url_spec.specs.Parsing.{parse_against};
 ghost use Rattle.url_spec.specs.Specifiers.{begins};
 ghost use Rattle.import_map_spec.specs.Resolving.{takes_prefixes};
-ghost use Rattle.import_map_spec.specs.LookUps.{exact_match, prefix_match, below_address, longest_front, prefix_key, resolve_imports_match};
+ghost use Rattle.import_map_spec.specs.LookUps.{exact_match, prefix_match, below_address, longest_front, prefix_key};
+ghost use Rattle.import_map_spec.specs.LookUps.{resolve_imports_match};
 ghost use Rattle.html_resolve.specs.Outcomes.{Finds, ComesTo};
 
 use crate::HtmlFault;
@@ -12,7 +13,8 @@ use map_parse::Addresses;
 use std::alloc::Global;
 use web_url::WebUrl;
 
-/// What one module specifier map answers for a normalized specifier. Prefixes are tried where the last argument says so.
+/// What one module specifier map answers for a normalized specifier. Prefixes are tried where the last argument says
+/// so.
 #[tactic(auto, using(crate::proofs::OutcomeLemmas::outcomes))]
 pub fn match_imports(
     alloc: Global,

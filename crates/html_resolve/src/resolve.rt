@@ -4,7 +4,8 @@ ghost use Rattle.url_spec.specs.Parsing.{parse_alone};
 ghost use Rattle.url_spec.specs.Specifiers.{normalized};
 ghost use Rattle.import_map_spec.specs.Resolving.{takes_prefixes};
 ghost use Rattle.import_map_spec.specs.LookUps as html;
-ghost use Rattle.import_map_spec.specs.LookUps.{resolve_normalized, resolve_imports_match, resolve_scopes_match, scope_addresses, first_answer};
+ghost use Rattle.import_map_spec.specs.LookUps.{resolve_normalized, resolve_imports_match, resolve_scopes_match};
+ghost use Rattle.import_map_spec.specs.LookUps.{scope_addresses, first_answer};
 ghost use Rattle.html_resolve.specs.Outcomes.{Finds, ComesTo};
 
 use crate::HtmlFault;

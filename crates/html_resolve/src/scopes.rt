@@ -1,6 +1,7 @@
 ghost use Rattle.std.specs.Prelude.{◌≡◌, List, ℕ, Option, length};
 ghost use Rattle.import_map_spec.specs.Resolving.{takes_prefixes};
-ghost use Rattle.import_map_spec.specs.LookUps.{longest_front, prefix_scope, resolve_scopes_match, scope_match, scope_addresses};
+ghost use Rattle.import_map_spec.specs.LookUps.{longest_front, prefix_scope, resolve_scopes_match, scope_match};
+ghost use Rattle.import_map_spec.specs.LookUps.{scope_addresses};
 ghost use Rattle.html_resolve.specs.Outcomes.{Finds};
 
 use crate::HtmlFault;

@@ -1,7 +1,9 @@
-ghost use Rattle.std.specs.Prelude.{◌≡◌, ◌<◌, ◌==◌, ◌&&◌, false, [], ◌∷◌, None, Some, length, codes, option_map, MatchOption};
+ghost use Rattle.std.specs.Prelude.{◌≡◌, ◌<◌, ◌==◌, ◌&&◌, false, [], ◌∷◌, None, Some, length, codes, option_map};
+ghost use Rattle.std.specs.Prelude.{MatchOption};
 ghost use Rattle.page_spec.specs.declared.kinds.State.TheVariants.{TagOpen};
 ghost use Rattle.page_spec.specs.Tokenizer.{behind_markup};
-ghost use Rattle.page_spec.specs.Pieces.{opening, opening_end, tag_name, is_name, behind_raw, ends_text, behind_text, broken, ended, started, markup, first_piece};
+ghost use Rattle.page_spec.specs.Pieces.{opening, opening_end, tag_name, is_name, behind_raw, ends_text, behind_text};
+ghost use Rattle.page_spec.specs.Pieces.{broken, ended, started, markup, first_piece};
 ghost use Rattle.html_scan.specs.Fronts.{front_of};
 
 use crate::markup::behind_markup;

@@ -1,6 +1,8 @@
-ghost use Rattle.std.specs.Prelude.{◌≡◌, ◌≤◌, ◌<◌, ◌==◌, ◌&&◌, ◌||◌, false, true, [], ◌∷◌, None, Some, length, MatchOption, if◌then◌else◌};
+ghost use Rattle.std.specs.Prelude.{◌≡◌, ◌≤◌, ◌<◌, ◌==◌, ◌&&◌, ◌||◌, false, true, [], ◌∷◌, None, Some, length};
+ghost use Rattle.std.specs.Prelude.{MatchOption, if◌then◌else◌};
 ghost use Rattle.std.specs.Char.{is_ascii_alphabetic, is_ascii_whitespace};
-ghost use Rattle.page_spec.specs.declared.kinds.State.TheVariants.{TagOpen, BogusComment, Comment, BeforeAttributeName, AttributeName, BeforeAttributeValue};
+ghost use Rattle.page_spec.specs.declared.kinds.State.TheVariants.{TagOpen, BogusComment, Comment, BeforeAttributeName};
+ghost use Rattle.page_spec.specs.declared.kinds.State.TheVariants.{AttributeName, BeforeAttributeValue};
 ghost use Rattle.page_spec.specs.Tokenizer.{may_end, is_last, next_state, behind_markup};
 
 use crate::names::{is_letter, is_whitespace};

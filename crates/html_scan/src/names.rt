@@ -1,4 +1,5 @@
-ghost use Rattle.std.specs.Prelude.{◌≡◌, IsFalse, not, ◌==◌, ◌||◌, ◌&&◌, false, [], ◌∷◌, None, Some, length, codes, bytes_eq, option_map};
+ghost use Rattle.std.specs.Prelude.{◌≡◌, IsFalse, not, ◌==◌, ◌||◌, ◌&&◌, false, [], ◌∷◌, None, Some, length, codes};
+ghost use Rattle.std.specs.Prelude.{bytes_eq, option_map};
 ghost use Rattle.std.specs.Char.{is_ascii_alphabetic, is_ascii_whitespace, to_ascii_lowercase};
 ghost use Rattle.page_spec.specs.Attributes.{skip_whitespace};
 ghost use Rattle.page_spec.specs.Pieces.{ends_name, tag_name, is_name, name_of, raw_element, closes};

@@ -1,6 +1,9 @@
-ghost use Rattle.std.specs.Prelude.{◌≡◌, ◌==◌, if◌then◌else◌, ◌||◌, ◌++◌, ◌≤◌, ◌+◌, ◌-◌, not, true, false, List, ℕ, [], ◌∷◌, None, Some, length, drop, option_map, bytes_eq};
+ghost use Rattle.std.specs.Prelude.{◌≡◌, ◌==◌, if◌then◌else◌, ◌||◌, ◌++◌, ◌≤◌, ◌+◌, ◌-◌, not, true, false, List, ℕ, []};
+ghost use Rattle.std.specs.Prelude.{◌∷◌, None, Some, length, drop, option_map, bytes_eq};
 ghost use Rattle.page_spec.specs.declared.kinds.State.TheVariants.{TagOpen};
-ghost use Rattle.page_spec.specs.Attributes.{before, behind, skip_whitespace, value, value_at, value_behind, attribute_at, is_in_name, attributes, first_named, attribute, attribute_text};
+ghost use Rattle.page_spec.specs.Attributes.{before, behind, skip_whitespace, value, value_at, value_behind};
+ghost use Rattle.page_spec.specs.Attributes.{attribute_at, is_in_name, attributes, first_named, attribute};
+ghost use Rattle.page_spec.specs.Attributes.{attribute_text};
 ghost use Rattle.page_spec.specs.Places.{IsPieceOf, text_at, value_span};
 ghost use Rattle.page_spec.specs.Tokenizer.{lowered};
 ghost use Rattle.html_scan.specs.Fronts.{test_of, value_of, value_if_named};

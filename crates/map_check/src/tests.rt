@@ -8,7 +8,8 @@ use web_url::WebUrl;
 
 const PAGE: &str = "https://app.test/index.html";
 
-/// The needs of a page and a module: who asks, what for by its normalized specifier, and the URL that has to come of it.
+/// The needs of a page and a module: who asks, what for by its normalized specifier, and the URL that has to come of
+/// it.
 static NEEDS: &str = "\
 https://app.test/index.html https://app.test/app.mjs https://app.test/app.mjs
 https://app.test/app.mjs ui/a.mjs https://app.test/node_modules/ui/a.mjs

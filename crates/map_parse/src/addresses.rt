@@ -60,7 +60,8 @@ impl Addresses {
 
     /// The addresses that the members of an object give.
     pub(crate) fn of(alloc: Global, base: &WebUrl, members: &Members) -> Result<Addresses, Memory>
-        ensures { IfOk result (λ addresses. addresses ≡ normalized_addresses base.now (members_of (pairs_of members.now))) }
+        ensures { IfOk result (λ addresses.
+            addresses ≡ normalized_addresses base.now (members_of (pairs_of members.now))) }
     {
         let gathering = gathered(alloc, base, members)?;
         Ok(Addresses {

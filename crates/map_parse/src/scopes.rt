@@ -70,7 +70,8 @@ fn put_member(
     value: &Value,
 ) -> Result<(), MapFault>
     ensures { (more : Spec) → MatchResult result
-        (λ _. scopes_onto base.now scopes.old (a_member key.now (json_of value.now) more) ≡ scopes_onto base.now scopes.new more)
+        (λ _. scopes_onto base.now scopes.old (a_member key.now (json_of value.now) more)
+        ≡ scopes_onto base.now scopes.new more)
         (λ fault. FailsPart fault (scopes_onto base.now scopes.old (a_member key.now (json_of value.now) more))) }
 {
     match value {

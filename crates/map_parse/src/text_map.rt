@@ -5,8 +5,8 @@ use primitives::{Memory, Text};
 use std::alloc::Global;
 use std::marker::Model;
 
-/// A map from texts. It is one sorted list, so that an entry takes no memory beside its key and its value, and a `&str` is
-/// looked up by halves.
+/// A map from texts. It is one sorted list, so that an entry takes no memory beside its key and its value, and a `&str`
+/// is looked up by halves.
 #[derive(Drop)]
 pub struct TextMap<V> {
     entries: Vec<(Text, V)>,

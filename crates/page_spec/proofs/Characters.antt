@@ -1,6 +1,6 @@
 -- No piece begins or ends within a character: it ends before a `<`, behind a `>`, or where the page ends.
 use Rattle.std.specs.Prelude.{All, IsUtf8, IsCharBoundary, is_some}
-use Rattle.std.proofs.Common.{◌≡◌, ℕ, ◌+◌, List, [], ◌∷◌, ◌++◌, length, true, ◌==◌, ◌&&◌, Option, None, append_assoc, refl, sym, ◌∙◌, ap, subst, arith}
+use Rattle.std.proofs.Common.{◌≡◌, ℕ, ◌+◌, List, [], ◌∷◌, ◌++◌, length, true, ◌==◌, ◌&&◌, Option, None, append_assoc, sym, ◌∙◌, ap, subst, arith}
 use Rattle.std.proofs.Math.Seq.{take-append_seam, drop-append_seam, get_or-append_seam}
 use Rattle.std.proofs.lemmas.Bool.{and_parts, eqb-true}
 use Rattle.std.proofs.lemmas.List.{length-append, append_cancel_right, append-nil}

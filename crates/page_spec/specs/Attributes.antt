@@ -8,7 +8,8 @@
 --     attribute_text name text     its text
 -- own: character references in values aren't decoded.
 use Rattle.std.specs.Char.{is_ascii_whitespace}
-use Rattle.std.specs.Prelude.{ℕ, Bool, true, false, not, ◌&&◌, ◌||◌, ◌==◌, List, [], ◌∷◌, if◌then◌else◌, Option, Some, None, option_map, drop, bytes_eq}
+use Rattle.std.specs.Prelude.{ℕ, Bool, true, false, not, ◌&&◌, ◌||◌, ◌==◌, List, [], ◌∷◌, if◌then◌else◌, Option, Some}
+use Rattle.std.specs.Prelude.{None, option_map, drop, bytes_eq}
 use Rattle.page_spec.specs.declared.kinds.State.{State}
 use Rattle.page_spec.specs.declared.kinds.State.TheVariants.{TagOpen, AttributeName}
 use Rattle.page_spec.specs.Tokenizer.{lowered, is_last, next_state}

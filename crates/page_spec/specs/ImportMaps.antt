@@ -9,7 +9,8 @@
 --     import_maps parts        the raw texts of all import map elements
 --     IsOneMap text page       the page has one import map element, and this is its raw text
 -- own: which element stands in which isn't known, so a script in a template or in a foreign element counts as well.
-use Rattle.std.specs.Prelude.{◌≡◌, ℕ, Bool, true, false, ◌&&◌, List, [], ◌∷◌, if◌then◌else◌, Option, Some, None, is_some, drop, reverse, codes, bytes_eq}
+use Rattle.std.specs.Prelude.{◌≡◌, ℕ, Bool, true, false, ◌&&◌, List, [], ◌∷◌, if◌then◌else◌, Option, Some, None}
+use Rattle.std.specs.Prelude.{is_some, drop, reverse, codes, bytes_eq}
 use Rattle.page_spec.specs.declared.kinds.PieceKind.{PieceKind}
 use Rattle.page_spec.specs.declared.kinds.PieceKind.TheVariants.{Start, End, Raw, Broken}
 use Rattle.page_spec.specs.Tokenizer.{lowered}

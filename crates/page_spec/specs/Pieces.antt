@@ -12,11 +12,13 @@
 -- own: a script's raw text ends at its first end tag, whatever `<!--` stands before it; `noscript` is read as with
 -- scripting on.
 use Rattle.std.specs.Char.{is_ascii_alphabetic, is_ascii_whitespace, to_ascii_lowercase}
-use Rattle.std.specs.Prelude.{◌≡◌, ℕ, Bool, true, false, ◌&&◌, ◌||◌, ◌==◌, List, [], ◌∷◌, ◌++◌, if◌then◌else◌, Option, Some, None, option_map, is_some, codes, bytes_eq}
+use Rattle.std.specs.Prelude.{◌≡◌, ℕ, Bool, true, false, ◌&&◌, ◌||◌, ◌==◌, List, [], ◌∷◌, ◌++◌, if◌then◌else◌, Option}
+use Rattle.std.specs.Prelude.{Some, None, option_map, is_some, codes, bytes_eq}
 use Rattle.page_spec.specs.declared.kinds.PieceKind.{PieceKind}
 use Rattle.page_spec.specs.declared.kinds.PieceKind.TheVariants.{Text, Comment, Start, End, Raw, Broken}
 use Rattle.page_spec.specs.declared.kinds.RawElement.{RawElement}
-use Rattle.page_spec.specs.declared.kinds.RawElement.TheVariants.{Script, Style, Title, Textarea, Iframe, Noembed, Noframes, Noscript, Xmp}
+use Rattle.page_spec.specs.declared.kinds.RawElement.TheVariants.{Script, Style, Title, Textarea, Iframe, Noembed}
+use Rattle.page_spec.specs.declared.kinds.RawElement.TheVariants.{Noframes, Noscript, Xmp}
 use Rattle.page_spec.specs.declared.kinds.State.TheVariants.{TagOpen}
 use Rattle.page_spec.specs.Tokenizer.{behind_markup}
 

@@ -10,7 +10,8 @@
 --                                       start tag
 --     broken_at from parts              where the first broken piece begins
 --     AtBoundaries page from to         no character of the page is cut at these places
-use Rattle.std.specs.Prelude.{◌≡◌, ℕ, ◌+◌, ◌-◌, List, [], ◌∷◌, ◌++◌, length, take, drop, if◌then◌else◌, Option, Some, None, option_map, IsCharBoundary}
+use Rattle.std.specs.Prelude.{◌≡◌, ℕ, ◌+◌, ◌-◌, List, [], ◌∷◌, ◌++◌, length, take, drop, if◌then◌else◌, Option, Some}
+use Rattle.std.specs.Prelude.{None, option_map, IsCharBoundary}
 use Rattle.page_spec.specs.declared.kinds.Piece.{Piece}
 use Rattle.page_spec.specs.declared.kinds.RawElement.{RawElement}
 use Rattle.page_spec.specs.Pieces.{Part, part, Pieces, page_of}

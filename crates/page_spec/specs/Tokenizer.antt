@@ -8,9 +8,16 @@
 -- value, or behind the `/` of a tag, is read as what stands before an attribute name. `<!` begins no doctype and no
 -- CDATA section, but a bogus comment where no two dashes follow.
 use Rattle.std.specs.Char.{is_ascii_alphabetic, is_ascii_whitespace, to_ascii_lowercase}
-use Rattle.std.specs.Prelude.{ℕ, Bool, true, false, ◌&&◌, ◌||◌, ◌==◌, List, [], ◌∷◌, if◌then◌else◌, Option, Some, None, map}
+use Rattle.std.specs.Prelude.{ℕ, Bool, true, false, ◌&&◌, ◌||◌, ◌==◌, List, [], ◌∷◌, if◌then◌else◌, Option, Some, None}
+use Rattle.std.specs.Prelude.{map}
 use Rattle.page_spec.specs.declared.kinds.State.{State}
-use Rattle.page_spec.specs.declared.kinds.State.TheVariants.{TagOpen, EndTagOpen, MarkupDeclarationOpen, MarkupDeclarationDash, BogusComment, CommentStart, CommentStartDash, Comment, CommentEndDash, CommentEnd, CommentEndBang, TagName, BeforeAttributeName, AttributeName, AfterAttributeName, BeforeAttributeValue, AttributeValueDoubleQuoted, AttributeValueSingleQuoted, AttributeValueUnquoted}
+use Rattle.page_spec.specs.declared.kinds.State.TheVariants.{TagOpen, EndTagOpen, MarkupDeclarationOpen}
+use Rattle.page_spec.specs.declared.kinds.State.TheVariants.{MarkupDeclarationDash, BogusComment, CommentStart}
+use Rattle.page_spec.specs.declared.kinds.State.TheVariants.{CommentStartDash, Comment, CommentEndDash, CommentEnd}
+use Rattle.page_spec.specs.declared.kinds.State.TheVariants.{CommentEndBang, TagName, BeforeAttributeName}
+use Rattle.page_spec.specs.declared.kinds.State.TheVariants.{AttributeName, AfterAttributeName, BeforeAttributeValue}
+use Rattle.page_spec.specs.declared.kinds.State.TheVariants.{AttributeValueDoubleQuoted, AttributeValueSingleQuoted}
+use Rattle.page_spec.specs.declared.kinds.State.TheVariants.{AttributeValueUnquoted}
 
 abbrev pub lowered : List ℕ → List ℕ
 lowered = map to_ascii_lowercase

@@ -1,8 +1,9 @@
 -- The parts of a project as its file has them, and the project that they give.
 use Rattle.std.proofs.Common.{◌≡◌, ℕ, suc, List, [], ◌∷◌, All, length, refl, sym, ap, subst, ◌∙◌}
 use Rattle.std.specs.List.{IsDistinct}
-use Rattle.std.specs.Prelude.{◌≢◌, codes, bytes_eq, Option, Some, None, Result, Ok, Err, IfOk, MatchOption, MatchResult}
-use Rattle.tree_spec.specs.declared.LimitName.TheVariants.{Depth}
+use Rattle.std.specs.Prelude.{◌≢◌, ◌≤◌, codes, bytes_eq, Option, Some, None, Result, Ok, Err, IfOk, MatchOption, MatchResult}
+use Rattle.tree_spec.specs.Limits.{limit_number}
+use Rattle.tree_spec.specs.declared.LimitName.TheVariants.{Depth, Entries}
 use Rattle.json_spec.specs.Grammar.{NotJson, TooDeep, ReadsJson}
 use Rattle.json_spec.specs.PropertyOrder.{pairs_of}
 use Rattle.json_spec.specs.Value.{Json, a_null, a_bool, a_number, a_text, a_list, an_object, Items, Members}
@@ -190,6 +191,10 @@ pub ruleset unfilled = (no_base, no_page, no_conditions, no_entries)
 
 given_project : {value : Json} {config : Config} → Gives (Ok value) (Ok config) → IsProject config
 given_project (a_project d few) = d.is_project
+
+-- the config of a project with few entries
+pub few_given : {value : Json} {project config : Config} → Describes value project → config ≡ project → length project.entries ≤ limit_number Entries → Gives (Ok value) (Ok config)
+few_given {value} d same few = subst (λ c. Gives (Ok value) (Ok c)) (sym same) (a_project d few)
 
 abbrev Given : Json → Result Config ProjectFault → Type 0
 Given value found = MatchResult found (λ config. Gives (Ok value) (Ok config)) (GivesNone value)

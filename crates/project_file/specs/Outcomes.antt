@@ -2,11 +2,7 @@
 --     IsNoProject bytes fault     the bytes have this fault, unless no memory was found
 --     GivesNone value fault       the same of a JSON value
 --     IsDescribed value found     the value describes the config that was found, or none
---     IsReadBack config bytes     the bytes are read as the config, where a file can hold its entries
-use Rattle.std.specs.List.{IsDistinct}
-use Rattle.std.specs.Prelude.{◌≤◌, ℕ, List, ⊤, Option, Some, None, Ok, Err, bytes_eq, length}
-use Rattle.tree_spec.specs.Limits.{limit_number}
-use Rattle.tree_spec.specs.declared.LimitName.TheVariants.{Entries}
+use Rattle.std.specs.Prelude.{ℕ, List, ⊤, Option, Some, None, Ok, Err}
 use Rattle.json_spec.specs.Value.{Json}
 use Rattle.trace_spec.specs.Modules.{Config}
 use Rattle.project_spec.specs.ProjectFiles as spec
@@ -27,8 +23,3 @@ GivesNone value Memory = ⊤
 abbrev pub IsDescribed : Json → Option Config → Type 0
 IsDescribed value None = (config : Config) → Describes value config → ⊥
 IsDescribed value (Some config) = Describes value config
-
--- own: of a config that was made, the entries alone may keep it from a file; where they don't, the bytes are read as it
-abbrev pub IsReadBack : Config → List ℕ → Type 0
-IsReadBack config bytes =
-    IsDistinct bytes_eq config.entries → length config.entries ≤ limit_number Entries → ReadsProject bytes (Ok config)

@@ -3,6 +3,7 @@
 --     HasNoParts members                             an object has no such parts
 --     IsFilled base page conditions entries found    the config that parts written so give, or none
 --     HoldsStrings items Are found                   the list is these strings, and they are so; or it is no such list
+--     CanBeProject page entries                      the page isn't the root, and the entries are distinct
 --     IsPage text                                    the text is the path of a page
 use Rattle.std.specs.List.{IsDistinct}
 use Rattle.std.specs.Prelude.{◌≡◌, ◌≢◌, ℕ, List, ⊤, Option, Some, None, codes, bytes_eq}
@@ -36,6 +37,10 @@ NotWritten value = (members : Members) → value ≡ an_object members → HasNo
 pub record IsPage (text : List ℕ) : Type 0 where
   pub path : IsPath text
   pub no_root : text ≢ codes "/"
+
+pub record CanBeProject (page : List ℕ) (entries : List (List ℕ)) : Type 0 where
+  pub is_file : page ≢ codes "/"
+  pub distinct : IsDistinct bytes_eq entries
 
 abbrev pub IsAnyList : List (List ℕ) → Type 0
 IsAnyList texts = ⊤

@@ -5,6 +5,7 @@ mod fault;
 mod lists;
 mod parts;
 mod printing;
+mod project;
 mod reading;
 #[cfg(test)]
 mod tests;

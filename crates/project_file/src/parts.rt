@@ -9,11 +9,11 @@ ghost use Rattle.project_file.specs.Strings.{list_found, object_in, string_found
 ghost use Rattle.project_file.specs.Parts.{HasNoParts, HoldsStrings, IsFilled, IsPage, IsWritten, NotWritten, has_written};
 
 use crate::lists::{are_distinct, are_names, joined, list_of, string_of, strings_in};
+use crate::project::Project;
 use condition_match::{Conditions, ConditionsFault};
 use ordered_json::{Items, Members, Value};
 use primitives::{Listed, Memory, Text};
 use std::alloc::{AllocError, Global};
-use trace_walk::Config;
 use tree_model::{Path, PathFault};
 use web_url::{Base, BaseFault};
 
@@ -111,9 +111,9 @@ fn member<'a>(members: &'a Members, name: &str) -> Option<&'a Value>
     None
 }
 
-/// The config whose parts are written so; None where one of them can't stand there.
+/// The project whose parts are written so; None where one of them can't stand there.
 #[tactic(auto, using(crate::proofs::PartLemmas::unfilled))]
-pub fn filled(alloc: Global, written: &Written<'_>) -> Result<Option<Config>, Memory>
+pub(crate) fn filled(alloc: Global, written: &Written<'_>) -> Result<Option<Project>, Memory>
     ensures { IfOk result (IsFilled written.now.base.now written.now.page.now
         (items_of (values_of written.now.conditions.now)) (items_of (values_of written.now.entries.now))) }
 {
@@ -129,7 +129,7 @@ pub fn filled(alloc: Global, written: &Written<'_>) -> Result<Option<Config>, Me
     let Some(entries) = entries_in(alloc, written.entries)? else {
         return Ok(None);
     };
-    Ok(Some(Config::new(base, page, conditions, entries)))
+    Ok(Some(Project::new(base, page, conditions, entries)))
 }
 
 fn base_in(alloc: Global, text: &str) -> Result<Option<Base>, Memory>

@@ -1,12 +1,12 @@
-ghost use Rattle.std.specs.Prelude.{◌≡◌, ◌∷◌, ◌++◌, All, IfOk, IsUtf8, OnOk, bytes_eq};
-ghost use Rattle.std.specs.List.{IsDistinct};
+ghost use Rattle.std.specs.Prelude.{◌≡◌, ◌≤◌, ◌∷◌, ◌++◌, length, All, IfOk, IsUtf8, Ok, OnOk};
 ghost use Rattle.condition_match.specs.Conditions.{AreConditions};
 ghost use Rattle.json_spec.specs.PrintedString.{quoted};
 ghost use Rattle.json_spec.specs.PrintedValue.{line, printed, printed_items};
 ghost use Rattle.json_spec.specs.Value.{a_list};
+ghost use Rattle.tree_spec.specs.declared.LimitName.TheVariants.{Entries};
+ghost use Rattle.tree_spec.specs.Limits.{limit_number};
 ghost use Rattle.map_print.specs.Appending.{Appends};
-ghost use Rattle.project_spec.specs.ProjectFiles.{IsProject, project_text, project_value, strings};
-ghost use Rattle.project_file.specs.Outcomes.{IsReadBack};
+ghost use Rattle.project_spec.specs.ProjectFiles.{IsProject, ReadsProject, project_text, project_value, strings};
 
 use condition_match::Conditions;
 use ordered_json::print_text;
@@ -17,7 +17,7 @@ use trace_walk::Config;
 /// The bytes of a config's file: one object, two spaces a level, each member, condition and entry on a line of its own.
 pub fn print_project(alloc: Global, config: &Config) -> Result<Vec<u8>, Memory>
     ensures text { IfOk result (λ bytes. bytes.items ≡ project_text config.now) }
-    ensures read_back { IfOk result (λ bytes. IsReadBack config.now bytes.items) }
+    ensures read_back { IfOk result (λ bytes. ReadsProject bytes.items (Ok config.now)) }
 {
     let conditions = names_of(alloc, config.conditions())?;
     let mut out = Vec::new(alloc);
@@ -45,7 +45,8 @@ fn push_project(out: &mut Vec<u8>, config: &Config, conditions: &[Text]) -> Resu
     requires allowed { AreConditions config.now.conditions }
     ensures text { OnOk result (Appends out.old.items out.new.items
         (λ rest. printed 0 (project_value config.now) (10 ∷ rest))) }
-    ensures project { OnOk result (IsDistinct bytes_eq config.now.entries → IsProject config.now) }
+    ensures project { OnOk result (IsProject config.now) }
+    ensures few { OnOk result (length config.now.entries ≤ limit_number Entries) }
     ensures page { OnOk result (IsUtf8 config.now.page) }
     ensures entries { OnOk result (All IsUtf8 config.now.entries) }
 {

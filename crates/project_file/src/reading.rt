@@ -5,11 +5,12 @@ ghost use Rattle.project_file.specs.Outcomes.{IsDescribed, IsNoProject, GivesNon
 
 use crate::fault::ProjectFault;
 use crate::parts::{filled, written_in};
+use crate::project::Project;
 use ordered_json::{JsonFault, Value, read};
 use primitives::Memory;
 use std::alloc::Global;
 use trace_walk::Config;
-use tree_spec::{LimitName, MOST_ENTRIES};
+use tree_spec::LimitName;
 
 /// The config of a file's bytes.
 pub fn read_project(alloc: Global, bytes: &[u8]) -> Result<Config, ProjectFault>
@@ -31,19 +32,19 @@ fn config_of(alloc: Global, value: &Value) -> Result<Config, ProjectFault>
     ensures { MatchResult result (λ config. Gives (Ok (json_of value.now)) (Ok config))
         (GivesNone (json_of value.now)) }
 {
-    let Some(config) = described(alloc, value)? else {
+    let Some(project) = described(alloc, value)? else {
         return Err(ProjectFault::BadFile { at: 0 });
     };
-    if config.entries().len() > MOST_ENTRIES {
-        return Err(ProjectFault::Limit {
+    match project.into_config() {
+        Some(config) => Ok(config),
+        None => Err(ProjectFault::Limit {
             which: LimitName::Entries,
-        });
+        }),
     }
-    Ok(config)
 }
 
-// The config that a JSON value describes, however many entries it has.
-fn described(alloc: Global, value: &Value) -> Result<Option<Config>, Memory>
+// The project that a JSON value describes, however many entries it has.
+fn described(alloc: Global, value: &Value) -> Result<Option<Project>, Memory>
     ensures { IfOk result (IsDescribed (json_of value.now)) }
 {
     match written_in(value) {

@@ -1,4 +1,5 @@
--- The file of a project: what to generate for, as it is kept from one call to the next. All of it is this project's own.
+-- The file of a project: what to generate for, as it is kept from one call to the next. All of it is this project's
+-- own.
 --     ReadsProject bytes out      the bytes have the config, or the fault, out
 --     Describes value config      a JSON value is that of a project's file, and this is its config
 --     IsProject config            the config can stand in a project's file
@@ -13,7 +14,8 @@ use Rattle.json_spec.specs.Grammar as json
 use Rattle.json_spec.specs.Grammar.{NotJson, TooDeep, ReadsJson}
 use Rattle.json_spec.specs.PrintedValue.{printed_text}
 use Rattle.json_spec.specs.PropertyOrder.{pairs_of}
-use Rattle.json_spec.specs.Value.{Json, a_text, a_list, an_object, Items, no_items, an_item, Members, no_members, a_member}
+use Rattle.json_spec.specs.Value.{Json, a_text, a_list, an_object, Items, no_items, an_item, Members, no_members}
+use Rattle.json_spec.specs.Value.{a_member}
 use Rattle.url_spec.specs.Bases.{base_of, IsBase}
 use Rattle.import_map_spec.specs.Parsing.{member}
 use Rattle.condition_match.specs.Conditions.{AreConditions}
@@ -55,8 +57,8 @@ pub data Fault : Type 0 where
   BadFile : ℕ → Fault
   PassesLimit : LimitName → Fault
 
--- own: the same of what the bytes are as a JSON text. That there are too many entries is told of nothing but a project's
--- file
+-- own: the same of what the bytes are as a JSON text. That there are too many entries is told of nothing but a
+-- project's file
 pub data Gives : Result Json json.Fault → Result Config Fault → Type 0 where
   a_project :
       {value : Json} {config : Config} → Describes value config → length config.entries ≤ limit_number Entries

@@ -1,7 +1,7 @@
 -- Members that are lent one by one.
 --     lent pairs      the members that these are
---     HasIndices count pairs numbered      the map holds those of the pairs whose names are array indices, by number, each under its
---         number and a count below this one
+--     HasIndices count pairs numbered      the map holds those of the pairs whose names are array indices, by number,
+--         each under its number and a count below this one
 use Rattle.std.specs.Prelude.{◌≡◌, ◌<◌, ℕ, List, [], ◌∷◌, map, ⊤}
 use Rattle.std.specs.BTreeMap.{BTreeMap}
 use Rattle.std.specs.Map.{values_of}

@@ -75,7 +75,8 @@ fn put_others<'a>(
     ordered: &mut Vec<&'a (Text, Value)>,
     pairs: &'a [(Text, Value)],
 ) -> Result<(), Memory>
-    ensures { OnOk result (lent ordered.new.items ≡ joined (lent ordered.old.items) (other_members (members_of pairs.now))) }
+    ensures { OnOk result (lent ordered.new.items
+        ≡ joined (lent ordered.old.items) (other_members (members_of pairs.now))) }
 {
     let mut rest = pairs;
     while let Some((pair, more)) = rest.split_first() {

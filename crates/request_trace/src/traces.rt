@@ -3,7 +3,7 @@ ghost use Rattle.tree_spec.specs.declared.LimitName.TheVariants.{Modules, Reques
 ghost use Rattle.tree_spec.specs.Limits.{limit_number};
 ghost use Rattle.layout_spec.specs.Needs.{NoClash};
 ghost use Rattle.trace_walk.specs.Shown.{before_of};
-ghost use Rattle.trace_walk.specs.Walking.{IsWhole};
+ghost use Rattle.trace_walk.specs.Walking.{IsWhole, AreOfUrls};
 
 use need_table::Needs;
 use std::marker::Model;
@@ -38,10 +38,11 @@ impl Trace {
         Trace { tables }
     }
 
-    /// The needs, each at its first place.
+    /// The needs, each at its first place. The referrer of each parses to itself.
     pub fn needs(&self) -> &Needs
         ensures needs { result.now ≡ self.now.needs }
         ensures clear { NoClash self.now.needs }
+        ensures urls { AreOfUrls self.now.needs }
     {
         &self.tables.needs
     }

@@ -17,6 +17,8 @@ mod escaped_page;
 #[cfg(test)]
 mod faults;
 #[cfg(test)]
+mod limit_rows;
+#[cfg(test)]
 mod maps;
 #[cfg(test)]
 mod package_looks;

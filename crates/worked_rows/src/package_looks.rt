@@ -38,20 +38,20 @@ static FILES: [(&str, &str); 9] = [
     ),
 ];
 
-/// The paths at which the run looks, in their order: Node's rules for one request after another, each path once.
-static LOOKS: [&str; 12] = [
-    "/app.js",
-    "/package.json",
-    "/node_modules/ui",
-    "/node_modules/ui/package.json",
-    "/node_modules/ui/b.js",
-    "/node_modules/ui/x/menu.js",
-    "/own.js",
-    "/node_modules/ui/node_modules/@ui/core",
-    "/node_modules/ui/node_modules/@ui/core/package.json",
-    "/node_modules/ui/node_modules/@ui/core/lib/index.mjs",
-    "/node_modules/ui/x/package.json",
-    "/node_modules/ui/x/node_modules/@ui/core",
+/// The paths at which the run looks, with their numbers: Node's rules for one request after another, each path once.
+static LOOKS: [(u64, &str); 12] = [
+    (1, "/app.js"),
+    (2, "/package.json"),
+    (3, "/node_modules/ui"),
+    (4, "/node_modules/ui/package.json"),
+    (5, "/node_modules/ui/b.js"),
+    (6, "/node_modules/ui/x/menu.js"),
+    (7, "/own.js"),
+    (8, "/node_modules/ui/node_modules/@ui/core"),
+    (9, "/node_modules/ui/node_modules/@ui/core/package.json"),
+    (10, "/node_modules/ui/node_modules/@ui/core/lib/index.mjs"),
+    (11, "/node_modules/ui/x/package.json"),
+    (12, "/node_modules/ui/x/node_modules/@ui/core"),
 ];
 
 // Whether a run of which the look with this number fails ends so, and leaves no map where it isn't done.
@@ -61,19 +61,19 @@ fn says(alloc: Global, failing: u64, status: u8, line: &str) -> Result<bool, Pat
         put(alloc, &mut folder, path, text.as_bytes())?;
     }
     let outcome = ended(alloc, LINK_APP, folder, &[])?;
-    Ok(ends(&outcome, status, line)
-        && (status == 0 || stands(alloc, &outcome.folder, MAP_PATH, None)?))
+    Ok(
+        ends(&outcome, status, line)
+            && (status == 0 || stands(alloc, &outcome.folder, MAP_PATH, None)?),
+    )
 }
 
 #[test]
 fn each_look_fails_in_turn(rt: HostRuntime) -> Result<(), Fail> {
     let alloc = rt.alloc();
-    let mut number = 0;
-    for path in LOOKS.iter() {
-        number += 1;
-        assert!(rt; says(alloc, number, 4, "fault: read\n")?, "{path}");
+    for (number, path) in LOOKS.iter() {
+        assert!(rt; says(alloc, *number, 4, "fault: read\n")?, "{path}");
     }
     let line = "ok: 5 modules, 7 requests, 5 mappings\n";
-    assert!(rt; says(alloc, number + 1, 0, line)?, "no look is left");
+    assert!(rt; says(alloc, 13, 0, line)?, "no look is left");
     Ok(())
 }

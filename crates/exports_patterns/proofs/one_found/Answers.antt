@@ -1,4 +1,4 @@
-use Rattle.exports_patterns.specs.OneFound.{one_found}
+use Rattle.exports_patterns.proofs.SameMatch.{one_found}
 use Rattle.exports_patterns.proofs.one_found.Goals as goal
 
 pub returns : goal.returns

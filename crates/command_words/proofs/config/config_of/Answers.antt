@@ -4,6 +4,7 @@ use Rattle.tree_spec.specs.declared.LimitName.TheVariants.{Entries}
 use Rattle.generator_spec.specs.declared.Refusal.TheVariants.{Words, BadBase, Limit}
 use Rattle.generator_spec.specs.Words.{RefusesWords}
 use Rattle.generator_spec.specs.Words.RefusesWords.{no_call, bad_base, too_many_entries}
+use Rattle.command_words.proofs.LinkWords.{counted_once}
 use Rattle.command_words.proofs.Refusing.{refusal_told, too_many}
 use Rattle.command_words.proofs.config.config_of.Goals as goal
 
@@ -22,3 +23,6 @@ returns-then-len-gt-MOST_ENTRIES-clause-refused c =
     refusal_told (RefusesWords (map string_bytes c.args.words.now)) _ (Limit Entries) why told refl
     (too_many_entries c.in-Some.command c.in-Some.base.now c.in-Ok.base _ c.in-Some.ensures c.in-Ok.ensures.base
     (too_many c.in_ok-entries.entries _ _ c.in_ok-entries.ensures c.len.ensures c.if-len-gt-MOST_ENTRIES.true))
+
+pub new-requires-clause-distinct : goal.new-requires-clause-distinct
+new-requires-clause-distinct c = counted_once c.in_ok-entries.entries _ c.in_ok-entries.ensures

@@ -13,4 +13,4 @@ returns-clause-text c =
 pub returns-clause-entries : goal.returns-clause-entries
 returns-clause-entries c =
     let ends : OnOk c.extend_from_slice-5.result (c.extend_from_slice-5.new.self.items ≡ c.push_strings-2.new.out.items ++ c.as_slice-5.result.now) = search rules in
-    on_ok_weaker c.extend_from_slice-5.result (λ _. subst (All IsUtf8) c.entries.ensures c.in_ok-push_strings-2.ensures.utf8) ends
+    on_ok_weaker c.extend_from_slice-5.result (λ _. subst (All IsUtf8) c.entries.ensures.entries c.in_ok-push_strings-2.ensures.utf8) ends
