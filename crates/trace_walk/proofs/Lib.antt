@@ -5,3 +5,4 @@ pub mod AskedTexts
 pub mod TableLemmas
 pub mod FollowedRequests
 pub mod Visiting
+pub mod UrlLemmas

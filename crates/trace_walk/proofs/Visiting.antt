@@ -29,7 +29,7 @@ use Rattle.module_sources.specs.declared.source.NoSource.TheVariants.{NotModule,
 use Rattle.module_sources.specs.Shown.{source_of, no_source_of}
 use Rattle.trace_walk.specs.Shown.{before_of, done}
 use Rattle.trace_walk.specs.Refusing.{no_source_fault}
-use Rattle.trace_walk.specs.Walking.{IsReferrer, IsNamed, AllNamed, AreBeside, IsGiven, Grows, IsWhole, IsUnserved}
+use Rattle.trace_walk.specs.Walking.{IsReferrer, IsNamed, AllNamed, AreBeside, AreOfUrls, IsGiven, Grows, IsWhole, IsUnserved}
 use Rattle.trace_walk.proofs.TableLemmas.{keys_of-length}
 use Rattle.trace_walk.proofs.FaultKinds.{handed}
 use Rattle.trace_walk.proofs.Meetings.{met_then, met_failed, met_lost, met_now, Left}
@@ -73,8 +73,8 @@ grows_by_visit config (Err fault) tables pushed new source modules sources needs
 
 -- the tables behind the page's visit and those of all modules
 pub whole_by : (config : Config) (empty paged tables : Tables) → empty.modules.entries ≡ [] → empty.sources.items ≡ [] → empty.needs ≡ [] → empty.requests ≡ 0
-    → Grows config 0 empty paged → Grows config (length tables.modules.entries) paged tables → IsWhole (before_of tables)
-whole_by config empty paged tables modules sources needs requests page all =
+    → Grows config 0 empty paged → Grows config (length tables.modules.entries) paged tables → AreOfUrls tables.needs → IsWhole (before_of tables)
+whole_by config empty paged tables modules sources needs requests page all urls =
     let none : length empty.modules.entries ≡ 0 = ap length modules in
     let unread : length empty.sources.items ≡ 0 = ap length sources in
     let keys = keys_of-length tables.modules.entries in
@@ -85,6 +85,7 @@ whole_by config empty paged tables modules sources needs requests page all =
       few_requests = all.requests (page.requests (omega (arith, requests)));
       spelled = all.beside;
       clear = all.clear (page.clear (subst NoClash (sym needs) (λ one other c d. absurd (contains_none one c))));
+      urls = urls;
     }
 
 -- ---- requests one after another

@@ -3,3 +3,4 @@ pub mod Shown
 pub mod Kinds
 pub mod Walking
 pub mod Refusing
+pub mod Configs

@@ -4,10 +4,12 @@
 --                                           of that
 --     AreBeside tables                      each need has its spelling
 --     IsAdded needs spellings need spelling after spelled      a need that clashes with none is put with its spelling
+--     AreOfUrls needs                       the referrer of each need is a URL
+--     KeepsUrls referrer old new            where this referrer is a URL, the needs stay so
 --     Grows config visits old new           the tables grow by so many visits, and keep few modules, each with its
 --                                           name, and few requests
 --     IsWhole tables                        each module has its source, there aren't too many, nor too many requests,
---                                           and no two needs clash
+--                                           no two needs clash, and the referrer of each is a URL
 --     IsGiven definition result             a part gives what the definition says, unless memory is wanting
 --     IsUnserved config path suffix fault   the refusal of what isn't served at its web name
 --     wanted_of name asked                  what a referrer of this name asks for
@@ -23,6 +25,7 @@ use Rattle.trace_spec.specs.declared.TraceFault.TheVariants.{Unservable, ReadFau
 use Rattle.trace_spec.specs.Checks.{Gathered, Wanted, Spelling, with_spelling}
 use Rattle.trace_spec.specs.Walking as spec
 use Rattle.trace_spec.specs.Modules.{Config, Module, path_of, web_name, shown, served_name, file_name}
+use Rattle.url_spec.specs.Parsing.{IsUrl}
 use Rattle.url_spec.specs.WebNames.{web}
 use Rattle.trace_walk.specs.declared.referrer.Referrer.{Referrer}
 use Rattle.trace_walk.specs.declared.tables.Name.{Name}
@@ -51,6 +54,14 @@ pub record IsAdded (needs : List Need) (spellings : List Spelling) (need : Need)
   pub spellings_are : spelled ≡ with_spelling needs need spellings spelling
   pub beside : length spelled ≡ length after
 
+-- the referrer of each need is the text of a URL
+abbrev pub AreOfUrls : List Need → Type 0
+AreOfUrls needs = All (λ need. IsUrl need.referrer) needs
+
+-- where this referrer is the text of a URL, that of each need stays one
+abbrev pub KeepsUrls : List ℕ → List Need → List Need → Type 0
+KeepsUrls referrer old new = IsUrl referrer → AreOfUrls old → AreOfUrls new
+
 -- a part gives its definition's result, or memory is wanting
 pub record IsGiven {X : Type 0} (definition result : Result X TraceFault) : Type 0 where
   pub given : result ≢ Err Memory → definition ≡ result
@@ -74,6 +85,7 @@ pub record IsWhole (tables : Gathered) : Type 0 where
   pub few_requests : tables.requests ≤ limit_number Requests
   pub spelled : length tables.spellings ≡ length tables.needs
   pub clear : NoClash tables.needs
+  pub urls : AreOfUrls tables.needs
 
 -- what isn't served at its web name
 pub record IsUnserved (config : Config) (path suffix : List ℕ) (fault : TraceFault) : Type 0 where

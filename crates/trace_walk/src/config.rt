@@ -1,4 +1,7 @@
-ghost use Rattle.std.specs.Prelude.{◌≡◌, ◌≢◌, codes};
+ghost use Rattle.std.specs.Prelude.{◌≡◌, ◌≢◌, ◌≤◌, length, bytes_eq, codes};
+ghost use Rattle.std.specs.List.{IsDistinct};
+ghost use Rattle.tree_spec.specs.declared.LimitName.TheVariants.{Entries};
+ghost use Rattle.tree_spec.specs.Limits.{limit_number};
 
 use condition_match::Conditions;
 use primitives::{Listed, Text};
@@ -6,7 +9,8 @@ use std::marker::Model;
 use tree_model::Path;
 use web_url::Base;
 
-/// What to generate for: the base, the page, which isn't the root, the conditions, and the entries, which are distinct.
+/// What to generate for: the base, the page, which isn't the root, the conditions, and the entries, which are distinct
+/// and at most 1,024.
 #[derive(Drop)]
 pub struct Config {
     base: Base,
@@ -17,19 +21,21 @@ pub struct Config {
 
 impl Model for Config {
     ghost use Rattle.trace_spec.specs.Modules as spec;
-    ghost use Rattle.std.specs.Prelude.{◌≢◌, codes};
+    ghost use Rattle.trace_walk.specs.Configs.{IsConfigured};
 
     ghost Value = { spec.Config };
 
     ghost view = { λ c. record { base = c.base; page = c.page; conditions = c.conditions; entries = c.entries } };
 
-    ghost invariant = { λ c. c.page ≢ codes "/" };
+    ghost invariant = { λ c. IsConfigured c.page c.entries };
 }
 
 impl Config {
-    /// The config of these, where the page isn't the root.
+    /// The config of these, where the page isn't the root and the entries are distinct and not too many.
     pub fn new(base: Base, page: Path, conditions: Conditions, entries: Listed<Text>) -> Config
-        requires { page ≢ codes "/" }
+        requires is_file { page ≢ codes "/" }
+        requires distinct { IsDistinct bytes_eq entries }
+        requires few { length entries ≤ limit_number Entries }
         ensures base { result.base ≡ base }
         ensures page { result.page ≡ page }
         ensures conditions { result.conditions ≡ conditions }
@@ -67,7 +73,9 @@ impl Config {
 
     /// The specifiers that the page asks for.
     pub fn entries(&self) -> &[Text]
-        ensures { result.now ≡ self.now.entries }
+        ensures entries { result.now ≡ self.now.entries }
+        ensures distinct { IsDistinct bytes_eq self.now.entries }
+        ensures few { length self.now.entries ≤ limit_number Entries }
     {
         self.entries.as_slice()
     }

@@ -7,7 +7,7 @@ ghost use Rattle.trace_spec.specs.Checks.{Gathered, wanted_by, checked, follows}
 ghost use Rattle.trace_walk.specs.Kinds.{IsOfWalk};
 ghost use Rattle.trace_walk.specs.Meeting.{Met};
 ghost use Rattle.trace_walk.specs.Refusing.{IsUnwanted};
-ghost use Rattle.trace_walk.specs.Walking.{IsReferrer, AllNamed, AreBeside, Grows, IsGiven, wanted_of, IsBounded};
+ghost use Rattle.trace_walk.specs.Walking.{IsReferrer, AllNamed, AreBeside, KeepsUrls, Grows, IsGiven, wanted_of, IsBounded};
 ghost use Rattle.trace_walk.specs.Shown.{before_of, done};
 
 use crate::answerer::{Answerer, NodeAnswer};
@@ -39,6 +39,7 @@ pub(crate) fn follow<A: Answerer>(
         (done result tables.new) (A.state answerer.new) }
     ensures grows { OnOk result (Grows config.now 0 tables.old tables.new) }
     ensures counts { OnOk result (tables.new.requests ≡ tables.old.requests + 1) }
+    ensures urls { OnOk result (KeepsUrls referrer.now.text tables.old.needs tables.new.needs) }
     ensures steps { A.steps answerer.new ≤ A.steps answerer.old + 1 }
     ensures bounded { IsBounded 0 tables.old (A.steps answerer.old) (A.steps answerer.new) }
     ensures kind { IfErr result (IsOfWalk config.now) }

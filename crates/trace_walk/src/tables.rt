@@ -11,6 +11,7 @@ ghost use Rattle.trace_spec.specs.Checks.{needed, led};
 ghost use Rattle.trace_walk.specs.Kinds.{IsOfWalk};
 ghost use Rattle.trace_walk.specs.Refusing.{IsMisnamed, IsClash};
 ghost use Rattle.trace_walk.specs.Walking.{IsReferrer, AllNamed, AreBeside, IsNamed, IsAdded, IsGiven, Grows};
+ghost use Rattle.trace_walk.specs.Walking.{KeepsUrls};
 ghost use Rattle.trace_walk.specs.Shown.{before_of, done};
 
 use crate::config::Config;
@@ -84,6 +85,7 @@ impl Tables {
             (record { referrer = referrer.now.name; asked = asked }) (Ok target)) (done result self.new) }
         ensures grows { OnOk result (Grows config.now 0 self.old self.new) }
         ensures counts { OnOk result (self.new.requests ≡ self.old.requests + 1) }
+        ensures urls { OnOk result (KeepsUrls referrer.now.text self.old.needs self.new.needs) }
         ensures kind { IfErr result (IsOfWalk config.now) }
     {
         match known_text(&self.modules, alloc, &target)? {
@@ -117,6 +119,7 @@ impl Tables {
             (done result self.new) }
         ensures grows { OnOk result (Grows config.now 0 self.old self.new) }
         ensures counts { OnOk result (self.new.requests ≡ self.old.requests + 1) }
+        ensures urls { OnOk result (KeepsUrls referrer.now.text self.old.needs self.new.needs) }
         ensures kind { IfErr result (IsOfWalk config.now) }
     {
         let spelling = spelling_of(alloc, referrer, specifier, target)?;
@@ -156,6 +159,7 @@ impl Tables {
             (done result self.new) }
         ensures grows { OnOk result (Grows config.now 0 self.old self.new) }
         ensures counts { OnOk result (self.new.requests ≡ self.old.requests + 1) }
+        ensures urls { OnOk result (KeepsUrls referrer.now.text self.old.needs self.new.needs) }
         ensures kind { IfErr result (IsOfWalk config.now) }
     {
         let spelling = spelling_of(alloc, referrer, specifier, &target)?;

@@ -10,7 +10,8 @@ ghost use Rattle.trace_spec.specs.Traces.{trace};
 ghost use Rattle.trace_spec.specs.Modules.{served_at};
 ghost use Rattle.trace_walk.specs.Kinds.{IsOfWalk};
 ghost use Rattle.trace_walk.specs.Meeting.{Met};
-ghost use Rattle.trace_walk.specs.Walking.{IsReferrer, AllNamed, AreBeside, Grows, IsWhole, IsUnserved, Spends, IsBounded};
+ghost use Rattle.trace_walk.specs.Walking.{IsReferrer, AllNamed, AreBeside, AreOfUrls, KeepsUrls, Grows, IsWhole};
+ghost use Rattle.trace_walk.specs.Walking.{IsUnserved, Spends, IsBounded};
 ghost use Rattle.trace_walk.specs.Shown.{before_of, done, traced_of, specifiers_of};
 
 use crate::answerer::Answerer;
@@ -64,6 +65,7 @@ fn visit_page<A: Answerer>(
         → Met (A.state answerer.old) (visited (rules config.now) (before_of tables.old) the_page)
         (done result tables.new) (A.state answerer.new) }
     ensures grows { OnOk result (Grows config.now 0 tables.old tables.new) }
+    ensures urls { OnOk result (AreOfUrls tables.old.needs → AreOfUrls tables.new.needs) }
     ensures steps { OnOk result (Spends 0 tables.old tables.new (A.steps answerer.old) (A.steps answerer.new)) }
     ensures bounded { IsBounded 0 tables.old (A.steps answerer.old) (A.steps answerer.new) }
     ensures kind { IfErr result (IsOfWalk config.now) }
@@ -108,6 +110,7 @@ fn follow_all<A: Answerer>(
         (followed (rules config.now) (before_of tables.old) r (specifiers_of specifiers.entry))
         (done result tables.new) (A.state answerer.new) }
     ensures grows { OnOk result (Grows config.now 0 tables.old tables.new) }
+    ensures urls { OnOk result (KeepsUrls referrer.now.text tables.old.needs tables.new.needs) }
     ensures steps { OnOk result (Spends 0 tables.old tables.new (A.steps answerer.old) (A.steps answerer.new)) }
     ensures bounded { IsBounded 0 tables.old (A.steps answerer.old) (A.steps answerer.new) }
     ensures kind { IfErr result (IsOfWalk config.now) }
@@ -136,6 +139,8 @@ fn visit_modules<A: Answerer>(
         → Met (A.state answerer.old) (walked (rules config.now) (suc (limit_number Modules))
         (before_of tables.old) 0) (done result tables.new) (A.state answerer.new) }
     ensures grows { OnOk result (Grows config.now (length tables.new.modules.entries) tables.old tables.new) }
+    ensures urls { OnOk result (AllNamed config.now tables.old.modules.entries
+        → AreOfUrls tables.old.needs → AreOfUrls tables.new.needs) }
     ensures steps { OnOk result (Spends (length tables.new.modules.entries) tables.old tables.new
         (A.steps answerer.old) (A.steps answerer.new)) }
     ensures bounded { IsBounded (limit_number Modules) tables.old (A.steps answerer.old) (A.steps answerer.new) }
@@ -166,6 +171,8 @@ fn visit<A: Answerer>(
         → Met (A.state answerer.old) (visited (rules config.now) (before_of tables.old) (a_module m))
         (done result tables.new) (A.state answerer.new) }
     ensures grows { OnOk result (Grows config.now 1 tables.old tables.new) }
+    ensures urls { OnOk result (AllNamed config.now tables.old.modules.entries
+        → AreOfUrls tables.old.needs → AreOfUrls tables.new.needs) }
     ensures steps { OnOk result (Spends 1 tables.old tables.new (A.steps answerer.old) (A.steps answerer.new)) }
     ensures bounded { IsBounded 1 tables.old (A.steps answerer.old) (A.steps answerer.new) }
     ensures kind { IfErr result (IsOfWalk config.now) }
@@ -191,6 +198,7 @@ fn visit_module<A: Answerer>(
         → Met (A.state answerer.old) (visited (rules config.now) (before_of tables.old) (a_module m))
         (done result tables.new) (A.state answerer.new) }
     ensures grows { OnOk result (Grows config.now 1 tables.old tables.new) }
+    ensures urls { OnOk result (KeepsUrls referrer.now.text tables.old.needs tables.new.needs) }
     ensures steps { OnOk result (Spends 1 tables.old tables.new (A.steps answerer.old) (A.steps answerer.new)) }
     ensures bounded { IsBounded 1 tables.old (A.steps answerer.old) (A.steps answerer.new) }
     ensures kind { IfErr result (IsOfWalk config.now) }

@@ -10,7 +10,7 @@ use Rattle.trace_walk.proofs.Visiting.{grows_begin, grows_on, drop_at, drop_past
 use Rattle.trace_walk.proofs.visits.follow_all.Goals as goal
 
 pub loop-next-init : goal.loop-next-init
-loop-next-init g c = record { left = λ r is all. left_begins _ _; grows = grows_begin _ _ c.requires.beside; spends = omega arith; ready = c.requires.ready }
+loop-next-init g c = record { left = λ r is all. left_begins _ _; grows = grows_begin _ _ c.requires.beside; urls = λ url all. all; spends = omega arith; ready = c.requires.ready }
 
 pub loop-next-preserved : goal.loop-next-preserved
 loop-next-preserved g c =
@@ -22,6 +22,7 @@ loop-next-preserved g c =
           (rw rest at (c.loop-next.invariant.left r is all)) (c.in_ok-follow.ensures.met r is (c.loop-next.invariant.grows.named all));
       grows = grows_on _ 0 0 _ _ _ c.loop-next.invariant.grows c.in_ok-follow.ensures.grows;
       spends = (let a = c.loop-next.invariant.spends in let b = c.in_ok-follow.ensures.steps in let d = c.in_ok-follow.ensures.counts in omega (arith, a, b, d));
+      urls = λ url all. c.in_ok-follow.ensures.urls url (c.loop-next.invariant.urls url all);
       ready = c.in_ok-follow.ensures.ready;
     }
 

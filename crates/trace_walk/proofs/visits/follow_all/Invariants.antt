@@ -3,7 +3,7 @@ use Rattle.trace_spec.specs.Modules.{Module}
 use Rattle.trace_spec.specs.Walking.{Referrer, followed}
 use Rattle.trace_spec.specs.Checks.{rules}
 use Rattle.trace_walk.specs.Shown.{before_of, specifiers_of}
-use Rattle.trace_walk.specs.Walking.{IsReferrer, AllNamed, Grows, Spends}
+use Rattle.trace_walk.specs.Walking.{IsReferrer, AllNamed, KeepsUrls, Grows, Spends}
 use Rattle.trace_walk.proofs.Meetings.{Left}
 use Rattle.trace_walk.proofs.visits.follow_all.Given as goal
 
@@ -12,6 +12,7 @@ invariant-loop-next g l = record {
   left : (r : Referrer Module) → IsReferrer l.config r l.referrer → AllNamed l.config l.fn.tables.modules.entries → Left (g.A.Answerer.state l.fn.answerer) (followed (rules l.config) (before_of l.fn.tables) r (specifiers_of l.specifiers)) (g.A.Answerer.state l.answerer) (followed (rules l.config) (before_of l.tables) r (drop l.next (specifiers_of l.specifiers)));
   grows : Grows l.config 0 l.fn.tables l.tables;
   spends : Spends 0 l.fn.tables l.tables (g.A.Answerer.steps l.fn.answerer) (g.A.Answerer.steps l.answerer);
+  urls : KeepsUrls l.referrer.text l.fn.tables.needs l.tables.needs;
   ready : g.A.Answerer.ready l.answerer;
 }
 

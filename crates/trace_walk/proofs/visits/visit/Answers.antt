@@ -1,6 +1,7 @@
 use Rattle.std.proofs.Common.{◌≡◌, Some, sym, ap, ◌∙◌, subst}
 use Rattle.std.specs.Prelude.{slice_get, option_map}
 use Rattle.std.specs.Map.Iter.{deref_pair}
+use Rattle.std.proofs.lemmas.Result.{on_ok_weaker}
 use Rattle.trace_spec.specs.declared.TraceFault.TheVariants.{Memory}
 use Rattle.trace_spec.specs.Walking.{a_module, visited}
 use Rattle.trace_spec.specs.Checks.{rules}
@@ -9,6 +10,7 @@ use Rattle.trace_walk.specs.Shown.{before_of, done}
 use Rattle.trace_walk.proofs.FaultKinds.{handed}
 use Rattle.trace_walk.proofs.Meetings.{met_memory}
 use Rattle.trace_walk.proofs.Visiting.{is_referrer}
+use Rattle.trace_walk.proofs.UrlLemmas.{placed_url}
 use Rattle.trace_walk.proofs.visits.visit.Goals as goal
 
 pub returns-clause-met : goal.returns-clause-met
@@ -21,3 +23,10 @@ pub returns-in_err-referrer-clause-met : goal.returns-in_err-referrer-clause-met
 returns-in_err-referrer-clause-met g c = λ m at all.
     subst (λ v. Met (g.A.Answerer.state c.args.answerer.now) (visited (rules c.args.config.now) (before_of c.args.tables.now) (a_module m)) (done v c.args.tables.now) (g.A.Answerer.state c.args.answerer.now)) (sym (handed c.from_residual.result Memory c.from_residual.ensures.1))
     (met_memory (g.A.Answerer.state c.args.answerer.now) (visited (rules c.args.config.now) (before_of c.args.tables.now) (a_module m)))
+
+pub returns-clause-urls : goal.returns-clause-urls
+returns-clause-urls g c =
+    let entry : slice_get c.args.tables.now.modules.entries c.args.place ≡ Some (c.unwrap.result.0.now, c.unwrap.result.1.now) = sym c.get_index.ensures.entry ∙ ap (option_map deref_pair) c.unwrap.ensures in
+    on_ok_weaker c.visit_module.result
+    (λ keeps all. keeps (placed_url c.args.config.now c.args.tables.now.modules.entries c.args.place (c.unwrap.result.0.now, c.unwrap.result.1.now) c.in_ok-referrer.referrer c.requires.within entry all c.in_ok-referrer.ensures.name c.in_ok-referrer.ensures.text c.in_ok-referrer.ensures.path c.in_ok-referrer.ensures.shown))
+    c.visit_module.ensures.urls

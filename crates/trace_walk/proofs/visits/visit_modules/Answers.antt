@@ -11,7 +11,7 @@ use Rattle.trace_walk.proofs.Visiting.{at_index, grows_begin, grows_on, next_vis
 use Rattle.trace_walk.proofs.visits.visit_modules.Goals as goal
 
 pub loop-place-init : goal.loop-place-init
-loop-place-init g c = record { left = λ all. left_begins _ _; grows = grows_begin _ _ c.requires.beside; spends = omega arith; ready = c.requires.ready; few = c.requires.few; within = omega arith }
+loop-place-init g c = record { left = λ all. left_begins _ _; grows = grows_begin _ _ c.requires.beside; urls = λ all urls. urls; spends = omega arith; ready = c.requires.ready; few = c.requires.few; within = omega arith }
 
 pub returns-in_err-visit-clause-met : goal.returns-in_err-visit-clause-met
 returns-in_err-visit-clause-met g c = λ all.
@@ -32,6 +32,7 @@ loop-place-preserved g c =
           (c.in_ok-visit.ensures.met at.0 at.1 (c.loop-place.invariant.grows.named all));
       grows = grows_on _ c.loop-place.place 1 _ _ _ c.loop-place.invariant.grows c.in_ok-visit.ensures.grows;
       spends = (let a = c.loop-place.invariant.spends in let b = c.in_ok-visit.ensures.steps in omega (arith, a, b));
+      urls = λ all urls. c.in_ok-visit.ensures.urls (c.loop-place.invariant.grows.named all) (c.loop-place.invariant.urls all urls);
       ready = c.in_ok-visit.ensures.ready;
       few = c.in_ok-visit.ensures.grows.few c.loop-place.invariant.few;
       within = (let e = c.len.ensures.len in let m = c.in_ok-visit.ensures.grows.longer in omega (arith, e, m, c.loop-place-test.true));

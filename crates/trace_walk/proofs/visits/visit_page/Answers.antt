@@ -1,12 +1,18 @@
+use Rattle.std.proofs.lemmas.Result.{on_ok_weaker}
 use Rattle.trace_spec.specs.Walking.{the_page}
 use Rattle.trace_walk.specs.Shown.{before_of, done}
 use Rattle.trace_walk.proofs.Visiting.{page_done, page_refused}
+use Rattle.trace_walk.proofs.UrlLemmas.{referrer_url}
 use Rattle.trace_walk.proofs.visits.visit_page.Goals as goal
 
 pub returns-clause-met : goal.returns-clause-met
 returns-clause-met g c = λ all.
-    page_done _ _ c.args.config.now (before_of c.args.tables.now) c.in_ok-referrer.referrer.name (done c.follow_all.result c.follow_all.new.tables) c.in_ok-referrer.ensures.served (rw c.entries.ensures at (c.follow_all.ensures.met the_page c.in_ok-referrer.ensures.is all))
+    page_done _ _ c.args.config.now (before_of c.args.tables.now) c.in_ok-referrer.referrer.name (done c.follow_all.result c.follow_all.new.tables) c.in_ok-referrer.ensures.served (rw c.entries.ensures.entries at (c.follow_all.ensures.met the_page c.in_ok-referrer.ensures.is all))
 
 pub returns-in_err-referrer-clause-met : goal.returns-in_err-referrer-clause-met
 returns-in_err-referrer-clause-met g c = λ all.
     page_refused _ c.args.config.now (before_of c.args.tables.now) c.in_err-referrer.field-0.0 c.from_residual.result c.args.tables.now c.from_residual.ensures.1 c.in_err-referrer.ensures.unserved
+
+pub returns-clause-urls : goal.returns-clause-urls
+returns-clause-urls g c =
+    on_ok_weaker c.follow_all.result (λ keeps. keeps (referrer_url c.args.config.now the_page c.in_ok-referrer.referrer c.in_ok-referrer.ensures.is)) c.follow_all.ensures.urls

@@ -5,9 +5,10 @@ use Rattle.trace_spec.specs.Modules.{Module}
 use Rattle.trace_walk.specs.declared.tables.Name.{Name}
 use Rattle.trace_walk.specs.Meeting.{Met}
 use Rattle.trace_walk.specs.Shown.{before_of, traced_of}
-use Rattle.trace_walk.specs.Walking.{IsNamed, AllNamed}
+use Rattle.trace_walk.specs.Walking.{IsNamed, AllNamed, AreOfUrls}
 use Rattle.trace_walk.proofs.FaultKinds.{handed}
 use Rattle.trace_walk.proofs.Visiting.{begun_is, walk_unpaged, walk_paged, whole_by}
+use Rattle.trace_walk.proofs.UrlLemmas.{no_urls}
 use Rattle.trace_walk.proofs.visits.walk.Goals as goal
 
 pub returns-in_err-visit_page-clause-met : goal.returns-in_err-visit_page-clause-met
@@ -34,7 +35,10 @@ returns-clause-met g c =
 
 pub returns-clause-whole : goal.returns-clause-whole
 returns-clause-whole g c =
+    let none : AllNamed c.args.config.now c.new-tables.result.modules.entries = subst (AllNamed c.args.config.now) (sym c.new-tables.ensures.modules) (All-nil (λ (x : Module × Name). IsNamed c.args.config.now x.0 x.1)) in
+    let begun : AreOfUrls c.new-tables.result.needs = subst AreOfUrls (sym c.new-tables.ensures.needs) no_urls in
     whole_by c.args.config.now c.new-tables.result c.visit_page.new.tables c.visit_modules.new.tables c.new-tables.ensures.modules c.new-tables.ensures.sources c.new-tables.ensures.needs c.new-tables.ensures.requests c.in_ok-visit_page.ensures.grows c.in_ok-visit_modules.ensures.grows
+    (c.in_ok-visit_modules.ensures.urls (c.in_ok-visit_page.ensures.grows.named none) (c.in_ok-visit_page.ensures.urls begun))
 
 pub returns-clause-bounded : goal.returns-clause-bounded
 returns-clause-bounded g c =
@@ -43,3 +47,8 @@ returns-clause-bounded g c =
     let few = c.in_ok-visit_page.ensures.grows.requests (omega (arith, begins)) in
     let all = c.in_ok-visit_modules.ensures.bounded few in
     omega (arith, begins, page, all)
+
+pub returns-clause-named : goal.returns-clause-named
+returns-clause-named g c =
+    let none : AllNamed c.args.config.now c.new-tables.result.modules.entries = subst (AllNamed c.args.config.now) (sym c.new-tables.ensures.modules) (All-nil (λ (x : Module × Name). IsNamed c.args.config.now x.0 x.1)) in
+    c.in_ok-visit_modules.ensures.grows.named (c.in_ok-visit_page.ensures.grows.named none)

@@ -1,8 +1,10 @@
-use Rattle.std.proofs.Common.{refl, sym, subst, ◌≡◌, ◌++◌, ◌∷◌, []}
+use Rattle.std.proofs.Common.{refl, sym, ap, subst, ◌≡◌, ◌++◌, ◌∷◌, []}
+use Rattle.layout_spec.specs.declared.Need.{Need}
 use Rattle.trace_walk.specs.Walking.{IsNamed}
 use Rattle.trace_spec.specs.declared.TraceFault.TheVariants.{Memory}
 use Rattle.trace_walk.proofs.FaultKinds.{handed_kind}
 use Rattle.trace_walk.proofs.TableLemmas.{memory_given, grows_by_one}
+use Rattle.trace_walk.proofs.UrlLemmas.{added_urls}
 use Rattle.trace_walk.proofs.tables.Tables.put_new.Goals as goal
 
 pub returns-in_err-text-clause-put : goal.returns-in_err-text-clause-put
@@ -24,3 +26,7 @@ returns-in_err-need-clause-put c = λ r is. memory_given _ c.from_residual-in_er
 
 pub returns-in_err-need-clause-kind : goal.returns-in_err-need-clause-kind
 returns-in_err-need-clause-kind c = handed_kind c.args.config.now c.from_residual-in_err-need.result Memory c.from_residual-in_err-need.ensures.1 tt
+
+pub returns-clause-urls : goal.returns-clause-urls
+returns-clause-urls c = λ url all.
+    added_urls c.args.self.now.needs c.put_need.new.needs c.in_ok-need.need c.args.referrer.now.text c.in_ok-put_need.ensures.added.needs_are (ap (λ (need : Need). need.referrer) c.in_ok-need.ensures) url all
