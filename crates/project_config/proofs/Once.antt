@@ -1,11 +1,13 @@
 -- Entries that are put behind others, each once, and entries that are taken out.
 use Rattle.std.proofs.Common.{◌≡◌, ◌<◌, ◌+◌, ℕ, true, false, List, [], ◌∷◌, ◌++◌, length, take, map, get_or, sym, refl, ap, subst, ◌∙◌, if◌then◌else◌, append_assoc, append-nil, inl, inr, arith}
-use Rattle.std.specs.Prelude.{bytes_eq}
+use Rattle.std.specs.Prelude.{bytes_eq, Result, Ok, Err, IfOk}
 use Rattle.std.specs.Cmp.{IsEquivalence}
 use Rattle.std.specs.List.{list_any, IsDistinct}
 use Rattle.std.proofs.lemmas.Bool.{cases_Bool, cond-true, cond-false, true≢false}
 use Rattle.std.proofs.lemmas.Cmp.{nat_list_eq_equiv}
-use Rattle.std.proofs.lemmas.List.{take_more, length-append, get_or-append, get_or-append_seam}
+use Rattle.std.proofs.Math.Seq.{get_or-append_seam}
+use Rattle.std.proofs.Math.ListN.{get_or-append}
+use Rattle.std.proofs.lemmas.List.{take_more, length-append}
 use Rattle.std.proofs.lemmas.List.Folds.{Any-from_list_any}
 use Rattle.std.proofs.lemmas.Map.Keys.{apart_from_distinct, IsDistinct-push}
 use Rattle.indexmap.specs.IndexSet.{insert_key}
@@ -72,3 +74,13 @@ none_twice = tt
 -- texts that are counted once stand once
 pub counted_once : (found texts : List (List ℕ)) → found ≡ once_onto [] texts → IsDistinct bytes_eq found
 counted_once found texts is = subst (IsDistinct bytes_eq) (sym is) (distinct_onto [] texts none_twice)
+
+-- ---- what a call gives
+
+pub onto_old : {E : Type 0} (old texts all lent : List (List ℕ)) (result : Result (List (List ℕ)) E) → IsDistinct bytes_eq old → all ≡ old ++ texts → lent ≡ all → IfOk result (λ found. found ≡ once_onto [] lent) → IfOk result (λ found. found ≡ once_onto old texts)
+onto_old old texts all lent (Ok found) distinct put same is = behind_old old texts lent found distinct (same ∙ put) is
+onto_old old texts all lent (Err fault) distinct put same is = tt
+
+pub each_once : {E : Type 0} (lent : List (List ℕ)) (result : Result (List (List ℕ)) E) → IfOk result (λ found. found ≡ once_onto [] lent) → IfOk result (IsDistinct bytes_eq)
+each_once lent (Ok found) is = counted_once found lent is
+each_once lent (Err fault) is = tt

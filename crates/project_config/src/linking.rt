@@ -31,11 +31,7 @@ pub(crate) fn linked(
     }
 }
 
-fn new_project(
-    alloc: Global,
-    settings: Settings,
-    words: &[String],
-) -> Result<Config, NoConfig>
+fn new_project(alloc: Global, settings: Settings, words: &[String]) -> Result<Config, NoConfig>
     ensures { Comes (spec.new_project settings settings.base (map string_bytes words.now)) result }
 {
     let (base, page, conditions) = settings.into_parts();

@@ -13,11 +13,7 @@ use std::alloc::Global;
 use trace_walk::Config;
 
 /// The config of an order over the project that was found, if one was.
-pub fn config_of(
-    alloc: Global,
-    order: Order<'_>,
-    found: Option<Config>,
-) -> Result<Config, NoConfig>
+pub fn config_of(alloc: Global, order: Order<'_>, found: Option<Config>) -> Result<Config, NoConfig>
     ensures { (asked : Asked) → IsOrderOf order.entry asked
         → Comes (spec.config_in asked (settings_ordered order.entry) found) result }
 {
@@ -30,7 +26,11 @@ pub fn config_of(
     }
 }
 
-fn unlinked_there(alloc: Global, words: &[String], found: Option<Config>) -> Result<Config, NoConfig>
+fn unlinked_there(
+    alloc: Global,
+    words: &[String],
+    found: Option<Config>,
+) -> Result<Config, NoConfig>
     ensures { Comes (spec.if_there found (spec.unlinked (map string_bytes words.now))) result }
 {
     match there(found) {

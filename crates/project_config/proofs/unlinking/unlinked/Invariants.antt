@@ -11,7 +11,7 @@ use Rattle.project_config.proofs.unlinking.unlinked.Given as goal
 abbrev pub invariant-loop-word : goal.invariant-loop-word
 invariant-loop-word l = record {
   rest :
-      unlinked (map string_bytes (drop l.word-index l.words)) (config_with l.base l.page l.conditions l.left)
+      unlinked (map string_bytes (drop l.word-index l.words)) (config_with l.fn.config.base l.fn.config.page l.fn.config.conditions l.left)
       ≡ unlinked (map string_bytes l.words) l.fn.config;
   distinct : IsDistinct bytes_eq l.left;
   few : length l.left ≤ limit_number Entries;
