@@ -38,7 +38,7 @@ not_before seen texts text distinct there =
     let long = length-append seen (text ∷ texts) in
     let within : length seen < length all = omega arith in
     let apart = apart_from_distinct bytes_eq all found.0 (length seen) found.1 distinct inside within in
-    let first : get_or all found.0 found.1 ≡ found.1 = get_or-append seen (text ∷ texts) found.1 found.0 inside ∙ sym found.3 in
+    let first : get_or all found.0 found.1 ≡ found.1 = get_or-append seen (text ∷ texts) found.1 found.0 inside ∙ found.3 in
     let second : get_or all (length seen) found.1 ≡ text = get_or-append_seam seen text texts found.1 in
     let differ : bytes_eq found.1 text ≡ false = (λ j. bytes_eq (sym first j) (sym second j)) ∙ apart in
     true≢false (sym found.4 ∙ (equal_bytes.symm text found.1 ∙ differ))
