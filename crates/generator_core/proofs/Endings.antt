@@ -161,7 +161,7 @@ serves_where_done words tree config map all is holds traces zero = record {
 
 -- ---- an end that is said is the end of a run
 
-status_done : (status : ℕ) (line : List ℕ) (out out_after : SinkState) (result : ℕ) → Ends status line out out_after result → result ≡ 0 → status ≡ 0
+pub status_done : (status : ℕ) (line : List ℕ) (out out_after : SinkState) (result : ℕ) → Ends status line out out_after result → result ≡ 0 → status ≡ 0
 status_done status line out out_after result (ends.said is given quiet) zero = sym is ∙ zero
 status_done status line out out_after result (ends.output_fault is gives rose) zero = absurd (omega arith)
 
@@ -222,7 +222,7 @@ ends_from words before middle after out out_after result looked is =
 
 -- ---- steps
 
-refusal_not_done : (why : Refusal) (out out_after : SinkState) (result : ℕ) → TellsRefusal why out out_after result → result ≢ 0
+pub refusal_not_done : (why : Refusal) (out out_after : SinkState) (result : ℕ) → TellsRefusal why out out_after result → result ≢ 0
 refusal_not_done why out out_after result (inl told) zero = refusal_is_not_zero why (status_done (status_of why) (line_of why) out out_after result told zero)
 refusal_not_done why out out_after result (inr memory) zero = let e = status_done 8 memory_line out out_after result memory zero in absurd (omega (arith, e))
 
@@ -253,7 +253,7 @@ spends_few prepared before after out out_after result steps later wrote few zero
 
 -- ---- words that are refused
 
-some_same : {A : Type 0} (told : Option A) (P : A → Type 0) → ((x : A) → told ≡ Some x → P x) → IfSome told P
+pub some_same : {A : Type 0} (told : Option A) (P : A → Type 0) → ((x : A) → told ≡ Some x → P x) → IfSome told P
 some_same None P f = tt
 some_same (Some x) P f = f x refl
 

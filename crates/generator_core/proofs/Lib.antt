@@ -3,3 +3,4 @@ pub mod Endings
 pub mod Checkings
 pub mod ReportLemmas
 pub mod Configurings
+pub mod Runs

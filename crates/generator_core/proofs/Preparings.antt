@@ -121,6 +121,12 @@ asks_nothing config holds own state = by state.asked refl
     by None e = tt
     by (Some old) e = record { first = []; is_own = inl refl; more = []; asked = e ∙ ap Some (sym (append-nil old)); once = none_twice; of_footprint = no_more config holds }
 
+-- a command that writes the map's file generates a map
+pub generates : {command : Command} (keeps : Bool) → KeepsProject command keeps → IsGenerating command
+generates _ keeps_project.link = tt
+generates _ keeps_project.unlink = tt
+generates _ keeps_project.refresh = tt
+
 -- ---- generation
 
 module _ (config : Config) (before after : FolderState) where
@@ -171,11 +177,6 @@ module _ (config : Config) (before after : FolderState) where
   }
 
   -- ---- the map, and the project beside it
-
-  generates : {command : Command} (keeps : Bool) → KeepsProject command keeps → IsGenerating command
-  generates _ keeps_project.link = tt
-  generates _ keeps_project.unlink = tt
-  generates _ keeps_project.refresh = tt
 
   is_mapping : {command : Command} (keeps : Bool) → KeepsProject command keeps → IsMapping command
   is_mapping _ keeps_project.link = mapping.link
