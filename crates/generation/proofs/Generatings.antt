@@ -1,9 +1,10 @@
 -- What comes of a trace for which nothing was known.
-use Rattle.std.proofs.Common.{◌∙◌, ◌≡◌, ◌≢◌, ◌≤◌, ℕ, List, [], ◌∷◌, length, Bool, true, false, arith, append-nil, same_Some, Option, Some, None, IfSome, Result, Ok, Err, refl, sym, ap, subst}
+use Rattle.std.proofs.Common.{◌∙◌, ◌≡◌, ◌≢◌, ◌≤◌, ℕ, List, [], ◌∷◌, length, Bool, true, false, arith, append-nil, Option, Some, None, IfSome, Result, Ok, Err, refl, sym, ap, subst}
 use Rattle.std.specs.FinMap.{get}
 use Rattle.std.specs.List.{IsDistinct, ends_with}
 use Rattle.std.specs.Prelude.{◌++◌, ⊤, All, Contains, MatchOption, bytes_eq, nat_eq, codes}
 use Rattle.std.proofs.lemmas.Bool.{cond-false}
+use Rattle.std.proofs.lemmas.Option.{same_Some}
 use Rattle.std.proofs.lemmas.List.{append_cancel_left}
 use Rattle.std.proofs.lemmas.List.Elements.{All-weaker, All-nil}
 use Rattle.std.specs.Option.{option_or}
