@@ -10,7 +10,7 @@ use tree_model::{MemFolder, MemSink, MemSource, Path, PathFault};
 
 /// One run: what it is given, and what must come of it.
 pub struct Case {
-    /// The words, a space between each two.
+    /// The words, a space between each two; none in the empty text.
     pub words: &'static str,
     /// Paths of files, with their texts.
     pub files: &'static [(&'static str, &'static str)],
@@ -93,6 +93,9 @@ pub struct Outcome {
 
 fn words_of(alloc: Global, text: &str) -> Result<Vec<String>, Memory> {
     let mut words = Vec::new(alloc);
+    if text.is_empty() {
+        return Ok(words);
+    }
     for word in text.split(' ') {
         words.push(String::from_str(alloc, word)?)?;
     }
