@@ -1,19 +1,7 @@
 //! Runs of `link` that write a map and a project.
 
 use crate::case::{ALONE, APP_PROJECT, Case, EMPTY_PROJECT, LINK, PAIR, PAIR_MAP};
-
-const NO_MODULES: &str = "{
-  \"imports\": {}
-}
-";
-
-const ALONE_MAP: &str = "{
-  \"imports\": {},
-  \"integrity\": {
-    \"https://app.test/app.mjs\": \"sha384-OLBgp1GsljhM2TJ+sbHjaiH9txEUvgdDTAzHv2P24donTt6/529l+9Ua0vFImLlb\"
-  }
-}
-";
+use crate::project_trees::{ALONE_MAP, NO_MODULES};
 
 const ESCAPED: &str = "{
   \"imports\": {

@@ -8,14 +8,14 @@ use std::alloc::Global;
 use std::test::Fail;
 use tree_model::PathFault;
 
-// The page and the module would be refused too, and each write would fail.
+// The page, the module and the map would be refused too, and the second look and the first write would fail.
 const FILES: &[(&str, &str)] = &[
     ("/index.html", "<head"),
     ("/app.mjs", "import \"./q.mjs\";"),
     ("/importmap.json", "["),
 ];
 
-const NO_WRITE: Fails = Fails {
+const FAILING: Fails = Fails {
     looks: &[2],
     writes: &[1],
     gives: &[],
@@ -189,7 +189,7 @@ fn says(
     status: u8,
     line: &str,
 ) -> Result<bool, PathFault> {
-    let mut folder = folder_of(alloc, FILES, &NO_WRITE)?;
+    let mut folder = folder_of(alloc, FILES, &FAILING)?;
     put(alloc, &mut folder, PROJECT_PATH, project.as_bytes())?;
     let outcome = ended(alloc, words, folder, &[])?;
     Ok(

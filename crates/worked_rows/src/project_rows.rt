@@ -13,8 +13,8 @@ use std::alloc::Global;
 use std::test::Fail;
 use tree_model::PathFault;
 
-/// Runs of `link`: again, with each option in both spellings, over packages, and over projects that are there: an option
-/// goes before the project's value, and an entry is added once.
+/// Runs of `link`: again, with each option in both spellings, over packages, and over projects that are there: an
+/// option goes before the project's value, and an entry is added once.
 static LINKED: [Case; 11] = [
     Case {
         words: LINK,
