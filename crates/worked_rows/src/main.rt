@@ -2,7 +2,7 @@
 //! project that must come of them.
 //!
 //! The program is one such run, and says how it ended. Its input is the number of allocations that it makes before, so
-//! that the one that fails by its number can be any of the run: `rt try --cases INPUTS --fail-alloc 200` in this
+//! that the one that fails by its number can be any of the run: `rt try --cases INPUTS --fail-alloc 1000` in this
 //! folder, for which `.ci/memory.sh` makes the inputs.
 #![tactic(auto)]
 
