@@ -432,8 +432,7 @@ fi
 
 # The page and the conditions of a project.
 file start/index.html '<head'
-file start/p/start.html '<head></head>'
-file start/p/app.mjs 'import "c";'
+file start/p/app.mjs 'import "c";' && echo '<head></head>' >"$kept/start/p/start.html"
 file start/node_modules/c/package.json '{"exports":{"browser":"./b.mjs","node":"./n.mjs"}}'
 file start/node_modules/c/b.mjs ''
 file start/node_modules/c/n.mjs ''
