@@ -10,7 +10,7 @@ use trace_walk::Config;
 /// the last of them comes to.
 static ROWS: &str = r#"
 [link][--base][ftp://h/][x] => bad base [ftp://h/]
-[link][--base=https://app.test][x] => bad base [https://app.test]
+[link][--base=https://app.test/?][x] => bad base [https://app.test/?]
 [link][--base=https://app.test/a][x] => bad base [https://app.test/a]
 [link][./a.mjs][--base][https://app.test/] => not plain
 [link][--base=] => not plain
@@ -33,6 +33,7 @@ static ROWS: &str = r#"
 [check] => no project
 [inject] => no project
 [link][--base][https://app.test/][./app.mjs] => [https://app.test/][/index.html] for [browser][import] of [./app.mjs]
+[link][--base=https://app.test][x] => [https://app.test/][/index.html] for [browser][import] of [x]
 [link][--base][HTTPS://H/a/] => [https://h/a/][/index.html] for [browser][import] of 
 [link][--base][https://app.test/][--conditions][node,import][ui] => [https://app.test/][/index.html] for [node][import] of [ui]
 [link][--base=https://h/][b][a][b][a][b] => [https://h/][/index.html] for [browser][import] of [b][a]
@@ -180,7 +181,7 @@ fn first_wrong(alloc: Global, rows: &'static str) -> Result<(usize, &'static str
 fn commands(rt: HostRuntime) -> Result<(), Fail> {
     let (right, wrong) = first_wrong(rt.alloc(), ROWS)?;
     assert_eq!(rt; wrong, "");
-    assert_eq!(rt; right, 40);
+    assert_eq!(rt; right, 41);
     Ok(())
 }
 
