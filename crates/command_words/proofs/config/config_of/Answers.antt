@@ -25,4 +25,4 @@ returns-then-len-gt-MOST_ENTRIES-clause-refused c =
     (too_many c.in_ok-entries.entries _ _ c.in_ok-entries.ensures c.len.ensures c.if-len-gt-MOST_ENTRIES.true))
 
 pub new-requires-clause-distinct : goal.new-requires-clause-distinct
-new-requires-clause-distinct c = counted_once c.in_ok-entries.entries _ c.in_ok-entries.ensures
+new-requires-clause-distinct c = counted_once c.in_ok-entries.entries (map string_bytes c.in-Some.entries.now) c.in_ok-entries.ensures
