@@ -135,11 +135,20 @@ fn tell<R: Runtime>(rt: &R, answer: Result<Counts, NodeFault>) -> io::Result<()>
     }
 }
 
-fn resolve_file<R: Runtime + AllocGlobal>(rt: &R, name: &str, count: u64) -> io::Result<()> {
+fn resolve_file<R: Runtime + AllocGlobal, L: Ledger>(
+    rt: &R,
+    name: &str,
+    count: u64,
+    blank: Blank,
+) -> io::Result<()>
+    requires name { blank.name ≡ L.name }
+    requires parts { blank.parts ≡ L.parts }
+    requires some { 0 < blank.parts }
+{
     let pairs = fs::read_to_string(rt, name)?;
     tell(
         rt,
-        resolve_in_folder::<R, Brand>(rt, pairs.as_str(), count, Blank::new(1)),
+        resolve_in_folder::<R, L>(rt, pairs.as_str(), count, blank),
     )
 }
 
@@ -155,6 +164,11 @@ fn main(rt: HostRuntime) -> io::Result<()> {
     words.next();
     match words.next() {
         None => Ok(()),
-        Some(name) => resolve_file(&rt, name.as_str(), count_of(words.next())),
+        Some(name) => resolve_file::<HostRuntime, Brand>(
+            &rt,
+            name.as_str(),
+            count_of(words.next()),
+            Blank::new(1),
+        ),
     }
 }

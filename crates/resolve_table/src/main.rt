@@ -49,18 +49,18 @@ fn table_line<L: Ledger>(
     Ok(format!(in alloc; "{name}: {} cases{}", report.cases(), report.differences())?)
 }
 
-fn tried<L: Ledger>(alloc: Global, name: &str, text: &str, blank: Blank) -> io::Result<String>
+fn try_file<R: Runtime + AllocGlobal, L: Ledger>(
+    rt: &R,
+    name: &str,
+    blank: Blank,
+) -> io::Result<String>
     requires name { blank.name ≡ L.name }
     requires parts { blank.parts ≡ L.parts }
     requires some { 0 < blank.parts }
 {
-    let mut steps = Steps::<L>::start(blank);
-    table_line(alloc, name, text, &mut steps)
-}
-
-fn try_file<R: Runtime + AllocGlobal>(rt: &R, name: &str) -> io::Result<String> {
     let text = fs::read_to_string(rt, name)?;
-    tried::<Brand>(rt.alloc(), name, text.as_str(), Blank::new(1))
+    let mut steps = Steps::<L>::start(blank);
+    table_line(rt.alloc(), name, text.as_str(), &mut steps)
 }
 
 fn tell<R: Runtime + AllocGlobal>(rt: &R, line: &io::Result<String>) -> io::Result<()> {
@@ -74,7 +74,10 @@ fn main(rt: HostRuntime) -> io::Result<()> {
     let mut words = env::args(&rt)?;
     words.next();
     for word in words {
-        tell(&rt, &try_file(&rt, word.as_str()))?;
+        tell(
+            &rt,
+            &try_file::<HostRuntime, Brand>(&rt, word.as_str(), Blank::new(1)),
+        )?;
     }
     tell(&rt, &looks_under_laid(rt.alloc()))?;
     tell(&rt, &looks_at_nothing(rt.alloc()))?;
