@@ -135,9 +135,10 @@ fn tell<R: Runtime>(rt: &R, answer: Result<Counts, NodeFault>) -> io::Result<()>
     }
 }
 
+// A `&str` here would leave no ghost members to pick at the call.
 fn resolve_file<R: Runtime + AllocGlobal, L: Ledger>(
     rt: &R,
-    name: &str,
+    name: &String,
     count: u64,
     blank: Blank,
 ) -> io::Result<()>
@@ -145,7 +146,7 @@ fn resolve_file<R: Runtime + AllocGlobal, L: Ledger>(
     requires parts { blank.parts ≡ L.parts }
     requires some { 0 < blank.parts }
 {
-    let pairs = fs::read_to_string(rt, name)?;
+    let pairs = fs::read_to_string(rt, name.as_str())?;
     tell(
         rt,
         resolve_in_folder::<R, L>(rt, pairs.as_str(), count, blank),

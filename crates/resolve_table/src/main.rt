@@ -49,18 +49,19 @@ fn table_line<L: Ledger>(
     Ok(format!(in alloc; "{name}: {} cases{}", report.cases(), report.differences())?)
 }
 
+// A `&str` here would leave no ghost members to pick at the call.
 fn try_file<R: Runtime + AllocGlobal, L: Ledger>(
     rt: &R,
-    name: &str,
+    name: &String,
     blank: Blank,
 ) -> io::Result<String>
     requires name { blank.name ≡ L.name }
     requires parts { blank.parts ≡ L.parts }
     requires some { 0 < blank.parts }
 {
-    let text = fs::read_to_string(rt, name)?;
+    let text = fs::read_to_string(rt, name.as_str())?;
     let mut steps = Steps::<L>::start(blank);
-    table_line(rt.alloc(), name, text.as_str(), &mut steps)
+    table_line(rt.alloc(), name.as_str(), text.as_str(), &mut steps)
 }
 
 fn tell<R: Runtime + AllocGlobal>(rt: &R, line: &io::Result<String>) -> io::Result<()> {
@@ -76,7 +77,7 @@ fn main(rt: HostRuntime) -> io::Result<()> {
     for word in words {
         tell(
             &rt,
-            &try_file::<HostRuntime, Brand>(&rt, word.as_str(), Blank::new(1)),
+            &try_file::<HostRuntime, Brand>(&rt, &word, Blank::new(1)),
         )?;
     }
     tell(&rt, &looks_under_laid(rt.alloc()))?;
