@@ -167,7 +167,7 @@ fn main(rt: HostRuntime) -> io::Result<()> {
         None => Ok(()),
         Some(name) => resolve_file::<HostRuntime, Brand>(
             &rt,
-            name.as_str(),
+            &name,
             count_of(words.next()),
             Blank::new(1),
         ),
