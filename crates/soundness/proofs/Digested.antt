@@ -70,12 +70,12 @@ digest_by config first modules bytes url text others later (Some name) same foun
     let inserted : cond (same_key url name) (Some (digest_text bytes)) (get others url) ≡ Some text = sym (get_inserted others name (digest_text bytes) url) ∙ found in
     elim (cases_Bool (same_key url name)) [
       | inl here ↦ record {
-          m = first;
-          is_module = contains_here first modules;
-          named = same ∙ ap Some (sym (same_key_is url name here));
-          bytes = bytes;
-          digest = same_Some text (digest_text bytes) (sym inserted ∙ cond-true _ _ _ here);
-        }
+        m = first;
+        is_module = contains_here first modules;
+        named = same ∙ ap Some (sym (same_key_is url name here));
+        bytes = bytes;
+        digest = same_Some text (digest_text bytes) (sym inserted ∙ cond-true _ _ _ here);
+      }
       | inr other ↦ behind config first modules url text (later (sym (cond-false _ _ _ other) ∙ inserted))
     ]
 

@@ -10,7 +10,7 @@ loop-place-preserved c =
     let is : c.loop-place.place ≡ suc (c.loop-place.place - 1) = omega (arith, some) in (
       omega (arith, within),
       digest_before c.args.config.now c.args.trace.now.modules c.args.trace.now.sources (c.loop-place.place - 1) c.loop-place.place (kept_texts c.loop-place.kept) (kept_texts c.put.new.kept) is within
-      (sym c.len-place.ensures.modules ∙ c.len-place.ensures.sources) c.loop-place.invariant.1 c.in_ok-put.ensures,
+          (sym c.len-place.ensures.modules ∙ c.len-place.ensures.sources) c.loop-place.invariant.1 c.in_ok-put.ensures,
     )
 
 pub returns : goal.returns
