@@ -27,6 +27,8 @@ use Rattle.url_spec.specs.PathTests.{is_served}
 use Rattle.url_spec.specs.ServedPaths.{IsServed}
 use Rattle.url_spec.specs.Specifiers.{ends_in_slash}
 use Rattle.url_spec.specs.WebNames.{web}
+use Rattle.web_url.specs.Serving.{IsUnservable}
+use Rattle.web_url.specs.declared.names.WebFault.TheVariants as web_fault
 use Rattle.generator_spec.proofs.Nameless.{unserved_is_refused}
 use Rattle.generator_spec.specs.Generation.{PageIsFile}
 use Rattle.trace_spec.specs.Traces.{traced, generation}
@@ -245,3 +247,12 @@ unserved_at config url stop named lost (unserved_there.refused same) =
         by : (test : Bool) → is_served config.base name config.page ≡ test → is_served config.base name config.page ≡ false
         by false e = e
         by true e = absurd (none (served_by_test config.base name config.page e))
+
+-- the same, by what was said of a base, a path and a suffix that are these
+pub unserved_by :
+    (config : Config) (base path suffix : List ℕ) (url : Option (List ℕ)) (stop : Stop) → base ≡ config.base → path ≡ config.page → suffix ≡ [] → IsUnservable base path suffix (web_fault.Unservable url) → IsUnservedAt config url stop
+    → IsUnserved config stop
+unserved_by config base path suffix url stop b p s is at =
+    unserved_at config url stop
+    (is.0 ∙ (ap (λ x. web x path suffix) b ∙ (ap (λ x. web config.base x suffix) p ∙ ap (web config.base config.page) s)))
+    (subst (λ x. MatchOption url ⊤ (λ name. IsServed x name config.page → ⊥)) b (subst (λ x. MatchOption url ⊤ (λ name. IsServed base name x → ⊥)) p is.1)) at

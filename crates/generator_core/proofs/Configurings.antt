@@ -150,11 +150,11 @@ module _ (words : List (List ℕ)) (order : Order) (is : IsOrder words order) (b
       found = tt;
       asked = at.asked;
       stopped = stops_config.refused fault same
-      (if_some before.holds (λ tree held. record {
-        command = command;
-        configures = record { asked = is.asked; asks = is.asks; is = is.is_order.is; settings = settings_ordered order; sets = is.is_order.sets; found = Ok found; holds = held; comes = sym comes };
-      }) at.found.told)
-      (fault_for words command fault is.asked (settings_ordered order) (Ok found) is.asks is.is_order.is is.is_order.sets at.found.can.faults (sym comes)) at.found.looks;
+          (if_some before.holds (λ tree held. record {
+            command = command;
+            configures = record { asked = is.asked; asks = is.asks; is = is.is_order.is; settings = settings_ordered order; sets = is.is_order.sets; found = Ok found; holds = held; comes = sym comes };
+          }) at.found.told)
+          (fault_for words command fault is.asked (settings_ordered order) (Ok found) is.asks is.is_order.is is.is_order.sets at.found.can.faults (sym comes)) at.found.looks;
     }
 
     pub config_lacks : (stop : Stop) → stop ≡ Memory → Configures words command before (Err stop) after
