@@ -17,11 +17,12 @@ use Rattle.command_words.specs.declared.order.Order.{Order}
 use Rattle.command_words.specs.Orders.{IsOrder, command_ordered, settings_ordered}
 use Rattle.generator_spec.specs.declared.Refusal.TheVariants as refusal
 use Rattle.generator_spec.specs.Commands.{NewFile}
-use Rattle.generator_spec.specs.Ending.{AreWritten}
-use Rattle.generator_spec.specs.Lines.{memory_line}
+use Rattle.generator_spec.specs.Ending.{AreWritten, Ends}
+use Rattle.generator_spec.specs.Lines.{counts_line, memory_line, write_fault_line}
 use Rattle.generator_core.specs.Configuring.{AsksInOrder, AsksInOrder as asks_in_order, IsConfigAt}
-use Rattle.generator_core.specs.Preparing.{AsksOwn, AsksFew, own_file}
-use Rattle.generator_core.specs.Writing.{AreSome, IsWriting, TellsNoMeaning, TellsNoMeaning as tells_text, TellsWords, WritesFiles, WritesFiles as writes_files}
+use Rattle.generator_core.specs.declared.prepared.Prepared.{Prepared}
+use Rattle.generator_core.specs.Preparing.{AsksOwn, AsksFew, own_file, shown_files}
+use Rattle.generator_core.specs.Writing.{AreSome, Finishes, IsWriting, SaysWrite, SaysWrite as says_write, TellsNoMeaning, TellsNoMeaning as tells_text, TellsWords, WritesFiles, WritesFiles as writes_files}
 use Rattle.generator_core.proofs.Preparings.{if_some}
 use Rattle.generator_core.proofs.Endings.{status_done, refusal_not_done, some_same}
 
@@ -114,3 +115,30 @@ module _ (file : NewFile) (files : List NewFile) (before middle after : FolderSt
   pub then_written : (done : Bool) → IfSome before.holds IsPlaced → WritesFiles files middle done after → WritesFiles (file ∷ files) before done after
   then_written done placed (writes_files.all is told same others) = writes_files.all is (behind before.holds placed told placed_then) (same ∙ quiet) (writing others)
   then_written done placed (writes_files.some is told rose others) = writes_files.some is (behind before.holds placed told some_then) (subst (λ n. Rose n after.write_faults) quiet rose) (writing others)
+
+-- ---- what is said of the writes
+
+module _ (prepared : Prepared) (before after : FolderState) (out out_after : SinkState) (result : ℕ) (more : out.faults ≤ out_after.faults) where
+  finishes : (status : ℕ) (line : List ℕ) → SaysWrite before after (shown_files prepared) (counts_line prepared.modules prepared.requests prepared.mappings) status line → Ends status line out out_after result → IsWriting before after → Finishes prepared before after out out_after result
+  finishes status line says ends others = record { status = status; line = line; says = says; ends = ends; untold = others.untold; asked = others.asked; looks = others.looks; writes = others.later; output = more }
+
+  pub done_finishes : (line : List ℕ) → line ≡ counts_line prepared.modules prepared.requests prepared.mappings → (files : List NewFile) → files ≡ shown_files prepared → WritesFiles files before true after → Ends 0 line out out_after result → Finishes prepared before after out out_after result
+  done_finishes line same files are (writes_files.all is told quiet others) ends = finishes 0 line (says_write.written refl same (subst (λ fs. IfSome before.holds (λ tree. AreWritten tree fs after.holds)) are told) quiet) ends others
+  done_finishes line same files are (writes_files.some is told rose others) ends = absurd (cc)
+
+  pub failed_finishes : (line : List ℕ) → line ≡ write_fault_line → (files : List NewFile) → files ≡ shown_files prepared → WritesFiles files before false after → Ends 5 line out out_after result → Finishes prepared before after out out_after result
+  failed_finishes line same files are (writes_files.all is told quiet others) ends = absurd (cc)
+  failed_finishes line same files are (writes_files.some is told rose others) ends = finishes 5 line (says_write.write_fault refl same (subst (λ fs. IfSome before.holds (λ tree. AreSome fs tree after.holds)) are told) rose) ends others
+
+pub memory_finishes : (prepared : Prepared) (state : FolderState) (out out_after : SinkState) (result : ℕ) (line : List ℕ) → out.faults ≤ out_after.faults → line ≡ memory_line → Ends 8 line out out_after result → Finishes prepared state state out out_after result
+memory_finishes prepared state out out_after result line more same ends = record {
+  status = 8;
+  line = line;
+  says = says_write.memory refl same refl refl;
+  ends = ends;
+  untold = λ none. none;
+  asked = refl;
+  looks = refl;
+  writes = omega arith;
+  output = more;
+}
