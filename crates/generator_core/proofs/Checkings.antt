@@ -1,15 +1,12 @@
 -- How a check comes to its report, step by step.
-use Rattle.std.proofs.Common.{◌≡◌, ◌≢◌, ◌≤◌, ◌++◌, ℕ, Bool, true, false, List, [], ◌∷◌, length, Option, Some, None, Ok, Err, IfSome, Result, refl, sym, ap, ◌∙◌, subst, inl, inr, arith}
+use Rattle.std.proofs.Common.{◌≡◌, ◌≤◌, ℕ, true, false, List, [], ◌∷◌, length, Option, Some, None, Ok, Err, IfSome, Result, refl, sym, ap, ◌∙◌, subst, inl, arith}
 use Rattle.std.specs.FinMap.{get}
 use Rattle.std.specs.Prelude.{map as each, All}
-use Rattle.std.specs.List.{concat}
 use Rattle.std.proofs.lemmas.List.Elements.{All-nil, All-cons}
 use Rattle.std.proofs.lemmas.List.{append-nil}
-use Rattle.std.proofs.lemmas.List.Folds.{concat-append}
 use Rattle.tree_spec.specs.declared.Look.{Look}
 use Rattle.tree_spec.specs.declared.Look.TheVariants as look
 use Rattle.tree_spec.specs.declared.LookFault.TheVariants as look_fault
-use Rattle.tree_spec.specs.Counts.{Rose}
 use Rattle.tree_spec.specs.States.{FolderState, SinkState, OnlyLooks, IsLooked}
 use Rattle.tree_spec.specs.Trees.{Tree}
 use Rattle.import_map_spec.specs.ParsedMap.{ParsedMap, MapFault}
@@ -19,28 +16,27 @@ use Rattle.trace_spec.specs.declared.TraceFault.TheVariants.{Unservable}
 use Rattle.trace_spec.specs.Checks.{Gathered}
 use Rattle.trace_spec.specs.Kinds.{IsOfTrace}
 use Rattle.trace_spec.specs.Modules.{Config, path_of, shown, served_name, web_name}
-use Rattle.trace_spec.specs.Traces.{traced}
 use Rattle.trace_spec.specs.Walking.{the_page}
 use Rattle.generator_spec.proofs.Nameless.{nameless_is_refused}
 use Rattle.config_spec.specs.declared.Command.TheVariants.{Check}
 use Rattle.generator_spec.specs.declared.MapFileFault.{MapFileFault}
 use Rattle.generator_spec.specs.declared.MapFileFault.TheVariants as map_fault
-use Rattle.generator_spec.specs.declared.Refusal.TheVariants.{MapFile, Trace}
-use Rattle.generator_spec.specs.Checking.{need_at, spelling_at, difference_line, difference_lines, check_status, check_lines}
+use Rattle.generator_spec.specs.declared.Refusal.TheVariants.{MapFile}
+use Rattle.generator_spec.specs.Checking.{need_at, spelling_at, difference_line, difference_lines, check_lines}
 use Rattle.generator_spec.specs.Commands.{map_path, map_file_limit, map_file_fault, IsMapText, ReadsMap, HoldsMap, RefusesMapFile, RefusesMapFile as refuses_map}
-use Rattle.generator_spec.specs.Commands.{Opens, Opens as opens, Refuses, Refuses as refuses, IsRefusalOf as kind}
+use Rattle.generator_spec.specs.Commands.{Opens as opens, Refuses as refuses, IsRefusalOf as kind}
 use Rattle.config_spec.specs.Projects.{IsConfigOf}
 use Rattle.generator_spec.specs.Outcome.{ComesTo as comes, Outcome}
 use Rattle.generator_spec.specs.Ending.{IsDifference, IsDone, IsDone as done, Says, Ends, EndsAs, Shaped as shaped, Says as says}
 use Rattle.generator_core.specs.Configuring.{IsConfigAt}
 use Rattle.generation.specs.declared.stop.Stop.{Stop}
 use Rattle.generation.specs.declared.stop.Stop.TheVariants.{Refused, ReadFault, Memory}
-use Rattle.generation.specs.Generating.{Tracing, AsksNoPathTwice}
+use Rattle.generation.specs.Generating.{Tracing}
 use Rattle.generator_core.specs.declared.checking.Report.{Report}
 use Rattle.generator_core.specs.Preparing.{EndsBefore, AsksOwn}
-use Rattle.generator_core.specs.Checking.{IsMapTextFound, FindsMapText, IsMapStop, FindsMap, IsNameless, IsReport, IsChecked, IsReported, ChecksBy, Checks}
-use Rattle.generator_core.specs.Checking.{IsMapStop as map_stop, IsNameless as nameless}
-use Rattle.generator_core.proofs.Preparings.{if_some, if_two, if_all, looks_as, then_looks, earlier_end, own_asked, own_alone, own_then}
+use Rattle.generator_core.specs.Checking.{IsMapTextFound, FindsMapText, IsMapStop, FindsMap, IsReport, IsChecked, IsReported, ChecksBy, Checks}
+use Rattle.generator_core.specs.Checking.{IsMapStop as map_stop}
+use Rattle.generator_core.proofs.Preparings.{if_some, if_two, looks_as, then_looks, earlier_end, own_asked, own_alone, own_then}
 use Rattle.generator_core.proofs.Endings.{command_for, ends_as, serves_where_done}
 
 -- ---- the look at the map's file

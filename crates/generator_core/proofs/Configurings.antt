@@ -1,5 +1,5 @@
 -- How a command comes to its config, step by step.
-use Rattle.std.proofs.Common.{◌≡◌, ◌≤◌, ℕ, List, [], ◌∷◌, ◌++◌, length, Option, Some, None, Ok, Err, IfSome, Result, refl, sym, ap, ◌∙◌, subst, inl, inr, arith}
+use Rattle.std.proofs.Common.{◌≡◌, ◌≤◌, ℕ, true, false, List, [], ◌∷◌, length, Option, Some, None, Ok, Err, IfSome, Result, refl, sym, ap, ◌∙◌, subst, inl, arith}
 use Rattle.std.specs.FinMap.{get}
 use Rattle.std.proofs.lemmas.List.{append-nil}
 use Rattle.tree_spec.specs.declared.Look.{Look}
@@ -8,7 +8,6 @@ use Rattle.tree_spec.specs.declared.LookFault.TheVariants as look_fault
 use Rattle.tree_spec.specs.declared.LimitName.TheVariants.{Entries, File}
 use Rattle.tree_spec.specs.Limits.{limit_number}
 use Rattle.tree_spec.specs.States.{FolderState, IsLooked, OnlyLooks}
-use Rattle.tree_spec.specs.Trees.{Tree}
 use Rattle.project_spec.proofs.ReadBack.{read_projects}
 use Rattle.project_spec.specs.ProjectFiles as project
 use Rattle.project_spec.specs.ProjectFiles.{IsProject, ReadsProject}
@@ -20,16 +19,14 @@ use Rattle.config_spec.specs.declared.ConfigFault.{ConfigFault}
 use Rattle.config_spec.specs.declared.ConfigFault.TheVariants.{Project}
 use Rattle.config_spec.specs.declared.ProjectFault.{ProjectFault}
 use Rattle.config_spec.specs.declared.ProjectFault.TheVariants.{TooLarge}
-use Rattle.config_spec.specs.Projects.{project_path, read_fault, read_outcome, config_in, config_by, HoldsProject, HoldsProject as holds, IsReadFault, IsReadFault as read_faults}
-use Rattle.config_spec.specs.Projects.{IsConfigOf, RefusesConfig}
+use Rattle.config_spec.specs.Projects.{project_path, read_fault, read_outcome, config_in, HoldsProject, HoldsProject as holds, IsReadFault, IsReadFault as read_faults}
 use Rattle.command_words.specs.declared.order.Order.{Order}
 use Rattle.command_words.specs.Orders.{IsOrder, command_ordered, settings_ordered}
-use Rattle.project_config.specs.Outcomes.{Comes}
 use Rattle.generator_spec.specs.declared.Refusal.TheVariants.{Config as Configured}
 use Rattle.generation.specs.declared.stop.Stop.{Stop}
 use Rattle.generation.specs.declared.stop.Stop.TheVariants.{Refused, ReadFault, Memory}
 use Rattle.generator_core.specs.Preparing.{AsksOwn}
-use Rattle.generator_core.specs.Configuring.{CanBeHeld, IsRead, StopsProject, StopsProject as stops_project, FindsProject, StopsConfig, StopsConfig as stops_config, Configures}
+use Rattle.generator_core.specs.Configuring.{CanBeHeld, StopsProject, StopsProject as stops_project, FindsProject, StopsConfig, StopsConfig as stops_config, Configures}
 use Rattle.generator_core.proofs.Preparings.{if_some, own_asked}
 
 -- ---- what is held

@@ -1,5 +1,5 @@
 -- How a run ends.
-use Rattle.std.proofs.Common.{◌≡◌, ◌≢◌, ◌≤◌, ℕ, List, [], ◌∷◌, ◌++◌, length, Option, Some, None, Ok, IfSome, inl, inr, refl, sym, ap, ◌∙◌, subst, arith}
+use Rattle.std.proofs.Common.{◌≡◌, ◌≢◌, ◌≤◌, ℕ, List, [], ◌∷◌, ◌++◌, Option, Some, None, Ok, IfSome, inl, inr, refl, sym, ap, ◌∙◌, subst, arith}
 use Rattle.std.specs.List.{concat}
 use Rattle.std.specs.Prelude.{◌+◌, option_map, Contains, map as each}
 use Rattle.std.specs.FinMap.{get}
@@ -27,17 +27,17 @@ use Rattle.generator_spec.specs.declared.Refusal.{Refusal}
 use Rattle.generator_spec.specs.declared.Refusal.TheVariants as refusal
 use Rattle.generator_spec.proofs.Refusals.{written_is_opened}
 use Rattle.generator_spec.proofs.Endings.{one_line_text}
-use Rattle.generator_spec.proofs.Outcomes.{writes_generate}
-use Rattle.generator_spec.specs.Commands.{IsGenerating, HoldsMap, Refuses, NewFile, new_file, Writes, Writes as writes_file}
-use Rattle.generator_spec.specs.Checking.{difference_line, difference_lines, check_status, check_lines}
+use Rattle.generator_spec.specs.Commands.{IsGenerating, HoldsMap, NewFile, new_file, map_path, Writes, Writes as writes_file}
+use Rattle.generator_spec.specs.Checking.{difference_line, difference_lines, check_status}
 use Rattle.generator_spec.specs.Digests.{with_digests}
 use Rattle.generator_spec.specs.Generation.{Generates, PageIsFile}
 use Rattle.config_spec.specs.declared.ConfigFault.{ConfigFault}
 use Rattle.config_spec.specs.declared.ConfigFault.TheVariants as config
 use Rattle.config_spec.specs.declared.ProjectFault.{ProjectFault}
 use Rattle.config_spec.specs.declared.ProjectFault.TheVariants as project
-use Rattle.config_spec.specs.Words.{IsCommandOf, IsPlain, RefusesWords}
-use Rattle.config_spec.specs.Projects.{IsConfigOf, IsConfigFor}
+use Rattle.config_spec.specs.Words.{IsCommandOf, IsPlain}
+use Rattle.config_spec.specs.Projects.{project_path, IsConfigOf, IsConfigFor}
+use Rattle.project_spec.specs.ProjectFiles.{project_text}
 use Rattle.generator_spec.specs.Lines.{page_status, map_file_status, config_status, project_status, status_of, line_of, counts_line, memory_line, read_fault_line}
 use Rattle.generator_spec.specs.Outcome.{ComesTo as comes, RefusesRun as refuses_run, RefusesRun, Outcome}
 use Rattle.generator_spec.specs.Ending.{AreWritten, IsGenerated, IsCarried, Linked, IsDone, MapServes, IsCounted, CanRefuse, CanRefuse as can_refuse, StopsWriting, Says, Ends, EndsAs, TellsRefusal}
@@ -119,10 +119,13 @@ record CarriedBy (command : Command) (map : List ℕ) (files : List NewFile) : T
   is_written : Contains files carrier
   is_carried : IsCarried command map carrier
 
+abbrev project_file : Config → List NewFile
+project_file config = new_file project_path (project_text config) ∷ []
+
 carried : (tree : Tree) (config : Config) (map : List ℕ) (command : Command) (files : List NewFile) → Generates tree config map → Writes tree config map command files → CarriedBy command map files
-carried tree config map command files generates writes_file.linked = record { carrier = _; is_written = contains_here _ _; is_carried = refl }
-carried tree config map command files generates writes_file.unlinked = record { carrier = _; is_written = contains_here _ _; is_carried = refl }
-carried tree config map command files generates writes_file.refreshed = record { carrier = _; is_written = contains_here _ []; is_carried = refl }
+carried tree config map command files generates writes_file.linked = record { carrier = new_file map_path map; is_written = contains_here (new_file map_path map) (project_file config); is_carried = refl }
+carried tree config map command files generates writes_file.unlinked = record { carrier = new_file map_path map; is_written = contains_here (new_file map_path map) (project_file config); is_carried = refl }
+carried tree config map command files generates writes_file.refreshed = record { carrier = new_file map_path map; is_written = contains_here (new_file map_path map) []; is_carried = refl }
 carried tree config map command files generates (writes_file.in_page page new is i) = record { carrier = _; is_written = contains_here (new_file config.page new) []; is_carried = one_map_in_page tree config map page new generates i }
 
 linked : (words : List (List ℕ)) (tree : Tree) (map line : List ℕ) (files : List NewFile) (told : Option Tree) → (is : IsGenerated words tree map line) → PageIsFile is.config → Writes tree is.config map is.command files → AreWritten tree files told → Linked words tree told
@@ -148,7 +151,7 @@ no_lines : (all : Gathered) (ds : List Difference) → check_status (each (diffe
 no_lines all [] zero = refl
 no_lines all (d ∷ more) zero = absurd (omega (arith, zero))
 
-pub serves_where_done : (words : List (List ℕ)) (tree : Tree) (config : Config) (map : ParsedMap) (all : Gathered) → IsConfigOf words Check config → HoldsMap tree config map → traced (get tree) config ≡ Ok all → check_status (difference_lines map all) ≡ 0 → MapServes words tree
+pub serves_where_done : (words : List (List ℕ)) (tree : Tree) (config : Config) (map : ParsedMap) (all : Gathered) → IsConfigOf words tree Check config → HoldsMap tree config map → traced (get tree) config ≡ Ok all → check_status (difference_lines map all) ≡ 0 → MapServes words tree
 serves_where_done words tree config map all is holds traces zero = record {
   config = config;
   is_config = is;

@@ -1,11 +1,9 @@
 -- How a run goes by its words.
-use Rattle.std.proofs.Common.{◌≡◌, ◌≢◌, ◌⊎◌, ◌≤◌, ◌<◌, ℕ, zero, suc, List, [], ◌∷◌, ◌++◌, take, length, Bool, true, false, Option, Some, None, Ok, Err, IfSome, Result, refl, sym, ap, ◌∙◌, subst, inl, inr, arith}
-use Rattle.std.specs.FinMap.{get}
-use Rattle.std.specs.Prelude.{OnOk, OnErr}
+use Rattle.std.proofs.Common.{◌≡◌, ◌≢◌, ◌≤◌, ℕ, suc, List, [], ◌∷◌, ◌++◌, Bool, true, false, Option, Some, None, Err, IfSome, refl, sym, ap, ◌∙◌, subst, inl, arith}
 use Rattle.std.proofs.lemmas.List.{append-nil}
 use Rattle.tree_spec.specs.declared.Entry.TheVariants.{Stored}
 use Rattle.tree_spec.specs.Counts.{Rose}
-use Rattle.tree_spec.specs.States.{FolderState, SinkState, IsWritten, OnlyLooks}
+use Rattle.tree_spec.specs.States.{FolderState, SinkState, IsWritten}
 use Rattle.tree_spec.specs.Trees.{Tree, Places}
 use Rattle.trace_spec.specs.Modules.{Config}
 use Rattle.config_spec.specs.declared.Command.{Command}
@@ -59,9 +57,9 @@ config_asks words command config before middle after (Some old) is same asks lat
     (subst (λ told. IfSome told (λ before. AsksFew config middle.holds (own_file command config) before after)) asks.asked later))
 
 -- what each words give stands for all of them
-pub for_all_words : {W : Type 0} {Is : W → Type 0} {P : W → List (List ℕ) → Type 0} (told : Option (List (List ℕ))) → ((words : W) → Is words → IfSome told (P words)) → IfSome told (λ old. (words : W) → Is words → P words old)
-for_all_words None each = tt
-for_all_words (Some old) each = each
+pub for_all_words : {W : Type 0} {Is : W → Type 0} (P : W → List (List ℕ) → Type 0) (told : Option (List (List ℕ))) → ((words : W) → Is words → IfSome told (P words)) → IfSome told (λ old. (words : W) → Is words → P words old)
+for_all_words P None each = tt
+for_all_words P (Some old) each = each
 
 -- a config of a folder is one of the folder behind a look
 pub config_still : (words : List (List ℕ)) (command : Command) (config : Config) (before middle : FolderState) → middle.holds ≡ before.holds → IsConfigAt words command config before → IsConfigAt words command config middle

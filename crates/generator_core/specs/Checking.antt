@@ -4,7 +4,7 @@
 --     IsReport map all report          what is said of the map, where the trace has come to these tables
 --     ChecksBy config before result after    the same as the next one, behind the look at the map's file
 --     Checks config before result after      the check has its report, or it is told why not
-use Rattle.std.specs.Prelude.{◌≡◌, [], ◌∷◌, ℕ, List, length, Some, None, Result, Ok, Err, IfOk, IfErr, IfSome}
+use Rattle.std.specs.Prelude.{◌≡◌, [], ◌∷◌, ℕ, List, length, None, Result, Ok, Err, IfOk, IfErr, IfSome}
 use Rattle.std.specs.FinMap.{get}
 use Rattle.std.specs.List.{concat}
 use Rattle.tree_spec.specs.States.{FolderState, OnlyLooks}

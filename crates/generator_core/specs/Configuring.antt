@@ -5,9 +5,8 @@
 --     StopsConfig words before after stop      why there is no config
 --     AsksInOrder words before old after      what the folder is asked for in the whole run
 --     Configures words command before result after      the command has its config, or it is told why not
-use Rattle.std.specs.Prelude.{◌≡◌, ◌⊎◌, ◌≤◌, ◌++◌, [], ◌∷◌, ⊥, ℕ, List, length, Option, Some, Result, Ok, Err, IfOk, IfErr, IfSome}
+use Rattle.std.specs.Prelude.{◌≡◌, ◌⊎◌, ◌≤◌, ◌++◌, [], ◌∷◌, ℕ, List, length, Option, Some, Result, Ok, Err, IfOk, IfErr, IfSome}
 use Rattle.tree_spec.specs.States.{FolderState, OnlyLooks}
-use Rattle.tree_spec.specs.Trees.{Tree}
 use Rattle.tree_spec.specs.declared.LimitName.TheVariants.{Entries}
 use Rattle.tree_spec.specs.Limits.{limit_number}
 use Rattle.project_spec.specs.ProjectFiles.{IsProject}
@@ -17,7 +16,7 @@ use Rattle.config_spec.specs.declared.ConfigFault.{ConfigFault}
 use Rattle.config_spec.specs.declared.ConfigFault.TheVariants.{Project}
 use Rattle.config_spec.specs.declared.ProjectFault.{ProjectFault}
 use Rattle.config_spec.specs.Projects.{project_path, HoldsProject, IsReadFault, IsConfigOf, IsConfigFor, RefusesConfig, CanRefuseConfig}
-use Rattle.generator_spec.specs.declared.Refusal.TheVariants.{Config as Configured, Limit, Page, MapFile, Trace}
+use Rattle.generator_spec.specs.declared.Refusal.TheVariants.{Config as Configured}
 use Rattle.generation.specs.declared.stop.Stop.{Stop}
 use Rattle.generation.specs.declared.stop.Stop.TheVariants.{Refused, ReadFault, Memory}
 use Rattle.generator_core.specs.Preparing.{AsksOwn, AsksFew, own_file}

@@ -63,7 +63,7 @@ pub data TellsNoMeaning (out out_after : SinkState) (result : ℕ) : Type 0 wher
   text : (text : List ℕ) → Ends words_status text out out_after result → TellsNoMeaning out out_after result
 
 abbrev pub TellsWords : WordsFault → SinkState → SinkState → ℕ → Type 0
-TellsWords (Told text) out out_after result = TellsNoMeaning out out_after result
+TellsWords (Told said) out out_after result = TellsNoMeaning out out_after result
 TellsWords NotPlain out out_after result = TellsNoMeaning out out_after result
 TellsWords (words.Refused fault) out out_after result = TellsRefusal (Configured fault) out out_after result
 TellsWords words.Memory out out_after result = Ends memory_status memory_line out out_after result

@@ -1,4 +1,4 @@
-ghost use Rattle.std.specs.Prelude.{◌≡◌, ◌≤◌, ◌+◌, ⊥, List, ℕ, map, string_bytes, IfSome};
+ghost use Rattle.std.specs.Prelude.{◌≡◌, ◌≤◌, ◌+◌, List, ℕ, map, string_bytes, IfSome};
 ghost use Rattle.tree_spec.specs.declared.LimitName.TheVariants.{Modules, Requests};
 ghost use Rattle.tree_spec.specs.Limits.{limit_number};
 ghost use Rattle.config_spec.specs.declared.Command.{Command as Commanded};
@@ -207,12 +207,12 @@ fn finish<F: Folder, O: Sink>(alloc: Global, folder: &mut F, prepared: &Prepared
 fn write_files<F: Folder>(folder: &mut F, files: &[Fresh]) -> bool
     ensures { WritesFiles (map shown_file files.now) (F.state folder.old) result (F.state folder.new) }
 {
-    let Some((first, rest)) = files.split_first() else {
-        return true;
-    };
-    match folder.write(&first.path, first.bytes.as_slice()) {
-        Ok(()) => write_files(folder, rest),
-        Err(_) => false,
+    match files.split_first() {
+        None => true,
+        Some((first, rest)) => match folder.write(&first.path, first.bytes.as_slice()) {
+            Ok(()) => write_files(folder, rest),
+            Err(_) => false,
+        },
     }
 }
 

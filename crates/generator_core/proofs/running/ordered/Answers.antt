@@ -14,7 +14,7 @@ returns-in-Ok-clause-end g c =
     let at = subst (λ r. Configures words (command_ordered c.args.order) before r middle) c.in-Ok.is (c.configured.ensures words is) in
     ends_from words before middle (g.F.Folder.state c.commanded.new.folder) _ _ _ at.found.looks
     (c.commanded.ensures.end words
-    (subst (λ command. IsConfigAt words command c.in-Ok.config middle) (sym c.command.ensures)
+    (subst (λ command. IsConfigAt words command c.in-Ok.config middle) (sym c.command-command.ensures)
     (config_still words (command_ordered c.args.order) c.in-Ok.config before middle at.found.looks.tree at.found.is)))
 
 pub returns-in-Ok-clause-asked : goal.returns-in-Ok-clause-asked
@@ -22,14 +22,14 @@ returns-in-Ok-clause-asked g c =
     let before = g.F.Folder.state c.args.folder.now in
     let middle = g.F.Folder.state c.configured.new.folder in
     let after = g.F.Folder.state c.commanded.new.folder in
-    for_all_words {P = λ words old. AsksInOrder words before old after} before.asked
+    for_all_words (λ words old. AsksInOrder words before old after) before.asked
     (λ words is.
     let at = subst (λ r. Configures words (command_ordered c.args.order) before r middle) c.in-Ok.is (c.configured.ensures words is) in
-    config_asks words c.command.result c.in-Ok.config before middle after before.asked
-    (subst (λ command. IsConfigAt words command c.in-Ok.config before) (sym c.command.ensures) at.found.is) at.found.looks.tree at.asked c.commanded.ensures.asked)
+    config_asks words c.command-command.result c.in-Ok.config before middle after before.asked
+    (subst (λ command. IsConfigAt words command c.in-Ok.config before) (sym c.command-command.ensures) at.found.is) at.found.looks.tree at.asked c.commanded.ensures.asked)
 
 pub returns-in-Ok-clause-steps : goal.returns-in-Ok-clause-steps
-returns-in-Ok-clause-steps g c = λ generating zero. c.commanded.ensures.steps (subst IsGenerating (sym c.command.ensures) generating) zero
+returns-in-Ok-clause-steps g c = λ generating zero. c.commanded.ensures.steps (subst IsGenerating (sym c.command-command.ensures) generating) zero
 
 pub returns-in-Err-clause-end : goal.returns-in-Err-clause-end
 returns-in-Err-clause-end g c =
@@ -43,7 +43,7 @@ pub returns-in-Err-clause-asked : goal.returns-in-Err-clause-asked
 returns-in-Err-clause-asked g c =
     let before = g.F.Folder.state c.args.folder.now in
     let after = g.F.Folder.state c.configured.new.folder in
-    for_all_words {P = λ words old. AsksInOrder words before old after} before.asked
+    for_all_words (λ words old. AsksInOrder words before old after) before.asked
     (λ words is. project_asks words before after before.asked (c.configured.ensures words is).asked)
 
 pub returns-in-Err-clause-steps : goal.returns-in-Err-clause-steps

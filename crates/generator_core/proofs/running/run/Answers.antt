@@ -1,4 +1,9 @@
+use Rattle.std.proofs.Common.{subst}
 use Rattle.std.specs.Prelude.{map, string_bytes}
+use Rattle.config_spec.proofs.WordsJudged.{words_are_judged}
+use Rattle.command_words.specs.Orders.{command_ordered}
+use Rattle.generator_spec.specs.Commands.{IsGenerating}
+use Rattle.generator_core.proofs.Preparings.{if_some}
 use Rattle.generator_core.proofs.Endings.{words_end}
 use Rattle.generator_core.proofs.Runs.{command_is, words_not_done, asks_nothing_in_order}
 use Rattle.generator_core.proofs.running.run.Goals as goal
@@ -8,6 +13,20 @@ returns-in-Ok-clause-idle g c = λ none. absurd (none _ (command_is (map string_
 
 pub returns-in-Ok-clause-unspent : goal.returns-in-Ok-clause-unspent
 returns-in-Ok-clause-unspent g c = λ none. absurd (none _ (command_is (map string_bytes c.args.words.now) c.in-Ok.order c.in-Ok.ensures))
+
+pub returns-in-Ok-clause-asked : goal.returns-in-Ok-clause-asked
+returns-in-Ok-clause-asked g c =
+    if_some (g.F.Folder.state c.args.folder.now).asked
+    (λ old each. each (map string_bytes c.args.words.now) c.in-Ok.ensures) c.ordered.ensures.asked
+
+pub returns-in-Ok-clause-steps : goal.returns-in-Ok-clause-steps
+returns-in-Ok-clause-steps g c =
+    λ command is generating zero.
+    let words = map string_bytes c.args.words.now in
+    c.ordered.ensures.steps
+    (subst IsGenerating
+    ((words_are_judged words).one_command command (command_ordered c.in-Ok.order) is
+    (command_is words c.in-Ok.order c.in-Ok.ensures)) generating) zero
 
 pub returns-in-Err-clause-end : goal.returns-in-Err-clause-end
 returns-in-Err-clause-end g c = words_end (map string_bytes c.args.words.now) (g.F.Folder.state c.args.folder.now) _ _ _ c.in-Err.fault c.in-Err.ensures c.misworded.ensures.tells c.misworded.ensures.later

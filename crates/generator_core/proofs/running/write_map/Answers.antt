@@ -25,12 +25,12 @@ pub returns-in-Ok-clause-asked : goal.returns-in-Ok-clause-asked
 returns-in-Ok-clause-asked g c =
     let config = c.args.config.now in
     let before = g.F.Folder.state c.args.folder.now in
-    for_all_words {P = λ command old. AsksFew config before.holds (own_file command config) old (g.F.Folder.state c.finish.new.folder)} before.asked
+    for_all_words (λ command old. AsksFew config before.holds (own_file command config) old (g.F.Folder.state c.finish.new.folder)) before.asked
     (λ command kept. still_few config before.holds (own_file command config) before.asked (g.F.Folder.state c.prepare_map.new.folder) (g.F.Folder.state c.finish.new.folder) c.finish.ensures.asked (c.prepare_map.ensures.prepares command kept).asked)
 
 pub returns-in-Err-clause-asked : goal.returns-in-Err-clause-asked
 returns-in-Err-clause-asked g c =
     let config = c.args.config.now in
     let before = g.F.Folder.state c.args.folder.now in
-    for_all_words {P = λ command old. AsksFew config before.holds (own_file command config) old (g.F.Folder.state c.prepare_map.new.folder)} before.asked
+    for_all_words (λ command old. AsksFew config before.holds (own_file command config) old (g.F.Folder.state c.prepare_map.new.folder)) before.asked
     (λ command kept. (c.prepare_map.ensures.prepares command kept).asked)
