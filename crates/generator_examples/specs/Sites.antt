@@ -1,7 +1,7 @@
 -- Small sites that are written out, with what must come of them, typed by hand.
 --     Files, tree_of files      paths with what stands there, and the tree of them
 --     folder path, file path bytes      one of them
---     lines written, texts written      a text of these lines; these texts
+--     texts written             these texts
 --     digest_line front bytes back rest      a line with the digest of these bytes between two texts, and the rest
 --     based base asked          the config with this base and these entries, and the page `/index.html`
 --     links base asked, injects base asked      the words of a command with this base and these entries
@@ -20,7 +20,7 @@ use Rattle.tree_spec.specs.Trees.{Tree}
 use Rattle.json_spec.specs.PrintedString.{quoted}
 use Rattle.import_map_spec.specs.WrittenMaps.{map_of}
 use Rattle.integrity_spec.specs.DigestTexts.{digest_text}
-use Rattle.layout_spec.specs.WorkedExamples.{need}
+use Rattle.layout_spec.specs.WorkedExamples.{need, lines}
 use Rattle.trace_spec.specs.Modules.{Config, Module}
 use Rattle.trace_spec.specs.Questions.{Source}
 use Rattle.trace_spec.specs.Checks.{Gathered, Spelling}
@@ -38,10 +38,6 @@ folder path = (codes path, Directory)
 
 abbrev pub file : String → List ℕ → List ℕ × Entry
 file path bytes = (codes path, Stored bytes)
-
-abbrev pub lines : List String → List ℕ
-lines [] = []
-lines (line ∷ more) = codes line ++ (10 ∷ lines more)
 
 -- a line of a map's integrity, with the digest of a file's bytes, and what follows it; and what stands behind the last
 abbrev pub digest_line : String → List ℕ → String → List ℕ → List ℕ
