@@ -1,17 +1,19 @@
-"""Measures how fast specifiers are resolved, and says PASS or FAIL to each target. `smoke` runs small trees, against ten
-times each target.
+"""Measures how fast specifiers are resolved, and says PASS or FAIL to each target. `smoke` runs small trees, against
+ten times each target.
 
 It runs crates/resolve_count/out/resolve_count, which `rt ci` or `rt run` in crates/resolve_count leaves there, in trees
 of its own. The program resolves each pair of a file over the folder in which it runs, round by round; what was looked
 at in one round is known in the next ones. So the first round is resolution from nothing, which stands beside `cat` of
 the same files, and what many rounds take beyond one is resolution over what is known. The line that the program prints
 is checked against how the tree is made. Judged is processor time, of the program and of the system for it, in the
-fewest of a few runs; the least by the wall clock is told beside it.
+fewest of a few runs; the least by the wall clock is told beside it. How long the files take that are only opened, read
+and closed is told too.
 """
 
 import os
 import sys
 import tempfile
+import time
 
 import measure
 import trees
@@ -67,6 +69,20 @@ def reading(folder, tree, files):
     return Times("reading", ["sh", "-c", f"xargs -0 -a {path} cat | wc -c"], str(tree.size))
 
 
+def bare_reading(files):
+    """The least processor seconds in which this process opens, reads and closes the files, and does nothing else."""
+    least = float("inf")
+    for _ in range(measure.TRIES):
+        started = time.process_time()
+        for name in files:
+            file = os.open(name, os.O_RDONLY)
+            while os.read(file, measure.MIB):
+                pass
+            os.close(file)
+        least = min(least, time.process_time() - started)
+    return least
+
+
 def packages(folder, count, rounds, slack):
     tree = trees.packages(os.path.join(folder, "packages"), count)
     os.chdir(tree.folder)
@@ -77,10 +93,13 @@ def packages(folder, count, rounds, slack):
     often = Times("over what is known", resolving(path, rounds), wanted)
     files = tree.paths + tree.records
     read = reading(folder, tree, files)
-    times = once.seconds / max(read.seconds, 1e-9)
+    times = measure.growth(read.seconds, once.seconds)
     say(times <= slack * READING_TIMES,
-        f"from nothing: {len(pairs)} resolutions in {once.told()}, {times:.2f} times as long as to read their "
+        f"from nothing: {len(pairs)} resolutions in {once.told()}, {times:.2f} times as long as `cat` of their "
         f"{len(files)} files, {read.told()}, at most {slack * READING_TIMES}")
+    bare = bare_reading(files)
+    print(f"not judged: {once.seconds / bare:.2f} times as long as to open, read and close these files and do nothing "
+          f"else, {bare:.3f} s")
     later = (rounds - 1) * len(pairs)
     pace = later / max(often.seconds - once.seconds, 1e-9)
     say(slack * pace >= PACE,
