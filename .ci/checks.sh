@@ -141,5 +141,6 @@ check "rows on disk" .ci/rows.sh
 check "a program that must not compile" .ci/must_not_compile.sh
 check "values that are dropped once" .ci/drops.sh
 check "the benchmark on small trees" bench/run.sh smoke
+check "specifiers of small trees" python3 -B bench/resolve.py smoke
 echo "$passed passed, $failed failed"
 [ "$failed" = 0 ]
