@@ -78,7 +78,8 @@ fn link_order<'a>(
     values: LinkValues<'a>,
     entries: &'a [String],
 ) -> Result<Order<'a>, WordsFault>
-    ensures { MatchResult result (λ order. IsOrderOf order (linking (options_of values.entry) (map string_bytes entries.now)))
+    ensures { MatchResult result
+        (λ order. IsOrderOf order (linking (options_of values.entry) (map string_bytes entries.now)))
         (RefusesAs (RefusesAsked (linking (options_of values.entry) (map string_bytes entries.now)))) }
 {
     match settings_of(alloc, values) {

@@ -63,7 +63,8 @@ impl Settings {
 
 /// What the options of `link` set. The base is judged before the page, and the page before the conditions.
 pub(crate) fn settings_of(alloc: Global, values: LinkValues<'_>) -> Result<Settings, WordsFault>
-    ensures { MatchResult result (Sets (options_of values.entry)) (RefusesAs (RefusesOptions (options_of values.entry))) }
+    ensures { MatchResult result (Sets (options_of values.entry))
+        (RefusesAs (RefusesOptions (options_of values.entry))) }
 {
     let base = base_set(alloc, values.base)?;
     let page = page_set(alloc, values.page)?;

@@ -1,11 +1,13 @@
 -- How a command comes to its config.
 --     CanBeHeld outcome      what a file can give at the project's path
 --     FindsProject before result after      the project's file is read, or it is told why not
---     IsConfigAt words command config state      a told tree gives the words this config; whatever is told, they can have it
+--     IsConfigAt words command config state      a told tree gives the words this config; whatever is told, they can
+--                                                have it
 --     StopsConfig words before after stop      why there is no config
 --     AsksInOrder words before old after      what the folder is asked for in the whole run
 --     Configures words command before result after      the command has its config, or it is told why not
-use Rattle.std.specs.Prelude.{◌≡◌, ◌⊎◌, ◌≤◌, ◌++◌, [], ◌∷◌, ℕ, List, length, Option, Some, Result, Ok, Err, IfOk, IfErr, IfSome}
+use Rattle.std.specs.Prelude.{◌≡◌, ◌⊎◌, ◌≤◌, ◌++◌, [], ◌∷◌, ℕ, List, length, Option, Some, Result, Ok, Err}
+use Rattle.std.specs.Prelude.{IfOk, IfErr, IfSome}
 use Rattle.tree_spec.specs.States.{FolderState, OnlyLooks}
 use Rattle.tree_spec.specs.declared.LimitName.TheVariants.{Entries}
 use Rattle.tree_spec.specs.Limits.{limit_number}
@@ -15,7 +17,8 @@ use Rattle.config_spec.specs.declared.Command.{Command}
 use Rattle.config_spec.specs.declared.ConfigFault.{ConfigFault}
 use Rattle.config_spec.specs.declared.ConfigFault.TheVariants.{Project}
 use Rattle.config_spec.specs.declared.ProjectFault.{ProjectFault}
-use Rattle.config_spec.specs.Projects.{project_path, HoldsProject, IsReadFault, IsConfigOf, IsConfigFor, RefusesConfig, CanRefuseConfig}
+use Rattle.config_spec.specs.Projects.{project_path, HoldsProject, IsReadFault, IsConfigOf, IsConfigFor}
+use Rattle.config_spec.specs.Projects.{RefusesConfig, CanRefuseConfig}
 use Rattle.generator_spec.specs.declared.Refusal.TheVariants.{Config as Configured}
 use Rattle.generation.specs.declared.stop.Stop.{Stop}
 use Rattle.generation.specs.declared.stop.Stop.TheVariants.{Refused, ReadFault, Memory}

@@ -12,7 +12,8 @@ use Rattle.tree_spec.specs.Trees.{Tree}
 use Rattle.tree_spec.specs.Counts.{Rose}
 use Rattle.tree_spec.specs.States.{FolderState, SinkState}
 use Rattle.generator_spec.specs.declared.Refusal.TheVariants.{Config as Configured}
-use Rattle.generator_spec.specs.Statuses.{done_status, words_status, read_fault_status, write_fault_status, memory_status}
+use Rattle.generator_spec.specs.Statuses.{done_status, words_status, read_fault_status, write_fault_status}
+use Rattle.generator_spec.specs.Statuses.{memory_status}
 use Rattle.generator_spec.specs.Lines.{counts_line, memory_line, read_fault_line, write_fault_line}
 use Rattle.generator_spec.specs.Commands.{NewFile}
 use Rattle.generator_spec.specs.Ending.{AreWritten, Ends, TellsRefusal}

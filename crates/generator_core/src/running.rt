@@ -40,14 +40,16 @@ pub fn run<F: Folder, I: Source, O: Sink, L: Ledger>(
 ) -> u8
     ensures end { EndsAs (map string_bytes words.now) (F.state folder.old) (F.state folder.new) (O.state out.old)
         (O.state out.new) result }
-    ensures idle { ((command : Commanded) → IsCommandOf (map string_bytes words.now) command → ⊥) → folder.new ≡ folder.old }
+    ensures idle { ((command : Commanded) → IsCommandOf (map string_bytes words.now) command → ⊥)
+        → folder.new ≡ folder.old }
     ensures input { _input.new ≡ _input.old }
     ensures asked { IfSome (F.state folder.old).asked
         (λ old. AsksInOrder (map string_bytes words.now) (F.state folder.old) old (F.state folder.new)) }
     ensures steps { (command : Commanded) → IsCommandOf (map string_bytes words.now) command → IsGenerating command
         → result ≡ done_status → SpendsFew (O.state out.old) (O.state out.new) steps.old steps.new }
     ensures bounded { steps.new ≤ steps.old + (limit_number Modules + limit_number Requests) }
-    ensures unspent { ((command : Commanded) → IsCommandOf (map string_bytes words.now) command → ⊥) → steps.new ≡ steps.old }
+    ensures unspent { ((command : Commanded) → IsCommandOf (map string_bytes words.now) command → ⊥)
+        → steps.new ≡ steps.old }
 {
     match order_of(alloc, words) {
         Ok(order) => ordered(alloc, folder, order, out, steps),
