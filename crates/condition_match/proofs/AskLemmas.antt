@@ -1,8 +1,9 @@
 -- Questions that follow one another.
-use Rattle.std.proofs.Common.{◌≡◌, ◌≢◌, ◌++◌, ℕ, Bool, true, false, List, [], ◌∷◌, length, rules, refl, sym, ap, subst, ◌∙◌, inl, inr, append_assoc, append-nil, arith}
+use Rattle.std.proofs.Common.{◌≡◌, ◌≢◌, ◌++◌, ℕ, Bool, true, false, List, [], ◌∷◌, length, rules, refl, sym, ap, subst, ◌∙◌, inl, inr, append_assoc, append-nil}
 use Rattle.std.specs.Prelude.{codes, Result, Ok, Err, IfOk, OnErr}
 use Rattle.std.specs.Result.{IsErrAnd}
 use Rattle.std.proofs.lemmas.Bool.{true≢false, cases_Bool}
+use Rattle.std.proofs.lemmas.List.{nil_from_length}
 use Rattle.url_spec.specs.Specifiers.{begins}
 use Rattle.json_spec.specs.Value.{Json, a_null, a_bool, a_number, a_list, Items, an_item, Members, a_member}
 use Rattle.node_spec.specs.declared.BareAnswer.{BareAnswer}
@@ -69,10 +70,6 @@ json_of_bool b = search (rules, the_lemmas)
 
 json_of_number : (number : List ℕ) → json_of (value.Number number) ≡ a_number number
 json_of_number number = search (rules, the_lemmas)
-
-nothing : {A : Type 0} (xs : List A) → length xs ≡ 0 → xs ≡ []
-nothing [] e = refl
-nothing (x ∷ xs) e = absurd (omega arith)
 
 a_full_list : (rules : Rules) (values : List Value) (asked : List Call) (out : Outcome) → length values ≢ 0 → ResolvesItems rules (items_of values) asked out → ResolvesTarget rules (a_list (items_of values)) asked out
 a_full_list rules [] asked out some r = absurd (some refl)
@@ -323,7 +320,7 @@ module _ {B : Type 0} (gives : B → List ℕ → BareAnswer → B → Type 0) w
 
     pub empty_chosen : (v : Value) (items : code.Items) (old now : B) → v ≡ value.List items → length (values_of items) ≡ 0 → now ≡ old → Asks gives (ResolvesTarget rules (json_of v)) old now Null
     empty_chosen v items old now e none same =
-        silent old now Null same (subst (λ j. ResolvesTarget rules j [] Null) (sym (ap json_of e ∙ (json_of_list items ∙ ap (λ vs. a_list (items_of vs)) (nothing (values_of items) none)))) empty_list)
+        silent old now Null same (subst (λ j. ResolvesTarget rules j [] Null) (sym (ap json_of e ∙ (json_of_list items ∙ ap (λ vs. a_list (items_of vs)) (nil_from_length (values_of items) none)))) empty_list)
 
     pub index_chosen : (v : Value) (members : code_members.Members) (old now : B) → v ≡ value.Object members → has_index_key (members_of (pairs_of members)) ≡ true → now ≡ old → Asks gives (ResolvesTarget rules (json_of v)) old now InvalidConfig
     index_chosen v members old now e has same =

@@ -2,6 +2,7 @@
 use Rattle.std.proofs.Common.{◌⊎◌, inl, inr, ◌≢◌, ◌≡◌, ℕ, zero, suc, Bool, true, false, ◌&&◌, ◌||◌, ◌==◌, bytes_eq, codes, List, [], ◌∷◌, if◌then◌else◌, Option, Some, None, Result, Err, refl, sym, ap, subst, arith}
 use Rattle.std.proofs.lemmas.Slice.Eq.{bytes_eq-Decides}
 use Rattle.std.proofs.lemmas.Bool.{ne_eqb}
+use Rattle.std.proofs.Math.Bool.{and-false}
 use Rattle.module_spec.specs.declared.request.Request.{Request}
 use Rattle.module_spec.specs.declared.request.ModuleFault.{ModuleFault}
 use Rattle.module_spec.specs.Places.{Placed, is_name, is_text, is_word, is_mark, is_top}
@@ -136,27 +137,23 @@ from_begins (u ∷ rest) = from_by_kind u.text rest (u.behind == 0) (one_kind u.
 abbrev begins : Placed → Bool
 begins t = is_top t && (is_word t (codes "import") || is_word t (codes "export"))
 
-and_false : (top : Bool) → (top && false) ≡ false
-and_false true = refl
-and_false false = refl
-
 no_word : (top : Bool) (spelled w : List ℕ) (c : Bool) → (name : Bool) → bytes_eq w (codes "import") ≡ false → bytes_eq w (codes "export") ≡ false → bytes_eq spelled w ≡ c → (name && c) ≡ true → (top && (name && bytes_eq spelled (codes "import") || name && bytes_eq spelled (codes "export"))) ≡ false
-no_word top spelled w c false p q e f = and_false top
+no_word top spelled w c false p q e f = and-false top
 no_word top spelled w false true p q e f = absurd (cc)
-no_word top spelled w true true p q e f = subst (λ x. (top && (bytes_eq x (codes "import") || bytes_eq x (codes "export"))) ≡ false) (sym ((bytes_eq-Decides spelled w).0 e)) (rw (p, q) (and_false top))
+no_word top spelled w true true p q e f = subst (λ x. (top && (bytes_eq x (codes "import") || bytes_eq x (codes "export"))) ≡ false) (sym ((bytes_eq-Decides spelled w).0 e)) (rw (p, q) (and-false top))
 
 word_begins : (t : Placed) (w : List ℕ) → bytes_eq w (codes "import") ≡ false → bytes_eq w (codes "export") ≡ false → is_word t w ≡ true → begins t ≡ false
 word_begins t w p q e = no_word (is_top t) t.text w (bytes_eq t.text w) (is_name t) p q refl e
 
 neither : (top a b : Bool) → a ≡ false → b ≡ false → (top && (a || b)) ≡ false
-neither top a b e f = rw (e, f) (and_false top)
+neither top a b e f = rw (e, f) (and-false top)
 
 mark_begins : (t : Placed) (m : List ℕ) → is_mark t m ≡ true → begins t ≡ false
 mark_begins t m e = neither (is_top t) (is_word t (codes "import")) (is_word t (codes "export")) (mark_no_word t m (codes "import") e) (mark_no_word t m (codes "export") e)
 
 no_name_by : (top a b : Bool) {name text mark : Bool} → OneKind name text mark → text ≡ true → (top && (name && a || name && b)) ≡ false
 no_name_by top a b a_name e = absurd (cc)
-no_name_by top a b a_text e = and_false top
+no_name_by top a b a_text e = and-false top
 no_name_by top a b a_mark e = absurd (cc)
 no_name_by top a b another e = absurd (cc)
 

@@ -1,9 +1,10 @@
 -- Characters of texts, and what they come to in a literal.
 use lib.Utf8.{scalar, scalars, scalar_cases}
-use Rattle.std.proofs.Common.{◌≡◌, ◌<◌, ◌≤◌, ◌+◌, ◌-◌, ◌*◌, ◌==◌, ◌&&◌, ◌||◌, ◌⊎◌, inl, inr, ℕ, zero, suc, Bool, true, false, nat_le, List, [], ◌∷◌, ◌++◌, length, take, drop, if◌then◌else◌, Option, Some, None, refl, sym, ap, subst, ◌∙◌, arith, take_at, drop_at, length-append, append-nil, append_assoc}
+use Rattle.std.proofs.Common.{◌≡◌, ◌<◌, ◌≤◌, ◌+◌, ◌-◌, ◌*◌, ◌==◌, ◌⊎◌, inl, inr, ℕ, zero, suc, Bool, true, false, nat_le, List, [], ◌∷◌, ◌++◌, length, take, drop, if◌then◌else◌, Option, Some, None, refl, sym, ap, subst, ◌∙◌, arith, take_at, drop_at, length-append, append-nil, append_assoc}
 use Rattle.std.proofs.lemmas.Str.{chars-nil, chars-append, chars_past_char, encodes-chars, scalars-chars, IsUtf8-drop, IsCharBoundary-from_take}
-use Rattle.std.proofs.lemmas.Bool.{and_parts, eq-eqb, eqb-true, le-leb, lt-leb, le-ltb}
+use Rattle.std.proofs.lemmas.Bool.{and_parts, eq-eqb, eqb-true, le-leb, lt-leb, le-ltb, or_parts}
 use Rattle.std.proofs.lemmas.List.Folds.{list_any-append}
+use Rattle.std.proofs.Math.Bool.{and-false}
 use Rattle.std.specs.List.{list_any}
 use Rattle.std.specs.Char.{encode_utf8}
 use Rattle.std.specs.Prelude.{slice_index, option_map}
@@ -131,35 +132,22 @@ second_added text new high code c low same e more =
 
 -- ---- a literal without an escape
 
-or_first : (a b : Bool) → (a || b) ≡ false → a ≡ false
-or_first true b e = absurd (cc)
-or_first false b e = refl
-
-or_second : (a b : Bool) → (a || b) ≡ false → b ≡ false
-or_second true b e = absurd (cc)
-or_second false b e = e
-
 no_backslash : (c : ℕ) (same : Bool) → (c == 92) ≡ same → list_any (λ y. y == 92) (encode_utf8 c) ≡ false → same ≡ false
 unfolding encode_utf8
 no_backslash c false e n = refl
 no_backslash c true e n = absurd (let f : list_any (λ y. y == 92) (encode_utf8 92) ≡ false = subst (λ x. list_any (λ y. y == 92) (encode_utf8 x) ≡ false) (eqb-true c 92 e) n in cc)
 
-and_false : (a : Bool) → (a && false) ≡ false
-and_false true = refl
-and_false false = refl
-
 no_high : (c : ℕ) → (c < 55296) ⊎ ((57344 ≤ c) × (c < 1114112)) → is_high_surrogate c ≡ false
 no_high c (inl l) = rw (lt-leb 55296 c l) refl
-no_high c (inr l) = let past : 56320 ≤ c = omega (arith, l.0) in rw (le-ltb c 56320 past) (and_false (nat_le 55296 c))
+no_high c (inr l) = let past : 56320 ≤ c = omega (arith, l.0) in rw (le-ltb c 56320 past) (and-false (nat_le 55296 c))
 
 plain_points : (cs : List ℕ) → scalars cs ≡ true → list_any (λ y. y == 92) (encode_utf8_all cs) ≡ false → code_points None (elements zero cs) ≡ Some cs
 plain_points [] s n = refl
 plain_points (c ∷ cs) s n =
     let parts = and_parts (scalar c) (scalars cs) s in
     let split = sym (list_any-append (λ y. y == 92) (encode_utf8 c) (encode_utf8_all cs)) ∙ n in
-    let first = or_first (list_any (λ y. y == 92) (encode_utf8 c)) (list_any (λ y. y == 92) (encode_utf8_all cs)) split in
-    let rest = or_second (list_any (λ y. y == 92) (encode_utf8 c)) (list_any (λ y. y == 92) (encode_utf8_all cs)) split in
-    rw (no_backslash c (c == 92) refl first, no_high c (scalar_cases c parts.0), parts.0, plain_points cs parts.1 rest) refl
+    let none = or_parts (list_any (λ y. y == 92) (encode_utf8 c)) (list_any (λ y. y == 92) (encode_utf8_all cs)) split in
+    rw (no_backslash c (c == 92) refl none.0, no_high c (scalar_cases c parts.0), parts.0, plain_points cs parts.1 none.1) refl
 
 pub plain_value : (inside : List ℕ) → IsUtf8 inside → list_any (λ y. y == 92) inside ≡ false → inside_value (chars inside) ≡ Some inside
 plain_value inside u n =

@@ -2,6 +2,7 @@
 use Rattle.std.specs.Char.{is_ascii_whitespace}
 use Rattle.std.proofs.Common.{◌≡◌, ℕ, ◌==◌, ◌&&◌, ◌||◌, List, [], ◌∷◌, Bool, true, false, Some, if◌then◌else◌, refl, sym, ◌∙◌, ap}
 use Rattle.std.proofs.Math.Bool.{and-false}
+use Rattle.std.proofs.lemmas.Bool.{or_parts}
 use Rattle.page_spec.specs.declared.kinds.State.{State}
 use Rattle.page_spec.specs.declared.kinds.State.TheVariants.{BogusComment, Comment, CommentEndDash, TagName, BeforeAttributeName, AttributeName, AfterAttributeName, BeforeAttributeValue, AttributeValueDoubleQuoted, AttributeValueSingleQuoted, AttributeValueUnquoted}
 use Rattle.page_spec.specs.Tokenizer.{is_last, next_state, behind_markup}
@@ -22,14 +23,6 @@ passed state is_end stays (b ∷ rest) = by_test (is_end b) refl (passed state i
   by_test true e later = refl
   by_test false e later = later ∙ sym (one_byte state b rest (stays b e))
 
-first_false : (x y : Bool) → (x || y) ≡ false → x ≡ false
-first_false true y e = e
-first_false false y e = refl
-
-second_false : (x y : Bool) → (x || y) ≡ false → y ≡ false
-second_false true y e = absurd (cc)
-second_false false y e = e
-
 pub bogus_comment : (bytes : List ℕ) → behind_markup BogusComment (behind (λ b. b == 62) bytes) ≡ behind_markup BogusComment bytes
 bogus_comment = passed BogusComment (λ b. b == 62) (λ b e. record { goes_on = ap (λ c. c && true) e; same = refl })
 
@@ -43,7 +36,7 @@ pub single_quoted : (bytes : List ℕ) → behind_markup AttributeValueSingleQuo
 single_quoted = passed AttributeValueSingleQuoted (λ b. b == 39) (λ b e. record { goes_on = and-false (b == 62); same = ap (λ c. if c then BeforeAttributeName else AttributeValueSingleQuoted) e })
 
 pub unquoted : (bytes : List ℕ) → behind_markup AttributeValueUnquoted (behind ends_unquoted bytes) ≡ behind_markup AttributeValueUnquoted bytes
-unquoted = passed AttributeValueUnquoted ends_unquoted (λ b e. record { goes_on = ap (λ c. c && true) (second_false (is_ascii_whitespace b) (b == 62) e); same = ap (λ c. if c then BeforeAttributeName else AttributeValueUnquoted) (first_false (is_ascii_whitespace b) (b == 62) e) })
+unquoted = passed AttributeValueUnquoted ends_unquoted (λ b e. record { goes_on = ap (λ c. c && true) (or_parts (is_ascii_whitespace b) (b == 62) e).1; same = ap (λ c. if c then BeforeAttributeName else AttributeValueUnquoted) (or_parts (is_ascii_whitespace b) (b == 62) e).0 })
 
 -- white space, `/` and `>` apart
 record NoEnd (b : ℕ) : Type 0 where
@@ -64,8 +57,8 @@ tag_name_run = passed TagName ends_name (λ b e. let n = no_end b e in record { 
 
 in_name : (b : ℕ) → ends_attribute_name b ≡ false → Stays AttributeName b
 in_name b e =
-    let n = no_end b (first_false (ends_name b) (b == 61) e) in
-    let equals = second_false (ends_name b) (b == 61) e in
+    let n = no_end b (or_parts (ends_name b) (b == 61) e).0 in
+    let equals = (or_parts (ends_name b) (b == 61) e).1 in
     record {
       goes_on = ap (λ c. c && true) n.greater;
       same = ap (λ c. if c then BeforeAttributeValue else if b == 47 then BeforeAttributeName else if is_ascii_whitespace b then AfterAttributeName else AttributeName) equals ∙ (ap (λ c. if c then BeforeAttributeName else if is_ascii_whitespace b then AfterAttributeName else AttributeName) n.slash ∙ ap (λ c. if c then AfterAttributeName else AttributeName) n.space);

@@ -1,6 +1,7 @@
 -- All needs have an agreed layout.
 use Rattle.std.proofs.Common.{refl, sym, ap, ◌∙◌, subst}
 use Rattle.std.proofs.lemmas.Bool.{cases_Bool, cond-true, cond-false, and_parts, and_from, or_left, or_right, true≢false, not_from_false}
+use Rattle.std.proofs.lemmas.Bool.{not-true}
 use Rattle.std.proofs.lemmas.Option.{same_Some, none-some}
 use Rattle.std.proofs.lemmas.Slice.Eq.{bytes_eq-Decides}
 use Rattle.std.specs.List.{list_any, filter_map}
@@ -42,10 +43,6 @@ module _ {A : Type 0} (test : A → Bool) where
       rest_of true b f e = absurd (true≢false f)
       rest_of false b f e = e
 
-flipped : (b : Bool) → not b ≡ true → b ≡ false
-flipped true e = absurd (true≢false (sym e))
-flipped false e = refl
-
 -- ---- agreement, as a test
 
 unfoldable pub is_among : List (List ℕ) → List ℕ → Bool
@@ -69,7 +66,7 @@ agreed_is needs asked place target e any u =
       | inr differs ↦
           let among = any_at (bytes_eq place) place (places any.referrer) u.under ((bytes_eq-Decides place place).1 refl) in
           let apart = and_from _ _ (and_from _ _ ((bytes_eq-Decides any.asked asked).1 u.asks) (not_from_false (bytes_eq any.target target) differs)) among in
-          absurd (true≢false (sym (any_at (disagrees asked place target) any needs u.is_need apart) ∙ flipped (list_any (disagrees asked place target) needs) e))
+          absurd (true≢false (sym (any_at (disagrees asked place target) any needs u.is_need apart) ∙ not-true (list_any (disagrees asked place target) needs) e))
     ]
 
 pub agreed_from : (needs : List Need) (asked place target : List ℕ) → AllAgree needs asked place target → agreed needs asked place target ≡ true
@@ -84,7 +81,7 @@ agreed_from needs asked place target all =
           let among = any_found (bytes_eq place) (places found.item.referrer) outer.1 in
           let at : Contains (places found.item.referrer) place = subst (Contains (places found.item.referrer)) (sym ((bytes_eq-Decides place among.item).0 among.passes)) among.is_item in
           let same = all found.item (record { is_need = found.is_item; asks = (bytes_eq-Decides found.item.asked asked).0 inner.0; under = at }) in
-          absurd (true≢false (sym ((bytes_eq-Decides found.item.target target).1 same) ∙ flipped (bytes_eq found.item.target target) inner.1))
+          absurd (true≢false (sym ((bytes_eq-Decides found.item.target target).1 same) ∙ not-true (bytes_eq found.item.target target) inner.1))
     ]
 
 -- ---- the mappings that stand
@@ -113,7 +110,7 @@ abbrev StandsFor : List Need → Need → List ℕ → Type 0
 StandsFor needs need place = Stands needs place need.asked need.target
 
 differs : (one other : List ℕ) → not (bytes_eq one other) ≡ true → one ≢ other
-differs one other e same = true≢false (sym ((bytes_eq-Decides one other).1 same) ∙ flipped (bytes_eq one other) e)
+differs one other e same = true≢false (sym ((bytes_eq-Decides one other).1 same) ∙ not-true (bytes_eq one other) e)
 
 differs_test : (one other : List ℕ) → one ≢ other → not (bytes_eq one other) ≡ true
 differs_test one other n = elim (cases_Bool (bytes_eq one other)) [
@@ -137,7 +134,7 @@ module _ (needs : List Need) (need : Need) (c : Contains needs need) where
       let inner = and_parts _ _ outer.0 in
       record {
         agrees = record { need = need; some = record { is_need = c; asks = refl; under = at }; all = agreed_is needs need.asked place need.target inner.0 };
-        highest = none_above place at (flipped (agreed_above needs need (place_above place)) inner.1);
+        highest = none_above place at (not-true (agreed_above needs need (place_above place)) inner.1);
         apart = differs need.asked need.target outer.1;
       }
 

@@ -1,9 +1,9 @@
 -- What the question of a module's source comes to, by what its parts come to.
-use Rattle.std.proofs.Common.{◌≡◌, Bool, true, false, ℕ, List, Option, Result, Ok, Err, refl, sym, ap, ◌∙◌, subst}
+use Rattle.std.proofs.Common.{◌≡◌, Bool, ℕ, List, Option, Result, Ok, Err, refl, sym, ap, ◌∙◌, subst}
 use Rattle.std.specs.Prelude.{IfOk}
 use Rattle.std.specs.Str.{is_utf8, IsUtf8}
 use Rattle.std.specs.Str.Lossy.{utf8_valid_len}
-use Rattle.std.proofs.lemmas.Bool.{cond-true, cond-false}
+use Rattle.std.proofs.lemmas.Bool.{cond-true, cond-false, false_from_ne_true}
 use Rattle.std.proofs.lemmas.Str.{IsUtf8-from_is_utf8, is_utf8-from_IsUtf8}
 use Rattle.asking_spec.specs.Askings.{answered}
 use Rattle.tree_spec.specs.declared.Entry.{Entry}
@@ -117,16 +117,12 @@ pub outline_of : (text : List ℕ) (is_detected : Bool) (bytes : List ℕ) (out 
     → by_outline is_detected bytes (read_outline text) ≡ by_outline is_detected bytes out
 outline_of text is_detected bytes out reads = ap (by_outline is_detected bytes) ((outline_is_read text out).0 reads)
 
-not_true : (b : Bool) → (b ≡ true → ⊥) → b ≡ false
-not_true true not = absurd (not refl)
-not_true false not = refl
-
 pub bad_bytes : (is_detected : Bool) (bytes read : List ℕ) (at : ℕ) → read ≡ bytes → (IsUtf8 read → ⊥)
     → at ≡ utf8_valid_len read → refusing (reason.Unreadable at) ≡ by_bytes is_detected bytes
 bad_bytes is_detected bytes read at same bad is =
     ap (λ n. refusing (reason.Unreadable n)) (is ∙ ap utf8_valid_len same)
     ∙ sym (cond-false _ (by_outline is_detected bytes (read_outline bytes)) _
-    (not_true (is_utf8 bytes) (λ utf8. bad (subst IsUtf8 (sym same) (IsUtf8-from_is_utf8 bytes utf8)))))
+    (false_from_ne_true (is_utf8 bytes) (λ utf8. bad (subst IsUtf8 (sym same) (IsUtf8-from_is_utf8 bytes utf8)))))
 
 pub good_bytes : (is_detected : Bool) (bytes read text : List ℕ) → read ≡ bytes → text ≡ read → IsUtf8 read
     → by_bytes is_detected bytes ≡ by_outline is_detected bytes (read_outline text)

@@ -1,10 +1,11 @@
 -- The need that is found where another asks alike.
 use Rattle.std.proofs.Common.{◌≡◌, ℕ, zero, suc, Bool, true, false, List, [], ◌∷◌, ◌++◌, get_or, Some, Result, Ok, Err, Contains, refl, sym, ap, ◌∙◌, subst, ⊎_elim}
-use Rattle.std.specs.Prelude.{◌≢◌, ◌⊎◌, IfErr, ◌&&◌, ◌||◌, not, slice_get, take, bytes_eq}
+use Rattle.std.specs.Prelude.{◌≢◌, ◌⊎◌, IfErr, not, slice_get, take, bytes_eq}
 use mathlib.Core.Logic.{inl, inr}
 use Rattle.std.specs.List.{find, list_any, IsDistinct, AllByRecursion}
 use Rattle.std.specs.Cmp.{first_so, second_so}
-use Rattle.std.proofs.lemmas.Bool.{cases_Bool, cond-true, cond-false, and_parts, true≢false}
+use Rattle.std.proofs.lemmas.Bool.{cases_Bool, cond-true, cond-false, and_parts, true≢false, and_from, or_cases}
+use Rattle.std.proofs.lemmas.Bool.{or_left, or_right, or_from, false_from_ne_true}
 use Rattle.std.proofs.lemmas.Option.{slice_get_cases}
 use Rattle.std.proofs.lemmas.Slice.Eq.{bytes_eq-Decides}
 use Rattle.layout_spec.specs.declared.Need.{Need}
@@ -42,33 +43,12 @@ known needs need other first stored alike target = subst (Contains needs) (same_
 
 -- ---- tests of lists
 
-both : (a b : Bool) → a ≡ true → b ≡ true → (a && b) ≡ true
-both a b e f = ap (λ x. x && b) e ∙ f
-
-either : (a b : Bool) → (a || b) ≡ true → (a ≡ true) ⊎ (b ≡ true)
-either true b e = inl refl
-either false b e = inr e
-
-left : (a b : Bool) → a ≡ true → (a || b) ≡ true
-left a b e = ap (λ x. x || b) e
-
-right : (a b : Bool) → b ≡ true → (a || b) ≡ true
-right true b e = refl
-right false b e = e
-
-neither : (a b : Bool) → a ≡ false → b ≡ false → (a || b) ≡ false
-neither a b e f = ap (λ x. x || b) e ∙ f
-
-no_truth : (b : Bool) → (b ≡ true → ⊥) → b ≡ false
-no_truth true none = absurd (none refl)
-no_truth false none = refl
-
 found_by : {A : Type 0} (test : A → Bool) (xs : List A) (x : A) → Contains xs x → test x ≡ true → list_any test xs ≡ true
 found_by test [] x c e = absurd (contains_none x c)
 found_by test (y ∷ xs) x c e =
     elim (contains_cases x y xs c) [
-      | inl same ↦ left (test y) (list_any test xs) (subst (λ z. test z ≡ true) (sym same) e)
-      | inr later ↦ right (test y) (list_any test xs) (found_by test xs x later e)
+      | inl same ↦ or_left (test y) (list_any test xs) (subst (λ z. test z ≡ true) (sym same) e)
+      | inr later ↦ or_right (test y) (list_any test xs) (found_by test xs x later e)
     ]
 
 pub record Passes {A : Type 0} (test : A → Bool) (xs : List A) : Type 0 where
@@ -79,7 +59,7 @@ pub record Passes {A : Type 0} (test : A → Bool) (xs : List A) : Type 0 where
 passes_by : {A : Type 0} (test : A → Bool) (xs : List A) → list_any test xs ≡ true → Passes test xs
 passes_by test [] e = absurd (cc)
 passes_by test (y ∷ xs) e =
-    elim (either (test y) (list_any test xs) e) [
+    elim (or_cases (test y) (list_any test xs) e) [
       | inl here ↦ record { item = y; is_item = contains_here y xs; passes = here }
       | inr later ↦ let rest = passes_by test xs later in record { item = rest.item; is_item = contains_there rest.item y xs rest.is_item; passes = rest.passes }
     ]
@@ -89,7 +69,7 @@ passes_by test (y ∷ xs) e =
 alike_by : (need other : Need) → clashes need other ≡ true → asks_alike need other ≡ true
 alike_by need other e =
     let parts = and_parts _ _ (and_parts _ _ e).0 in
-    both _ _ ((bytes_eq-Decides need.referrer other.referrer).1 (sym ((bytes_eq-Decides _ _).0 parts.0))) ((bytes_eq-Decides need.asked other.asked).1 (sym ((bytes_eq-Decides _ _).0 parts.1)))
+    and_from _ _ ((bytes_eq-Decides need.referrer other.referrer).1 (sym ((bytes_eq-Decides _ _).0 parts.0))) ((bytes_eq-Decides need.asked other.asked).1 (sym ((bytes_eq-Decides _ _).0 parts.1)))
 
 same_alike : (need other : Need) → is_need need other ≡ true → asks_alike need other ≡ true
 same_alike need other e = (and_parts _ _ e).0
@@ -101,10 +81,10 @@ no_clash_itself need e =
     true≢false (sym apart ∙ ap not same)
 
 itself : (need : Need) → is_need need need ≡ true
-itself need = both _ _ (both _ _ ((bytes_eq-Decides need.referrer need.referrer).1 refl) ((bytes_eq-Decides need.asked need.asked).1 refl)) ((bytes_eq-Decides need.target need.target).1 refl)
+itself need = and_from _ _ (and_from _ _ ((bytes_eq-Decides need.referrer need.referrer).1 refl) ((bytes_eq-Decides need.asked need.asked).1 refl)) ((bytes_eq-Decides need.target need.target).1 refl)
 
 none_by : {A : Type 0} (one other : A → Bool) → ((x : A) → other x ≡ true → one x ≡ true) → (xs : List A) → list_any one xs ≡ false → list_any other xs ≡ false
-none_by one other is xs none = no_truth (list_any other xs) (λ some. let found = passes_by other xs some in true≢false (sym (found_by one xs found.item found.is_item (is found.item found.passes)) ∙ none))
+none_by one other is xs none = false_from_ne_true (list_any other xs) (λ some. let found = passes_by other xs some in true≢false (sym (found_by one xs found.item found.is_item (is found.item found.passes)) ∙ none))
 
 pub fresh : (needs after : List Need) (need : Need) → list_any (asks_alike need) needs ≡ false → after ≡ needs ++ need ∷ [] → IsFresh needs need after
 fresh needs after need none e = record {
@@ -125,13 +105,13 @@ all_apart e x y (z ∷ xs) all c =
 alike_back : (one other : Need) → asks_alike one other ≡ true → asks_alike other one ≡ true
 alike_back one other e =
     let parts = and_parts _ _ e in
-    both _ _ ((bytes_eq-Decides other.referrer one.referrer).1 (sym ((bytes_eq-Decides _ _).0 parts.0))) ((bytes_eq-Decides other.asked one.asked).1 (sym ((bytes_eq-Decides _ _).0 parts.1)))
+    and_from _ _ ((bytes_eq-Decides other.referrer one.referrer).1 (sym ((bytes_eq-Decides _ _).0 parts.0))) ((bytes_eq-Decides other.asked one.asked).1 (sym ((bytes_eq-Decides _ _).0 parts.1)))
 
 alike_through : (one middle other : Need) → asks_alike one middle ≡ true → asks_alike middle other ≡ true → asks_alike one other ≡ true
 alike_through one middle other e f =
     let parts = and_parts _ _ e in
     let more = and_parts _ _ f in
-    both _ _
+    and_from _ _
     ((bytes_eq-Decides one.referrer other.referrer).1 ((bytes_eq-Decides _ _).0 parts.0 ∙ (bytes_eq-Decides _ _).0 more.0))
     ((bytes_eq-Decides one.asked other.asked).1 ((bytes_eq-Decides _ _).0 parts.1 ∙ (bytes_eq-Decides _ _).0 more.1))
 
@@ -153,14 +133,14 @@ one_row (first ∷ needs) apart one other c d e =
 
 pub no_clash : (needs : List Need) → IsDistinct asks_alike needs → NoClash needs
 no_clash needs apart one other c d referrer asked =
-    ap (λ (need : Need). need.target) (one_row needs apart one other c d (both _ _ ((bytes_eq-Decides one.referrer other.referrer).1 referrer) ((bytes_eq-Decides one.asked other.asked).1 asked)))
+    ap (λ (need : Need). need.target) (one_row needs apart one other c d (and_from _ _ ((bytes_eq-Decides one.referrer other.referrer).1 referrer) ((bytes_eq-Decides one.asked other.asked).1 asked)))
 
 pub is_known : (needs : List Need) (need other : Need) (first : ℕ) → IsDistinct asks_alike needs → slice_get needs first ≡ Some other → asks_alike need other ≡ true → other.target ≡ need.target → IsKnown needs need
 is_known needs need other first apart stored alike target =
     let stands = known needs need other first stored alike target in
     record {
       stands = stands;
-      clear = no_truth (list_any (clashes need) needs) (λ some.
+      clear = false_from_ne_true (list_any (clashes need) needs) (λ some.
           let found = passes_by (clashes need) needs some in
           let same : need ≡ found.item = one_row needs apart need found.item stands found.is_item (alike_by need found.item found.passes) in
           no_clash_itself need (subst (λ n. clashes need n ≡ true) (sym same) found.passes));
@@ -169,7 +149,7 @@ is_known needs need other first apart stored alike target =
 
 none_clashes_with : (needs : List Need) (need first other : Need) → AllByRecursion (λ z. asks_alike first z ≡ false) needs → Contains needs other → asks_alike need other ≡ true → clashes need first ≡ false
 none_clashes_with needs need first other apart c alike =
-    no_truth (clashes need first) (λ clash.
+    false_from_ne_true (clashes need first) (λ clash.
     let back = alike_back need first (alike_by need first clash) in
     true≢false (sym (alike_through first need other back alike) ∙ all_apart asks_alike first other needs apart c))
 
@@ -179,7 +159,7 @@ unfolding IsDistinct
 none_before needs need other zero apart stored alike = refl
 none_before [] need other (suc first) apart stored alike = refl
 none_before (one ∷ needs) need other (suc first) apart stored alike =
-    neither (clashes need one) (list_any (clashes need) (take first needs))
+    or_from (clashes need one) (list_any (clashes need) (take first needs))
     (none_clashes_with needs need one other apart.0 (Contains-slice_get needs first other stored) alike)
     (none_before needs need other first apart.1 stored alike)
 
@@ -187,8 +167,8 @@ pub clashes_at : (needs : List Need) (need other : Need) (first : ℕ) → IsDis
 clashes_at needs need other first rows stored alike apart =
     let parts = and_parts _ _ alike in
     let clash : clashes need other ≡ true =
-    both _ _ (both _ _ ((bytes_eq-Decides other.referrer need.referrer).1 (sym ((bytes_eq-Decides _ _).0 parts.0))) ((bytes_eq-Decides other.asked need.asked).1 (sym ((bytes_eq-Decides _ _).0 parts.1))))
-    (ap not (no_truth (bytes_eq other.target need.target) (λ same. apart ((bytes_eq-Decides _ _).0 same)))) in
+    and_from _ _ (and_from _ _ ((bytes_eq-Decides other.referrer need.referrer).1 (sym ((bytes_eq-Decides _ _).0 parts.0))) ((bytes_eq-Decides other.asked need.asked).1 (sym ((bytes_eq-Decides _ _).0 parts.1))))
+    (ap not (false_from_ne_true (bytes_eq other.target need.target) (λ same. apart ((bytes_eq-Decides _ _).0 same)))) in
     record { other = other; stands = stored; alike = alike; apart = apart; clash = clash; found = found_by (clashes need) needs other (Contains-slice_get needs first other stored) clash; none_before = none_before needs need other first rows stored alike }
 
 pub clash_by : (needs : List Need) (need other : Need) (first : ℕ) (result : Result Added NeedFault) → IsDistinct asks_alike needs → slice_get needs first ≡ Some other → asks_alike need other ≡ true → IfErr result (λ fault. (fault ≡ Clash first) × (other.target ≢ need.target)) → IfErr result (λ fault. (place : ℕ) → fault ≡ Clash place → ClashesAt needs need place)

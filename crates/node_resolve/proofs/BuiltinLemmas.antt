@@ -1,18 +1,15 @@
 -- Whether a text is one of some names.
 --     among_none, among_first, among_later      name after name
-use Rattle.std.proofs.Common.{◌≡◌, ℕ, List, [], ◌∷◌, Bool, true, false, length, sym, ap, ◌∙◌, refl, arith}
+use Rattle.std.proofs.Common.{◌≡◌, ℕ, List, ◌∷◌, Bool, true, false, length, sym, ap, ◌∙◌}
+use Rattle.std.proofs.lemmas.List.{nil_from_length}
 use Rattle.std.specs.Prelude.{bytes_eq, ◌||◌}
 use Rattle.std.specs.List.{list_any}
 use Rattle.node_resolve.specs.MainFiles.{texts_of}
 use denote.Ref.{Bor}
 
-none_left : {A : Type 0} (xs : List A) → length xs ≡ 0 → xs ≡ []
-none_left [] e = refl
-none_left (x ∷ xs) e = absurd (omega arith)
-
 pub among_none : (text : List ℕ) (names : List (Bor (List ℕ))) → length names ≡ 0
     → false ≡ list_any (bytes_eq text) (texts_of names)
-among_none text names e = sym (ap (λ n. list_any (bytes_eq text) (texts_of n)) (none_left names e))
+among_none text names e = sym (ap (λ n. list_any (bytes_eq text) (texts_of n)) (nil_from_length names e))
 
 pub among_first : (text : List ℕ) (name : Bor (List ℕ)) (more names : List (Bor (List ℕ))) (b : Bool)
     → names ≡ name ∷ more → b ≡ bytes_eq text name.now → b ≡ true → true ≡ list_any (bytes_eq text) (texts_of names)

@@ -4,7 +4,7 @@ use Rattle.std.specs.Char.{is_ascii_digit}
 use Rattle.std.specs.Prelude.{◌≡◌, ◌≢◌, ℕ, ◌<◌, ◌≤◌, nat_le, Bool, true, false, cond, ◌==◌, ◌||◌, List, [], ◌∷◌, ◌++◌, length, IsUtf8, Option, Some, None, MatchOption}
 use Rattle.std.specs.Borrow.{Bor}
 use Rattle.std.proofs.Common.{refl, ap, sym, ◌∙◌, arith, append_assoc, length-append}
-use Rattle.std.proofs.lemmas.Bool.{cond-true, cond-false, leb-true, and_parts, false_from_ne_true, eqb-true}
+use Rattle.std.proofs.lemmas.Bool.{cond-true, cond-false, leb-true, and_parts, false_from_ne_true, eqb-true, or_from}
 use Rattle.std.proofs.lemmas.Str.{IsUtf8-append, IsUtf8-nil}
 use Rattle.json_spec.proofs.PrintedUtf8.{ascii_first}
 use Rattle.json_spec.specs.Taken.{taken, refused, Read, and_then, or_else, behind_piece}
@@ -34,9 +34,6 @@ module _ (one another : List ℕ → Read (List ℕ)) (bytes : List ℕ) where
 
 differs : (b c : ℕ) → b ≢ c → (b == c) ≡ false
 differs b c n = false_from_ne_true _ (λ t. n (eqb-true b c t))
-
-or_from : (x y : Bool) → x ≡ false → y ≡ false → (x || y) ≡ false
-or_from x y p q = rw (p, q) refl
 
 digit_low : (b : ℕ) → is_ascii_digit b ≡ true → b < 128
 digit_low b t = let l : b ≤ 57 = leb-true b 57 (and_parts (nat_le 48 b) (nat_le b 57) t).1 in omega arith

@@ -1,6 +1,7 @@
 -- Lists in key order are the entries of a map.
-use Rattle.std.specs.Prelude.{◌≡◌, ℕ, Bool, true, false, ◌&&◌, T, List, [], ◌∷◌, ◌++◌, map}
+use Rattle.std.specs.Prelude.{◌≡◌, ℕ, true, T, List, [], ◌∷◌, ◌++◌, map}
 use Rattle.std.proofs.Common.{refl, sym, ap, ◌∙◌, subst}
+use Rattle.std.proofs.lemmas.Bool.{and_from}
 use Rattle.std.specs.List.{AllByRecursion}
 use Rattle.std.specs.List.Sorted.{IsStrictlySortedBy}
 use Rattle.std.specs.Ordering.{nat_cmp, is_lt}
@@ -22,19 +23,15 @@ pub first_in_order : {V : Type 0} (before : List (List ℕ × V)) (pair : List �
 unfolding IsStrictlySortedBy
 first_in_order before pair none = subst (λ pairs. InKeyOrder (pairs ++ pair ∷ [])) (sym none) (tt, tt)
 
-and_true : (a b : Bool) → a ≡ true → b ≡ true → (a && b) ≡ true
-and_true true b p q = q
-and_true false b p q = absurd (cc)
-
 module _ {X : Type 0} where
   below_rest : (key : List ℕ) (es : List (List ℕ × X)) → AllByRecursion (λ other. slice_cmp nat_cmp key other ≡ Less) (keys_of es) → below_all (slice_cmp nat_cmp) key es ≡ true
   below_rest key [] all = refl
-  below_rest key (e ∷ es) all = and_true _ _ (ap is_lt all.0) (below_rest key es all.1)
+  below_rest key (e ∷ es) all = and_from _ _ (ap is_lt all.0) (below_rest key es all.1)
 
   pub sorted : (es : List (List ℕ × X)) → InKeyOrder es → is_sorted (slice_cmp nat_cmp) es ≡ true
   unfolding IsStrictlySortedBy
   sorted [] order = refl
-  sorted (e ∷ es) order = and_true _ _ (below_rest e.0 es order.0) (sorted es order.1)
+  sorted (e ∷ es) order = and_from _ _ (below_rest e.0 es order.0) (sorted es order.1)
 
   -- entries in order are those of a map
   pub entries_of : (es : List (List ℕ × X)) → InKeyOrder es → entries (from_sorted {R = slice_cmp nat_cmp} es) ≡ es

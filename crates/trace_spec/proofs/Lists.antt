@@ -1,31 +1,21 @@
 -- What a list contains, by tests; and what a list holds once.
-use Rattle.std.specs.Prelude.{◌≡◌, ◌⊎◌, ◌||◌, ◌&&◌, ℕ, zero, suc, Bool, true, false, List, [], ◌∷◌, ◌++◌, length}
+use Rattle.std.specs.Prelude.{◌≡◌, ◌⊎◌, ◌&&◌, ℕ, zero, suc, Bool, true, false, List, [], ◌∷◌, ◌++◌, length}
 use Rattle.std.specs.Prelude.{slice_get, Some, bytes_eq, Contains}
 use Rattle.std.specs.List.{list_any}
 use Rattle.std.proofs.Common.{refl, sym, ap, ◌∙◌, subst}
 use mathlib.Core.Logic.{inl, inr}
-use Rattle.std.proofs.lemmas.Bool.{cases_Bool, cond-true, cond-false, true≢false, and_parts}
+use Rattle.std.proofs.lemmas.Bool.{cases_Bool, cond-true, cond-false, true≢false, and_parts, or_parts, or_left}
+use Rattle.std.proofs.lemmas.Bool.{or_right}
 use Rattle.std.proofs.lemmas.Slice.Eq.{bytes_eq-Decides}
 use Rattle.layout_spec.proofs.Contained.{contains_cases, contains_none}
 use Rattle.trace_spec.specs.Walking.{new_modules}
 use Rattle.trace_spec.specs.Modules.{Module, is_module}
 
-either_false : (a b : Bool) → (a || b) ≡ false → (a ≡ false) × (b ≡ false)
-either_false true b e = absurd (cc)
-either_false false b e = (refl, e)
-
-left_true : (a b : Bool) → a ≡ true → (a || b) ≡ true
-left_true a b e = ap (λ x. x || b) e
-
-right_true : (a b : Bool) → b ≡ true → (a || b) ≡ true
-right_true true b e = refl
-right_true false b e = e
-
 pub none_by_test : {A : Type 0} (test : A → Bool) (xs : List A) → list_any test xs ≡ false → (x : A) → Contains xs x
     → test x ≡ false
 none_by_test test [] e x c = absurd (contains_none x c)
 none_by_test test (y ∷ xs) e x c =
-    let parts = either_false (test y) (list_any test xs) e in
+    let parts = or_parts (test y) (list_any test xs) e in
     elim (contains_cases x y xs c) [
       | inl same ↦ subst (λ z. test z ≡ false) same parts.0
       | inr later ↦ none_by_test test xs parts.1 x later
@@ -69,10 +59,10 @@ found_by_test : (target : Module) (modules : List Module) (i : ℕ) → slice_ge
     → list_any (is_module target) modules ≡ true
 found_by_test target [] i e = absurd (cc)
 found_by_test target (x ∷ modules) zero e =
-    left_true (is_module target x) (list_any (is_module target) modules)
+    or_left (is_module target x) (list_any (is_module target) modules)
     (let p : x ≡ target = cc in subst (λ y. is_module target y ≡ true) (sym p) (module_itself target))
 found_by_test target (x ∷ modules) (suc i) e =
-    right_true (is_module target x) (list_any (is_module target) modules) (found_by_test target modules i e)
+    or_right (is_module target x) (list_any (is_module target) modules) (found_by_test target modules i e)
 
 not_there : (target : Module) (modules : List Module) → list_any (is_module target) modules ≡ false
     → (i : ℕ) (m : Module) → m ≡ target → slice_get modules i ≡ Some m → ⊥

@@ -1,11 +1,11 @@
 -- What is put into the tables of a walk.
-use Rattle.std.proofs.Common.{◌≡◌, ◌≢◌, ◌<◌, ◌+◌, ℕ, zero, suc, Bool, true, false, List, [], ◌∷◌, ◌++◌, length, Option, Some, None, Result, Ok, Err, refl, sym, ap, ◌∙◌, subst, arith, length-append}
-use Rattle.std.specs.Prelude.{◌||◌, is_some, slice_get, take}
+use Rattle.std.proofs.Common.{◌≡◌, ◌≢◌, ◌<◌, ◌+◌, ℕ, zero, suc, true, false, List, [], ◌∷◌, ◌++◌, length, Option, Some, None, Result, Ok, Err, refl, sym, ap, ◌∙◌, subst, arith, length-append}
+use Rattle.std.specs.Prelude.{is_some, slice_get, take}
 use Rattle.std.specs.Result.{IsErrAnd}
 use mathlib.Core.Logic.{inl, inr}
 use Rattle.std.specs.List.{list_any}
 use Rattle.std.specs.Map.{keys_of, lookup}
-use Rattle.std.proofs.lemmas.Bool.{cases_Bool, cond-true, cond-false}
+use Rattle.std.proofs.lemmas.Bool.{cases_Bool, cond-true, cond-false, or_parts}
 use Rattle.std.proofs.lemmas.Map.Made.{is_some-lookup}
 use Rattle.std.proofs.lemmas.List.Elements.{All-push, All-head, All-tail}
 use Rattle.tree_spec.specs.declared.LimitName.TheVariants.{Modules, Requests}
@@ -104,14 +104,6 @@ grows_by_none config old new need spelling few modules put = record {
 
 -- ---- needs and their spellings
 
-left_false : (a b : Bool) → (a || b) ≡ false → a ≡ false
-left_false true b e = absurd (cc)
-left_false false b e = refl
-
-right_false : (a b : Bool) → (a || b) ≡ false → b ≡ false
-right_false true b e = absurd (cc)
-right_false false b e = e
-
 -- the spelling at the place of the first need that clashes
 clashing_at : (need other : Need) (needs : List Need) (spellings : List Spelling) (first : ℕ) (spelling : Spelling) → slice_get needs first ≡ Some other → clashes need other ≡ true → list_any (clashes need) (take first needs) ≡ false → slice_get spellings first ≡ Some spelling → clashing need needs spellings ≡ spelling
 clashing_at need other [] spellings first spelling stands clash none at = absurd (cc)
@@ -121,8 +113,8 @@ clashing_at need other (one ∷ needs) (some ∷ spellings) zero spelling stands
     let is : some ≡ spelling = (let f : Some some ≡ Some spelling = at in cc) in
     cond-true (clashes need one) some (clashing need needs spellings) (subst (λ n. clashes need n ≡ true) same clash) ∙ is
 clashing_at need other (one ∷ needs) (some ∷ spellings) (suc first) spelling stands clash none at =
-    cond-false (clashes need one) some (clashing need needs spellings) (left_false (clashes need one) (list_any (clashes need) (take first needs)) none)
-    ∙ clashing_at need other needs spellings first spelling stands clash (right_false (clashes need one) (list_any (clashes need) (take first needs)) none) at
+    cond-false (clashes need one) some (clashing need needs spellings) (or_parts (clashes need one) (list_any (clashes need) (take first needs)) none).0
+    ∙ clashing_at need other needs spellings first spelling stands clash (or_parts (clashes need one) (list_any (clashes need) (take first needs)) none).1 at
 
 pub is_clash : (referrer : Referrer) (needs : List Need) (need : Need) (spellings : List Spelling) (spelling found : Spelling) (first : ℕ) (fault : TraceFault) → ClashesAt needs need first → slice_get spellings first ≡ Some found → fault ≡ clash_by referrer found spelling → IsClash referrer needs need spellings spelling fault
 is_clash referrer needs need spellings spelling found first fault at stands is = record {

@@ -1,8 +1,9 @@
 -- The test of paths decides.
-use Rattle.std.proofs.Common.{◌≡◌, ◌≢◌, ◌≤◌, ◌⊎◌, ◌&&◌, ◌||◌, ◌==◌, ◌+◌, not, nat_le, ℕ, suc, Bool, true, false, List, [], ◌∷◌, ◌++◌, length, refl, sym, ap, ◌∙◌, subst, inl, inr, arith, All}
+use Rattle.std.proofs.Common.{◌≡◌, ◌≢◌, ◌≤◌, ◌&&◌, ◌||◌, ◌==◌, ◌+◌, not, nat_le, ℕ, suc, true, false, List, [], ◌∷◌, ◌++◌, length, refl, sym, ap, ◌∙◌, subst, inl, inr, arith, All}
 use Rattle.std.specs.Prelude.{codes, bytes_eq, flat_map}
 use Rattle.std.specs.List.{list_all}
 use Rattle.std.proofs.lemmas.Bool.{and_parts, cases_Bool, cond-true, cond-false, eqb-false, eqb-true, ne_eqb, not-true, leb-true, le-leb, true≢false}
+use Rattle.std.proofs.lemmas.Bool.{or_cases, or_right}
 use Rattle.std.proofs.lemmas.List.{append-nil, append_assoc}
 use Rattle.std.proofs.lemmas.List.Elements.{All-nil, All-cons, All-head, All-tail}
 use Rattle.std.proofs.lemmas.Slice.Eq.{bytes_eq-Decides}
@@ -119,10 +120,6 @@ below_root (name ∷ names) text e some passes =
     let here : HasDepth 1 (47 ∷ name) = child 0 1 (codes "/") name (47 ∷ name) (root (codes "/") refl) segment refl refl in
     subst (HasDepth (suc (length names))) e (subst (λ d. HasDepth d (slashed (name ∷ names))) (omega arith) (extended 1 (47 ∷ name) names here (not_root [] name segment.nonempty) both.1))
 
-or_cases : (a b : Bool) → (a || b) ≡ true → (a ≡ true) ⊎ (b ≡ true)
-or_cases true b e = inl refl
-or_cases false b e = inr e
-
 pub path_by_test : (text : List ℕ) → is_path text ≡ true → IsPath text
 path_by_test [] e = absurd (cc)
 path_by_test (b ∷ rest) e =
@@ -197,10 +194,6 @@ has_parts _ _ (child depth deeper parent name text has segment e same) deep = el
       let apart_from : parent ≢ codes "/" = (λ f. true≢false (sym ((bytes_eq-Decides parent (codes "/")).1 f) ∙ other)) in
       subst (λ d. HasParts d text) (sym e) (behind_parts depth parent name text (has_parts depth parent has apart_from) segment (same ∙ joined_deep parent name apart_from))
 ]
-
-or_right : (a b : Bool) → b ≡ true → (a || b) ≡ true
-or_right true b e = refl
-or_right false b e = e
 
 pub test_by_path : (text : List ℕ) → IsPath text → is_path text ≡ true
 test_by_path text is = elim (cases_Bool (bytes_eq text (codes "/"))) [

@@ -1,7 +1,7 @@
 -- The tests of paths and of what is served decide.
-use Rattle.std.proofs.Common.{◌≡◌, ◌&&◌, not, ℕ, Bool, true, false, List, ◌++◌, length, drop, refl, sym, ap, ◌∙◌, subst}
+use Rattle.std.proofs.Common.{◌≡◌, not, ℕ, true, false, List, ◌++◌, length, drop, sym, ap, ◌∙◌, subst}
 use Rattle.std.specs.Prelude.{codes, flat_map}
-use Rattle.std.proofs.lemmas.Bool.{and_parts}
+use Rattle.std.proofs.lemmas.Bool.{and_parts, not-true, and_from}
 use Rattle.std.proofs.lemmas.Str.{IsUtf8-from_is_utf8, is_utf8-from_IsUtf8}
 use Rattle.std.proofs.lemmas.Slice.Eq.{bytes_eq-Decides}
 use Rattle.std.proofs.Math.Seq.{drop-append_seam}
@@ -9,13 +9,6 @@ use Rattle.url_spec.specs.Suffixes.{before_suffix}
 use Rattle.url_spec.specs.ServedPaths.{holds_escape, segments, read_segment, IsServed}
 use Rattle.url_spec.specs.PathTests.{is_served}
 use Rattle.url_spec.proofs.PathDecisions.{path_by_test, test_by_path}
-
-not_false : (b : Bool) → not b ≡ true → b ≡ false
-not_false true e = absurd (cc)
-not_false false e = refl
-
-both : (a b : Bool) → a ≡ true → b ≡ true → (a && b) ≡ true
-both a b e f = ap (λ x. x && b) e ∙ f
 
 pub served_by_test : (base url path : List ℕ) → is_served base url path ≡ true → IsServed base url path
 served_by_test base url path e =
@@ -27,7 +20,7 @@ served_by_test base url path e =
     record {
       rest = rest;
       below = (bytes_eq-Decides _ _).0 outer.0;
-      no_slash = not_false _ first.0;
+      no_slash = not-true _ first.0;
       spelled = (bytes_eq-Decides _ _).0 first.1;
       utf8 = IsUtf8-from_is_utf8 path second.1;
       is_path = path_by_test path third.1;
@@ -40,5 +33,5 @@ test_by_served base url path served =
     let below : before_suffix url ≡ base ++ rest = served.below ∙ ap (λ r. base ++ r) (sym is_rest) in
     let no_slash : holds_escape (codes "%2f") rest ≡ false = subst (λ r. holds_escape (codes "%2f") r ≡ false) (sym is_rest) served.no_slash in
     let spelled : path ≡ flat_map read_segment (segments rest) = served.spelled ∙ ap (λ r. flat_map read_segment (segments r)) (sym is_rest) in
-    both _ _ ((bytes_eq-Decides _ _).1 below)
-    (both _ _ (both _ _ (both _ _ (ap not no_slash) ((bytes_eq-Decides _ _).1 spelled)) (is_utf8-from_IsUtf8 path served.utf8)) (test_by_path path served.is_path))
+    and_from _ _ ((bytes_eq-Decides _ _).1 below)
+    (and_from _ _ (and_from _ _ (and_from _ _ (ap not no_slash) ((bytes_eq-Decides _ _).1 spelled)) (is_utf8-from_IsUtf8 path served.utf8)) (test_by_path path served.is_path))

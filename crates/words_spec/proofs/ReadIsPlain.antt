@@ -3,7 +3,7 @@ use Rattle.std.proofs.Common.{◌≡◌, ◌≤◌, ◌<◌, ◌==◌, ◌&&◌,
 use Rattle.std.specs.Fmt.{decimal}
 use Rattle.std.specs.List.{list_all}
 use Rattle.std.specs.Prelude.{bytes_eq, option_and_then}
-use Rattle.std.proofs.lemmas.Bool.{eqb-true, not-true}
+use Rattle.std.proofs.lemmas.Bool.{eqb-true, not-true, and_parts}
 use Rattle.std.proofs.lemmas.Bool.Decides.{nat_tests}
 use Rattle.std.proofs.lemmas.Fmt.{decimal_step, decimal_by_steps}
 use Rattle.std.proofs.lemmas.List.Elements.{All-nil}
@@ -14,7 +14,7 @@ use Rattle.words_spec.specs.Laws.{ReadingIsExact}
 use Rattle.words_spec.specs.PlainWords.{Asked, Asks, IsValue, LinkOptions, LinkWords, no_options, spelled, value_of, with_value, linking, unlinking, measuring, entries, two_words, one_word, link, unlink, refresh, check, list, inject, session, measure}
 use Rattle.words_spec.specs.Reading.{Spelling, no_option, alone, joined, behind, by_spelling, entries_reading, is_value, link_reading, measure_reading, next_number, number_in, one_more, or_else, plain_command, reading_of, spelling_as, spelling_by, spelling_of, unlink_reading, with_number, without_more}
 use Rattle.words_spec.proofs.PlainIsRead.{plain_is_read}
-use Rattle.words_spec.proofs.Values.{both_true, passed_value, passed_values}
+use Rattle.words_spec.proofs.Values.{passed_value, passed_values}
 
 -- ---- options
 
@@ -77,7 +77,7 @@ is_one_more options option value more is = by_test (is_value value && not (is_so
         → (if both then Some (with_value option value options) else None) ≡ Some more
         → IsOneMore options option value more
     by_test true both is =
-        let parts = both_true (is_value value) (not (is_some (value_of option options))) both in
+        let parts = and_parts (is_value value) (not (is_some (value_of option options))) both in
         record {
           is = passed_value value parts.0;
           free = not_some (value_of option options) (not-true (is_some (value_of option options)) parts.1);

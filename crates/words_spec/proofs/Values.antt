@@ -1,7 +1,7 @@
 -- Values and entries, as they are tested and as they are defined.
-use Rattle.std.proofs.Common.{◌≡◌, ◌≢◌, ◌==◌, ◌&&◌, ℕ, List, [], ◌∷◌, length, Bool, true, false, not, refl, ap, ap₂, arith}
+use Rattle.std.proofs.Common.{◌≡◌, ◌≢◌, ◌==◌, ◌&&◌, ℕ, List, [], ◌∷◌, length, true, false, not, refl, ap, ap₂, arith}
 use Rattle.std.specs.List.{list_all, All}
-use Rattle.std.proofs.lemmas.Bool.{ne_eqb, eqb-false, not-true}
+use Rattle.std.proofs.lemmas.Bool.{ne_eqb, eqb-false, not-true, and_parts}
 use Rattle.std.proofs.lemmas.List.Elements.{All-head, All-tail, All-nil, All-cons}
 use Rattle.words_spec.specs.PlainWords.{IsValue}
 use Rattle.words_spec.specs.Reading.{is_value}
@@ -27,13 +27,8 @@ passed_value (byte ∷ bytes) passes = record {
       eqb-false byte 45 (not-true (byte == 45) passes) (let first : byte ≡ 45 = cc in first);
 }
 
-pub both_true : (a b : Bool) → (a && b) ≡ true → (a ≡ true) × (b ≡ true)
-both_true true true both = (refl, refl)
-both_true true false both = absurd (let bad : false ≡ true = both in cc)
-both_true false b both = absurd (let bad : false ≡ true = both in cc)
-
 pub passed_values : (words : List (List ℕ)) → list_all is_value words ≡ true → All IsValue words
 passed_values [] pass = All-nil IsValue
 passed_values (word ∷ words) pass =
-    let parts = both_true (is_value word) (list_all is_value words) pass in
+    let parts = and_parts (is_value word) (list_all is_value words) pass in
     All-cons IsValue word words (passed_value word parts.0) (passed_values words parts.1)

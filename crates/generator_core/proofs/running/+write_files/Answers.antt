@@ -1,18 +1,15 @@
-use Rattle.std.proofs.Common.{◌≡◌, List, [], ◌∷◌, length, Ok, Err, true, false, map, refl, sym, subst, arith}
+use Rattle.std.proofs.Common.{Ok, Err, true, false, map, sym, subst}
+use Rattle.std.proofs.lemmas.List.{nil_from_length}
 use Rattle.tree_spec.specs.States.{IsWritten}
 use Rattle.generator_core.specs.Preparing.{shown_file}
 use Rattle.generator_core.specs.Writing.{WritesFiles}
 use Rattle.generator_core.proofs.Runs.{none_written, first_fails, then_written}
 use Rattle.generator_core.proofs.running.+write_files.Goals as goal
 
-none_left : {A : Type 0} (xs : List A) → length xs ≡ 0 → xs ≡ []
-none_left [] e = refl
-none_left (x ∷ xs) e = absurd (omega arith)
-
 pub returns-in-None : goal.returns-in-None
 returns-in-None g t c =
     let before = g.F.Folder.state c.args.folder.now in
-    subst (λ files. WritesFiles (map shown_file files) before true before) (sym (none_left c.args.files.now c.in-None.ensures.cases)) (none_written before)
+    subst (λ files. WritesFiles (map shown_file files) before true before) (sym (nil_from_length c.args.files.now c.in-None.ensures.cases)) (none_written before)
 
 pub returns-in-Ok : goal.returns-in-Ok
 returns-in-Ok g t c =

@@ -1,17 +1,14 @@
-use Rattle.std.proofs.Common.{◌≡◌, ◌++◌, [], ◌∷◌, List, length, ap, refl, arith}
+use Rattle.std.proofs.Common.{◌++◌, ap}
+use Rattle.std.proofs.lemmas.List.{nil_from_length}
 use Rattle.std.specs.Prelude.{map}
 use Rattle.node_resolve.specs.MainFiles.{texts_of}
 use Rattle.node_resolve.proofs.MainLemmas.{none_first, first_fails, first_here, first_later}
 use Rattle.node_resolve.proofs.legacy_main_resolve.+first_served.Goals as goal
 
-none_left : {A : Type 0} (xs : List A) → length xs ≡ 0 → xs ≡ []
-none_left [] e = refl
-none_left (x ∷ xs) e = absurd (omega arith)
-
 pub returns-in-None : goal.returns-in-None
 returns-in-None g t c = λ path e.
     none_first _ path _
-    (ap (λ l. map (λ end. c.args.front.now ++ end) (texts_of l)) (none_left c.args.ends.now c.in-None.ensures.cases))
+    (ap (λ l. map (λ end. c.args.front.now ++ end) (texts_of l)) (nil_from_length c.args.ends.now c.in-None.ensures.cases))
 
 pub returns-in-Err : goal.returns-in-Err
 returns-in-Err g t c = λ path e.
