@@ -1,7 +1,6 @@
 -- Entries that are put to those of a project, and entries that are taken out.
 use Rattle.std.proofs.Common.{◌≡◌, ◌≤◌, refl, ℕ, Bool, true, false, cond, List, [], ◌∷◌, ◌++◌, length, lit≤, arith}
 use Rattle.std.proofs.Common.{All, Contains, sym, ap, ◌∙◌, true≢false}
-use Rattle.std.specs.Cmp.{IsEquivalence}
 use Rattle.std.specs.List.{AllByRecursion, IsDistinct, list_any}
 use Rattle.std.specs.Prelude.{bytes_eq, filter, not, if◌then◌else◌}
 use Rattle.std.proofs.lemmas.Cmp.{nat_list_eq_equiv}
@@ -11,9 +10,6 @@ use Rattle.std.proofs.lemmas.Map.Views.{Contains-from_any}
 use Rattle.std.proofs.lemmas.Slice.Eq.{bytes_eq-Decides}
 use Rattle.std.proofs.lemmas.Map.Keys.{IsDistinct-push}
 use Rattle.config_spec.specs.Projects.{once_onto, without}
-
-equal_bytes : IsEquivalence bytes_eq
-equal_bytes = nat_list_eq_equiv
 
 pub no_entry_twice : IsDistinct bytes_eq []
 unfolding IsDistinct
@@ -28,7 +24,7 @@ onto_distinct seen (text ∷ texts) distinct =
     by : (there : Bool) → list_any (bytes_eq text) seen ≡ there
         → IsDistinct bytes_eq (if there then seen else seen ++ text ∷ [])
     by true e = distinct
-    by false e = IsDistinct-push equal_bytes seen text distinct e
+    by false e = IsDistinct-push nat_list_eq_equiv seen text distinct e
 
 filtered_apart :
     (text : List ℕ) (test : List ℕ → Bool) (texts : List (List ℕ))

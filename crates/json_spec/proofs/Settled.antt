@@ -1,12 +1,10 @@
 -- What `settled` does: distinct names stay as they are written, and what comes out has distinct names.
 use Rattle.std.proofs.Common.{refl, ap, ◌∙◌, sym}
-use Rattle.std.proofs.lemmas.Bool.{false_from_ne_true, cond-false, cond_both}
+use Rattle.std.proofs.lemmas.Bool.{cond-false, cond_both}
 use Rattle.std.proofs.lemmas.Slice.Eq.{bytes_eq-Decides}
 use Rattle.std.specs.Prelude.{◌≡◌, ℕ, ◌≢◌, false, List, bytes_eq, ⊤, true}
 use Rattle.json_spec.specs.Value.{Members, no_members, a_member, Json, put, IsNewName, settled_onto, AreDistinct, settled}
-
-pub other_name : (a b : List ℕ) → a ≢ b → bytes_eq a b ≡ false
-other_name a b n = false_from_ne_true _ (λ e. n ((bytes_eq-Decides a b).0 e))
+use Rattle.tree_spec.proofs.ByteLists.{other_text}
 
 abbrev appended : Members → Members → Members
 appended no_members ms = ms
@@ -22,7 +20,7 @@ appended_more (a_member n v ms) more name value = ap (a_member n v) (appended_mo
 
 put_new : (name : List ℕ) (value : Json) (ms : Members) → IsNewName name ms → put name value ms ≡ appended ms (a_member name value no_members)
 put_new name value no_members n = refl
-put_new name value (a_member other v more) n = cond-false _ _ _ (other_name name other n.0) ∙ ap (a_member other v) (put_new name value more n.1)
+put_new name value (a_member other v more) n = cond-false _ _ _ (other_text name other n.0) ∙ ap (a_member other v) (put_new name value more n.1)
 
 -- the names of the first are none of the second's
 abbrev Apart : Members → Members → Type 0

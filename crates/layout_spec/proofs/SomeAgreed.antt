@@ -14,6 +14,7 @@ use Rattle.layout_spec.specs.AgreedLayout.{IsUnder, AgreesOn, Stands, IsAgreedLa
 use Rattle.layout_spec.specs.Laws.{SomeAgreedLayout}
 use Rattle.layout_spec.specs.Places.{places, place_above}
 use Rattle.layout_spec.specs.declared.Need.{Need}
+use Rattle.tree_spec.proofs.ByteLists.{texts_differ, other_text}
 
 -- ---- what a test finds in a list
 
@@ -109,15 +110,6 @@ mappings needs = flat_map (mappings_of needs) needs
 abbrev StandsFor : List Need → Need → List ℕ → Type 0
 StandsFor needs need place = Stands needs place need.asked need.target
 
-differs : (one other : List ℕ) → not (bytes_eq one other) ≡ true → one ≢ other
-differs one other e same = true≢false (sym ((bytes_eq-Decides one other).1 same) ∙ not-true (bytes_eq one other) e)
-
-differs_test : (one other : List ℕ) → one ≢ other → not (bytes_eq one other) ≡ true
-differs_test one other n = elim (cases_Bool (bytes_eq one other)) [
-  | inl t ↦ absurd (n ((bytes_eq-Decides one other).0 t))
-  | inr f ↦ not_from_false (bytes_eq one other) f
-]
-
 module _ (needs : List Need) (need : Need) (c : Contains needs need) where
   none_above : (place : List ℕ) → Contains (places need.referrer) place → agreed_above needs need (place_above place) ≡ false → (higher : List ℕ) → place_above place ≡ Some higher → (other : List ℕ) → AgreesOn needs need.asked higher other → ⊥
   unfolding agreed_above
@@ -135,7 +127,7 @@ module _ (needs : List Need) (need : Need) (c : Contains needs need) where
       record {
         agrees = record { need = need; some = record { is_need = c; asks = refl; under = at }; all = agreed_is needs need.asked place need.target inner.0 };
         highest = none_above place at (not-true (agreed_above needs need (place_above place)) inner.1);
-        apart = differs need.asked need.target outer.1;
+        apart = texts_differ need.asked need.target (not-true _ outer.1);
       }
 
   not_above : (place : List ℕ) → Contains (places need.referrer) place → StandsFor needs need place → (found : Option (List ℕ)) → place_above place ≡ found → agreed_above needs need found ≡ false
@@ -154,7 +146,7 @@ module _ (needs : List Need) (need : Need) (c : Contains needs need) where
   test_from place at s =
       and_from _ _
       (and_from _ _ (agreed_from needs need.asked place need.target s.agrees.all) (not_from_false _ (not_above place at s (place_above place) refl)))
-      (differs_test need.asked need.target s.apart)
+      (not_from_false _ (other_text need.asked need.target s.apart))
 
   mapping_stands : (mapping : Mapping) → Contains (mappings_of needs need) mapping → Stands needs mapping.place mapping.asked mapping.target
   mapping_stands mapping d =

@@ -3,11 +3,11 @@
 --     mixed_is                     some names pass and some don't
 --     field_passed, field_here     the value with a name, member by member
 --     none_first, target_is        the key that is taken
-use Rattle.std.proofs.Common.{◌≡◌, ◌≢◌, ◌&&◌, ◌||◌, ℕ, zero, suc, Bool, true, false, not, List, [], ◌∷◌, Option, Some, None, refl, sym, ap, ◌∙◌, subst, ⊎_elim}
+use Rattle.std.proofs.Common.{◌≡◌, ◌≢◌, ◌&&◌, ◌||◌, ℕ, zero, suc, Bool, true, false, not, List, [], ◌∷◌, Option, Some, None, refl, sym, ap, ◌∙◌, subst}
 use Rattle.std.specs.Prelude.{map, slice_get, bytes_eq, MatchOption}
 use Rattle.std.specs.List.{list_any, list_all}
-use Rattle.std.proofs.lemmas.Bool.{cond-true, cond-false, cases_Bool}
-use Rattle.std.proofs.lemmas.Slice.Eq.{bytes_eq-Decides}
+use Rattle.std.proofs.lemmas.Bool.{cond-true, cond-false}
+use Rattle.std.proofs.lemmas.Cmp.{nat_list_eq_equiv}
 use Rattle.json_spec.specs.Value.{AreDistinct, IsNewName}
 use Rattle.ordered_json.specs.Shown.{json_of, members_of}
 use Rattle.ordered_json.specs.declared.value.Value.{Value}
@@ -20,6 +20,7 @@ use Rattle.node_spec.specs.PatternKeyCompare.{KeyFound, first_key, pattern_match
 use Rattle.node_spec.specs.PatternKeys.{KeyMatch, IsChoice, MatchesNone}
 use Rattle.node_spec.specs.Records.{field}
 use Rattle.node_resolve.specs.Members.{IsTarget}
+use Rattle.tree_spec.proofs.ByteLists.{other_text}
 
 abbrev Pairs : Type 0
 Pairs = List (List ℕ × Value)
@@ -55,13 +56,6 @@ pub field_here : (name : List ℕ) (pair : List ℕ × Value) (pairs : Pairs) �
     → field name (members_of (pair ∷ pairs)) ≡ json_of pair.1
 field_here name pair pairs e = cond-true _ (json_of pair.1) (field name (members_of pairs)) e
 
-itself : (name : List ℕ) → bytes_eq name name ≡ true
-itself name = (bytes_eq-Decides name name).1 refl
-
-another : (name other : List ℕ) → name ≢ other → bytes_eq name other ≡ false
-another name other n =
-    ⊎_elim (λ e. absurd (n ((bytes_eq-Decides name other).0 e))) (λ e. e) (cases_Bool (bytes_eq name other))
-
 new_at : (name : List ℕ) (pairs : Pairs) (i : ℕ) (pair : List ℕ × Value) → IsNewName name (members_of pairs)
     → slice_get pairs i ≡ Some pair → name ≢ pair.0
 new_at name [] i pair n e = absurd (cc)
@@ -73,11 +67,11 @@ pub field_at : (pairs : Pairs) (i : ℕ) (pair : List ℕ × Value) → AreDisti
 field_at [] i pair d e = absurd (cc)
 field_at (other ∷ pairs) zero pair d e =
     let f : other ≡ pair = cc in
-    field_here pair.0 other pairs (subst (λ (p : List ℕ × Value). bytes_eq pair.0 p.0 ≡ true) (sym f) (itself pair.0))
+    field_here pair.0 other pairs (subst (λ (p : List ℕ × Value). bytes_eq pair.0 p.0 ≡ true) (sym f) (nat_list_eq_equiv.refl pair.0))
     ∙ ap (λ (p : List ℕ × Value). json_of p.1) f
 field_at (other ∷ pairs) (suc i) pair d e =
     field_passed pair.0 other pairs
-    (another pair.0 other.0 (λ same. new_at other.0 pairs i pair d.0 e (sym same)))
+    (other_text pair.0 other.0 (λ same. new_at other.0 pairs i pair d.0 e (sym same)))
     ∙ field_at pairs i pair d.1 e
 
 -- ---- the key that is taken

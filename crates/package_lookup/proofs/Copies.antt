@@ -1,13 +1,11 @@
 -- A map that is filled with what another map holds.
 use Rattle.std.proofs.Common.{◌≡◌, ℕ, List, [], ◌∷◌, Option, Some, None, refl, sym, ap, ◌∙◌}
 use Rattle.std.specs.Prelude.{bytes_eq, cond}
-use Rattle.std.specs.Cmp.{IsEquivalence}
 use Rattle.std.specs.List.{IsDistinct}
 use Rattle.std.specs.Map.{keys_of, lookup, update, update_all}
 use Rattle.std.proofs.lemmas.Map.Made.{update_all_none}
-use Rattle.std.proofs.lemmas.Slice.Eq.{bytes_eq-Decides}
+use Rattle.std.proofs.lemmas.Cmp.{nat_list_eq_equiv}
 use Rattle.tree_spec.specs.declared.Look.{Look}
-use Rattle.package_lookup.proofs.PathSets.{same_either_way}
 
 abbrev pub Pairs : Type 0
 Pairs = List (List ℕ × Look)
@@ -40,15 +38,8 @@ copy_goes there next rest more all path look completes is puts = λ other.
     alike next (update bytes_eq there path (Some look)) puts more other
     ∙ (sym (ap (λ r. update_all bytes_eq there r other) is) ∙ completes other)
 
-equal_bytes : IsEquivalence bytes_eq
-equal_bytes = record {
-  refl = λ one. (bytes_eq-Decides one one).1 refl;
-  symm = same_either_way;
-  congr = λ one other third e. ap (λ path. bytes_eq path third) ((bytes_eq-Decides one other).0 e);
-}
-
 pub copy_ends : (there : At) (rest all : Pairs) → Completes there rest all → rest ≡ [] → IsDistinct bytes_eq (keys_of all)
     → (path : List ℕ) → there path ≡ lookup (bytes_eq path) all
 copy_ends there rest all completes none distinct path =
     sym (ap (λ r. update_all bytes_eq there r path) none) ∙ (completes path
-    ∙ update_all_none equal_bytes bytes_eq (λ x y. refl) all path distinct)
+    ∙ update_all_none nat_list_eq_equiv bytes_eq (λ x y. refl) all path distinct)

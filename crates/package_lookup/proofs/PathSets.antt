@@ -1,24 +1,18 @@
 -- Lists of distinct paths.
-use Rattle.std.proofs.Common.{◌≡◌, ℕ, false, List, [], ◌∷◌, ◌++◌, refl, sym, ap, ◌∙◌}
+use Rattle.std.proofs.Common.{◌≡◌, ℕ, false, List, [], ◌∷◌, ◌++◌, refl, ap, ◌∙◌}
 use Rattle.std.specs.Prelude.{◌||◌, bytes_eq, All, if◌then◌else◌}
 use Rattle.std.specs.List.{list_any, IsDistinct, AllByRecursion}
-use Rattle.std.specs.Bool.{one_answer}
 use Rattle.std.proofs.lemmas.Bool.{cond-false}
 use Rattle.std.proofs.lemmas.List.Elements.{All-head, All-tail, recursion_from_All}
-use Rattle.std.proofs.lemmas.Slice.Eq.{bytes_eq-Decides}
+use Rattle.std.proofs.lemmas.Cmp.{nat_list_eq_equiv}
 use Rattle.tree_spec.specs.LookAskings.{is_seen, with_seen}
 use Rattle.tree_spec.specs.LookLimits.{Trail}
 use Rattle.indexmap.specs.IndexSet.{insert_key}
 
-pub same_either_way : (one other : List ℕ) → bytes_eq one other ≡ bytes_eq other one
-same_either_way one other =
-    one_answer {P = one ≡ other} (bytes_eq one other) (bytes_eq other one) (bytes_eq-Decides one other)
-    ((λ e. sym ((bytes_eq-Decides other one).0 e)), (λ e. (bytes_eq-Decides other one).1 (sym e)))
-
 pub seen_by : (path : List ℕ) (paths : List (List ℕ)) → list_any (bytes_eq path) paths ≡ is_seen path paths
 seen_by path [] = refl
 seen_by path (first ∷ paths) =
-    (λ i. (same_either_way path first i) || (seen_by path paths i))
+    (λ i. (nat_list_eq_equiv.symm path first i) || (seen_by path paths i))
 
 -- a set keeps the order of first insertions
 pub inserted : (path : List ℕ) (paths : List (List ℕ)) → insert_key bytes_eq paths path ≡ with_seen paths path

@@ -4,9 +4,9 @@ use Rattle.std.specs.Prelude.{ℕ, true, false, List, [], ◌∷◌, All, codes,
 use Rattle.std.specs.List.{list_all, list_any}
 use Rattle.std.proofs.lemmas.Bool.{and_parts, or_parts, eqb-false}
 use Rattle.std.proofs.lemmas.List.Elements.{All-nil, All-cons}
-use Rattle.std.proofs.lemmas.Slice.Eq.{bytes_eq-Decides}
 use Rattle.condition_match.specs.Conditions.{names_in, is_name_byte, IsCondition, AreConditions}
 use Rattle.tree_spec.specs.Paths.{IsSegment, IsPath, root, child}
+use Rattle.tree_spec.proofs.ByteLists.{texts_differ}
 use Rattle.command_words.specs.Settings.{IsFilePage}
 use Rattle.config_spec.specs.Projects.{page_path, link_conditions}
 
@@ -51,11 +51,8 @@ plain_by_test (b ∷ name) e =
     let parts = and_parts (is_name_byte b) (list_all is_name_byte name) e in
     All-cons (λ c. is_name_byte c ≡ true) b name parts.0 (plain_by_test name parts.1)
 
-differs : (text other : List ℕ) → bytes_eq text other ≡ false → text ≢ other
-differs text other e same = let equal : bytes_eq text other ≡ true = (bytes_eq-Decides text other).1 same in absurd (cc)
-
 is_condition : (name : List ℕ) → 0 < length name → length name ≤ 64 → list_all is_name_byte name ≡ true → bytes_eq name (codes "default") ≡ false → IsCondition name
-is_condition name nonempty short e other = record { nonempty = nonempty; short = short; plain = plain_by_test name e; other = differs name (codes "default") other }
+is_condition name nonempty short e other = record { nonempty = nonempty; short = short; plain = plain_by_test name e; other = texts_differ name (codes "default") other }
 
 pub named : names_in (codes "browser,import") ≡ link_conditions
 named = refl
@@ -66,7 +63,7 @@ are_conditions = record {
   each =
       All-cons IsCondition (codes "browser") (codes "import" ∷ []) (is_condition (codes "browser") (lit≤ tt) (lit≤ tt) refl refl)
       (All-cons IsCondition (codes "import") [] (is_condition (codes "import") (lit≤ tt) (lit≤ tt) refl refl) (All-nil IsCondition));
-  distinct = (All-cons (λ other. codes "browser" ≢ other) (codes "import") [] (differs (codes "browser") (codes "import") refl) (All-nil (λ other. codes "browser" ≢ other)), (All-nil (λ other. codes "import" ≢ other), tt));
+  distinct = (All-cons (λ other. codes "browser" ≢ other) (codes "import") [] (texts_differ (codes "browser") (codes "import") refl) (All-nil (λ other. codes "browser" ≢ other)), (All-nil (λ other. codes "import" ≢ other), tt));
 }
 
 pub can_be : AreConditions (names_in (codes "browser,import"))

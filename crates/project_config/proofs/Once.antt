@@ -1,7 +1,6 @@
 -- Entries that are put behind others, each once, and entries that are taken out.
 use Rattle.std.proofs.Common.{◌≡◌, ◌<◌, ◌+◌, ℕ, true, false, List, [], ◌∷◌, ◌++◌, length, take, map, get_or, sym, refl, ap, subst, ◌∙◌, if◌then◌else◌, append_assoc, append-nil, inl, inr, arith}
 use Rattle.std.specs.Prelude.{bytes_eq, Result, Ok, Err, IfOk}
-use Rattle.std.specs.Cmp.{IsEquivalence}
 use Rattle.std.specs.List.{list_any, IsDistinct}
 use Rattle.std.proofs.lemmas.Bool.{cases_Bool, cond-true, cond-false, true≢false}
 use Rattle.std.proofs.lemmas.Cmp.{nat_list_eq_equiv}
@@ -27,9 +26,6 @@ one_more xs i x text old new within is so_far same e =
 
 -- ---- texts that are distinct
 
-equal_bytes : IsEquivalence bytes_eq
-equal_bytes = nat_list_eq_equiv
-
 not_before : (seen texts : List (List ℕ)) (text : List ℕ) → IsDistinct bytes_eq (seen ++ text ∷ texts) → list_any (bytes_eq text) seen ≡ true → ⊥
 not_before seen texts text distinct there =
     let found = Any-from_list_any (bytes_eq text) seen there in
@@ -41,7 +37,7 @@ not_before seen texts text distinct there =
     let first : get_or all found.0 found.1 ≡ found.1 = get_or-append seen (text ∷ texts) found.1 found.0 inside ∙ found.3 in
     let second : get_or all (length seen) found.1 ≡ text = get_or-append_seam seen text texts found.1 in
     let differ : bytes_eq found.1 text ≡ false = (λ j. bytes_eq (sym first j) (sym second j)) ∙ apart in
-    true≢false (sym found.4 ∙ (equal_bytes.symm text found.1 ∙ differ))
+    true≢false (sym found.4 ∙ (nat_list_eq_equiv.symm text found.1 ∙ differ))
 
 onto_distinct : (seen texts : List (List ℕ)) → IsDistinct bytes_eq (seen ++ texts) → once_onto seen texts ≡ seen ++ texts
 onto_distinct seen [] distinct = sym (append-nil seen)
@@ -64,7 +60,7 @@ distinct_onto seen (text ∷ texts) distinct =
     distinct_onto (if list_any (bytes_eq text) seen then seen else seen ++ text ∷ []) texts
     (elim (cases_Bool (list_any (bytes_eq text) seen)) [
       | inl there ↦ subst (IsDistinct bytes_eq) (sym (cond-true (list_any (bytes_eq text) seen) seen (seen ++ text ∷ []) there)) distinct
-      | inr new ↦ subst (IsDistinct bytes_eq) (sym (cond-false (list_any (bytes_eq text) seen) seen (seen ++ text ∷ []) new)) (IsDistinct-push equal_bytes seen text distinct new)
+      | inr new ↦ subst (IsDistinct bytes_eq) (sym (cond-false (list_any (bytes_eq text) seen) seen (seen ++ text ∷ []) new)) (IsDistinct-push nat_list_eq_equiv seen text distinct new)
     ])
 
 pub none_twice : IsDistinct bytes_eq []

@@ -1,5 +1,5 @@
 -- The members of a project's file are four, in any order.
-use Rattle.std.proofs.Common.{◌≡◌, ◌≢◌, ◌||◌, ℕ, suc, true, false, List, [], ◌∷◌, All, length, refl, sym, ap, subst, ◌∙◌, ⊎_elim, arith}
+use Rattle.std.proofs.Common.{◌≡◌, ◌≢◌, ◌||◌, ℕ, suc, true, List, [], ◌∷◌, All, length, refl, sym, ap, subst, ◌∙◌, ⊎_elim, arith}
 use Rattle.std.specs.List.{list_any, sum_by}
 use Rattle.std.specs.List.Sorted.{IsPermutation}
 use Rattle.std.specs.Prelude.{codes, bytes_eq, Some}
@@ -8,7 +8,7 @@ use Rattle.std.proofs.lemmas.List.Elements.{All-nil, All-cons, All-head, All-tai
 use Rattle.std.proofs.lemmas.List.Sorted.{IsPermutation-refl, IsPermutation-cons, IsPermutation-sym, IsPermutation-trans, IsPermutation-middle, All-permutation, list_any-IsPermutation, sum_by-IsPermutation}
 use Rattle.std.proofs.lemmas.List.Sums.{sum_by-cons}
 use Rattle.std.proofs.lemmas.Slice.Eq.{bytes_eq-Decides}
-use Rattle.tree_spec.proofs.ByteLists.{texts_differ}
+use Rattle.tree_spec.proofs.ByteLists.{texts_differ, other_text}
 use Rattle.json_spec.specs.PropertyOrder.{Pair, pairs_of}
 use Rattle.json_spec.specs.Value.{Json, a_text, a_list, Items, Members, no_members, a_member}
 use Rattle.import_map_spec.specs.Parsing.{member}
@@ -23,15 +23,11 @@ record Without (members : Members) (name : List ℕ) (value : Json) : Type 0 whe
   pub others : (other : List ℕ) → other ≢ name → member other rest ≡ member other members
   pub fewer : length (pairs_of members) ≡ suc (length (pairs_of rest))
 
-unlike : (other name : List ℕ) → other ≢ name → bytes_eq other name ≡ false
-unlike other name differ =
-    ⊎_elim (λ same. absurd (differ ((bytes_eq-Decides other name).0 same))) (λ fails. fails) (cases_Bool (bytes_eq other name))
-
 here : (name key : List ℕ) (value found : Json) (more : Members) → key ≡ name → found ≡ value → Without (a_member key found more) name value
 here name key value found more key_is found_is = record {
   rest = more;
   moved = subst (λ p. IsPermutation ((key, found) ∷ pairs_of more) (p ∷ pairs_of more)) (λ i. (key_is i, found_is i)) (IsPermutation-refl ((key, found) ∷ pairs_of more));
-  others = λ other differ. sym (cond-false _ _ _ (unlike other key (λ e. differ (e ∙ key_is))));
+  others = λ other differ. sym (cond-false _ _ _ (other_text other key (λ e. differ (e ∙ key_is))));
   fewer = refl;
 }
 

@@ -6,9 +6,8 @@ use Rattle.std.specs.BTreeMap.{BTreeMap, get_by, is_at, UpdatesBy}
 use Rattle.std.specs.FinMap.{get, find, insert, remove, get-from_entries, get-remove}
 use Rattle.std.specs.Map.{lookup}
 use Rattle.std.proofs.Common.{sym, ◌∙◌, ap}
-use Rattle.std.proofs.lemmas.Bool.Decides.{same_from_decides}
 use Rattle.std.proofs.lemmas.Map.Text.{is_eq-slice_cmp}
-use Rattle.std.proofs.lemmas.Slice.Eq.{bytes_eq-Decides}
+use Rattle.std.proofs.lemmas.Cmp.{nat_list_eq_equiv}
 use Rattle.tree_spec.specs.declared.Entry.{Entry}
 use Rattle.tree_spec.proofs.Insertion.{get_inserted, same_tree}
 use Rattle.tree_model.specs.Entries.{tree_of}
@@ -20,13 +19,10 @@ find_lookup path (e ∷ entries) = ap (cond (is_at (slice_cmp nat_cmp path) e.0)
 pub tree_get : (map : BTreeMap (List ℕ) Entry) (path : List ℕ) → get (tree_of map) path ≡ get_by (slice_cmp nat_cmp path) map
 tree_get map path = get-from_entries nat_list_cmp_total map.entries path ∙ find_lookup path map.entries
 
-turned : (a b : List ℕ) → bytes_eq a b ≡ bytes_eq b a
-turned a b = same_from_decides _ _ (bytes_eq-Decides a b) (let d = bytes_eq-Decides b a in ((λ t. sym (d.0 t)), (λ e. d.1 (sym e))))
-
 updated : (map new : BTreeMap (List ℕ) Entry) (path : List ℕ) (found : Option Entry) (other : List ℕ) → UpdatesBy (slice_cmp nat_cmp) (slice_cmp nat_cmp path) map new found
     → get (tree_of new) other ≡ cond (bytes_eq other path) found (get (tree_of map) other)
 updated map new path found other u =
-    tree_get new other ∙ u.0 other ∙ ap (λ b. cond b found (get_by (slice_cmp nat_cmp other) map)) (is_eq-slice_cmp path other ∙ turned path other)
+    tree_get new other ∙ u.0 other ∙ ap (λ b. cond b found (get_by (slice_cmp nat_cmp other) map)) (is_eq-slice_cmp path other ∙ nat_list_eq_equiv.symm path other)
     ∙ ap (cond (bytes_eq other path) found) (sym (tree_get map other))
 
 pub tree_insert : (map new : BTreeMap (List ℕ) Entry) (path : List ℕ) (entry : Entry) → UpdatesBy (slice_cmp nat_cmp) (slice_cmp nat_cmp path) map new (Some entry) → tree_of new ≡ insert (tree_of map) path entry

@@ -5,18 +5,11 @@ use Rattle.std.specs.List.{IsDistinct, AllByRecursion}
 use Rattle.std.proofs.lemmas.Bool.{cond-true, cond_both, or_parts}
 use Rattle.std.proofs.lemmas.List.Folds.{list_any-append}
 use Rattle.std.proofs.lemmas.Slice.Eq.{bytes_eq-Decides}
-use Rattle.std.proofs.Math.Bool.{or_assoc}
+use Rattle.std.proofs.Math.Bool.{or_assoc, or-false}
 use Rattle.tree_spec.specs.Laws.{FootprintIsSet, FootprintsJoin}
 use Rattle.tree_spec.specs.LookAskings.{looks, is_seen, with_seen, noted}
 
 -- ---- which paths are seen
-
-itself : (path : List ℕ) → bytes_eq path path ≡ true
-itself path = (bytes_eq-Decides path path).1 refl
-
-or_nothing : (b : Bool) → (b || false) ≡ b
-or_nothing true = refl
-or_nothing false = refl
 
 or_held : (a b : Bool) → (b ≡ true → a ≡ true) → (a || b) ≡ a
 or_held true b e = refl
@@ -34,11 +27,11 @@ seen_with path other paths =
     (λ ps. is_seen path ps ≡ (is_seen path paths || bytes_eq other path))
     (λ held. sym (or_held (is_seen path paths) (bytes_eq other path) (seen_again path other paths held)))
     (λ new. list_any-append (λ seen. bytes_eq seen path) paths (other ∷ [])
-    ∙ ap (λ b. is_seen path paths || b) (or_nothing (bytes_eq other path)))
+    ∙ ap (λ b. is_seen path paths || b) (or-false (bytes_eq other path)))
 
 pub seen_noted : (path : List ℕ) (seen paths : List (List ℕ))
     → is_seen path (noted seen paths) ≡ (is_seen path seen || is_seen path paths)
-seen_noted path seen [] = sym (or_nothing (is_seen path seen))
+seen_noted path seen [] = sym (or-false (is_seen path seen))
 seen_noted path seen (first ∷ more) =
     seen_noted path (with_seen seen first) more
     ∙ (ap (λ b. b || is_seen path more) (seen_with path first seen)

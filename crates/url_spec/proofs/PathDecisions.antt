@@ -8,6 +8,7 @@ use Rattle.std.proofs.lemmas.List.{append-nil, append_assoc}
 use Rattle.std.proofs.lemmas.List.Elements.{All-nil, All-cons, All-head, All-tail}
 use Rattle.std.proofs.lemmas.Slice.Eq.{bytes_eq-Decides}
 use Rattle.tree_spec.specs.Paths.{IsSegment, joined, HasDepth, root, child, IsPath}
+use Rattle.tree_spec.proofs.ByteLists.{other_text, texts_differ}
 use Rattle.url_spec.specs.PathTests.{with_first, parts, is_segment, is_path}
 
 -- ---- segments
@@ -20,16 +21,13 @@ without_marks (b ∷ name) e =
     let rest = without_marks name both.1 in
     (All-cons (λ x. x ≢ 47) b name (eqb-false b 47 (not-true _ first.0)) rest.0, All-cons (λ x. x ≢ 0) b name (eqb-false b 0 (not-true _ first.1)) rest.1)
 
-differs : (some other : List ℕ) → not (bytes_eq some other) ≡ true → some ≢ other
-differs some other e same = let f : bytes_eq some other ≡ false = not-true _ e in let t : bytes_eq some other ≡ true = (bytes_eq-Decides some other).1 same in cc
-
 pub segment_by_test : (name : List ℕ) → is_segment name ≡ true → IsSegment name
 segment_by_test name e =
     let marks = and_parts _ (list_all (λ b. not (b == 47) && not (b == 0)) name) e in
     let up = and_parts _ (not (bytes_eq name (codes ".."))) marks.0 in
     let here = and_parts (not (bytes_eq name [])) (not (bytes_eq name (codes "."))) up.0 in
     let bytes = without_marks name marks.1 in
-    record { nonempty = differs name [] here.0; no_slash = bytes.0; no_nul = bytes.1; not_here = differs name (codes ".") here.1; not_up = differs name (codes "..") up.1 }
+    record { nonempty = texts_differ name [] (not-true _ here.0); no_slash = bytes.0; no_nul = bytes.1; not_here = texts_differ name (codes ".") (not-true _ here.1); not_up = texts_differ name (codes "..") (not-true _ up.1) }
 
 marks_pass : (name : List ℕ) → All (λ b. b ≢ 47) name → All (λ b. b ≢ 0) name → list_all (λ b. not (b == 47) && not (b == 0)) name ≡ true
 marks_pass [] s n = refl
@@ -39,17 +37,11 @@ marks_pass (b ∷ name) s n =
     let rest = marks_pass name (All-tail (λ x. x ≢ 47) b name s) (All-tail (λ x. x ≢ 0) b name n) in
     (λ i. (not (slash i) && not (nul i)) && rest i)
 
-unlike : (some other : List ℕ) → some ≢ other → bytes_eq some other ≡ false
-unlike some other n = elim (cases_Bool (bytes_eq some other)) [
-  | inl same ↦ absurd (n ((bytes_eq-Decides some other).0 same))
-  | inr differ ↦ differ
-]
-
 pub test_by_segment : (name : List ℕ) → IsSegment name → is_segment name ≡ true
 test_by_segment name is =
-    let empty = unlike name [] is.nonempty in
-    let here = unlike name (codes ".") is.not_here in
-    let up = unlike name (codes "..") is.not_up in
+    let empty = other_text name [] is.nonempty in
+    let here = other_text name (codes ".") is.not_here in
+    let up = other_text name (codes "..") is.not_up in
     let marks = marks_pass name is.no_slash is.no_nul in
     λ i. ((not (empty i) && not (here i)) && not (up i)) && marks i
 
@@ -96,7 +88,7 @@ parts_behind (b ∷ rest) name s = elim (cases_Bool (b == 47)) [
 -- ---- a text that passes is a path
 
 joined_deep : (above name : List ℕ) → above ≢ codes "/" → joined above name ≡ above ++ 47 ∷ name
-joined_deep above name deep = ap (λ front. front ++ 47 ∷ name) (cond-false _ [] above (unlike above (codes "/") deep))
+joined_deep above name deep = ap (λ front. front ++ 47 ∷ name) (cond-false _ [] above (other_text above (codes "/") deep))
 
 not_root : (above name : List ℕ) → name ≢ [] → above ++ 47 ∷ name ≢ codes "/"
 not_root [] name some e = some (let f = e in cc)
