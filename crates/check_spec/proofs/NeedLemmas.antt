@@ -1,32 +1,13 @@
 -- What a need comes to is what its specifiers do.
-use Rattle.std.proofs.Common.{◌≡◌, ℕ, true, false, ◌==◌, List, [], ◌∷◌, Option, Some, None, refl, sym, ap, ◌∙◌, subst, ⊎_elim}
+use Rattle.std.proofs.Common.{◌≡◌, ℕ, List, Option, Some, None, refl, sym, ap, ◌∙◌, ⊎_elim}
 use Rattle.std.specs.FinMap.{get}
 use Rattle.std.specs.Prelude.{unwrap_or}
-use Rattle.std.proofs.lemmas.Bool.{eqb-true, cases_Bool, true≢false, cond-false}
-use Rattle.url_spec.proofs.NoUrls.{no_urls}
-use Rattle.url_spec.proofs.OwnUrls.{own_urls}
-use Rattle.url_spec.specs.Laws.{IsNoStart}
+use Rattle.std.proofs.lemmas.Bool.{cases_Bool, cond-false}
+use Rattle.url_spec.proofs.OwnUrls.{own_urls, relative_no_url}
 use Rattle.url_spec.specs.Parsing.{parse_alone}
 use Rattle.url_spec.specs.Specifiers.{is_relative, as_url, normalized}
 use Rattle.import_map_spec.specs.LookUps.{resolve_in, resolve_normalized, scope_addresses}
 use Rattle.check_spec.specs.Laws.{SpecifiersAgree}
-
-neither_mark : (b : ℕ) (rest : List ℕ) → (47 == b) ≡ false → (46 == b) ≡ false → is_relative (b ∷ rest) ≡ false
-neither_mark b rest no_slash no_dot = rw (no_slash, no_dot) refl
-
-at_mark : (b mark : ℕ) (rest : List ℕ) → IsNoStart mark → (mark == b) ≡ true → parse_alone (b ∷ rest) ≡ None
-at_mark b mark rest start same = no_urls.0 b rest (subst IsNoStart (eqb-true mark b same) start)
-
-relative_no_url : (text : List ℕ) → is_relative text ≡ true → parse_alone text ≡ None
-relative_no_url [] e = no_urls.1
-relative_no_url (b ∷ rest) e =
-    ⊎_elim
-    (at_mark b 47 rest (record { no_letter = refl; no_space = refl; no_tab = refl }))
-    (λ no_slash. ⊎_elim
-    (at_mark b 46 rest (record { no_letter = refl; no_space = refl; no_tab = refl }))
-    (λ no_dot. absurd (true≢false (sym e ∙ neither_mark b rest no_slash no_dot)))
-    (cases_Bool (46 == b)))
-    (cases_Bool (47 == b))
 
 no_url_alone : (base text : List ℕ) → as_url base text ≡ None → parse_alone text ≡ None
 unfolding as_url

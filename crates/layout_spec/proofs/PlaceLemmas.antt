@@ -1,27 +1,24 @@
 -- What stands among the places of a referrer, and in which order.
 use Rattle.std.proofs.Common.{refl, sym, ap, ◌∙◌, subst, arith}
-use Rattle.std.proofs.lemmas.Bool.{cases_Bool, cond-true, cond-false, and_parts, and_from, true≢false, cases_eq}
+use Rattle.std.proofs.lemmas.Bool.{cases_Bool, cond-true, cond-false, and_parts, and_from, cases_eq}
 use Rattle.std.proofs.lemmas.List.{take-take, length-take-le}
 use Rattle.std.proofs.lemmas.List.Elements.{Contains-append_left, Contains-append_right, Contains-append_cases}
 use Rattle.std.proofs.lemmas.Slice.Eq.{bytes_eq-Decides}
-use Rattle.std.specs.Prelude.{◌≡◌, ◌⊎◌, ℕ, zero, suc, ◌<◌, ◌≤◌, true, List, [], ◌∷◌, ◌++◌, length, take, Option, Some, None, Contains}
+use Rattle.std.specs.Prelude.{◌≡◌, ◌⊎◌, ℕ, zero, suc, ◌<◌, ◌≤◌, true, List, [], ◌∷◌, ◌++◌, length, take, Option, Some, Contains}
 use mathlib.Core.Logic.{inl, inr}
 use Rattle.url_spec.specs.Parsing.{IsUrl, is_text, parse_alone}
+use Rattle.url_spec.proofs.KeptUrls.{text_by_test}
 use Rattle.layout_spec.proofs.Contained.{contains_cases, contains_none, contains_here, contains_there}
 use Rattle.layout_spec.specs.Laws.{PlacesByCases, PlacesShrink}
 use Rattle.layout_spec.specs.Places.{is_folder, folders, above, places, IsShorterFront, IsFolder, IsPlace, is_referrer, is_above, is_top, AreShrinking}
 
 -- ---- folders
 
-url_from_test : (text : List ℕ) (found : Option (List ℕ)) → is_text text found ≡ true → found ≡ Some text
-url_from_test text None e = absurd (true≢false (sym e))
-url_from_test text (Some other) e = ap Some (sym ((bytes_eq-Decides text other).0 e))
-
 url_test : (text : List ℕ) (found : Option (List ℕ)) → found ≡ Some text → is_text text found ≡ true
 url_test text found e = subst (λ o. is_text text o ≡ true) (sym e) ((bytes_eq-Decides text text).1 refl)
 
 pub folder_from_test : (text : List ℕ) → is_folder text ≡ true → IsFolder text
-folder_from_test text e = let parts = and_parts _ _ e in record { slash = parts.0; url = url_from_test text (parse_alone text) parts.1 }
+folder_from_test text e = let parts = and_parts _ _ e in record { slash = parts.0; url = text_by_test text (parse_alone text) parts.1 }
 
 pub folder_test : (text : List ℕ) → IsFolder text → is_folder text ≡ true
 folder_test text f = and_from _ _ f.slash (url_test text (parse_alone text) f.url)

@@ -8,10 +8,8 @@ use Rattle.tree_spec.proofs.Footprints.{same_by_footprint}
 use Rattle.tree_spec.specs.LookAskings.{Sights, LookAsking, looks}
 use Rattle.tree_spec.specs.declared.Entry.{Entry}
 use Rattle.tree_spec.specs.declared.Entry.TheVariants.{Stored, Directory}
-use Rattle.url_spec.proofs.NoUrls.{no_url as no_url_at}
-use Rattle.url_spec.proofs.OwnUrls.{relative_start}
+use Rattle.url_spec.proofs.OwnUrls.{relative_no_url}
 use Rattle.url_spec.specs.FileUrls.{names_host, url_path, escapes_separator}
-use Rattle.url_spec.specs.Parsing.{parse_alone}
 use Rattle.url_spec.specs.Schemes.{scheme_of, url_scheme}
 use Rattle.url_spec.specs.Specifiers.{is_relative}
 use Rattle.url_spec.specs.Suffixes.{suffix_of}
@@ -39,11 +37,7 @@ same_node conditions parent specifier one other agrees =
 pub same_format : SameFormat
 same_format path one other agrees = same_by_footprint one other (file_format path) agrees
 
--- ---- a relative specifier is no URL
-
-relative_no_url : (specifier : List ℕ) → is_relative specifier ≡ true → parse_alone specifier ≡ None
-relative_no_url [] r = absurd (cc)
-relative_no_url (b ∷ rest) r = no_url_at b rest (relative_start b rest r)
+-- ---- a relative specifier has no scheme
 
 no_scheme : (specifier : List ℕ) → is_relative specifier ≡ true → scheme_of specifier ≡ None
 unfolding scheme_of

@@ -17,13 +17,13 @@ kept_some (Some text) url e =
     (λ other. absurd (cc (cond-false (is_own_text text) (Some text) None other)))
     (cases_Bool (is_own_text text))
 
-same_text : (url : List ℕ) (found : Option (List ℕ)) → is_text url found ≡ true → found ≡ Some url
-same_text url None e = absurd (true≢false (sym e))
-same_text url (Some other) e = ap Some (sym ((bytes_eq-Decides url other).0 e))
+pub text_by_test : (url : List ℕ) (found : Option (List ℕ)) → is_text url found ≡ true → found ≡ Some url
+text_by_test url None e = absurd (true≢false (sym e))
+text_by_test url (Some other) e = ap Some (sym ((bytes_eq-Decides url other).0 e))
 
 pub url_from_test : (url : List ℕ) → is_own_text url ≡ true → IsUrl url
 unfolding parse_alone
-url_from_test url e = ap kept (same_text url (url_text (parse_url None url)) (and_parts _ _ e).1) ∙ cond-true _ _ _ e
+url_from_test url e = ap kept (text_by_test url (url_text (parse_url None url)) (and_parts _ _ e).1) ∙ cond-true _ _ _ e
 
 pub alone_kept : (text url : List ℕ) → parse_alone text ≡ Some url → IsUrl url
 unfolding parse_alone

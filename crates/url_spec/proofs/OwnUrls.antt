@@ -1,10 +1,10 @@
 -- The text of a URL is its own URL, whatever the base.
-use Rattle.std.proofs.Common.{◌≡◌, ℕ, false, ◌==◌, List, ◌∷◌, refl, true, subst, sym, ◌∙◌, ⊎_elim, [], Some}
+use Rattle.std.proofs.Common.{◌≡◌, ℕ, false, ◌==◌, List, ◌∷◌, refl, true, subst, sym, ◌∙◌, ⊎_elim, [], Some, None}
 use Rattle.std.proofs.lemmas.Bool.{eqb-true, cases_Bool, true≢false, cond-false, cond-true}
 use Rattle.url_spec.proofs.KeptUrls.{alone_kept, against_kept}
-use Rattle.url_spec.proofs.NoUrls.{no_url}
+use Rattle.url_spec.proofs.NoUrls.{no_url, empty_no_url}
 use Rattle.url_spec.specs.Laws.{IsNoStart, OwnUrls}
-use Rattle.url_spec.specs.Parsing.{IsUrl}
+use Rattle.url_spec.specs.Parsing.{IsUrl, parse_alone}
 use Rattle.url_spec.specs.Specifiers.{is_relative, as_url}
 
 other_start : (b : ℕ) (rest : List ℕ) → (47 == b) ≡ false → (46 == b) ≡ false → is_relative (b ∷ rest) ≡ false
@@ -22,6 +22,10 @@ relative_start b rest e =
     (λ no_dot. absurd (true≢false (sym e ∙ other_start b rest no_slash no_dot)))
     (cases_Bool (46 == b)))
     (cases_Bool (47 == b))
+
+pub relative_no_url : (text : List ℕ) → is_relative text ≡ true → parse_alone text ≡ None
+relative_no_url [] e = empty_no_url
+relative_no_url (b ∷ rest) e = no_url b rest (relative_start b rest e)
 
 url_not_relative : (url : List ℕ) → IsUrl url → is_relative url ≡ false
 url_not_relative [] e = refl
