@@ -1,9 +1,10 @@
 -- What a check says, line by line.
-use Rattle.std.proofs.Common.{◌≡◌, ℕ, zero, suc, ◌+◌, List, [], ◌∷◌, ◌++◌, length, Some, Result, Ok, Err, refl, sym, ap, ◌∙◌, append_assoc, arith}
+use Rattle.std.proofs.Common.{◌≡◌, ℕ, suc, ◌+◌, List, [], ◌∷◌, ◌++◌, length, Some, Result, Ok, Err, refl, sym, ap, ◌∙◌, append_assoc, arith}
 use Rattle.std.specs.Prelude.{map as each, drop, slice_get, IfOk}
 use Rattle.std.specs.List.{concat}
 use Rattle.std.proofs.lemmas.List.{append-nil}
 use Rattle.std.proofs.lemmas.List.Folds.{concat-append}
+use Rattle.primitives.proofs.ListSteps.{drop_at}
 use Rattle.import_map_spec.specs.ParsedMap.{ParsedMap}
 use Rattle.check_spec.specs.Differences.{differences}
 use Rattle.trace_spec.specs.Checks.{Gathered}
@@ -15,14 +16,6 @@ use Rattle.map_check.specs.Shown.{shown}
 use Rattle.generator_core.specs.declared.checking.Report.{Report}
 use Rattle.generator_core.specs.Checking.{IsReport}
 
-split_at : {A : Type 0} (xs : List A) (i : ℕ) (x : A) → slice_get xs i ≡ Some x → drop i xs ≡ x ∷ drop (suc i) xs
-split_at [] i x e = absurd (cc)
-split_at {A} (y ∷ ys) zero x e = ap (λ z. z ∷ ys) (same y x e)
-  where
-    same : (a b : A) → Some a ≡ Some b → a ≡ b
-    same a b f = cc
-split_at (y ∷ ys) (suc i) x e = split_at ys i x e
-
 abbrev pub lines_of : Gathered → List Difference → List (List ℕ)
 lines_of all ds = each (λ (d : Difference). difference_line all (shown d)) ds
 
@@ -30,8 +23,7 @@ lines_of all ds = each (λ (d : Difference). difference_line all (shown d)) ds
 pub next_line : (all : Gathered) (ds : List Difference) (number : ℕ) (d : Difference) (whole old new : List ℕ) → whole ≡ old ++ concat (lines_of all (drop number ds)) → slice_get ds number ≡ Some d → new ≡ old ++ difference_line all (shown d)
     → whole ≡ new ++ concat (lines_of all (drop (number + 1) ds))
 next_line all ds number d whole old new invariant here pushed =
-    let one_more : suc number ≡ number + 1 = omega arith in
-    let split : drop number ds ≡ d ∷ drop (number + 1) ds = split_at ds number d here ∙ ap (λ n. d ∷ drop n ds) one_more in
+    let split = drop_at ds number d here in
     let rest : List ℕ = concat (lines_of all (drop (number + 1) ds)) in
     invariant ∙ (ap (λ xs. old ++ concat (lines_of all xs)) split ∙ (sym (append_assoc old (difference_line all (shown d)) rest) ∙ ap (λ text. text ++ rest) (sym pushed)))
 

@@ -1,12 +1,14 @@
 use Rattle.std.proofs.Common.{◌≡◌, [], ◌+◌, drop, Ok, Some, sym, ap, ◌∙◌, subst, arith}
+use Rattle.std.proofs.lemmas.List.{drop_all}
 use Rattle.std.specs.Prelude.{slice_get, option_copied}
+use Rattle.primitives.proofs.ListSteps.{drop_at}
 use Rattle.trace_spec.specs.Walking.{followed}
 use Rattle.trace_spec.specs.Checks.{rules, follows}
 use Rattle.trace_walk.specs.Meeting.{Met}
 use Rattle.trace_walk.specs.Shown.{before_of, done, specifiers_of}
 use Rattle.trace_walk.proofs.FaultKinds.{handed}
 use Rattle.trace_walk.proofs.Meetings.{left_begins, left_goes, left_fails, left_completes, met_now, given_same}
-use Rattle.trace_walk.proofs.Visiting.{grows_begin, grows_on, drop_at, drop_past}
+use Rattle.trace_walk.proofs.Visiting.{grows_begin, grows_on}
 use Rattle.trace_walk.proofs.visits.follow_all.Goals as goal
 
 pub loop-next-init : goal.loop-next-init
@@ -36,6 +38,6 @@ returns-in_err-follow-clause-met g c = λ r is all.
 
 pub returns-clause-met : goal.returns-clause-met
 returns-clause-met g c = λ r is all.
-    let past = drop_past (specifiers_of c.args.specifiers) c.loop-next.next (let e = c.len.ensures in omega (arith, e, c.loop-next-test.false)) in
+    let past = drop_all c.loop-next.next (specifiers_of c.args.specifiers) (let e = c.len.ensures in omega (arith, e, c.loop-next-test.false)) in
     left_completes _ _ _ _ (followed (rules c.args.config.now) (before_of c.loop-next.tables) r []) (Ok (before_of c.loop-next.tables)) (rw past at (c.loop-next.invariant.left r is all))
     (met_now _ (Ok (before_of c.loop-next.tables)) (Ok (before_of c.loop-next.tables)) (given_same _))
