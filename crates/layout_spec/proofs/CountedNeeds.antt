@@ -9,37 +9,34 @@ use Rattle.std.specs.Prelude.{◌≡◌, true, List, [], ◌∷◌, ◌++◌, if
 use mathlib.Core.Logic.{inl, inr}
 use Rattle.layout_spec.proofs.Contained.{contains_cases, contains_none, contains_here, contains_there}
 use Rattle.layout_spec.specs.Laws.{CountedKeeps, CountedOnce}
-use Rattle.layout_spec.specs.Needs.{is_need, counted_onto, AreDistinct}
+use Rattle.layout_spec.specs.Needs.{is_need, counted_onto, AreDistinct, with_need}
 use Rattle.layout_spec.specs.declared.Need.{Need}
 
 pub same_need : (one other : Need) → one.referrer ≡ other.referrer → one.asked ≡ other.asked → one.target ≡ other.target → one ≡ other
 same_need one other r a t = λ i. record { referrer = r i; asked = a i; target = t i }
 
-need_from_test : (one other : Need) → is_need one other ≡ true → one ≡ other
-need_from_test one other e =
+pub need_by_test : (one other : Need) → is_need one other ≡ true → one ≡ other
+need_by_test one other e =
     let outer = and_parts _ _ e in
     let inner = and_parts _ _ outer.0 in
     same_need one other ((bytes_eq-Decides _ _).0 inner.0) ((bytes_eq-Decides _ _).0 inner.1) ((bytes_eq-Decides _ _).0 outer.1)
 
-abbrev with_counted : List Need → Need → List Need
-with_counted needs need = if list_any (is_need need) needs then needs else needs ++ need ∷ []
-
-with_counted_left : (needs : List Need) (need any : Need) → Contains needs any → Contains (with_counted needs need) any
-with_counted_left needs need any c =
+pub with_need_old : (needs : List Need) (need any : Need) → Contains needs any → Contains (with_need needs need) any
+with_need_old needs need any c =
     elim (cases_Bool (list_any (is_need need) needs)) [
       | inl known ↦ subst (λ ns. Contains ns any) (sym (cond-true _ needs (needs ++ need ∷ []) known)) c
       | inr new ↦ subst (λ ns. Contains ns any) (sym (cond-false _ needs (needs ++ need ∷ []) new)) (Contains-append_left needs (need ∷ []) any c)
     ]
 
-with_counted_new : (needs : List Need) (need : Need) → Contains (with_counted needs need) need
-with_counted_new needs need =
+pub with_need_new : (needs : List Need) (need : Need) → Contains (with_need needs need) need
+with_need_new needs need =
     elim (cases_Bool (list_any (is_need need) needs)) [
-      | inl known ↦ subst (λ ns. Contains ns need) (sym (cond-true _ needs (needs ++ need ∷ []) known)) (Contains-from_any need_from_test need needs known)
+      | inl known ↦ subst (λ ns. Contains ns need) (sym (cond-true _ needs (needs ++ need ∷ []) known)) (Contains-from_any need_by_test need needs known)
       | inr new ↦ subst (λ ns. Contains ns need) (sym (cond-false _ needs (needs ++ need ∷ []) new)) (Contains-push needs need)
     ]
 
-with_counted_only : (needs : List Need) (need any : Need) → Contains (with_counted needs need) any → Contains needs any ⊎ (need ≡ any)
-with_counted_only needs need any c =
+pub with_need_cases : (needs : List Need) (need any : Need) → Contains (with_need needs need) any → Contains needs any ⊎ (need ≡ any)
+with_need_cases needs need any c =
     elim (cases_Bool (list_any (is_need need) needs)) [
       | inl known ↦ inl (subst (λ ns. Contains ns any) (cond-true _ needs (needs ++ need ∷ []) known) c)
       | inr new ↦ Contains-push_cases needs need any (subst (λ ns. Contains ns any) (cond-false _ needs (needs ++ need ∷ []) new) c)
@@ -48,18 +45,18 @@ with_counted_only needs need any c =
 onto_keeps : (done more : List Need) (any : Need) → Contains done any ⊎ Contains more any → Contains (counted_onto done more) any
 onto_keeps done [] any (inl c) = c
 onto_keeps done [] any (inr c) = absurd (contains_none any c)
-onto_keeps done (need ∷ more) any (inl c) = onto_keeps (with_counted done need) more any (inl (with_counted_left done need any c))
+onto_keeps done (need ∷ more) any (inl c) = onto_keeps (with_need done need) more any (inl (with_need_old done need any c))
 onto_keeps done (need ∷ more) any (inr c) =
     elim (contains_cases any need more c) [
-      | inl same ↦ onto_keeps (with_counted done need) more any (inl (subst (Contains (with_counted done need)) same (with_counted_new done need)))
-      | inr later ↦ onto_keeps (with_counted done need) more any (inr later)
+      | inl same ↦ onto_keeps (with_need done need) more any (inl (subst (Contains (with_need done need)) same (with_need_new done need)))
+      | inr later ↦ onto_keeps (with_need done need) more any (inr later)
     ]
 
 onto_only : (done more : List Need) (any : Need) → Contains (counted_onto done more) any → Contains done any ⊎ Contains more any
 onto_only done [] any c = inl c
 onto_only done (need ∷ more) any c =
-    elim (onto_only (with_counted done need) more any c) [
-      | inl before ↦ elim (with_counted_only done need any before) [
+    elim (onto_only (with_need done need) more any c) [
+      | inl before ↦ elim (with_need_cases done need any before) [
         | inl old ↦ inl old
         | inr same ↦ inr (subst (Contains (need ∷ more)) same (contains_here need more))
       ]
@@ -73,15 +70,15 @@ counted_keeps needs need = (λ c. onto_keeps [] needs need (inr c), λ c. only (
     only (inl c) = absurd (contains_none need c)
     only (inr c) = c
 
-itself : (need : Need) → is_need need need ≡ true
-itself need = and_from _ _ (and_from _ _ ((bytes_eq-Decides need.referrer need.referrer).1 refl) ((bytes_eq-Decides need.asked need.asked).1 refl)) ((bytes_eq-Decides need.target need.target).1 refl)
+pub need_itself : (need : Need) → is_need need need ≡ true
+need_itself need = and_from _ _ (and_from _ _ ((bytes_eq-Decides need.referrer need.referrer).1 refl) ((bytes_eq-Decides need.asked need.asked).1 refl)) ((bytes_eq-Decides need.target need.target).1 refl)
 
 not_there : (need : Need) (needs : List Need) → list_any (is_need need) needs ≡ false → Contains needs need → ⊥
 not_there need [] e c = contains_none need c
 not_there need (first ∷ needs) e c =
     let parts = or_parts (is_need need first) (list_any (is_need need) needs) e in
     elim (contains_cases need first needs c) [
-      | inl same ↦ true≢false (sym (itself need) ∙ subst (λ other. is_need need other ≡ false) same parts.0)
+      | inl same ↦ true≢false (sym (need_itself need) ∙ subst (λ other. is_need need other ≡ false) same parts.0)
       | inr later ↦ not_there need needs parts.1 later
     ]
 

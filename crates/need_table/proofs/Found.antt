@@ -1,16 +1,16 @@
 -- The need that is found where another asks alike.
-use Rattle.std.proofs.Common.{◌≡◌, ℕ, zero, suc, Bool, true, false, List, [], ◌∷◌, ◌++◌, get_or, Some, Result, Ok, Err, Contains, refl, sym, ap, ◌∙◌, subst, ⊎_elim}
+use Rattle.std.proofs.Common.{◌≡◌, ℕ, zero, suc, Bool, true, false, List, [], ◌∷◌, ◌++◌, Some, Result, Ok, Err, Contains, refl, sym, ap, ◌∙◌, subst, ⊎_elim}
 use Rattle.std.specs.Prelude.{◌≢◌, ◌⊎◌, IfErr, not, slice_get, take, bytes_eq}
 use mathlib.Core.Logic.{inl, inr}
 use Rattle.std.specs.List.{find, list_any, IsDistinct, AllByRecursion}
 use Rattle.std.specs.Cmp.{first_so, second_so}
 use Rattle.std.proofs.lemmas.Bool.{cases_Bool, cond-true, cond-false, and_parts, true≢false, and_from, or_cases}
 use Rattle.std.proofs.lemmas.Bool.{or_left, or_right, or_from, false_from_ne_true}
-use Rattle.std.proofs.lemmas.Option.{slice_get_cases}
 use Rattle.std.proofs.lemmas.Slice.Eq.{bytes_eq-Decides}
 use Rattle.layout_spec.specs.declared.Need.{Need}
 use Rattle.layout_spec.specs.Needs.{is_need, clashes, NoClash}
-use Rattle.layout_spec.proofs.Contained.{contains_here, contains_there, contains_cases, contains_none}
+use Rattle.layout_spec.proofs.Contained.{contains_here, contains_there, contains_cases, contains_none, contains_at}
+use Rattle.layout_spec.proofs.CountedNeeds.{need_itself}
 use Rattle.need_table.specs.declared.needs.NeedFault.{NeedFault}
 use Rattle.need_table.specs.declared.needs.NeedFault.TheVariants.{Clash}
 use Rattle.need_table.specs.declared.needs.Added.{Added}
@@ -24,13 +24,6 @@ find_passes test (y ∷ ys) x e =
     (λ fails. find_passes test ys x (e ∙ cond-false (test y) (Some y) (find test ys) fails))
     (cases_Bool (test y))
 
-pub Contains-slice_get : {X : Type 0} (xs : List X) (i : ℕ) (x : X) → slice_get xs i ≡ Some x → Contains xs x
-Contains-slice_get xs i x e =
-    ⊎_elim
-    (λ there. let same : there.0 ≡ x = (let f = there.2 in cc) in (i, there.1, subst (λ y. get_or xs i y ≡ y) same there.3))
-    (λ past. absurd (let f = past.1 in cc))
-    (slice_get_cases xs i).1
-
 pub same_need : (need other : Need) → asks_alike need other ≡ true → other.target ≡ need.target → other ≡ need
 same_need need other alike target =
     let referrers : need.referrer ≡ other.referrer = (bytes_eq-Decides need.referrer other.referrer).0 (first_so _ _ alike) in
@@ -39,7 +32,7 @@ same_need need other alike target =
 
 -- the need itself was found
 known : (needs : List Need) (need other : Need) (first : ℕ) → slice_get needs first ≡ Some other → asks_alike need other ≡ true → other.target ≡ need.target → Contains needs need
-known needs need other first stored alike target = subst (Contains needs) (same_need need other alike target) (Contains-slice_get needs first other stored)
+known needs need other first stored alike target = subst (Contains needs) (same_need need other alike target) (contains_at needs first other stored)
 
 -- ---- tests of lists
 
@@ -79,9 +72,6 @@ no_clash_itself need e =
     let apart = (and_parts _ _ e).1 in
     let same = (bytes_eq-Decides need.target need.target).1 refl in
     true≢false (sym apart ∙ ap not same)
-
-itself : (need : Need) → is_need need need ≡ true
-itself need = and_from _ _ (and_from _ _ ((bytes_eq-Decides need.referrer need.referrer).1 refl) ((bytes_eq-Decides need.asked need.asked).1 refl)) ((bytes_eq-Decides need.target need.target).1 refl)
 
 none_by : {A : Type 0} (one other : A → Bool) → ((x : A) → other x ≡ true → one x ≡ true) → (xs : List A) → list_any one xs ≡ false → list_any other xs ≡ false
 none_by one other is xs none = false_from_ne_true (list_any other xs) (λ some. let found = passes_by other xs some in true≢false (sym (found_by one xs found.item found.is_item (is found.item found.passes)) ∙ none))
@@ -144,7 +134,7 @@ is_known needs need other first apart stored alike target =
           let found = passes_by (clashes need) needs some in
           let same : need ≡ found.item = one_row needs apart need found.item stands found.is_item (alike_by need found.item found.passes) in
           no_clash_itself need (subst (λ n. clashes need n ≡ true) (sym same) found.passes));
-      stays = cond-true _ needs (needs ++ need ∷ []) (found_by (is_need need) needs need stands (itself need));
+      stays = cond-true _ needs (needs ++ need ∷ []) (found_by (is_need need) needs need stands (need_itself need));
     }
 
 none_clashes_with : (needs : List Need) (need first other : Need) → AllByRecursion (λ z. asks_alike first z ≡ false) needs → Contains needs other → asks_alike need other ≡ true → clashes need first ≡ false
@@ -160,7 +150,7 @@ none_before needs need other zero apart stored alike = refl
 none_before [] need other (suc first) apart stored alike = refl
 none_before (one ∷ needs) need other (suc first) apart stored alike =
     or_from (clashes need one) (list_any (clashes need) (take first needs))
-    (none_clashes_with needs need one other apart.0 (Contains-slice_get needs first other stored) alike)
+    (none_clashes_with needs need one other apart.0 (contains_at needs first other stored) alike)
     (none_before needs need other first apart.1 stored alike)
 
 pub clashes_at : (needs : List Need) (need other : Need) (first : ℕ) → IsDistinct asks_alike needs → slice_get needs first ≡ Some other → asks_alike need other ≡ true → other.target ≢ need.target → ClashesAt needs need first
@@ -169,7 +159,7 @@ clashes_at needs need other first rows stored alike apart =
     let clash : clashes need other ≡ true =
     and_from _ _ (and_from _ _ ((bytes_eq-Decides other.referrer need.referrer).1 (sym ((bytes_eq-Decides _ _).0 parts.0))) ((bytes_eq-Decides other.asked need.asked).1 (sym ((bytes_eq-Decides _ _).0 parts.1))))
     (ap not (false_from_ne_true (bytes_eq other.target need.target) (λ same. apart ((bytes_eq-Decides _ _).0 same)))) in
-    record { other = other; stands = stored; alike = alike; apart = apart; clash = clash; found = found_by (clashes need) needs other (Contains-slice_get needs first other stored) clash; none_before = none_before needs need other first rows stored alike }
+    record { other = other; stands = stored; alike = alike; apart = apart; clash = clash; found = found_by (clashes need) needs other (contains_at needs first other stored) clash; none_before = none_before needs need other first rows stored alike }
 
 pub clash_by : (needs : List Need) (need other : Need) (first : ℕ) (result : Result Added NeedFault) → IsDistinct asks_alike needs → slice_get needs first ≡ Some other → asks_alike need other ≡ true → IfErr result (λ fault. (fault ≡ Clash first) × (other.target ≢ need.target)) → IfErr result (λ fault. (place : ℕ) → fault ≡ Clash place → ClashesAt needs need place)
 clash_by needs need other first (Ok added) rows stored alike is = tt

@@ -1,5 +1,5 @@
 -- A clash is one of two requests.
-use Rattle.std.specs.Prelude.{◌≡◌, ℕ, zero, suc, Bool, true, false, List, [], ◌∷◌, ◌++◌, slice_get, Option, Some, None}
+use Rattle.std.specs.Prelude.{◌≡◌, ℕ, Bool, true, false, List, ◌∷◌, ◌++◌, Option, Some, None}
 use Rattle.std.specs.Prelude.{Result, Ok, Err, nat_lt, length, Contains, if◌then◌else◌}
 use Rattle.std.specs.List.{list_any}
 use Rattle.std.proofs.Common.{refl, sym, ap, ◌∙◌, subst}
@@ -8,7 +8,7 @@ use Rattle.std.proofs.lemmas.List.Elements.{Contains-append_left, Contains-appen
 use Rattle.asking_spec.specs.Askings.{Asking, outcome}
 use Rattle.asking_spec.specs.Evaluation.{Ended, ends, stopped, evaluated}
 use Rattle.asking_spec.proofs.EvaluationLemmas.{ends_outcome}
-use Rattle.layout_spec.proofs.Contained.{contains_here, contains_there}
+use Rattle.layout_spec.proofs.Contained.{contains_here, contains_at}
 use Rattle.layout_spec.specs.declared.Need.{Need}
 use Rattle.layout_spec.specs.Needs.{clashes}
 use Rattle.tree_spec.specs.declared.LimitName.{LimitName}
@@ -38,12 +38,6 @@ use Rattle.trace_spec.proofs.Traces.{lead, Stands, keep}
 use Rattle.trace_spec.proofs.RefusalOrder.{refused_in_order}
 use Rattle.trace_spec.proofs.WalkFacts.{IsVisited, followed_later, visit}
 
--- what is at a place is in the list
-found_there : {A : Type 0} (xs : List A) (i : ℕ) (x : A) → slice_get xs i ≡ Some x → Contains xs x
-found_there [] i x e = absurd (cc)
-found_there (y ∷ xs) zero x e = let same : y ≡ x = cc in subst (Contains (y ∷ xs)) same (contains_here y xs)
-found_there (y ∷ xs) (suc i) x e = contains_there x y xs (found_there xs i x e)
-
 module _ (sights : Sights) (config : Config) where
   came_to : {X : Type 0} (asking : Asking Question Answer X) (before after : Trail) (value : X)
       → evaluated (answers sights) before asking ≡ ends value after → outcome (always sights) asking ≡ value
@@ -66,7 +60,7 @@ module _ (sights : Sights) (config : Config) where
       {found = m} passed is e) =
       (visit (always sights) (rules config) (specifiers sights config) (leads sights config) (lead sights config)
       (Stands sights config) Leaves (keep sights config) (a_module m) earlier before
-      (found_there earlier.modules n m is)
+      (contains_at earlier.modules n m is)
       (came_to (visited (rules config) earlier (a_module m)) s trail (Ok before) e)).later.holds
       (passed_stands earlier s n passed)
 
@@ -79,7 +73,7 @@ module _ (sights : Sights) (config : Config) where
       → Comes (answers sights) (rules config) no_trail before trail referrer → Next before referrer
   comes_next _ _ _ page_first = record { stands = (keep sights config).starts; is_visited = tt }
   comes_next before trail referrer (module_next {before = b} {state = s} {count = n} {found = m} passed is) =
-      record { stands = passed_stands b s n passed; is_visited = found_there b.modules n m is }
+      record { stands = passed_stands b s n passed; is_visited = contains_at b.modules n m is }
 
   -- ---- a request that clashes
 

@@ -18,7 +18,7 @@ use Rattle.url_spec.specs.Specifiers.{normalized}
 use Rattle.layout_spec.specs.declared.Need.{Need}
 use Rattle.layout_spec.specs.Needs.{NoClash}
 use Rattle.layout_spec.proofs.Contained.{contains_none, contains_here, contains_there}
-use Rattle.layout_spec.proofs.CountedNeeds.{same_need}
+use Rattle.layout_spec.proofs.CountedNeeds.{same_need, with_need_old, with_need_new, with_need_cases}
 use Rattle.trace_spec.specs.declared.TraceFault.{TraceFault}
 use Rattle.trace_spec.specs.declared.TraceFault.TheVariants.{Limit}
 use Rattle.trace_spec.specs.Walking.{Referrer, the_page, a_module, new_modules}
@@ -37,7 +37,7 @@ use Rattle.trace_spec.specs.Laws.{InOrder, GoesInOrder, AsksFor, AreSpelled, Pas
 use Rattle.trace_spec.specs.Laws.{NeedsAreRequests}
 use Rattle.trace_spec.proofs.SpellingLemmas.{spelled_more}
 use Rattle.trace_spec.proofs.Lists.{same_module, AreOnce, new_module, once_more}
-use Rattle.trace_spec.proofs.NeedLemmas.{with_need_old, with_need_new, with_need_cases, no_clash_more}
+use Rattle.trace_spec.proofs.NeedLemmas.{no_clash_more}
 use Rattle.trace_spec.proofs.Steps.{answers_always, traced_outcome, file_name_parts, opens_is, Leaves, opens_leaves}
 use Rattle.trace_spec.proofs.Steps.{Fits, Follows, follows_is, follows_asks}
 use Rattle.trace_spec.proofs.WalkModules.{LeadsBy, walk_has_levels, walk_is_reached}
