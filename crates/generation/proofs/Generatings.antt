@@ -13,6 +13,7 @@ use Rattle.tree_spec.specs.States.{FolderState, OnlyLooks}
 use Rattle.tree_spec.specs.Trees.{Tree}
 use Rattle.tree_spec.specs.declared.LimitName.TheVariants.{Map}
 use Rattle.tree_spec.specs.Limits.{limit_number}
+use Rattle.tree_spec.proofs.ToldStates.{if_some, looks_as}
 use Rattle.package_lookup.specs.declared.known.Known.{Known}
 use Rattle.package_lookup.specs.Answered.{AsksOnce}
 use Rattle.package_lookup.specs.Looked.{kept_at, laid_at, known_at, look_or, Sees}
@@ -43,20 +44,6 @@ use Rattle.generation.specs.Generating.{StopsAs, IsMapOf, HasLargeMap, IsGenerat
 use Rattle.generation.specs.Generating.StopsAs.{failed_look, memory, refused}
 use Rattle.generation.specs.Paging.{IsUnserved, IsUnserved as unserved_page, IsUnservedAt, IsUnservedAt as unserved_there}
 use Rattle.generator_spec.specs.declared.Refusal.TheVariants.{Limit, Trace}
-
-pub if_some : {A : Type 0} {P Q : A → Type 0} (told : Option A) → ((x : A) → P x → Q x) → IfSome told P → IfSome told Q
-if_some None f h = h
-if_some (Some x) f h = f x h
-
--- looks of which one failed in the same case
-pub looks_as : {P Q : Type 0} (before after : FolderState) → (Q → P) → (P → Q) → OnlyLooks before after P → OnlyLooks before after Q
-looks_as before after back on looks = record {
-  tree = looks.tree;
-  writes = looks.writes;
-  later = looks.later;
-  cause = λ q. looks.cause (back q);
-  quiet = λ none. looks.quiet (λ p. none (on p));
-}
 
 -- ---- where nothing is known
 

@@ -9,6 +9,7 @@ use Rattle.tree_spec.specs.declared.Look.TheVariants as look
 use Rattle.tree_spec.specs.declared.LookFault.TheVariants as look_fault
 use Rattle.tree_spec.specs.States.{FolderState, SinkState, OnlyLooks, IsLooked}
 use Rattle.tree_spec.specs.Trees.{Tree}
+use Rattle.tree_spec.proofs.ToldStates.{if_some, if_two, looks_as, looks_then}
 use Rattle.import_map_spec.specs.ParsedMap.{ParsedMap, MapFault}
 use Rattle.import_map_spec.specs.Parsing.{ParsesMap}
 use Rattle.check_spec.specs.Differences.{Difference, differences}
@@ -36,7 +37,7 @@ use Rattle.generator_core.specs.declared.checking.Report.{Report}
 use Rattle.generator_core.specs.Preparing.{EndsBefore, AsksOwn}
 use Rattle.generator_core.specs.Checking.{IsMapTextFound, FindsMapText, IsMapStop, FindsMap, IsReport, IsChecked, IsReported, ChecksBy, Checks}
 use Rattle.generator_core.specs.Checking.{IsMapStop as map_stop}
-use Rattle.generator_core.proofs.Preparings.{if_some, if_two, looks_as, then_looks, earlier_end, own_asked, own_alone, own_then}
+use Rattle.generator_core.proofs.Preparings.{earlier_end, own_asked, own_alone, own_then}
 use Rattle.generator_core.proofs.Endings.{command_for, ends_as, serves_where_done}
 
 -- ---- the look at the map's file
@@ -163,7 +164,7 @@ module _ (config : Config) (before middle after : FolderState) where
     all = is.all;
     is_report = is.is_report;
     told = subst (λ held. IfSome held (λ tree. IsChecked config tree is.map is.all)) looks.tree is.told;
-    looks = then_looks before middle after looks is.looks;
+    looks = looks_then before middle after (λ e. e) looks is.looks;
   }
 
   pub checks_behind : (text : List ℕ) (result : Result Report Stop) → FindsMapText before (Ok text) middle → ChecksBy config middle result after → Checks config before result after

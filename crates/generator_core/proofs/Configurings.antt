@@ -8,6 +8,7 @@ use Rattle.tree_spec.specs.declared.LookFault.TheVariants as look_fault
 use Rattle.tree_spec.specs.declared.LimitName.TheVariants.{Entries, File}
 use Rattle.tree_spec.specs.Limits.{limit_number}
 use Rattle.tree_spec.specs.States.{FolderState, IsLooked, OnlyLooks}
+use Rattle.tree_spec.proofs.ToldStates.{if_some}
 use Rattle.project_spec.proofs.ReadBack.{read_projects}
 use Rattle.project_spec.specs.ProjectFiles as project
 use Rattle.project_spec.specs.ProjectFiles.{IsProject, ReadsProject}
@@ -27,7 +28,7 @@ use Rattle.generation.specs.declared.stop.Stop.{Stop}
 use Rattle.generation.specs.declared.stop.Stop.TheVariants.{Refused, ReadFault, Memory}
 use Rattle.generator_core.specs.Preparing.{AsksOwn}
 use Rattle.generator_core.specs.Configuring.{CanBeHeld, StopsProject, StopsProject as stops_project, FindsProject, StopsConfig, StopsConfig as stops_config, Configures}
-use Rattle.generator_core.proofs.Preparings.{if_some, own_asked}
+use Rattle.generator_core.proofs.Preparings.{own_asked}
 
 -- ---- what is held
 

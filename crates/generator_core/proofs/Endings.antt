@@ -12,6 +12,7 @@ use Rattle.tree_spec.specs.declared.Entry.TheVariants.{Stored}
 use Rattle.tree_spec.specs.Counts.{Rose}
 use Rattle.tree_spec.specs.States.{FolderState, SinkState, OnlyLooks}
 use Rattle.tree_spec.specs.Trees.{Tree, Places}
+use Rattle.tree_spec.proofs.ToldStates.{if_some, if_two, if_all, looks_as}
 use Rattle.page_spec.specs.declared.kinds.InjectFault.TheVariants as inject
 use Rattle.layout_spec.specs.PrintedMap.{map_text}
 use Rattle.trace_spec.specs.declared.TraceFault.{TraceFault}
@@ -54,7 +55,6 @@ use Rattle.generator_core.specs.Configuring.{IsConfigAt, StopsConfig, StopsConfi
 use Rattle.generator_core.specs.Preparing.{EndsBefore, IsPrepared, IsReady, shown_files}
 use Rattle.generator_core.specs.Writing.{AreSome, SaysWrite, TellsNoMeaning, TellsNoMeaning as tells_text, TellsStop, TellsWords, Finishes, SpendsFew}
 use Rattle.generator_core.specs.Writing.{SaysWrite as writes}
-use Rattle.generator_core.proofs.Preparings.{if_some, if_two, if_all, looks_as}
 
 pub written_is : (tree : Tree) (path bytes slice : List ℕ) (told : Option Tree) → ((after : Tree) × (told ≡ Some after) × Places tree path (Stored slice) after) → slice ≡ bytes → AreWritten tree (new_file path bytes ∷ []) told
 written_is tree path bytes slice told written s = record {

@@ -1,5 +1,5 @@
 -- How a command comes to its file, step by step.
-use Rattle.std.proofs.Common.{◌≡◌, ◌≤◌, ℕ, Bool, true, false, List, [], ◌∷◌, ◌++◌, length, Option, Some, None, Ok, Err, IfSome, Result, refl, sym, ap, ◌∙◌, subst, inl, inr, arith, append_assoc}
+use Rattle.std.proofs.Common.{◌≡◌, ◌≤◌, ℕ, Bool, true, false, List, [], ◌∷◌, ◌++◌, length, Option, Some, None, Ok, Err, IfSome, Result, refl, sym, ap, ◌∙◌, subst, inl, inr, append_assoc}
 use Rattle.std.proofs.lemmas.List.{append-nil}
 use Rattle.std.specs.FinMap.{get}
 use Rattle.std.specs.List.{IsDistinct}
@@ -9,12 +9,12 @@ use Rattle.tree_spec.specs.declared.Look.{Look}
 use Rattle.tree_spec.specs.declared.Look.TheVariants as look
 use Rattle.tree_spec.specs.declared.LookFault.TheVariants as look_fault
 use Rattle.tree_spec.specs.declared.LimitName.TheVariants.{File, Map}
-use Rattle.tree_spec.specs.Counts.{Rose}
 use Rattle.tree_spec.specs.Limits.{limit_number}
 use Rattle.tree_spec.specs.LookAskings.{footprint}
 use Rattle.tree_spec.specs.Looks.{asked_after}
 use Rattle.tree_spec.specs.States.{FolderState, OnlyLooks, IsLooked}
 use Rattle.tree_spec.specs.Trees.{Tree}
+use Rattle.tree_spec.proofs.ToldStates.{if_some, if_two, if_all, looks_then, looks_as}
 use Rattle.page_spec.specs.declared.kinds.InjectFault.{InjectFault}
 use Rattle.page_spec.specs.declared.kinds.InjectFault.TheVariants as inject
 use Rattle.page_spec.specs.Injection as injection
@@ -37,41 +37,6 @@ use Rattle.generation.specs.Generating.{Generating, IsGenerated, AsksNoPathTwice
 use Rattle.generator_core.specs.declared.prepared.Prepared.{Prepared}
 use Rattle.generator_core.specs.Preparing.{KeepsProject as keeps_project}
 use Rattle.generator_core.specs.Preparing.{own_file, AsksOwn, AsksFew, EndsBefore, IsPageFound, FindsPage, HasCounts, KeepsProject, AreMapFiles, IsPageFile, IsPrepared, IsReady, Prepares, map_files, shown_files}
-
-pub if_some : {A : Type 0} {P Q : A → Type 0} (told : Option A) → ((x : A) → P x → Q x) → IfSome told P → IfSome told Q
-if_some None f h = h
-if_some (Some x) f h = f x h
-
-pub if_two : {A : Type 0} {P Q R : A → Type 0} (told : Option A) → ((x : A) → P x → Q x → R x) → IfSome told P → IfSome told Q → IfSome told R
-if_two None f h k = h
-if_two (Some x) f h k = f x h k
-
-pub if_all : {A : Type 0} {P : A → Type 0} (told : Option A) → ((x : A) → P x) → IfSome told P
-if_all None f = tt
-if_all (Some x) f = f x
-
--- ---- looks
-
--- looks none of which failed, before others
-pub then_looks : {P : Type 0} (before middle after : FolderState) → OnlyLooks before middle ⊥ → OnlyLooks middle after P → OnlyLooks before after P
-then_looks before middle after first second =
-    let quiet = first.quiet (λ e. e) in
-    record {
-      tree = second.tree ∙ first.tree;
-      writes = second.writes ∙ first.writes;
-      later = let l = second.later in omega (arith, l, quiet);
-      cause = λ p. subst (λ n. Rose n after.look_faults) quiet (second.cause p);
-      quiet = λ none. second.quiet none ∙ quiet;
-    }
-
-pub looks_as : {P Q : Type 0} (before after : FolderState) → (Q → P) → (P → Q) → OnlyLooks before after P → OnlyLooks before after Q
-looks_as before after back on looks = record {
-  tree = looks.tree;
-  writes = looks.writes;
-  later = looks.later;
-  cause = λ q. looks.cause (back q);
-  quiet = λ none. looks.quiet (λ p. none (on p));
-}
 
 -- ---- what is asked of the folder
 
@@ -220,12 +185,12 @@ module _ (config : Config) (before after : FolderState) where
 
 module _ (config : Config) (before middle after : FolderState) where
   pub earlier_end : (command : Command) (stop : Stop) → OnlyLooks before middle ⊥ → EndsBefore command config middle after stop → EndsBefore command config before after stop
-  earlier_end command (Refused why) looks is = record { refused = subst (λ held. IfSome held (λ tree. Refuses tree config command why)) looks.tree is.refused; kind = is.kind; looks = then_looks before middle after looks is.looks }
-  earlier_end command ReadFault looks is = record { refused = tt; kind = tt; looks = then_looks before middle after looks is.looks }
-  earlier_end command Memory looks is = record { refused = tt; kind = tt; looks = then_looks before middle after looks is.looks }
+  earlier_end command (Refused why) looks is = record { refused = subst (λ held. IfSome held (λ tree. Refuses tree config command why)) looks.tree is.refused; kind = is.kind; looks = looks_then before middle after (λ e. e) looks is.looks }
+  earlier_end command ReadFault looks is = record { refused = tt; kind = tt; looks = looks_then before middle after (λ e. e) looks is.looks }
+  earlier_end command Memory looks is = record { refused = tt; kind = tt; looks = looks_then before middle after (λ e. e) looks is.looks }
 
   earlier_ready : (command : Command) (prepared : Prepared) → OnlyLooks before middle ⊥ → IsReady command config middle after prepared → IsReady command config before after prepared
-  earlier_ready command prepared looks is = record { is_prepared = subst (λ held. IfSome held (λ tree. IsPrepared command config tree prepared)) looks.tree is.is_prepared; page_is_file = is.page_is_file; looks = then_looks before middle after looks is.looks }
+  earlier_ready command prepared looks is = record { is_prepared = subst (λ held. IfSome held (λ tree. IsPrepared command config tree prepared)) looks.tree is.is_prepared; page_is_file = is.page_is_file; looks = looks_then before middle after (λ e. e) looks is.looks }
 
   module _ (command : Command) (looks : OnlyLooks before middle ⊥) (asked : IfSome before.asked (λ old. AsksOwn (own_file command config) old middle)) (later : IfSome middle.asked (λ old. AsksNoPathTwice old after)) (at : IfSome middle.asked (λ old. AsksFootprint config middle.holds old after)) where
     earlier : (result : Result Prepared Stop) → Prepares command config middle result after → Prepares command config before result after

@@ -5,6 +5,7 @@ use Rattle.tree_spec.specs.declared.Entry.TheVariants.{Stored}
 use Rattle.tree_spec.specs.Counts.{Rose}
 use Rattle.tree_spec.specs.States.{FolderState, SinkState, IsWritten}
 use Rattle.tree_spec.specs.Trees.{Tree, Places}
+use Rattle.tree_spec.proofs.ToldStates.{if_some}
 use Rattle.trace_spec.specs.Modules.{Config}
 use Rattle.config_spec.specs.declared.Command.{Command}
 use Rattle.config_spec.specs.Projects.{project_path, IsConfigOf}
@@ -21,7 +22,6 @@ use Rattle.generator_core.specs.Configuring.{AsksInOrder, AsksInOrder as asks_in
 use Rattle.generator_core.specs.declared.prepared.Prepared.{Prepared}
 use Rattle.generator_core.specs.Preparing.{AsksOwn, AsksFew, own_file, shown_files}
 use Rattle.generator_core.specs.Writing.{AreSome, Finishes, IsWriting, SaysWrite, SaysWrite as says_write, TellsNoMeaning, TellsNoMeaning as tells_text, TellsWords, WritesFiles, WritesFiles as writes_files}
-use Rattle.generator_core.proofs.Preparings.{if_some}
 use Rattle.generator_core.proofs.Endings.{status_done, refusal_not_done, some_same}
 
 -- ---- words

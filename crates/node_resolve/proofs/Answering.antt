@@ -12,6 +12,7 @@ use Rattle.package_lookup.specs.Looked.{Sees}
 use Rattle.asking_spec.specs.Askings.{answered, and_then, on_ok, and_ok}
 use Rattle.tree_spec.specs.LookAskings.{Sights, LookAsking, looks}
 use Rattle.tree_spec.specs.declared.LimitName.{LimitName}
+use Rattle.tree_spec.proofs.ToldStates.{if_some}
 use Rattle.node_spec.specs.NodeAnswers.{Refusal, by_cause, Resolving}
 use Rattle.node_spec.specs.declared.Cause.{Cause}
 use Rattle.package_lookup.specs.Answered.{State, Comes, Tells, IsLookOf, AsksOnce, Answered}
@@ -21,7 +22,7 @@ use Rattle.package_lookup.specs.declared.fault.LookupFault.TheVariants as lookup
 use Rattle.std.proofs.lemmas.List.Elements.{All-contains}
 use Rattle.std.specs.Prelude.{All, Contains}
 use Rattle.std.specs.Result.{IsErrAnd}
-use Rattle.package_lookup.proofs.Questions.{if_weaker, asks_finished, handed, then_given, then_fails, now_given, no_memory_now, nothing, looked_to, refused_on, resolved_on}
+use Rattle.package_lookup.proofs.Questions.{asks_finished, handed, then_given, then_fails, now_given, no_memory_now, nothing, looked_to, refused_on, resolved_on}
 use Rattle.node_resolve.specs.Responses.{node_fault, by_node_fault, responded, NeedsNoLook, ComesNow, Gives}
 use Rattle.node_resolve.specs.declared.fault.NodeFault.{NodeFault}
 use Rattle.node_resolve.specs.declared.fault.NodeFault.TheVariants.{Refused, ReadFault, Limit, Memory}
@@ -129,8 +130,8 @@ pub reframed : {X Y : Type 0} (before after : State) (one : LookAsking X) (other
 reframed before after one other r q a memory read back possible comes within = record {
   tells = tells_as before.folder.holds before after one other r q comes a.tells;
   known = a.known;
-  asked = if_weaker before.folder.asked (λ old. AsksOnce old before after (r ≡ fails no_memory) (IsLookOf before one))
-      (λ old. AsksOnce old before after (q ≡ fails no_memory) (IsLookOf before other))
+  asked = if_some {P = λ old. AsksOnce old before after (r ≡ fails no_memory) (IsLookOf before one)}
+      {Q = λ old. AsksOnce old before after (q ≡ fails no_memory) (IsLookOf before other)} before.folder.asked
       (λ old. asks_finished old before after (r ≡ fails no_memory) (q ≡ fails no_memory) (IsLookOf before one)
       (IsLookOf before other) memory (λ path. looks_as before.folder.holds before one other path within)) a.asked;
   folder = record {

@@ -8,10 +8,11 @@ use Rattle.std.proofs.Common.{◌≡◌, ℕ, List, Option, Some, None, IfSome, 
 use Rattle.tree_spec.specs.LookAskings.{LookAsking}
 use Rattle.tree_spec.specs.LookLimits.{Trail}
 use Rattle.tree_spec.specs.Trees.{Tree}
+use Rattle.tree_spec.proofs.ToldStates.{if_some}
 use Rattle.package_lookup.specs.Answered.{State, state, Tells, IsLookOf, AsksOnce, Answered}
 use Rattle.package_lookup.specs.Learning.{IsSameIn, Learns}
 use Rattle.package_lookup.specs.Responses.{Response, fails, no_memory}
-use Rattle.package_lookup.proofs.Questions.{grows_itself, grows_twice, asks_then, asks_nothing_told, asks_finished, if_weaker}
+use Rattle.package_lookup.proofs.Questions.{grows_itself, grows_twice, asks_then, asks_nothing_told, asks_finished}
 
 same_then : (told later : Option Tree) (before middle after : State) → later ≡ told
     → IfSome told (λ tree. IsSameIn tree before middle) → IfSome later (λ tree. IsSameIn tree middle after)
@@ -32,8 +33,8 @@ learns_then before middle after some rest First Last Whole done one two first la
   tree = last.tree ∙ first.tree;
   same = same_then before.folder.holds middle.folder.holds before middle after first.tree first.same last.same;
   known = grows_twice before.known middle.known after.known first.known last.known;
-  asked = if_weaker before.folder.asked (λ old. AsksOnce old before middle some First)
-      (λ old. AsksOnce old before after rest Whole)
+  asked = if_some {P = λ old. AsksOnce old before middle some First} {Q = λ old. AsksOnce old before after rest Whole}
+      before.folder.asked
       (λ old asks. asks_then old before middle after some rest First Last Whole done first.known last.known one two asks last.asked) first.asked;
 }
 
@@ -52,8 +53,8 @@ learns_as before after some other One Other weaker goes learns = record {
   tree = learns.tree;
   same = learns.same;
   known = learns.known;
-  asked = if_weaker before.folder.asked (λ old. AsksOnce old before after some One)
-      (λ old. AsksOnce old before after other Other)
+  asked = if_some {P = λ old. AsksOnce old before after some One} {Q = λ old. AsksOnce old before after other Other}
+      before.folder.asked
       (λ old asks. asks_finished old before after some other One Other weaker goes asks) learns.asked;
 }
 
@@ -62,8 +63,8 @@ pub learns_by : {X : Type 0} (before after : State) (asking : LookAsking X) (res
     → Learns before after (response ≡ fails no_memory) (IsLookOf before asking)
 learns_by before after asking response a = record {
   tree = a.folder.tree;
-  same = if_weaker before.folder.holds (λ tree. Tells tree before asking response after)
-      (λ tree. IsSameIn tree before after) (λ tree tells. tells.same) a.tells;
+  same = if_some {P = λ tree. Tells tree before asking response after} {Q = λ tree. IsSameIn tree before after}
+      before.folder.holds (λ tree tells. tells.same) a.tells;
   known = a.known;
   asked = a.asked;
 }
@@ -75,8 +76,9 @@ learns_at before after first last unfinished Among learns = record {
   tree = learns.tree;
   same = learns.same;
   known = learns.known;
-  asked = if_weaker before.folder.asked (λ old. AsksOnce old before after unfinished Among)
-      (λ old. AsksOnce old (state before.folder before.known first) (state after.folder after.known last) unfinished Among)
+  asked = if_some {P = λ old. AsksOnce old before after unfinished Among}
+      {Q = λ old. AsksOnce old (state before.folder before.known first) (state after.folder after.known last) unfinished Among}
+      before.folder.asked
       (λ old asks. record {
         more = asks.more;
         asked = asks.asked;

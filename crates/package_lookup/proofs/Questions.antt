@@ -32,6 +32,7 @@ use Rattle.tree_spec.specs.declared.Entry.{Entry}
 use Rattle.tree_spec.specs.declared.LimitName.{LimitName}
 use Rattle.tree_spec.specs.declared.LimitName.TheVariants.{File, Bytes, Looks, Modules, ModuleRequests, Requests, Specifier, Entries, Brackets, Depth, Session, Map, Choices}
 use Rattle.tree_spec.specs.declared.Look.{Look}
+use Rattle.tree_spec.proofs.ToldStates.{if_some, if_two, looks_then, looks_as}
 use Rattle.package_lookup.specs.declared.fault.LookupFault.{LookupFault}
 use Rattle.package_lookup.specs.declared.fault.LookupFault.TheVariants.{ReadFault, Limit, InvalidConfig, Memory}
 use Rattle.package_lookup.specs.declared.known.Known.{Known}
@@ -145,31 +146,7 @@ asks_finished old before after some other One Other weaker goes one = record {
   among = All-weaker One Other goes one.more one.among;
 }
 
-pub if_weaker : {X : Type 0} (told : Option X) (P Q : X → Type 0) → ((x : X) → P x → Q x) → IfSome told P → IfSome told Q
-if_weaker None P Q weaker p = tt
-if_weaker (Some x) P Q weaker p = weaker x p
-
 -- ---- what the folder did
-
-pub looks_then : (before middle after : FolderState) (one rest : Type 0) → (one → ⊥) → OnlyLooks before middle one
-    → OnlyLooks middle after rest → OnlyLooks before after rest
-looks_then before middle after one rest fine first last = record {
-  tree = last.tree ∙ first.tree;
-  writes = last.writes ∙ first.writes;
-  later = (let a = first.later in let b = last.later in omega arith);
-  cause = λ e. subst (λ n. Rose n after.look_faults) (first.quiet fine) (last.cause e);
-  quiet = λ none. last.quiet none ∙ first.quiet fine;
-}
-
-pub looks_as : (before after : FolderState) (one other : Type 0) → (one → other) → (other → one)
-    → OnlyLooks before after one → OnlyLooks before after other
-looks_as before after one other there back only = record {
-  tree = only.tree;
-  writes = only.writes;
-  later = only.later;
-  cause = λ e. only.cause (back e);
-  quiet = λ none. only.quiet (λ e. none (there e));
-}
 
 pub no_looks : (folder : FolderState) (failed : Type 0) → (failed → ⊥) → OnlyLooks folder folder failed
 no_looks folder failed fine = record {
@@ -224,11 +201,6 @@ tells_unfinished : {X Y : Type 0} (tree : Tree) (before after : State) (part : L
     → Tells {X = Y} tree before whole (fails no_memory) after
 tells_unfinished tree before after part response whole one = record { says = λ sights sees. tt; same = one.same }
 
-pub both_told : {X : Type 0} (told : Option X) (P Q R : X → Type 0) → ((x : X) → P x → Q x → R x) → IfSome told P
-    → IfSome told Q → IfSome told R
-both_told None P Q R join p q = tt
-both_told (Some x) P Q R join p q = join x p q
-
 abbrev failed : (X : Type 0) → Failing → Response X
 failed X failing = fails failing
 
@@ -251,9 +223,9 @@ limited_always sights trail after path found e =
 pub look_first : {X Y : Type 0} (before : State) (part : LookAsking X) (next : X → LookAsking Y) (path : List ℕ)
     → IsLookOf before part path → IsLookOf before (and_then part next) path
 look_first before part next path is =
-    if_weaker before.folder.holds
-    (λ tree. (sights : Sights) → Sees tree before.known sights → Contains (looks sights part) path)
-    (λ tree. (sights : Sights) → Sees tree before.known sights → Contains (looks sights (and_then part next)) path)
+    if_some {P = λ tree. (sights : Sights) → Sees tree before.known sights → Contains (looks sights part) path}
+    {Q = λ tree. (sights : Sights) → Sees tree before.known sights → Contains (looks sights (and_then part next)) path}
+    before.folder.holds
     (λ tree each sights sees. subst (λ paths. Contains paths path) (sym (questions_then sights part next))
     (Contains-append_left (looks sights part) (looks sights (next (outcome sights part))) path (each sights sees))) is
 
@@ -274,9 +246,10 @@ pub look_behind : {X Y : Type 0} (before middle : State) (part : LookAsking X) (
     (path : List ℕ) → Answered before part (given value) middle → IsLookOf middle (next value) path
     → IsLookOf before (and_then part next) path
 look_behind before middle part next value path one is =
-    both_told before.folder.holds (λ tree. Tells tree before part (given value) middle)
-    (λ tree. (sights : Sights) → Sees tree middle.known sights → Contains (looks sights (next value)) path)
-    (λ tree. (sights : Sights) → Sees tree before.known sights → Contains (looks sights (and_then part next)) path)
+    if_two {P = λ tree. Tells tree before part (given value) middle}
+    {Q = λ tree. (sights : Sights) → Sees tree middle.known sights → Contains (looks sights (next value)) path}
+    {R = λ tree. (sights : Sights) → Sees tree before.known sights → Contains (looks sights (and_then part next)) path}
+    before.folder.holds
     (λ tree. behind_at tree before middle part next value path) one.tells
     (subst (λ holds. IfSome holds
     (λ tree. (sights : Sights) → Sees tree middle.known sights → Contains (looks sights (next value)) path))
@@ -288,19 +261,21 @@ pub then_given : {X Y : Type 0} (before middle after : State) (part : LookAsking
     (response : Response Y) → Answered before part (given value) middle → Answered middle (next value) response after
     → Answered before (and_then part next) response after
 then_given {X} before middle after part next value response one rest = record {
-  tells = both_told before.folder.holds (λ tree. Tells tree before part (given value) middle)
-      (λ tree. Tells tree middle (next value) response after) (λ tree. Tells tree before (and_then part next) response after)
+  tells = if_two {P = λ tree. Tells tree before part (given value) middle}
+      {Q = λ tree. Tells tree middle (next value) response after}
+      {R = λ tree. Tells tree before (and_then part next) response after} before.folder.holds
       (λ tree. tells_then tree before middle after part next value response) one.tells
       (subst (λ told. IfSome told (λ tree. Tells tree middle (next value) response after)) one.folder.tree rest.tells);
   known = grows_twice before.known middle.known after.known one.known rest.known;
-  asked = if_weaker before.folder.asked
-      (λ old. AsksOnce old before middle (given value ≡ fails no_memory) (IsLookOf before part))
-      (λ old. AsksOnce old before after (response ≡ fails no_memory) (IsLookOf before (and_then part next)))
+  asked = if_some {P = λ old. AsksOnce old before middle (given value ≡ fails no_memory) (IsLookOf before part)}
+      {Q = λ old. AsksOnce old before after (response ≡ fails no_memory) (IsLookOf before (and_then part next))}
+      before.folder.asked
       (λ old asks. asks_then old before middle after (given value ≡ fails no_memory) (response ≡ fails no_memory)
       (IsLookOf before part) (IsLookOf middle (next value)) (IsLookOf before (and_then part next)) (λ e. cc) one.known
       rest.known (look_first before part next) (λ path. look_behind before middle part next value path one) asks
       rest.asked) one.asked;
-  folder = looks_then before.folder middle.folder after.folder (given value ≡ fails not_read) (response ≡ fails not_read)
+  folder = looks_then {P = given value ≡ fails not_read} {Q = response ≡ fails not_read} before.folder middle.folder
+      after.folder
       (λ e. cc) one.folder rest.folder;
   possible = rest.possible;
 }
@@ -309,18 +284,18 @@ pub then_fails : {X Y : Type 0} (before after : State) (part : LookAsking X) (ne
     (failing : Failing) → Answered {X = X} before part (fails failing) after
     → Answered {X = Y} before (and_then part next) (fails failing) after
 then_fails {X} {Y} before after part next failing one = record {
-  tells = if_weaker before.folder.holds (λ tree. Tells {X = X} tree before part (fails failing) after)
-      (λ tree. Tells {X = Y} tree before (and_then part next) (fails failing) after)
+  tells = if_some {P = λ tree. Tells {X = X} tree before part (fails failing) after}
+      {Q = λ tree. Tells {X = Y} tree before (and_then part next) (fails failing) after} before.folder.holds
       (λ tree. tells_fails tree before after part next failing) one.tells;
   known = one.known;
-  asked = if_weaker before.folder.asked
-      (λ old. AsksOnce old before after (failed X failing ≡ fails no_memory) (IsLookOf before part))
-      (λ old. AsksOnce old before after (failed Y failing ≡ fails no_memory) (IsLookOf before (and_then part next)))
+  asked = if_some {P = λ old. AsksOnce old before after (failed X failing ≡ fails no_memory) (IsLookOf before part)}
+      {Q = λ old. AsksOnce old before after (failed Y failing ≡ fails no_memory) (IsLookOf before (and_then part next))}
+      before.folder.asked
       (λ old. asks_finished old before after (failed X failing ≡ fails no_memory)
       (failed Y failing ≡ fails no_memory) (IsLookOf before part) (IsLookOf before (and_then part next))
       (carried failing no_memory) (look_first before part next)) one.asked;
-  folder = looks_as before.folder after.folder (failed X failing ≡ fails not_read)
-      (failed Y failing ≡ fails not_read) (carried failing not_read) (carried failing not_read) one.folder;
+  folder = looks_as {P = failed X failing ≡ fails not_read} {Q = failed Y failing ≡ fails not_read} before.folder
+      after.folder (carried failing not_read) (carried failing not_read) one.folder;
   possible = λ e. one.possible (carried failing never e);
 }
 
@@ -356,17 +331,18 @@ no_memory_now before asking = nothing before asking (fails no_memory) (λ sights
 pub unfinished : {X Y : Type 0} (before after : State) (part : LookAsking X) (next : X → LookAsking Y) (value : X)
     → Answered before part (given value) after → Answered {X = Y} before (and_then part next) (fails no_memory) after
 unfinished {X} {Y} before after part next value one = record {
-  tells = if_weaker before.folder.holds (λ tree. Tells tree before part (given value) after)
-      (λ tree. Tells {X = Y} tree before (and_then part next) (fails no_memory) after)
+  tells = if_some {P = λ tree. Tells tree before part (given value) after}
+      {Q = λ tree. Tells {X = Y} tree before (and_then part next) (fails no_memory) after} before.folder.holds
       (λ tree. tells_unfinished tree before after part (given value) (and_then part next)) one.tells;
   known = one.known;
-  asked = if_weaker before.folder.asked
-      (λ old. AsksOnce old before after (given value ≡ fails no_memory) (IsLookOf before part))
-      (λ old. AsksOnce old before after (failed Y no_memory ≡ fails no_memory) (IsLookOf before (and_then part next)))
+  asked = if_some {P = λ old. AsksOnce old before after (given value ≡ fails no_memory) (IsLookOf before part)}
+      {Q = λ old. AsksOnce old before after (failed Y no_memory ≡ fails no_memory) (IsLookOf before (and_then part next))}
+      before.folder.asked
       (λ old. asks_finished old before after (given value ≡ fails no_memory)
       (failed Y no_memory ≡ fails no_memory) (IsLookOf before part) (IsLookOf before (and_then part next)) (λ e. refl)
       (look_first before part next)) one.asked;
-  folder = looks_as before.folder after.folder (given value ≡ fails not_read) (failed Y no_memory ≡ fails not_read)
+  folder = looks_as {P = given value ≡ fails not_read} {Q = failed Y no_memory ≡ fails not_read} before.folder
+      after.folder
       (λ e. absurd (cc)) (λ e. absurd (cc)) one.folder;
   possible = λ e. cc;
 }
@@ -453,16 +429,16 @@ pub known_on : {X : Type 0} (before after : State) (known : Known) (asking : Loo
     → IsSameKnown after.known known → Answered before asking response after
     → Answered before asking response (state after.folder known after.trail)
 known_on before after known asking response same one = record {
-  tells = if_weaker before.folder.holds (λ tree. Tells tree before asking response after)
-      (λ tree. Tells tree before asking response (state after.folder known after.trail))
+  tells = if_some {P = λ tree. Tells tree before asking response after}
+      {Q = λ tree. Tells tree before asking response (state after.folder known after.trail)} before.folder.holds
       (λ tree. known_tells tree before after known asking response same) one.tells;
   known = record {
     laid = λ path. same.laid path ∙ one.known.laid path;
     kept = λ path look e. same.kept path ∙ one.known.kept path look e;
   };
-  asked = if_weaker before.folder.asked
-      (λ old. AsksOnce old before after (response ≡ fails no_memory) (IsLookOf before asking))
-      (λ old. AsksOnce old before (state after.folder known after.trail) (response ≡ fails no_memory) (IsLookOf before asking))
+  asked = if_some {P = λ old. AsksOnce old before after (response ≡ fails no_memory) (IsLookOf before asking)}
+      {Q = λ old. AsksOnce old before (state after.folder known after.trail) (response ≡ fails no_memory) (IsLookOf before asking)}
+      before.folder.asked
       (λ old asks. record {
         more = asks.more;
         asked = asks.asked;

@@ -11,3 +11,4 @@ pub mod LimitedLooks
 pub mod FolderLemmas
 pub mod LookExamples
 pub mod FootprintSets
+pub mod ToldStates

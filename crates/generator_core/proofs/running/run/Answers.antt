@@ -1,9 +1,9 @@
 use Rattle.std.proofs.Common.{subst}
 use Rattle.std.specs.Prelude.{map, string_bytes}
+use Rattle.tree_spec.proofs.ToldStates.{if_some}
 use Rattle.config_spec.proofs.WordsJudged.{words_are_judged}
 use Rattle.command_words.specs.Orders.{command_ordered}
 use Rattle.generator_spec.specs.Commands.{IsGenerating}
-use Rattle.generator_core.proofs.Preparings.{if_some}
 use Rattle.generator_core.proofs.Endings.{words_end}
 use Rattle.generator_core.proofs.Runs.{command_is, words_not_done, asks_nothing_in_order}
 use Rattle.generator_core.proofs.running.run.Goals as goal
