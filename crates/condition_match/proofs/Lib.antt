@@ -1,4 +1,3 @@
-pub mod IndexKeys
 pub mod SegmentLemmas
 pub mod Replacing
 pub mod Sizes

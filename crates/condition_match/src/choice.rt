@@ -4,9 +4,9 @@ ghost use Rattle.ordered_json.specs.Lists.{values_of, pairs_of};
 ghost use Rattle.ordered_json.specs.Shown.{json_of, items_of, members_of};
 ghost use Rattle.condition_match.specs.Choosing.{Begins, Comes, Chooses, Tries, judged_by, rules_of};
 
-use crate::array_index::has_index_key;
 use crate::bare_target::BareTarget;
 use crate::conditions::Conditions;
+use crate::index_keys::has_index_key;
 use crate::strings::choose_text;
 use node_spec::Outcome;
 use ordered_json::{Items, Members, Text, Value};

@@ -2,11 +2,11 @@
 //! outcome of the definition, and asks for the bare texts that it names, in its order.
 #![tactic(auto)]
 
-mod array_index;
 mod bare_target;
 mod choice;
 mod conditions;
 mod cuts;
+mod index_keys;
 mod laws;
 mod segments;
 mod strings;
