@@ -3,8 +3,8 @@
 --     choice_answered, choice_lost      the whole target
 --     moved, chosen_fails          what is handed on
 use Rattle.std.proofs.Common.{◌≡◌, ℕ, List, [], ◌∷◌, ◌++◌, Bool, true, false, Option, Some, None, IfSome, refl, sym, ap, ◌∙◌, subst}
-use Rattle.std.specs.Prelude.{All, Contains, ⊤}
-use Rattle.std.proofs.lemmas.List.Elements.{All-nil, All-append, All-head, All-tail}
+use Rattle.std.specs.Prelude.{All, Contains}
+use Rattle.std.proofs.lemmas.List.Elements.{All-nil, All-append}
 use Rattle.asking_spec.proofs.AskingLemmas.{questions_then}
 use Rattle.asking_spec.proofs.EvaluationLemmas.{ends_outcome}
 use Rattle.asking_spec.specs.Askings.{answered, ask, outcome, and_then}
@@ -21,8 +21,7 @@ use Rattle.node_resolve.specs.Responses.{by_node_fault}
 use Rattle.node_resolve.specs.declared.fault.NodeFault.{NodeFault}
 use Rattle.node_resolve.specs.declared.fault.NodeFault.TheVariants.{Refused, ReadFault, Limit, Memory}
 use Rattle.node_spec.proofs.DecidingCall.{deciding_call_is_last}
-use Rattle.node_spec.proofs.TargetsAnswered.{target_answered}
-use Rattle.node_spec.specs.BareCalls.{WasInvalid, IsDecided, by_found, by_stop, by_target}
+use Rattle.node_spec.proofs.TargetsAnswered.{target_answered, StopsLast, stops_last}
 use Rattle.node_spec.specs.NodeAnswers.{Url, Resolving}
 use Rattle.node_spec.specs.PackageTargetResolve.{Bares, Found, Came, came, judge_bare, target_comes}
 use Rattle.node_spec.specs.PackageTargets.{Rules, Call, ResolvesTarget}
@@ -40,31 +39,7 @@ use Rattle.node_resolve.proofs.Answering.{reframed}
 use Rattle.node_resolve.proofs.TargetLooks.{Hears, IsLook, hears_front, target_heard}
 use Rattle.node_resolve.specs.BareTexts.{Kept, GivesBare, a_value, a_fault, failing_of, lost_by}
 
--- ---- no call behind a `Stop`
-
-abbrev StopsLast : List Call → Type 0
-StopsLast [] = ⊤
-StopsLast (call ∷ more) = (call.1 ≡ bare_answer.Stop → more ≡ []) × StopsLast more
-
-not_stopped : (call : Call) (more : List Call) → WasInvalid call → call.1 ≡ bare_answer.Stop → more ≡ []
-not_stopped call more w e = absurd (cc)
-
-only_invalid : (asked : List Call) → All WasInvalid asked → StopsLast asked
-only_invalid [] all = tt
-only_invalid (call ∷ more) all =
-    (not_stopped call more (All-head WasInvalid call more all), only_invalid more (All-tail WasInvalid call more all))
-
-then_last : (before : List Call) (last : Call) → All WasInvalid before → StopsLast (before ++ last ∷ [])
-then_last [] last all = ((λ e. refl), tt)
-then_last (call ∷ before) last all = (
-  not_stopped call (before ++ last ∷ []) (All-head WasInvalid call before all),
-  then_last before last (All-tail WasInvalid call before all),
-)
-
-stops_last : (asked : List Call) (out : Outcome) → IsDecided asked out → StopsLast asked
-stops_last _ _ (by_found before text all) = then_last before (text, bare_answer.Found) all
-stops_last _ _ (by_stop before text all) = then_last before (text, bare_answer.Stop) all
-stops_last _ _ (by_target asked out all b s) = only_invalid asked all
+-- ---- a front of the calls
 
 front_empty : (front more : List Call) → front ++ more ≡ [] → front ≡ []
 front_empty [] more e = refl

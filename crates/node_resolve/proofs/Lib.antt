@@ -6,7 +6,6 @@ pub mod TargetLemmas
 mod TargetLooks
 pub mod BareLemmas
 pub mod NameLemmas
-pub mod Folders
 pub mod MainLemmas
 pub mod KeyLemmas
 pub mod RuleLemmas

@@ -1,7 +1,6 @@
 //! A specifier in a file (Node.js, ECMAScript modules: ESM_RESOLVE).
 ghost use Rattle.std.specs.Prelude.{◌≡◌, ◌+◌, true, IfOk};
 ghost use Rattle.url_spec.specs.Specifiers.{is_relative};
-ghost use Rattle.tree_spec.specs.FoldersAbove.{folder_of};
 ghost use Rattle.tree_spec.specs.LookLimits.{begun};
 ghost use Rattle.node_spec.specs.EsmResolve as spec;
 ghost use Rattle.node_spec.specs.FileLooks.{check_url, without_host};
@@ -20,8 +19,8 @@ use crate::places::judged;
 use crate::texts::begins;
 use condition_match::Conditions;
 use node_spec::Cause;
-use package_lookup::{Known, Trail};
-use primitives::{Memory, Steps};
+use package_lookup::{Known, Trail, folder_of};
+use primitives::Steps;
 use std::alloc::Global;
 use std::sync::ledger::Ledger;
 use tree_model::{Folder, Path};
@@ -129,14 +128,4 @@ fn relative_url(alloc: Global, parent: &Path, specifier: &str) -> Result<FileUrl
     let base = file_url(alloc, parent, false)?;
     let _is_url = base.as_str();
     check_url(join(alloc, &base, specifier)?)
-}
-
-/// The folder in which a path stands; of the root, the root.
-fn folder_of(alloc: Global, path: &Path) -> Result<Path, Memory>
-    ensures { IfOk result (λ folder. folder ≡ folder_of path.now) }
-{
-    match path.parent(alloc)? {
-        None => path.copy(alloc),
-        Some(folder) => Ok(folder),
-    }
 }

@@ -15,7 +15,7 @@ use Rattle.node_spec.specs.declared.Outcome.{Outcome}
 
 -- ---- no call behind a `Stop`
 
-abbrev StopsLast : List Call → Type 0
+abbrev pub StopsLast : List Call → Type 0
 StopsLast [] = ⊤
 StopsLast (call ∷ more) = (call.1 ≡ bare_answer.Stop → more ≡ []) × StopsLast more
 
@@ -34,7 +34,7 @@ then_last (call ∷ before) last all = (
   then_last before last (All-tail WasInvalid call before all),
 )
 
-stops_last : (asked : List Call) (out : Outcome) → IsDecided asked out → StopsLast asked
+pub stops_last : (asked : List Call) (out : Outcome) → IsDecided asked out → StopsLast asked
 stops_last _ _ (by_found before text all) = then_last before (text, bare_answer.Found) all
 stops_last _ _ (by_stop before text all) = then_last before (text, bare_answer.Stop) all
 stops_last _ _ (by_target asked out all b s) = only_invalid asked all

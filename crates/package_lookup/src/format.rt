@@ -91,7 +91,8 @@ fn format_by_scope<F: Folder>(
     }
 }
 
-fn folder_of(alloc: Global, path: &Path) -> Result<Path, Memory>
+/// The folder in which a path stands; of the root, the root.
+pub fn folder_of(alloc: Global, path: &Path) -> Result<Path, Memory>
     ensures { IfOk result (λ folder. folder ≡ folder_of path.now) }
 {
     match path.parent(alloc)? {

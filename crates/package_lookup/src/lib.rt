@@ -16,7 +16,7 @@ mod tests;
 mod trail;
 
 pub use fault::LookupFault;
-pub use format::{Format, format_of};
+pub use format::{Format, folder_of, format_of};
 pub use held::Seen;
 pub use known::Known;
 pub use node_spec::Reason;
