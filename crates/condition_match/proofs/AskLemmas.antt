@@ -5,7 +5,7 @@ use Rattle.std.specs.Result.{IsErrAnd}
 use Rattle.std.proofs.lemmas.Bool.{true≢false, cases_Bool}
 use Rattle.std.proofs.lemmas.List.{nil_from_length}
 use Rattle.url_spec.specs.Specifiers.{begins}
-use Rattle.json_spec.specs.Value.{Json, a_null, a_bool, a_number, a_list, Items, an_item, Members, a_member}
+use Rattle.json_spec.specs.Value.{Json, a_list, Items, an_item, Members, a_member}
 use Rattle.node_spec.specs.declared.BareAnswer.{BareAnswer}
 use Rattle.node_spec.specs.declared.BareAnswer.TheVariants.{Stop}
 use Rattle.node_spec.specs.declared.Outcome.{Outcome}
@@ -16,11 +16,12 @@ use Rattle.node_spec.specs.PackageTargets.ResolvesTarget.{text_target, index_key
 use Rattle.node_spec.specs.PackageTargets.ResolvesMembers.{no_member, untried, defined, undefined}
 use Rattle.node_spec.specs.PackageTargets.ResolvesItems.{no_item, decided, passed}
 use Rattle.ordered_json.specs.declared.value.Value as value
-use Rattle.ordered_json.specs.declared.value.Value.{Value, the_lemmas}
+use Rattle.ordered_json.specs.declared.value.Value.{Value}
 use Rattle.ordered_json.specs.declared.value.Items as code
 use Rattle.ordered_json.specs.declared.value.Members as code_members
 use Rattle.ordered_json.specs.Lists.{values_of, pairs_of}
 use Rattle.ordered_json.proofs.ShownLemmas.{json_of_list, json_of_object, json_of_text}
+use Rattle.ordered_json.proofs.IsJsonLemmas.{json_of_null, json_of_bool, json_of_number}
 use Rattle.ordered_json.specs.Shown.{json_of, items_of, members_of}
 use Rattle.node_spec.proofs.PlacesBeginWithDotSlash.{places_begin_with_dot_slash}
 use Rattle.node_spec.proofs.SomeOutcome.{found_text, found_items, found_members, undefined_from, text_found, sound_items, sound_members}
@@ -61,15 +62,6 @@ last_of_three last first InvalidConfig = refl
 pub if_ok : {E : Type 0} {P Q : Outcome → Type 0} (found : Result Outcome E) → ((out : Outcome) → P out → Q out) → IfOk found P → IfOk found Q
 if_ok (Ok out) turn is = turn out is
 if_ok (Err e) turn is = tt
-
-json_of_null : json_of value.Null ≡ a_null
-json_of_null = search (rules, the_lemmas)
-
-json_of_bool : (b : Bool) → json_of (value.Bool b) ≡ a_bool b
-json_of_bool b = search (rules, the_lemmas)
-
-json_of_number : (number : List ℕ) → json_of (value.Number number) ≡ a_number number
-json_of_number number = search (rules, the_lemmas)
 
 a_full_list : (rules : Rules) (values : List Value) (asked : List Call) (out : Outcome) → length values ≢ 0 → ResolvesItems rules (items_of values) asked out → ResolvesTarget rules (a_list (items_of values)) asked out
 a_full_list rules [] asked out some r = absurd (some refl)

@@ -10,13 +10,14 @@ use Rattle.module_spec.specs.declared.token.Sort.{Sort}
 use Rattle.module_spec.specs.declared.token.Sort.TheVariants.{Name, Private, Number, Text, TemplateWhole, TemplateHead, TemplateMiddle, TemplateTail, Regex, Punctuator}
 use Rattle.module_spec.specs.declared.token.Word.{Word}
 use Rattle.module_spec.specs.declared.token.Word.TheVariants.{Condition, For, Await, Of, Value, Statement, Other}
-use Rattle.module_spec.specs.declared.token.LexKind.TheVariants.{Unreadable, TooDeep}
-use Rattle.module_spec.specs.Sorts.{opens, closes, is_dot, sort_before_value, is_for, is_await, same_bracket}
-use Rattle.module_spec.specs.Tokens.{Lexeme, Balanced, Innermost, depth, opener, plain_word, name_word, refusal, is_closed_by, slash_after, slash_after_mark, slash_after_word, in_for, closed_round, closed_curly, most_brackets}
+use Rattle.module_spec.specs.declared.token.LexKind.TheVariants.{TooDeep}
+use Rattle.module_spec.specs.Sorts.{opens, closes, is_dot, sort_before_value, is_for, is_await}
+use Rattle.module_spec.specs.Tokens.{Lexeme, Balanced, Innermost, depth, opener, plain_word, name_word, refusal, slash_after, slash_after_mark, slash_after_word, in_for, closed_round, closed_curly, most_brackets}
 use Rattle.module_spec.specs.Tokens.Balanced.{same, neither, closed}
 use Rattle.module_spec.specs.Tokens.Outside.{first, later}
 use Rattle.module_spec.specs.Tokens.Innermost.{none, bracket as innermost}
 use Rattle.module_spec.specs.Tokens.Slash.{token}
+use Rattle.module_spec.proofs.BracketLaws.{closes_innermost}
 use Rattle.es_lexer.specs.declared.state.Open.{Open}
 use Rattle.es_lexer.specs.declared.state.Open.TheVariants.{Round, Square, Curly, Template}
 use Rattle.es_lexer.specs.declared.state.Last.{Last}
@@ -106,33 +107,6 @@ slash_kept Regex w i a = refl
 slash_kept (Punctuator mark) w i a = mark_kept mark i a
 
 -- ---- what is not refused
-
-same_is : (a b : brackets.Bracket) → same_bracket a b ≡ true → a ≡ b
-same_is bracket.Round bracket.Round e = refl
-same_is bracket.Round bracket.Square e = absurd (cc)
-same_is bracket.Round bracket.Curly e = absurd (cc)
-same_is bracket.Round bracket.Template e = absurd (cc)
-same_is bracket.Square bracket.Round e = absurd (cc)
-same_is bracket.Square bracket.Square e = refl
-same_is bracket.Square bracket.Curly e = absurd (cc)
-same_is bracket.Square bracket.Template e = absurd (cc)
-same_is bracket.Curly bracket.Round e = absurd (cc)
-same_is bracket.Curly bracket.Square e = absurd (cc)
-same_is bracket.Curly bracket.Curly e = refl
-same_is bracket.Curly bracket.Template e = absurd (cc)
-same_is bracket.Template bracket.Round e = absurd (cc)
-same_is bracket.Template bracket.Square e = absurd (cc)
-same_is bracket.Template bracket.Curly e = absurd (cc)
-same_is bracket.Template bracket.Template e = refl
-
-closes_top : (o : Option brackets.Bracket) (k : brackets.Bracket) (c : Bool) → is_closed_by o k ≡ c → (if c then None else Some Unreadable) ≡ None → o ≡ Some k
-closes_top o k false e f = absurd (cc)
-closes_top None k true e f = absurd (cc)
-closes_top (Some x) k true e f = ap (λ b. Some b) (same_is x k e)
-
-pub allowed : (o c inner : Option brackets.Bracket) (d : ℕ) (k : brackets.Bracket) → refusal o c inner d ≡ None → c ≡ Some k → inner ≡ Some k
-allowed o None inner d k e f = absurd (cc)
-allowed o (Some l) inner d k e f = closes_top inner l (is_closed_by inner l) refl e ∙ f
 
 below : (d : ℕ) (c : Bool) → (d == 4096) ≡ c → (if c then Some TooDeep else None) ≡ None → d ≢ 4096
 below d true e f = absurd (cc)
@@ -236,14 +210,14 @@ changed_by t before last stack (Some k) None e f s l r =
       few = omega (arith, length_push stack x);
     }
 changed_by t before last stack None (Some k) e f s l r =
-    let a = allowed None (Some k) (top_bracket (top_of stack)) (depth before) k r refl in
+    let a = closes_innermost None (Some k) (top_bracket (top_of stack)) (depth before) k r refl in
     record {
       brackets = shrinks t k e f s.brackets a;
       deep = length-take-le (length stack - 1) stack (omega arith) ∙ (ap (λ n. n - 1) s.deep ∙ sym (deep_closer t before k e f));
       few = omega (arith, length-take-le (length stack - 1) stack (omega arith));
     }
 changed_by t before last stack (Some k) (Some l) e f s few r =
-    let a = allowed (Some k) (Some l) (top_bracket (top_of stack)) (depth before) l r refl in
+    let a = closes_innermost (Some k) (Some l) (top_bracket (top_of stack)) (depth before) l r refl in
     let m = is_middle t.sort k l e f in
     record {
       brackets = passes t (e ∙ ap (λ b. Some b) m.0) (f ∙ ap (λ b. Some b) m.1) s.brackets (a ∙ ap (λ b. Some b) m.1);
@@ -268,7 +242,7 @@ state_after t before last next stack s l r f =
     let here = changed_by t before last stack (opens t.sort) (closes t.sort) refl refl s l r in
     let inner = top before stack s.brackets in
     let words : next.word ≡ plain_word (t ∷ before) = f.word ∙ ap (λ p. if p then Other else name_word t.sort t.text) s.property in
-    let may : Allowed t.sort inner.at = λ k e. sym (top_opener inner.kept) ∙ allowed (opens t.sort) (closes t.sort) (top_bracket (top_of stack)) (depth before) k r e in
+    let may : Allowed t.sort inner.at = λ k e. sym (top_opener inner.kept) ∙ closes_innermost (opens t.sort) (closes t.sort) (top_bracket (top_of stack)) (depth before) k r e in
     record {
       state = record {
         word = words;

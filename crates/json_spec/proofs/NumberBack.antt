@@ -89,7 +89,7 @@ number_some number is = let some = int_some is.int is.is_int in omega (arith, ap
 -- ---- what is read is the number and no more
 
 -- of two fronts of one text the longer one goes on behind the shorter
-longer_front : (front rest other left : List ℕ) → front ++ rest ≡ other ++ left → length front ≤ length other → (more : List ℕ) × (other ≡ front ++ more) × (rest ≡ more ++ left)
+pub longer_front : (front rest other left : List ℕ) → front ++ rest ≡ other ++ left → length front ≤ length other → (more : List ℕ) × (other ≡ front ++ more) × (rest ≡ more ++ left)
 longer_front [] rest other left e l = (other, refl, e)
 longer_front (a ∷ front) rest [] left e l = absurd (omega arith)
 longer_front (a ∷ front) rest (b ∷ other) left e l =

@@ -69,7 +69,7 @@ IsOne {A} reads = (bytes : List ℕ) (a c : Reading A) → reads bytes a → rea
 same_taken : {A : Type 0} {x y : A} {rest more : List ℕ} → ◌≡◌ {A = Reading A} (taken x rest) (taken y more) → (x ≡ y) × (rest ≡ more)
 same_taken p = (cc, cc)
 
-taken_or_refused : {A : Type 0} {x : A} {rest : List ℕ} {f : Fault} → ◌≡◌ {A = Reading A} (taken x rest) (refused f) → ⊥
+pub taken_or_refused : {A : Type 0} {x : A} {rest : List ℕ} {f : Fault} → ◌≡◌ {A = Reading A} (taken x rest) (refused f) → ⊥
 taken_or_refused p = cc
 
 same_pair : {name more : List ℕ} {v w : Json} → a_pair name v ≡ a_pair more w → (name ≡ more) × (v ≡ w)

@@ -74,6 +74,10 @@ unless_closed false e = absurd (cc)
 refusal_says : (opened : Option Bracket) (k : Bracket) (innermost : Option Bracket) (d : ℕ) → refusal opened (Some k) innermost d ≡ None → innermost ≡ Some k
 refusal_says opened k innermost d e = closed_is innermost k (unless_closed (is_closed_by innermost k) e)
 
+-- what isn't refused closes the innermost bracket or none
+pub closes_innermost : (opened closed innermost : Option Bracket) (d : ℕ) (k : Bracket) → refusal opened closed innermost d ≡ None → closed ≡ Some k → innermost ≡ Some k
+closes_innermost opened closed innermost d k e f = refusal_says opened k innermost d (subst (λ c. refusal opened c innermost d ≡ None) f e)
+
 -- what is known of a token that comes next: where it closes a bracket, that is the innermost one
 record Comes (t : Lexeme) (before : List Lexeme) : Type 0 where
   pub at : List Lexeme

@@ -1,14 +1,13 @@
 -- The function that reads an outline reads what the relation says.
-use Rattle.std.proofs.Common.{◌≡◌, ◌<◌, ◌==◌, ℕ, zero, suc, Bool, true, false, List, [], ◌∷◌, length, Option, Some, None, if◌then◌else◌, refl, ap, ◌∙◌, subst, arith}
+use Rattle.std.proofs.Common.{◌≡◌, ◌<◌, ◌==◌, ℕ, zero, suc, Bool, true, false, List, [], ◌∷◌, length, Option, Some, None, if◌then◌else◌, refl, subst, arith}
 use Rattle.module_spec.specs.declared.token.Bracket.{Bracket}
-use Rattle.module_spec.specs.declared.token.Bracket.TheVariants.{Round, Square, Curly, Template}
 use Rattle.module_spec.specs.declared.token.Sort.{Sort}
 use Rattle.module_spec.specs.declared.token.LexKind.{LexKind}
 use Rattle.module_spec.specs.declared.token.LexKind.TheVariants.{Unreadable}
-use Rattle.module_spec.specs.Sorts.{opens, closes, same_bracket}
+use Rattle.module_spec.specs.Sorts.{opens, closes}
 use Rattle.module_spec.specs.Spellings.{blank_rest, hashbang_rest}
 use Rattle.module_spec.specs.Tokens.{Piece, piece, Lexeme, lexeme, Next, next_from, next_at, unless_refused, refusal}
-use Rattle.module_spec.specs.Tokens.{is_closed_by, is_template, opener, depth, Balanced, Outside, Innermost, Slash, Skips}
+use Rattle.module_spec.specs.Tokens.{is_template, opener, depth, Balanced, Outside, Innermost, Slash, Skips}
 use Rattle.module_spec.specs.Tokens.{IsNext, Reaches}
 use Rattle.module_spec.specs.Tokens.Next.{Ends, Faults, Gives}
 use Rattle.module_spec.specs.Tokens.Balanced.{same, neither, closed}
@@ -25,6 +24,7 @@ use Rattle.module_spec.specs.OutlineReading.{or_further, skipped, next_of, read_
 use Rattle.module_spec.specs.Laws.{OutlineIsRead}
 use Rattle.module_spec.proofs.OutlineLaws.{one_outline}
 use Rattle.module_spec.proofs.Suffixes.{blank_shorter, next_shorter}
+use Rattle.module_spec.proofs.BracketLaws.{closes_innermost}
 
 -- ---- the brackets that are open
 
@@ -58,35 +58,6 @@ open_more t before unclosed (Some l) (Some k) eo ec (inside b e out below) allow
     inside same eo (later ec b (allowed k refl) out) below
 
 -- ---- a token that isn't refused closes the innermost bracket or none
-
-same_is : (a b : Bracket) → same_bracket a b ≡ true → a ≡ b
-same_is Round Round e = refl
-same_is Round Square e = absurd (cc)
-same_is Round Curly e = absurd (cc)
-same_is Round Template e = absurd (cc)
-same_is Square Round e = absurd (cc)
-same_is Square Square e = refl
-same_is Square Curly e = absurd (cc)
-same_is Square Template e = absurd (cc)
-same_is Curly Round e = absurd (cc)
-same_is Curly Square e = absurd (cc)
-same_is Curly Curly e = refl
-same_is Curly Template e = absurd (cc)
-same_is Template Round e = absurd (cc)
-same_is Template Square e = absurd (cc)
-same_is Template Curly e = absurd (cc)
-same_is Template Template e = refl
-
-closes_innermost : (o : Option Bracket) (k : Bracket) (c : Bool) → is_closed_by o k ≡ c
-    → (if c then None else Some Unreadable) ≡ None → o ≡ Some k
-closes_innermost o k false e f = absurd (cc)
-closes_innermost None k true e f = absurd (cc)
-closes_innermost (Some x) k true e f = ap (λ b. Some b) (same_is x k e)
-
-allowed_by : (o c inner : Option Bracket) (d : ℕ) (k : Bracket) → refusal o c inner d ≡ None → c ≡ Some k
-    → inner ≡ Some k
-allowed_by o None inner d k e f = absurd (cc)
-allowed_by o (Some l) inner d k e f = closes_innermost inner l (is_closed_by inner l) refl e ∙ f
 
 -- what comes next is the end, a fault, or a token that isn't refused
 data Comes (inner : Option Bracket) (d : ℕ) : Next → Type 0 where
@@ -141,7 +112,7 @@ kept_more : (t : Lexeme) (before : List Lexeme) → Kept before
 kept_more t before kept e = record {
   slash = token (innermost_is kept.unclosed) refl;
   unclosed = open_more t before (open_brackets before) (opens t.sort) (closes t.sort) refl refl kept.unclosed
-      (λ k f. allowed_by (opens t.sort) (closes t.sort) (opener (innermost (open_brackets before))) (depth before) k e f);
+      (λ k f. closes_innermost (opens t.sort) (closes t.sort) (opener (innermost (open_brackets before))) (depth before) k e f);
 }
 
 -- ---- the whole text

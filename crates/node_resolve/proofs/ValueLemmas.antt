@@ -1,29 +1,17 @@
 -- What a value in a record is.
---     json_of_null .. json_of_object      by its kind
 --     main_text, main_list, main_dotted, main_plain      the subpath `.` by what is exported
 --     subpath_by_key, subpath_none        another subpath
-use Rattle.std.proofs.Common.{◌≡◌, rules, ℕ, List, Bool, true, false, sym, ap, ◌∙◌}
+use Rattle.std.proofs.Common.{◌≡◌, ℕ, List, true, false, sym, ap, ◌∙◌}
 use Rattle.std.specs.Prelude.{codes}
 use Rattle.std.proofs.lemmas.Bool.{cond-true, cond-false}
 use Rattle.std.specs.List.{list_all}
-use Rattle.json_spec.specs.Value.{Json, a_null, a_bool, a_number, a_text, a_list, an_object, Items, Members}
-use Rattle.ordered_json.specs.Shown.{json_of}
-use Rattle.ordered_json.specs.declared.value.Value.{the_lemmas}
+use Rattle.json_spec.specs.Value.{Json, a_text, a_list, an_object, Items, Members}
 use Rattle.ordered_json.specs.declared.value.Value.TheVariants as value
 use Rattle.node_spec.specs.NodeAnswers.{refuses}
 use Rattle.node_spec.specs.PackageExportsResolve.{is_dotted, has_dotted, main_target, main_export, export_paths, subpath_export}
 use Rattle.node_spec.specs.PackageImportsExportsResolve.{keys_of, by_key}
 use Rattle.node_spec.specs.Records.{field}
 use Rattle.node_spec.specs.declared.Cause.TheVariants.{NotExported}
-
-pub json_of_null : json_of value.Null ≡ a_null
-json_of_null = search (rules, the_lemmas)
-
-pub json_of_bool : (b : Bool) → json_of (value.Bool b) ≡ a_bool b
-json_of_bool b = search (rules, the_lemmas)
-
-pub json_of_number : (number : List ℕ) → json_of (value.Number number) ≡ a_number number
-json_of_number number = search (rules, the_lemmas)
 
 module _ (conditions : List (List ℕ)) (folder : List ℕ) (json : Json) where
   pub main_text : (text : List ℕ) → json ≡ a_text text → main_export conditions folder json ≡ main_target conditions folder json

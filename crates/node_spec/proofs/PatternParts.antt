@@ -4,20 +4,10 @@ use Rattle.std.proofs.lemmas.List.{append-nil}
 use Rattle.std.proofs.lemmas.List.Elements.{All-head, All-tail}
 use Rattle.std.specs.Prelude.{◌≡◌, ◌≤◌, ℕ, List, [], ◌∷◌, ◌++◌, length, ◌≢◌, ◌+◌, ◌<◌}
 use mathlib.Core.Logic.{inl, inr}
+use Rattle.json_spec.proofs.NumberBack.{longer_front}
 use Rattle.node_spec.specs.Laws.{PartStands, PatternMatchStands}
 use Rattle.node_spec.specs.PatternKeys.{HasNoStar, IsPattern, FitsPattern, KeyMatch, Matches}
 use Rattle.node_spec.specs.PatternKeys.Matches.{by_itself, by_pattern}
-
--- of two fronts of one text the longer one goes on behind the shorter
-pub between_fronts : (a x b y : List ℕ) → a ++ x ≡ b ++ y → length a ≤ length b → (m : List ℕ) × (b ≡ a ++ m) × (x ≡ m ++ y)
-between_fronts [] x b y e l = (b, refl, e)
-between_fronts (c ∷ a) x [] y e l = absurd (omega arith)
-between_fronts (c ∷ a) x (d ∷ b) y e l =
-    let h : c ≡ d = cc in
-    let t : a ++ x ≡ b ++ y = cc in
-    let r = between_fronts a x b y t (omega arith) in
-    let s : d ∷ b ≡ c ∷ (a ++ r.0) = (let u : b ≡ a ++ r.0 = r.1 in cc) in
-    (r.0, s, r.2)
 
 pub same_fronts : (a x b y : List ℕ) → a ++ x ≡ b ++ y → length a ≡ length b → (a ≡ b) × (x ≡ y)
 same_fronts [] x [] y e l = (refl, e)
@@ -75,7 +65,7 @@ part_of_match asked key base trailer p f = elim f.ends [ inl none ↦ without no
     with_end front e l =
         let k = pattern_length key base trailer p in
         let n : length asked ≡ length front + length trailer = ap length e ∙ length-append front trailer in
-        let m = between_fronts base f.starts.0 front trailer (sym f.starts.1 ∙ e) (omega arith) in
+        let m = longer_front base f.starts.0 front trailer (sym f.starts.1 ∙ e) (omega arith) in
         let s : length front ≡ length base + length m.0 = ap length m.1 ∙ length-append base m.0 in
         record { part = m.0; stands = f.starts.1 ∙ ap (λ t. base ++ t) m.2; some = omega arith }
 

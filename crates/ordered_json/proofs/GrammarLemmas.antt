@@ -7,14 +7,11 @@ use Rattle.json_spec.specs.Taken.{taken, refused, and_then}
 use Rattle.json_spec.specs.Strings.{ReadsString}
 use Rattle.json_spec.specs.Grammar.{Fault, NotJson, TooDeep, Reading, after_space, fault_here, scalar_at, colon_at, ReadsName, name_text, no_name, name_ends, Member, a_pair, ReadsMember, member_value, member_name, behind_member, behind_item, MoreMembers, members_close, members_next, members_fault, members_other, members_end, ReadsMembers, no_member, first_member, member_fault, object_ends, MoreItems, items_close, items_next, items_fault, items_other, items_end, ReadsItems, no_item, first_item, item_fault, list_ends, as_list, as_object, reads_text, reads_list, reads_object, reads_scalar, value_ends, Reads, most_brackets, alone, with_offset, ReadsJson, json_text}
 use Rattle.json_spec.proofs.Shorter.{Below, space_at_most, scalar_below}
-use Rattle.json_spec.proofs.OneJson.{name_one, reads_one}
+use Rattle.json_spec.proofs.OneJson.{name_one, reads_one, taken_or_refused}
 use Rattle.ordered_json.specs.declared.fault.Stop.{Stop}
 use Rattle.ordered_json.specs.declared.fault.Stop.TheVariants.{Unreadable, Deep, NoMemory}
 use Rattle.ordered_json.specs.Shown.{items_from}
 use Rattle.ordered_json.specs.Outcomes.{Fails, settle, ReadsSettled, IsWhole, WholeFails}
-
-not_taken : {A : Type 0} {x : A} {rest : List ℕ} {f : Fault} → ◌≡◌ {A = Reading A} (taken x rest) (refused f) → ⊥
-not_taken p = cc
 
 same_fault : {A : Type 0} {f g : Fault} → ◌≡◌ {A = Reading A} (refused f) (refused g) → f ≡ g
 same_fault p = cc
@@ -132,7 +129,7 @@ no_items_read value bytes end items i e = rw (i, e) no_item
 
 first_awaited : (depth : ℕ) (bytes : List ℕ) → ((rest : List ℕ) → bytes ≢ 93 ∷ rest) → AwaitsItem (Reads depth) bytes [] bytes
 first_awaited depth [] n = record {
-  next = λ v middle out r m. absurd (not_taken (reads_one depth [] _ _ r (no_value depth [] refl)));
+  next = λ v middle out r m. absurd (taken_or_refused (reads_one depth [] _ _ r (no_value depth [] refl)));
   fault = λ f r. let e : f ≡ NotJson 0 = same_fault (reads_one depth [] _ _ r (no_value depth [] refl)) in rw e list_ends;
 }
 first_awaited depth (b ∷ bytes) n = record {
@@ -167,7 +164,7 @@ no_quote_at : {bytes : List ℕ} → bytes ≡ [] → ReadsName bytes (refused (
 no_quote_at e = rw e name_ends
 
 empty_member : {value : List ℕ → Reading Json → Type 0} {bytes : List ℕ} {out : Reading Member} → bytes ≡ [] → ReadsMember value bytes out → out ≡ refused (NotJson 0)
-empty_member e (member_value r v) = absurd (not_taken {f = NotJson 0} (name_one r (no_quote_at e)))
+empty_member e (member_value r v) = absurd (taken_or_refused {f = NotJson 0} (name_one r (no_quote_at e)))
 empty_member e (member_name {f = f} r) = let same : f ≡ NotJson 0 = same_fault (name_one r (no_quote_at e)) in rw same refl
 
 -- members behind those that were read, each name once
@@ -198,7 +195,7 @@ no_members_read value bytes end ms i e = rw (i, e) (settled_from no_member)
 
 first_member_awaited : (value : List ℕ → Reading Json → Type 0) (bytes : List ℕ) → ((rest : List ℕ) → bytes ≢ 125 ∷ rest) → AwaitsMember value bytes no_members bytes
 first_member_awaited value [] n = record {
-  next = λ name v middle out r m. absurd (not_taken (empty_member refl r));
+  next = λ name v middle out r m. absurd (taken_or_refused (empty_member refl r));
   fault = λ f r. let e : f ≡ NotJson 0 = same_fault (empty_member refl r) in rw e (settled_from object_ends);
 }
 first_member_awaited value (b ∷ bytes) n = record {

@@ -25,13 +25,13 @@ data Layer (v : Value) : Json → Type 0 where
   of_list : (list : Items) (items : json.Items) → v ≡ value.List list → items_of (values_of list) ≡ items → Layer v (a_list items)
   of_object : (object : Members) (members : json.Members) → v ≡ value.Object object → members_of (pairs_of object) ≡ members → Layer v (an_object members)
 
-json_of_null : json_of value.Null ≡ a_null
+pub json_of_null : json_of value.Null ≡ a_null
 json_of_null = search (rules, the_lemmas)
 
-json_of_bool : (b : Bool) → json_of (value.Bool b) ≡ a_bool b
+pub json_of_bool : (b : Bool) → json_of (value.Bool b) ≡ a_bool b
 json_of_bool b = search (rules, the_lemmas)
 
-json_of_number : (number : List ℕ) → json_of (value.Number number) ≡ a_number number
+pub json_of_number : (number : List ℕ) → json_of (value.Number number) ≡ a_number number
 json_of_number number = search (rules, the_lemmas)
 
 rolled : (v : Value) (layer : Value-F Kept Place Value Items Members) → out-Value v ≡ layer → v ≡ roll-Value layer

@@ -3,7 +3,7 @@ use Rattle.package_lookup.specs.Responses.{itself}
 use Rattle.node_spec.specs.PackageExportsResolve.{main_target}
 use Rattle.node_resolve.specs.Members.{found_field}
 use Rattle.node_resolve.proofs.Answering.{gives_as}
-use Rattle.node_resolve.proofs.ValueLemmas.{json_of_null}
+use Rattle.ordered_json.proofs.IsJsonLemmas.{json_of_null}
 use Rattle.node_resolve.proofs.package_exports_resolve.dot_export.Goals as goal
 
 pub returns-in-None : goal.returns-in-None

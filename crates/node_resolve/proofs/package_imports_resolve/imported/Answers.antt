@@ -5,7 +5,7 @@ use Rattle.node_spec.specs.PackageImportsResolve.{imported}
 use Rattle.node_spec.specs.declared.Cause.TheVariants.{ImportNotDefined}
 use Rattle.package_lookup.proofs.Questions.{asking_as}
 use Rattle.node_resolve.proofs.Answering.{refused_now}
-use Rattle.node_resolve.proofs.ValueLemmas.{json_of_null, json_of_bool, json_of_number}
+use Rattle.ordered_json.proofs.IsJsonLemmas.{json_of_null, json_of_bool, json_of_number}
 use Rattle.node_resolve.proofs.package_imports_resolve.imported.Goals as goal
 
 pub returns-in-Object : goal.returns-in-Object
