@@ -7,6 +7,7 @@ use Rattle.std.specs.Prelude.{if◌then◌else◌}
 use Rattle.std.proofs.lemmas.Bool.{ltb-false}
 use Rattle.std.proofs.lemmas.List.Elements.{All-nil, All-cons}
 use Rattle.tree_spec.proofs.ByteLists.{texts_differ}
+use Rattle.tree_spec.proofs.FootprintSets.{distinct_none}
 use Rattle.tree_spec.specs.Limits.{limit_number}
 use Rattle.tree_spec.specs.Trees.{Tree}
 use Rattle.tree_spec.specs.declared.LimitName.TheVariants.{Entries}
@@ -20,7 +21,7 @@ use Rattle.words_spec.specs.PlainWords.{listing, injecting, editing, measuring}
 use Rattle.project_spec.proofs.ReadBack.{read_projects}
 use Rattle.project_spec.specs.ProjectFiles as project
 use Rattle.project_spec.specs.ProjectFiles.{IsProject, ReadsProject}
-use Rattle.config_spec.proofs.Entries.{filtered_distinct, filtered_fewer, no_entry_twice, onto_distinct, onto_holds}
+use Rattle.config_spec.proofs.Entries.{filtered_distinct, filtered_fewer, onto_distinct, onto_holds}
 use Rattle.config_spec.proofs.Entries.{without_lacks, without_within}
 use Rattle.config_spec.proofs.Options.{one_settings}
 use Rattle.config_spec.proofs.TwoConditions.{two_conditions}
@@ -117,10 +118,10 @@ nothing_keeps settings config sets =
 
 -- ---- a new project
 
-page_of_project : IsPagePath page_path
+pub page_of_project : IsPagePath page_path
 page_of_project = record { is_path = path_by_test page_path refl; no_root = texts_differ page_path (codes "/") refl }
 
-are_conditions : AreConditions link_conditions
+pub are_conditions : AreConditions link_conditions
 are_conditions =
     two_conditions (codes "browser") (codes "import")
     (record { nonempty = lit≤ tt; short = lit≤ tt; plain = refl; other = refl })
@@ -162,7 +163,7 @@ new_comes options settings (Some base) entries result sets e is =
     few_comes (linking options entries) settings _ result is
     (set_keeps settings base page_path link_conditions (once_onto [] entries))
     (set_is_project options settings base page_path link_conditions (once_onto [] entries) sets
-    (set_base_fits base sets.base e) page_of_project are_conditions (onto_distinct [] entries no_entry_twice))
+    (set_base_fits base sets.base e) page_of_project are_conditions (onto_distinct [] entries distinct_none))
     (onto_holds [] entries)
 
 linked_comes :

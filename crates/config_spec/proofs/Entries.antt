@@ -1,7 +1,7 @@
 -- Entries that are put to those of a project, and entries that are taken out.
-use Rattle.std.proofs.Common.{◌≡◌, ◌≤◌, refl, ℕ, Bool, true, false, cond, List, [], ◌∷◌, ◌++◌, length, lit≤, arith}
+use Rattle.std.proofs.Common.{◌≡◌, ◌≤◌, refl, ℕ, Bool, true, false, List, [], ◌∷◌, ◌++◌, length, arith, ◌≢◌}
 use Rattle.std.proofs.Common.{All, Contains, sym, ap, ◌∙◌, true≢false}
-use Rattle.std.specs.List.{AllByRecursion, IsDistinct, list_any}
+use Rattle.std.specs.List.{IsDistinct, list_any}
 use Rattle.std.specs.Prelude.{bytes_eq, filter, not, if◌then◌else◌}
 use Rattle.std.proofs.lemmas.Cmp.{nat_list_eq_equiv}
 use Rattle.std.proofs.lemmas.List.Elements.{All-nil, All-cons, All-contains, All-contains_itself, All-filter}
@@ -9,11 +9,10 @@ use Rattle.std.proofs.lemmas.List.Elements.{filter_passes, Contains-append_left,
 use Rattle.std.proofs.lemmas.Map.Views.{Contains-from_any}
 use Rattle.std.proofs.lemmas.Slice.Eq.{bytes_eq-Decides}
 use Rattle.std.proofs.lemmas.Map.Keys.{IsDistinct-push}
+use Rattle.std.proofs.lemmas.List.Kept.{AllPairs-filter}
+use Rattle.std.proofs.lemmas.List.Sums.{length-filter, count_by-le-length}
+use Rattle.std.proofs.lemmas.Map.Made.{AllPairs-from_IsDistinct, IsDistinct-from_AllPairs}
 use Rattle.config_spec.specs.Projects.{once_onto, without}
-
-pub no_entry_twice : IsDistinct bytes_eq []
-unfolding IsDistinct
-no_entry_twice = tt
 
 pub onto_distinct : (seen texts : List (List ℕ)) → IsDistinct bytes_eq seen → IsDistinct bytes_eq (once_onto seen texts)
 onto_distinct seen [] distinct = distinct
@@ -26,38 +25,18 @@ onto_distinct seen (text ∷ texts) distinct =
     by true e = distinct
     by false e = IsDistinct-push nat_list_eq_equiv seen text distinct e
 
-filtered_apart :
-    (text : List ℕ) (test : List ℕ → Bool) (texts : List (List ℕ))
-    → AllByRecursion (λ other. bytes_eq text other ≡ false) texts
-    → AllByRecursion (λ other. bytes_eq text other ≡ false) (filter test texts)
-filtered_apart text test [] apart = tt
-filtered_apart text test (other ∷ texts) apart = by (test other) (filtered_apart text test texts apart.1)
-  where
-    by : (b : Bool) → AllByRecursion (λ x. bytes_eq text x ≡ false) (filter test texts)
-        → AllByRecursion (λ x. bytes_eq text x ≡ false) (cond b (other ∷ filter test texts) (filter test texts))
-    by true rest = (apart.0, rest)
-    by false rest = rest
-
 pub filtered_distinct :
     (test : List ℕ → Bool) (texts : List (List ℕ)) → IsDistinct bytes_eq texts
     → IsDistinct bytes_eq (filter test texts)
-unfolding IsDistinct
-filtered_distinct test [] distinct = tt
-filtered_distinct test (text ∷ texts) distinct = by (test text) (filtered_distinct test texts distinct.1)
-  where
-    by : (b : Bool) → IsDistinct bytes_eq (filter test texts)
-        → IsDistinct bytes_eq (cond b (text ∷ filter test texts) (filter test texts))
-    by true rest = (filtered_apart text test texts distinct.0, rest)
-    by false rest = rest
+filtered_distinct test texts distinct =
+    IsDistinct-from_AllPairs bytes_eq-Decides (filter test texts)
+    (AllPairs-filter (λ x y. x ≢ y) test texts (AllPairs-from_IsDistinct bytes_eq-Decides texts distinct))
 
 pub filtered_fewer : (test : List ℕ → Bool) (texts : List (List ℕ)) → length (filter test texts) ≤ length texts
-filtered_fewer test [] = lit≤ tt
-filtered_fewer test (text ∷ texts) = by (test text) (filtered_fewer test texts)
-  where
-    by : (b : Bool) → length (filter test texts) ≤ length texts
-        → length (cond b (text ∷ filter test texts) (filter test texts)) ≤ length (text ∷ texts)
-    by true more = omega (arith, more)
-    by false more = omega (arith, more)
+filtered_fewer test texts =
+    let counted = length-filter test texts in
+    let fewer = count_by-le-length test texts in
+    omega arith
 
 -- ---- what is put is there
 

@@ -8,6 +8,7 @@ use Rattle.tree_spec.specs.Trees.{Tree}
 use Rattle.tree_spec.specs.declared.Entry.{Entry}
 use Rattle.tree_spec.specs.declared.Entry.TheVariants.{Stored, Directory}
 use Rattle.tree_spec.specs.declared.LimitName.TheVariants.{File}
+use Rattle.tree_spec.proofs.OneLook.{same_stored}
 use Rattle.trace_spec.specs.Modules.{Config}
 use Rattle.project_spec.proofs.OneProject.{one_project}
 use Rattle.project_spec.proofs.SomeProject.{some_project}
@@ -21,17 +22,12 @@ use Rattle.config_spec.specs.declared.ProjectFault.TheVariants.{TooLarge}
 abbrev Found : Type 0
 Found = Result (Option Config) ProjectFault
 
-same_bytes :
-    {found : Option Entry} {some other : List ℕ} → found ≡ Some (Stored some) → found ≡ Some (Stored other)
-    → some ≡ other
-same_bytes e f = cc
-
 -- a file that is read isn't too large
 not_large :
     {found : Option Entry} (some other : List ℕ) → found ≡ Some (Stored some) → found ≡ Some (Stored other)
     → length some ≤ limit_number File → limit_number File < length other → ⊥
 not_large some other is is_too few many =
-    let count : length some ≡ length other = ap length (same_bytes is is_too) in absurd (omega (arith, few, many, count))
+    let count : length some ≡ length other = ap length (same_stored is is_too) in absurd (omega (arith, few, many, count))
 
 pub one_held : (tree : Tree) (some other : Found) → HoldsProject tree some → HoldsProject tree other → some ≡ other
 one_held tree some other (absent is) (absent is_too) = refl
@@ -52,7 +48,7 @@ one_held tree some other (reads bytes outcome is few r) (folder is_too) = absurd
 one_held tree some other (reads bytes_too outcome is_too few r) (too_large bytes is many) =
     absurd (not_large bytes_too bytes is_too is few many)
 one_held tree some other (reads bytes outcome is few r) (reads bytes_too outcome_too is_too few_too r_too) =
-    let same : bytes_too ≡ bytes = same_bytes is_too is in
+    let same : bytes_too ≡ bytes = same_stored is_too is in
     ap read_outcome (one_project bytes outcome outcome_too r (subst (λ b. ReadsProject b outcome_too) same r_too))
 
 file_holds :

@@ -1,8 +1,8 @@
 -- What comes of a trace for which nothing was known.
 use Rattle.std.proofs.Common.{◌∙◌, ◌≡◌, ◌≢◌, ◌≤◌, ℕ, List, [], ◌∷◌, length, Bool, true, false, arith, append-nil, Option, Some, None, IfSome, Result, Ok, Err, refl, sym, ap, subst}
 use Rattle.std.specs.FinMap.{get}
-use Rattle.std.specs.List.{IsDistinct, ends_with}
-use Rattle.std.specs.Prelude.{◌++◌, ⊤, All, Contains, MatchOption, bytes_eq, nat_eq, codes}
+use Rattle.std.specs.List.{ends_with}
+use Rattle.std.specs.Prelude.{◌++◌, ⊤, All, Contains, MatchOption, nat_eq, codes}
 use Rattle.std.proofs.lemmas.Bool.{cond-false}
 use Rattle.std.proofs.lemmas.Option.{same_Some}
 use Rattle.std.proofs.lemmas.List.{append_cancel_left}
@@ -14,6 +14,7 @@ use Rattle.tree_spec.specs.Trees.{Tree}
 use Rattle.tree_spec.specs.declared.LimitName.TheVariants.{Map}
 use Rattle.tree_spec.specs.Limits.{limit_number}
 use Rattle.tree_spec.proofs.ToldStates.{if_some, looks_as}
+use Rattle.tree_spec.proofs.FootprintSets.{distinct_none}
 use Rattle.package_lookup.specs.declared.known.Known.{Known}
 use Rattle.package_lookup.specs.Answered.{AsksOnce}
 use Rattle.package_lookup.specs.Looked.{kept_at, laid_at, known_at, look_or, Sees}
@@ -164,10 +165,6 @@ module _ (config : Config) (before after : FolderState) where
 
 -- ---- a page that isn't served
 
-none_twice : IsDistinct bytes_eq []
-unfolding IsDistinct
-none_twice = tt
-
 page_shown : (config : Config) → shown config the_page ≡ config.page
 page_shown config = append-nil config.page
 
@@ -186,7 +183,7 @@ module _ (config : Config) (state : FolderState) where
 
   nothing_asked : (told : Option (List (List ℕ))) → state.asked ≡ told → IfSome told (λ old. AsksNoPathTwice old state)
   nothing_asked None e = tt
-  nothing_asked (Some old) e = record { more = []; asked = e ∙ ap Some (sym (append-nil old)); once = none_twice }
+  nothing_asked (Some old) e = record { more = []; asked = e ∙ ap Some (sym (append-nil old)); once = distinct_none }
 
   of_nothing : (told : Option (List (List ℕ))) → state.asked ≡ told → IfSome told (λ old. AsksFootprint config state.holds old state)
   of_nothing None e = tt

@@ -2,8 +2,7 @@
 use Rattle.std.proofs.Common.{◌≡◌, ◌≤◌, ℕ, Bool, true, false, List, [], ◌∷◌, ◌++◌, length, Option, Some, None, Ok, Err, IfSome, Result, refl, sym, ap, ◌∙◌, subst, inl, inr, append_assoc}
 use Rattle.std.proofs.lemmas.List.{append-nil}
 use Rattle.std.specs.FinMap.{get}
-use Rattle.std.specs.List.{IsDistinct}
-use Rattle.std.specs.Prelude.{bytes_eq, All, Contains}
+use Rattle.std.specs.Prelude.{All, Contains}
 use Rattle.std.proofs.lemmas.List.Elements.{All-nil}
 use Rattle.tree_spec.specs.declared.Look.{Look}
 use Rattle.tree_spec.specs.declared.Look.TheVariants as look
@@ -15,6 +14,7 @@ use Rattle.tree_spec.specs.Looks.{asked_after}
 use Rattle.tree_spec.specs.States.{FolderState, OnlyLooks, IsLooked}
 use Rattle.tree_spec.specs.Trees.{Tree}
 use Rattle.tree_spec.proofs.ToldStates.{if_some, if_two, if_all, looks_then, looks_as}
+use Rattle.tree_spec.proofs.FootprintSets.{distinct_none}
 use Rattle.page_spec.specs.declared.kinds.InjectFault.{InjectFault}
 use Rattle.page_spec.specs.declared.kinds.InjectFault.TheVariants as inject
 use Rattle.page_spec.specs.Injection as injection
@@ -40,10 +40,6 @@ use Rattle.generator_core.specs.Preparing.{own_file, AsksOwn, AsksFew, EndsBefor
 
 -- ---- what is asked of the folder
 
-none_twice : IsDistinct bytes_eq []
-unfolding IsDistinct
-none_twice = tt
-
 pub asks_few : (config : Config) (holds : Option Tree) (own : List (List ℕ)) (told : Option (List (List ℕ))) (after : FolderState) → IfSome told (λ old. AsksNoPathTwice old after) → IfSome told (λ old. AsksFootprint config holds old after) → IfSome told (λ old. AsksFew config holds own old after)
 asks_few config holds own told after asks at = if_two told (λ old is looks. record { first = []; is_own = inl refl; more = is.more; asked = is.asked; once = is.once; of_footprint = looks is.more is.asked }) asks at
 
@@ -57,7 +53,7 @@ no_more : (config : Config) (holds : Option Tree) → IfSome holds (λ tree. All
 no_more config holds = if_all holds (λ tree. All-nil (Contains (footprint (get tree) (generation config))))
 
 pub own_alone : (config : Config) (holds : Option Tree) (own : List (List ℕ)) (told : Option (List (List ℕ))) (after : FolderState) → IfSome told (λ old. AsksOwn own old after) → IfSome told (λ old. AsksFew config holds own old after)
-own_alone config holds own told after asks = if_some told (λ old is. record { first = is.first; is_own = is.is_own; more = []; asked = is.asked ∙ ap (λ first. Some (old ++ first)) (sym (append-nil is.first)); once = none_twice; of_footprint = no_more config holds }) asks
+own_alone config holds own told after asks = if_some told (λ old is. record { first = is.first; is_own = is.is_own; more = []; asked = is.asked ∙ ap (λ first. Some (old ++ first)) (sym (append-nil is.first)); once = distinct_none; of_footprint = no_more config holds }) asks
 
 pub own_then : (config : Config) (holds later_holds : Option Tree) (own : List (List ℕ)) (told : Option (List (List ℕ))) (middle after : FolderState) → later_holds ≡ holds → IfSome told (λ old. AsksOwn own old middle) → IfSome middle.asked (λ old. AsksNoPathTwice old after) → IfSome middle.asked (λ old. AsksFootprint config later_holds old after)
     → IfSome told (λ old. AsksFew config holds own old after)
@@ -84,7 +80,7 @@ asks_nothing config holds own state = by state.asked refl
   where
     by : (told : Option (List (List ℕ))) → state.asked ≡ told → IfSome told (λ old. AsksFew config holds own old state)
     by None e = tt
-    by (Some old) e = record { first = []; is_own = inl refl; more = []; asked = e ∙ ap Some (sym (append-nil old)); once = none_twice; of_footprint = no_more config holds }
+    by (Some old) e = record { first = []; is_own = inl refl; more = []; asked = e ∙ ap Some (sym (append-nil old)); once = distinct_none; of_footprint = no_more config holds }
 
 -- a command that writes the map's file generates a map
 pub generates : {command : Command} (keeps : Bool) → KeepsProject command keeps → IsGenerating command

@@ -2,29 +2,16 @@
 use Rattle.std.proofs.Common.{◌≡◌, refl, ap, ◌∙◌}
 use Rattle.std.specs.Prelude.{◌+◌, ℕ, List, [], ◌∷◌, length, map}
 use Rattle.std.specs.List.{sum_by}
-use Rattle.std.specs.FinMap.{insert, empty, len, entries, put, entries-insert, len-entries}
-use Rattle.std.specs.Cmp.Lexicographic.{slice_cmp, nat_list_cmp_total}
-use Rattle.std.specs.Ordering.{nat_cmp}
+use Rattle.std.specs.FinMap.{len, entries, len-entries}
 use Rattle.std.proofs.lemmas.List.Sums.{sum_by-cons}
-use Rattle.import_map_spec.proofs.Entries.{no_entries}
-use Rattle.import_map_spec.specs.ParsedMap.{Texts, Addresses}
-use Rattle.import_map_spec.specs.WrittenMaps.{insert_all, map_of, scope_of, Lists, map_of_lists}
+use Rattle.import_map_spec.specs.ParsedMap.{Addresses}
+use Rattle.import_map_spec.specs.WrittenMaps.{map_of, scope_of, Lists, map_of_lists}
 use Rattle.layout_spec.specs.Counting.{mapping_count}
-
-abbrev pub put_onto : {X : Type 0} → List (List ℕ × X) → List (List ℕ × X) → List (List ℕ × X)
-put_onto done [] = done
-put_onto done (e ∷ es) = put_onto (put (slice_cmp nat_cmp) e.0 e.1 done) es
-
-entries_onto : {X : Type 0} (es : List (List ℕ × X)) (m : Texts X) → entries (insert_all m es) ≡ put_onto (entries m) es
-entries_onto [] m = refl
-entries_onto (e ∷ es) m = entries_onto es (insert m e.0 e.1) ∙ ap (λ done. put_onto done es) (entries-insert nat_list_cmp_total m e.0 e.1)
-
-entries_of : {X : Type 0} (es : List (List ℕ × X)) → entries (map_of es) ≡ put_onto [] es
-entries_of {X} es = entries_onto es empty ∙ ap (λ done. put_onto done es) (no_entries X)
+use Rattle.layout_spec.proofs.examples.PrintedLists.{put_onto, entries_map_of}
 
 -- how many keys
 counted : {X : Type 0} (es : List (List ℕ × X)) → len (map_of es) ≡ length (put_onto [] es)
-counted es = len-entries (map_of es) ∙ ap length (entries_of es)
+counted es = len-entries (map_of es) ∙ ap length (entries_map_of es)
 
 abbrev scope_count : List ℕ × Addresses → ℕ
 scope_count scope = len scope.1
@@ -41,5 +28,5 @@ totals (scope ∷ scopes) = sum_by-cons scope_count scope scopes ∙ ap (λ n. l
 pub counts : (l : Lists) → mapping_count (map_of_lists l) ≡ length (put_onto [] l.imports) + total (put_onto [] (map scope_of l.scopes))
 counts l =
     let imports : len (map_of l.imports) ≡ length (put_onto [] l.imports) = counted l.imports in
-    let scoped : sum_by scope_count (entries (map_of (map scope_of l.scopes))) ≡ total (put_onto [] (map scope_of l.scopes)) = ap (sum_by scope_count) (entries_of (map scope_of l.scopes)) ∙ totals _ in
+    let scoped : sum_by scope_count (entries (map_of (map scope_of l.scopes))) ≡ total (put_onto [] (map scope_of l.scopes)) = ap (sum_by scope_count) (entries_map_of (map scope_of l.scopes)) ∙ totals _ in
     λ i. imports i + scoped i

@@ -10,6 +10,7 @@ use Rattle.import_map_spec.proofs.OneMap.{one_map, some_map}
 use Rattle.import_map_spec.specs.Parsing.{ParsesMap}
 use Rattle.tree_spec.specs.Limits.{limit_number}
 use Rattle.tree_spec.specs.Trees.{Tree}
+use Rattle.tree_spec.proofs.OneLook.{same_stored}
 use Rattle.page_spec.specs.declared.kinds.InjectFault.{InjectFault}
 use Rattle.page_spec.specs.Injection as injection
 use Rattle.page_spec.specs.Injection.{Injection, TakesMaps}
@@ -37,9 +38,6 @@ use Rattle.generator_spec.specs.Generation.{Generates, IsTooLarge}
 use Rattle.generator_spec.proofs.Generations.{nothing_refused}
 
 -- ---- pages
-
-same_stored : (found : Option Entry) (page other : List ℕ) → found ≡ Some (Stored page) → found ≡ Some (Stored other) → page ≡ other
-same_stored found page other e f = let g : Some (Stored page) ≡ Some (Stored other) = sym e ∙ f in cc
 
 no_file : (found : Option Entry) (page : List ℕ) → (found ≡ None) ⊎ (found ≡ Some Directory) → found ≡ Some (Stored page) → ⊥
 no_file found page (inl none) e = let f : None ≡ Some (Stored page) = sym none ∙ e in absurd (cc)
@@ -71,7 +69,7 @@ module _ (tree : Tree) (config : Config) where
 
   small_or_large : (page other : List ℕ) → IsPage tree config page → found ≡ Some (Stored other) → limit_number File < length other → ⊥
   small_or_large page other is e large =
-      let same = same_stored found page other is.stands e in
+      let same = same_stored is.stands e in
       let n : length page ≡ length other = ap length same in
       let small = is.small in
       absurd (omega (arith, small, large, n))
@@ -93,7 +91,7 @@ module _ (tree : Tree) (config : Config) where
   one_page_fault some other (refuses_page.keeps_out page fault is keeps) (refuses_page.folder e) = absurd (no_file found page (inr e) is.stands)
   one_page_fault some other (refuses_page.keeps_out page fault is keeps) (refuses_page.too_large page_too f large) = absurd (small_or_large page page_too is f large)
   one_page_fault some other (refuses_page.keeps_out page fault is keeps) (refuses_page.keeps_out page_too fault_too is_too keeps_too) =
-      ap KeepsMapsOut (one_fault page page_too fault fault_too (same_stored found page page_too is.stands is_too.stands) keeps keeps_too)
+      ap KeepsMapsOut (one_fault page page_too fault fault_too (same_stored is.stands is_too.stands) keeps keeps_too)
 
   -- a page that is refused takes no map
   refused_takes_none : (fault : PageFault) (text page new : List ℕ) → RefusesPage tree config fault → IsPage tree config page → Injection text page (Ok new) → ⊥
@@ -101,7 +99,7 @@ module _ (tree : Tree) (config : Config) where
   refused_takes_none fault text page new (refuses_page.folder e) is i = no_file found page (inr e) is.stands
   refused_takes_none fault text page new (refuses_page.too_large other e large) is i = small_or_large page other is e large
   refused_takes_none fault text page new (refuses_page.keeps_out other reason is_too keeps) is i =
-      no_way_in text other page new reason (same_stored found other page is_too.stands is.stands) keeps i
+      no_way_in text other page new reason (same_stored is_too.stands is.stands) keeps i
 
   refused_or_opened : (fault : PageFault) → RefusesPage tree config fault → Opens tree config Inject → ⊥
   refused_or_opened fault refused (opens.nothing _ is) = elim is [ ]
@@ -114,7 +112,7 @@ module _ (tree : Tree) (config : Config) where
 
   few_or_many : (text other : List ℕ) → IsMapText tree text → map_found ≡ Some (Stored other) → map_file_limit < length other → ⊥
   few_or_many text other is e large =
-      let same = same_stored map_found text other is.stands e in
+      let same = same_stored is.stands e in
       let n : length text ≡ length other = ap length same in
       let small = is.small in
       absurd (omega (arith, small, large, n))
@@ -122,7 +120,7 @@ module _ (tree : Tree) (config : Config) where
   -- a text is read in one way
   one_reading : (text other : List ℕ) (some more : Result ParsedMap MapFault) → IsMapText tree text → IsMapText tree other → ReadsMap config text some → ReadsMap config other more → some ≡ more
   one_reading text other some more is too reads reads_too =
-      let texts = same_stored map_found text other is.stands too.stands in
+      let texts = same_stored is.stands too.stands in
       let bases : Some reads.base ≡ Some reads_too.base = sym reads.named ∙ reads_too.named in
       let base : reads_too.base ≡ reads.base = cc in
       one_map reads.base text some more reads.parses
@@ -293,4 +291,4 @@ one_write tree config map command files others writes.unlinked writes.unlinked =
 one_write tree config map command files others writes.refreshed writes.refreshed = refl
 one_write tree config map command files others (writes.in_page page new is i) (writes.in_page page_too new_too is_too j) =
     ap (λ bytes. new_file config.page bytes ∷ [])
-    (one_page map page page_too new new_too (same_stored (get tree config.page) page page_too is.stands is_too.stands) i j)
+    (one_page map page page_too new new_too (same_stored is.stands is_too.stands) i j)

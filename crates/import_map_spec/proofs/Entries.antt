@@ -39,7 +39,7 @@ not_same Less t = refl
 not_same Equal t = absurd t
 not_same Greater t = absurd t
 
-none_after : {X : Type 0} (o : Option X) → first_answer o None ≡ o
+pub none_after : {X : Type 0} (o : Option X) → first_answer o None ≡ o
 none_after None = refl
 none_after (Some x) = refl
 

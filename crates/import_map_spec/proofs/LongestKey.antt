@@ -38,7 +38,7 @@ slash_only look text k j none l m =
       | inr f ↦ cond-false _ _ _ f
     ]
 
-is_some_match : (address : Option (List ℕ)) (rest : List ℕ) → (a : Resolution) × (prefix_match (Some address) rest ≡ Some a)
+pub is_some_match : (address : Option (List ℕ)) (rest : List ℕ) → (a : Resolution) × (prefix_match (Some address) rest ≡ Some a)
 is_some_match None rest = (_, refl)
 is_some_match (Some url) rest = (_, refl)
 

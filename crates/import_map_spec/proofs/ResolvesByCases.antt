@@ -13,7 +13,7 @@ use Rattle.import_map_spec.specs.ParsedMap.{Texts, Addresses, ParsedMap}
 use Rattle.import_map_spec.specs.Resolving.{Resolution, Blocked, takes_prefixes, KeyApplies, itself, prefix, Answers, MatchesImports, no_key, null_address, at_key, bad_rest, backtrack, below_key, ScopeApplies, own, above, AnswersInScope, MatchesScopes, no_scope, in_scope, ResolvesAs, by_scopes, by_imports, by_url, bare}
 use Rattle.import_map_spec.specs.LookUps.{first_answer, longest_front, exact_match, below_address, prefix_match, prefix_key, resolve_imports_match, scope_match, prefix_scope, resolve_scopes_match, unmatched, answer_or, resolve_normalized, scope_addresses, resolve_in}
 use Rattle.import_map_spec.specs.Laws.{IsFolderFront, NoneAbove, ResolvesByCases}
-use Rattle.import_map_spec.proofs.LongestKey.{key_order}
+use Rattle.import_map_spec.proofs.LongestKey.{key_order, is_some_match}
 
 none_or_some : {A : Type 0} (found : Option A) (x : A) → found ≡ None → found ≡ Some x → ⊥
 none_or_some found x e f = let wrong : None ≡ Some x = sym e ∙ f in cc
@@ -91,10 +91,6 @@ module _ {A : Type 0} (answer : List ℕ → List ℕ → Option A) (text : List
       ]
 
 -- ---- a module specifier map
-
-is_some_match : (address : Option (List ℕ)) (rest : List ℕ) → (a : Resolution) × (prefix_match (Some address) rest ≡ Some a)
-is_some_match None rest = (_, refl)
-is_some_match (Some url) rest = (_, refl)
 
 module _ (addresses : Addresses) (url : Option (List ℕ)) (text : List ℕ) where
   abbrev answered : Option Resolution

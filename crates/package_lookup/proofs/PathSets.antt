@@ -42,14 +42,6 @@ distinct_append (x ∷ xs) ys some more apart = (
   distinct_append xs ys some.1 more (All-tail (Apart ys) x xs apart),
 )
 
-pub distinct_none : IsDistinct bytes_eq []
-unfolding IsDistinct
-distinct_none = tt
-
-pub distinct_one : (path : List ℕ) → IsDistinct bytes_eq (path ∷ [])
-unfolding IsDistinct
-distinct_one path = (tt, tt)
-
 abbrev pub trail_of : List (List ℕ) → ℕ → List (List ℕ) → Trail
 trail_of paths size question = record { paths = paths; size = size; question = question }
 

@@ -33,13 +33,14 @@ use Rattle.tree_spec.specs.declared.LimitName.{LimitName}
 use Rattle.tree_spec.specs.declared.LimitName.TheVariants.{File, Bytes, Looks, Modules, ModuleRequests, Requests, Specifier, Entries, Brackets, Depth, Session, Map, Choices}
 use Rattle.tree_spec.specs.declared.Look.{Look}
 use Rattle.tree_spec.proofs.ToldStates.{if_some, if_two, looks_then, looks_as}
+use Rattle.tree_spec.proofs.FootprintSets.{distinct_none}
 use Rattle.package_lookup.specs.declared.fault.LookupFault.{LookupFault}
 use Rattle.package_lookup.specs.declared.fault.LookupFault.TheVariants.{ReadFault, Limit, InvalidConfig, Memory}
 use Rattle.package_lookup.specs.declared.known.Known.{Known}
 use Rattle.package_lookup.specs.Looked.{laid_at, kept_at, known_at, look_or, look_in, Sees, Grows, IsSameKnown}
 use Rattle.package_lookup.specs.Responses.{Failing, passes, not_read, no_memory, never, Response, given, fails, by_limit, by_fault, looked, bad_config, deep_config, resolved}
 use Rattle.package_lookup.specs.Answered.{State, state, Fails, Comes, Tells, IsLookOf, AsksOnce, Answered}
-use Rattle.package_lookup.proofs.PathSets.{Apart, distinct_append, distinct_none}
+use Rattle.package_lookup.proofs.PathSets.{Apart, distinct_append}
 
 -- ---- what is known grows
 

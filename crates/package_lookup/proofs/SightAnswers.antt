@@ -13,6 +13,7 @@ use Rattle.tree_spec.specs.declared.LimitName.{LimitName}
 use Rattle.tree_spec.specs.declared.LimitName.TheVariants as limit
 use Rattle.tree_spec.specs.declared.Look.{Look}
 use Rattle.tree_spec.specs.declared.Look.TheVariants.{TooLarge}
+use Rattle.tree_spec.proofs.FootprintSets.{distinct_one}
 use Rattle.package_lookup.specs.declared.fault.LookupFault.{LookupFault}
 use Rattle.package_lookup.specs.declared.fault.LookupFault.TheVariants.{ReadFault, Limit, InvalidConfig, Memory}
 use Rattle.package_lookup.specs.declared.held.Seen.{Seen}
@@ -24,7 +25,6 @@ use Rattle.package_lookup.specs.Responses.{Failing, passes, not_read, no_memory,
 use Rattle.package_lookup.specs.Answered.{State, state, Comes, Tells, IsLookOf, AsksOnce, Answered}
 use Rattle.package_lookup.specs.Fetching.{unknown, IsAsked, Fetches}
 use Rattle.package_lookup.proofs.LookCounts.{counted_large, counted_many, counted_named, counted_alike, stands_counted, large_seen}
-use Rattle.package_lookup.proofs.PathSets.{distinct_one}
 use Rattle.package_lookup.proofs.Questions.{nothing, asks_nothing}
 
 abbrev End : Type 0

@@ -2,15 +2,17 @@
 use Rattle.std.proofs.Common.{◌≡◌, ◌<◌, ◌+◌, ℕ, true, false, List, [], ◌∷◌, ◌++◌, length, take, map, get_or, sym, refl, ap, subst, ◌∙◌, if◌then◌else◌, append_assoc, append-nil, inl, inr, arith}
 use Rattle.std.specs.Prelude.{bytes_eq, Result, Ok, Err, IfOk}
 use Rattle.std.specs.List.{list_any, IsDistinct}
-use Rattle.std.proofs.lemmas.Bool.{cases_Bool, cond-true, cond-false, true≢false}
+use Rattle.std.proofs.lemmas.Bool.{cases_Bool, cond-false, true≢false}
 use Rattle.std.proofs.lemmas.Cmp.{nat_list_eq_equiv}
 use Rattle.std.proofs.Math.Seq.{get_or-append_seam}
 use Rattle.std.proofs.Math.ListN.{get_or-append}
 use Rattle.std.proofs.lemmas.List.{take_more, length-append}
 use Rattle.std.proofs.lemmas.List.Folds.{Any-from_list_any}
-use Rattle.std.proofs.lemmas.Map.Keys.{apart_from_distinct, IsDistinct-push}
+use Rattle.std.proofs.lemmas.Map.Keys.{apart_from_distinct}
 use Rattle.indexmap.specs.IndexSet.{insert_key}
+use Rattle.tree_spec.proofs.FootprintSets.{distinct_none}
 use Rattle.config_spec.specs.Projects.{once_onto}
+use Rattle.config_spec.proofs.Entries.{onto_distinct}
 
 once_onto-append : (seen xs ys : List (List ℕ)) → once_onto seen (xs ++ ys) ≡ once_onto (once_onto seen xs) ys
 once_onto-append seen [] ys = refl
@@ -39,37 +41,24 @@ not_before seen texts text distinct there =
     let differ : bytes_eq found.1 text ≡ false = (λ j. bytes_eq (sym first j) (sym second j)) ∙ apart in
     true≢false (sym found.4 ∙ (nat_list_eq_equiv.symm text found.1 ∙ differ))
 
-onto_distinct : (seen texts : List (List ℕ)) → IsDistinct bytes_eq (seen ++ texts) → once_onto seen texts ≡ seen ++ texts
-onto_distinct seen [] distinct = sym (append-nil seen)
-onto_distinct seen (text ∷ texts) distinct = elim (cases_Bool (list_any (bytes_eq text) seen)) [
+all_put : (seen texts : List (List ℕ)) → IsDistinct bytes_eq (seen ++ texts) → once_onto seen texts ≡ seen ++ texts
+all_put seen [] distinct = sym (append-nil seen)
+all_put seen (text ∷ texts) distinct = elim (cases_Bool (list_any (bytes_eq text) seen)) [
   | inl there ↦ absurd (not_before seen texts text distinct there)
   | inr new ↦
       ap (λ s. once_onto s texts) (cond-false (list_any (bytes_eq text) seen) seen (seen ++ text ∷ []) new)
-      ∙ (onto_distinct (seen ++ text ∷ []) texts (subst (IsDistinct bytes_eq) (sym (append_assoc seen (text ∷ []) texts)) distinct)
+      ∙ (all_put (seen ++ text ∷ []) texts (subst (IsDistinct bytes_eq) (sym (append_assoc seen (text ∷ []) texts)) distinct)
       ∙ append_assoc seen (text ∷ []) texts)
 ]
 
 -- distinct texts, and others behind them
 pub behind_old : (old texts all found : List (List ℕ)) → IsDistinct bytes_eq old → all ≡ old ++ texts → found ≡ once_onto [] all → found ≡ once_onto old texts
 behind_old old texts all found distinct put is =
-    is ∙ (ap (once_onto []) put ∙ (once_onto-append [] old texts ∙ ap (λ s. once_onto s texts) (onto_distinct [] old distinct)))
-
-distinct_onto : (seen texts : List (List ℕ)) → IsDistinct bytes_eq seen → IsDistinct bytes_eq (once_onto seen texts)
-distinct_onto seen [] distinct = distinct
-distinct_onto seen (text ∷ texts) distinct =
-    distinct_onto (if list_any (bytes_eq text) seen then seen else seen ++ text ∷ []) texts
-    (elim (cases_Bool (list_any (bytes_eq text) seen)) [
-      | inl there ↦ subst (IsDistinct bytes_eq) (sym (cond-true (list_any (bytes_eq text) seen) seen (seen ++ text ∷ []) there)) distinct
-      | inr new ↦ subst (IsDistinct bytes_eq) (sym (cond-false (list_any (bytes_eq text) seen) seen (seen ++ text ∷ []) new)) (IsDistinct-push nat_list_eq_equiv seen text distinct new)
-    ])
-
-pub none_twice : IsDistinct bytes_eq []
-unfolding IsDistinct
-none_twice = tt
+    is ∙ (ap (once_onto []) put ∙ (once_onto-append [] old texts ∙ ap (λ s. once_onto s texts) (all_put [] old distinct)))
 
 -- texts that are counted once stand once
 pub counted_once : (found texts : List (List ℕ)) → found ≡ once_onto [] texts → IsDistinct bytes_eq found
-counted_once found texts is = subst (IsDistinct bytes_eq) (sym is) (distinct_onto [] texts none_twice)
+counted_once found texts is = subst (IsDistinct bytes_eq) (sym is) (onto_distinct [] texts distinct_none)
 
 -- ---- what a call gives
 

@@ -1,30 +1,19 @@
 -- Entries that are taken out of a config one after another.
-use Rattle.std.proofs.Common.{◌≡◌, ◌≢◌, ◌≤◌, ◌<◌, ◌+◌, ℕ, true, false, Bool, List, [], ◌∷◌, length, drop, map, get_or, filter, Result, Ok, Err, refl, sym, ap, subst, ◌∙◌, arith}
+use Rattle.std.proofs.Common.{◌≡◌, ◌≤◌, ◌<◌, ◌+◌, ℕ, true, false, Bool, List, [], ◌∷◌, length, drop, map, get_or, filter, Result, Ok, Err, refl, sym, ap, subst, ◌∙◌, arith}
 use Rattle.std.specs.Prelude.{bytes_eq}
-use Rattle.std.specs.List.{list_any, IsDistinct}
+use Rattle.std.specs.List.{list_any}
 use Rattle.std.proofs.lemmas.Bool.{cond-true, cond-false}
 use Rattle.std.proofs.lemmas.List.{drop_more, drop_all}
-use Rattle.std.proofs.lemmas.List.Kept.{AllPairs-filter}
-use Rattle.std.proofs.lemmas.List.Sums.{length-filter, count_by-le-length}
-use Rattle.std.proofs.lemmas.Map.Made.{AllPairs-from_IsDistinct, IsDistinct-from_AllPairs}
-use Rattle.std.proofs.lemmas.Slice.Eq.{bytes_eq-Decides}
 use Rattle.config_spec.specs.declared.ConfigFault.{ConfigFault}
 use Rattle.config_spec.specs.declared.ConfigFault.TheVariants.{NotLinked}
 use Rattle.config_spec.specs.Projects.{unlinked, without}
+use Rattle.config_spec.proofs.Entries.{filtered_fewer}
 use Rattle.trace_spec.specs.Modules.{Config}
 use Rattle.project_config.specs.Outcomes.{config_with}
 
--- what is kept of distinct entries is distinct, and no more than they are
-pub distinct_kept : (keep : List ℕ → Bool) (entries : List (List ℕ)) → IsDistinct bytes_eq entries → IsDistinct bytes_eq (filter keep entries)
-distinct_kept keep entries distinct =
-    IsDistinct-from_AllPairs bytes_eq-Decides (filter keep entries)
-    (AllPairs-filter (λ x y. x ≢ y) keep entries (AllPairs-from_IsDistinct bytes_eq-Decides entries distinct))
-
+-- what is kept is no more than there was
 pub few_kept : (keep : List ℕ → Bool) (entries : List (List ℕ)) (most : ℕ) → length entries ≤ most → length (filter keep entries) ≤ most
-few_kept keep entries most few =
-    let counted = length-filter keep entries in
-    let fewer = count_by-le-length keep entries in
-    omega arith
+few_kept keep entries most few = omega (arith, few, filtered_fewer keep entries)
 
 -- ---- one word more
 

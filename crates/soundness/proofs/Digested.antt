@@ -6,9 +6,9 @@ use Rattle.std.specs.FinMap.{get}
 use Rattle.std.specs.Prelude.{◌≡◌, ℕ, true, List, [], ◌∷◌, map, cond, unwrap_or, Option, Some, None, Ok, Contains}
 use Rattle.std.specs.Str.{IsUtf8}
 use mathlib.Core.Logic.{inl, inr}
-use Rattle.tree_spec.specs.declared.Entry.{Entry}
 use Rattle.tree_spec.specs.declared.Entry.TheVariants.{Stored}
 use Rattle.tree_spec.specs.Trees.{Tree}
+use Rattle.tree_spec.proofs.OneLook.{same_stored}
 use Rattle.url_spec.proofs.KeptUrls.{kept_urls}
 use Rattle.url_spec.proofs.OnePlace.{one_served}
 use Rattle.url_spec.specs.ServedPaths.{IsServed}
@@ -87,9 +87,6 @@ digest_is config (first ∷ modules) (own ∷ sources) url text e =
 
 -- ---- the digest of a module
 
-same_bytes : (stored : Option Entry) (bytes others : List ℕ) → stored ≡ Some (Stored bytes) → stored ≡ Some (Stored others) → bytes ≡ others
-same_bytes stored bytes others e f = let same : ◌≡◌ {A = Option Entry} (Some (Stored bytes)) (Some (Stored others)) = sym e ∙ f in cc
-
 sources_behind : (first : Option Source) (own : Source) (firsts : List (Option Source)) (sources : List Source) → map Some (own ∷ sources) ≡ first ∷ firsts → (first ≡ Some own) × (map Some sources ≡ firsts)
 sources_behind first own firsts sources e = (cc, cc)
 
@@ -113,7 +110,7 @@ module _ (tree : Tree) (config : Config) where
             let back = subst (λ u. IsServed config.base u first.path) (sym (same_key_is url name.0 here)) name.1.back in
             let paths : m.path ≡ first.path = one_served config.base url m.path first.path is.back back in
             let stored = ((sources_are_read (get tree) first own).0 parts.0).stored in
-            cond-true _ _ _ here ∙ ap (λ read. Some (digest_text read)) (same_bytes (get tree first.path) own.bytes bytes stored (ap (get tree) (sym paths) ∙ stands))
+            cond-true _ _ _ here ∙ ap (λ read. Some (digest_text read)) (same_stored stored (ap (get tree) (sym paths) ∙ stands))
         | inr other ↦
             cond-false _ _ _ other
             ∙ elim (contains_cases m first modules c) [

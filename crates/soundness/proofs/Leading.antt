@@ -10,7 +10,7 @@ use Rattle.url_spec.proofs.NoUrls.{no_urls}
 use Rattle.url_spec.proofs.OwnUrls.{own_urls}
 use Rattle.url_spec.specs.Parsing.{IsUrl}
 use Rattle.url_spec.specs.Specifiers.{as_url, normalized, ends_in_slash}
-use Rattle.import_map_spec.proofs.Entries.{get_nowhere, cases_option}
+use Rattle.import_map_spec.proofs.Entries.{get_nowhere, cases_option, none_after}
 use Rattle.import_map_spec.proofs.LongestKey.{key_order}
 use Rattle.import_map_spec.specs.LookUps.{first_answer, answer_or, unmatched, exact_match, resolve_imports_match, scope_match, longest_front, prefix_scope, resolve_scopes_match, scope_addresses, resolve_normalized, resolve_in}
 use Rattle.import_map_spec.specs.ParsedMap.{Addresses, ParsedMap}
@@ -37,12 +37,8 @@ first_apart : {A : Type 0} (o p q : Option A) → first_answer o (first_answer p
 first_apart None p q = refl
 first_apart (Some x) p q = refl
 
-none_behind : {A : Type 0} (o : Option A) → first_answer o None ≡ o
-none_behind None = refl
-none_behind (Some x) = refl
-
 first_over : {A : Type 0} (answer : List ℕ → Option A) (ps : List (List ℕ)) (last : List ℕ) → first_of answer (ps ++ last ∷ []) ≡ first_answer (first_of answer ps) (answer last)
-first_over answer [] last = none_behind (answer last)
+first_over answer [] last = none_after (answer last)
 first_over answer (p ∷ ps) last = ap (first_answer (answer p)) (first_over answer ps last) ∙ first_apart (answer p) (first_of answer ps) (answer last)
 
 -- ---- what scopes and imports answer

@@ -72,9 +72,6 @@ back_below most text front name e none some below =
 pub none_below : (most : ℕ) (text : List ℕ) → All (λ b. b ≢ 47) text → IsBelow most text → ⊥
 none_below most text none below = no_depth below.depth text below.segments none
 
-pub path_at_root : (text : List ℕ) → text ≡ codes "/" → IsPath text
-path_at_root text e = let P : List ℕ → Type 0 = λ x. length x ≤ 1024 in record { depth = 0; segments = root text e; few = omega arith; short = subst P (sym e) (lit≤ tt) }
-
 pub path_below : (text : List ℕ) → length text ≤ 1024 → IsBelow 64 text → IsPath text
 path_below text short below = record { depth = below.depth; segments = below.segments; few = below.few; short = short }
 

@@ -39,6 +39,14 @@ seen_noted path seen (first ∷ more) =
 
 -- ---- each once
 
+pub distinct_none : IsDistinct bytes_eq []
+unfolding IsDistinct
+distinct_none = tt
+
+pub distinct_one : (text : List ℕ) → IsDistinct bytes_eq (text ∷ [])
+unfolding IsDistinct
+distinct_one text = (tt, tt)
+
 all_push : (P : List ℕ → Type 0) (xs : List (List ℕ)) (y : List ℕ) → AllByRecursion P xs → P y
     → AllByRecursion P (xs ++ y ∷ [])
 all_push P [] y all p = (p, tt)

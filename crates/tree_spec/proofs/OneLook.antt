@@ -1,11 +1,16 @@
 -- A look has one answer.
 use Rattle.std.proofs.Common.{ap, arith, sym, ◌∙◌}
-use Rattle.std.specs.Prelude.{◌≡◌, ◌≤◌, ◌<◌, ℕ, List, length, Some, None, refl}
+use Rattle.std.specs.Prelude.{◌≡◌, ◌≤◌, ◌<◌, ℕ, List, length, Some, None, refl, Option}
 use Rattle.tree_spec.specs.Looks.{IsLook}
 use Rattle.tree_spec.specs.Trees.{Tree}
 use Rattle.tree_spec.specs.declared.Entry.TheVariants.{Stored, Directory}
 use Rattle.tree_spec.specs.declared.Look.{Look}
 use Rattle.tree_spec.specs.declared.Look.TheVariants.{Absent, Folder, File, TooLarge}
+use Rattle.tree_spec.specs.declared.Entry.{Entry}
+
+-- what is stored has one content
+pub same_stored : {found : Option Entry} {bytes more : List ℕ} → found ≡ Some (Stored bytes) → found ≡ Some (Stored more) → bytes ≡ more
+same_stored e f = cc
 
 short_and_long : (bytes more : List ℕ) (limit : ℕ) → Some (Stored bytes) ≡ Some (Stored more) → length bytes ≤ limit → limit < length more → ⊥
 short_and_long bytes more limit e short long =

@@ -19,7 +19,7 @@ root_only path entry (inr n) some = let wrong : None ≡ Some entry = sym (get_o
 no_parent : (parent path : List ℕ) → IsParent parent path → path ≡ codes "/" → ⊥
 no_parent parent path p e = nothing_above_root parent path e (parent_of parent path p)
 
-root_is_path : (path : List ℕ) → path ≡ codes "/" → IsPath path
+pub root_is_path : (path : List ℕ) → path ≡ codes "/" → IsPath path
 root_is_path path e = let P : List ℕ → Type 0 = λ x. length x ≤ 1024 in record { depth = 0; segments = root path e; few = omega arith; short = subst P (sym e) (lit≤ tt) }
 
 root_alone : IsTree (bare_tree)

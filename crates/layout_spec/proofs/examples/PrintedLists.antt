@@ -14,7 +14,7 @@ use Rattle.import_map_spec.specs.ParsedMap.{Texts, Addresses}
 use Rattle.import_map_spec.specs.WrittenMaps.{insert_all, map_of, scope_of, Lists, map_of_lists}
 use Rattle.layout_spec.specs.PrintedMap.{members_of, address_value, addresses_value, with_part, map_value, map_text}
 
-abbrev put_onto : {X : Type 0} → List (List ℕ × X) → List (List ℕ × X) → List (List ℕ × X)
+abbrev pub put_onto : {X : Type 0} → List (List ℕ × X) → List (List ℕ × X) → List (List ℕ × X)
 put_onto done [] = done
 put_onto done (e ∷ es) = put_onto (put (slice_cmp nat_cmp) e.0 e.1 done) es
 
@@ -26,7 +26,7 @@ entries_onto : {X : Type 0} (es : List (List ℕ × X)) (m : Texts X) → entrie
 entries_onto [] m = refl
 entries_onto (e ∷ es) m = entries_onto es (insert m e.0 e.1) ∙ ap (λ done. put_onto done es) (entries-insert nat_list_cmp_total m e.0 e.1)
 
-entries_map_of : {X : Type 0} (es : List (List ℕ × X)) → entries (map_of es) ≡ in_key_order es
+pub entries_map_of : {X : Type 0} (es : List (List ℕ × X)) → entries (map_of es) ≡ in_key_order es
 entries_map_of {X} es = entries_onto es empty ∙ ap (λ done. put_onto done es) (no_entries X)
 
 abbrev Entry : Type 0
