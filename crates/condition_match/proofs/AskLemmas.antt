@@ -59,10 +59,6 @@ last_of_three last first InvalidTarget = refl
 last_of_three last first InvalidSpecifier = refl
 last_of_three last first InvalidConfig = refl
 
-pub if_ok : {E : Type 0} {P Q : Outcome → Type 0} (found : Result Outcome E) → ((out : Outcome) → P out → Q out) → IfOk found P → IfOk found Q
-if_ok (Ok out) turn is = turn out is
-if_ok (Err e) turn is = tt
-
 a_full_list : (rules : Rules) (values : List Value) (asked : List Call) (out : Outcome) → length values ≢ 0 → ResolvesItems rules (items_of values) asked out → ResolvesTarget rules (a_list (items_of values)) asked out
 a_full_list rules [] asked out some r = absurd (some refl)
 a_full_list rules (v ∷ values) asked out some r = list_target (json_of v) (items_of values) asked out r

@@ -2,7 +2,7 @@
 use lib.Utf8.{scalar, scalars, scalar_cases}
 use Rattle.std.proofs.Common.{◌≡◌, ◌<◌, ◌≤◌, ◌+◌, ◌-◌, ◌*◌, ◌==◌, ◌⊎◌, inl, inr, ℕ, zero, suc, Bool, true, false, nat_le, List, [], ◌∷◌, ◌++◌, length, take, drop, if◌then◌else◌, Option, Some, None, refl, sym, ap, subst, ◌∙◌, arith, take_at, drop_at, length-append, append-nil, append_assoc}
 use Rattle.std.proofs.lemmas.Str.{chars-nil, chars-append, chars_past_char, encodes-chars, scalars-chars, IsUtf8-drop, IsCharBoundary-from_take}
-use Rattle.std.proofs.lemmas.Bool.{and_parts, eq-eqb, eqb-true, le-leb, lt-leb, le-ltb, or_parts}
+use Rattle.std.proofs.lemmas.Bool.{and_parts, eq-eqb, eqb-true, le-leb, lt-leb, le-ltb, or_parts, cond-true}
 use Rattle.std.proofs.lemmas.List.Folds.{list_any-append}
 use Rattle.std.proofs.Math.Bool.{and-false}
 use Rattle.std.specs.List.{list_any}
@@ -47,14 +47,10 @@ room_for_digit value digit count left below some few small = let bound = sixteen
 before_one : (n : ℕ) → suc n - 1 ≡ n
 before_one n = omega arith
 
-if_true : {A : Type 0} (c : Bool) (x y : A) → c ≡ true → (if c then x else y) ≡ x
-if_true true x y e = refl
-if_true false x y e = absurd (cc)
-
 pub digit_read : (so_far left c d : ℕ) (rest : List ℕ) → 0 < left → is_hex_digit c ≡ true → d ≡ hex_value c → hex_number so_far left (c ∷ rest) ≡ hex_number (so_far * 16 + d) (left - 1) rest
 digit_read so_far zero c d rest l e f = absurd (omega arith)
 digit_read so_far (suc left) c d rest l e f =
-    if_true (is_hex_digit c) (hex_number (so_far * 16 + hex_value c) left rest) None e
+    cond-true (is_hex_digit c) (hex_number (so_far * 16 + hex_value c) left rest) None e
     ∙ (ap (λ n. hex_number (so_far * 16 + n) left rest) (sym f) ∙ ap (λ n. hex_number (so_far * 16 + d) n rest) (sym (before_one left)))
 
 pub drop_read : (left c : ℕ) (rest : List ℕ) → 0 < left → drop left (c ∷ rest) ≡ drop (left - 1) rest
@@ -99,7 +95,7 @@ braced_part cs count value rest e some few number behind =
     }
 
 pub escaped_elements : (first : ℕ) (cs : List ℕ) → first ≡ 92 → elements zero (first ∷ cs) ≡ (escape cs).1 ∷ elements (escape cs).0 cs
-escaped_elements first cs e = if_true (first == 92) ((escape cs).1 ∷ elements (escape cs).0 cs) (unit first ∷ elements zero cs) (eq-eqb first 92 e)
+escaped_elements first cs e = cond-true (first == 92) ((escape cs).1 ∷ elements (escape cs).0 cs) (unit first ∷ elements zero cs) (eq-eqb first 92 e)
 
 pub elements-drop : (n : ℕ) (cs : List ℕ) → elements n cs ≡ elements zero (drop n cs)
 elements-drop zero cs = refl

@@ -112,9 +112,3 @@ pub length_before : (keys : List (List ℕ)) (i : ℕ) (key : List ℕ) → slic
 length_before [] i key e = cc
 length_before (k ∷ keys) zero key e = refl
 length_before (k ∷ keys) (suc i) key e = ap suc (length_before keys i key e)
-
-pub all_keys : (keys : List (List ℕ)) (i : ℕ) → length keys ≤ i → take i keys ≡ keys
-all_keys [] zero l = refl
-all_keys [] (suc i) l = refl
-all_keys (k ∷ keys) zero l = absurd (omega arith)
-all_keys (k ∷ keys) (suc i) l = ap (λ xs. k ∷ xs) (all_keys keys i (omega arith))

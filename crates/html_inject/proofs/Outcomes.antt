@@ -114,10 +114,6 @@ keeps_of page body (Err fault) e u i = λ text. comes_of text page body (Err fau
 
 -- ---- a map at its site
 
-pub if_ok : {A E : Type 0} {P Q : A → Type 0} (out : Result A E) → ((x : A) → P x → Q x) → IfOk out P → IfOk out Q
-if_ok (Ok x) f h = f x h
-if_ok (Err e) f h = tt
-
 pub fits : (page : List ℕ) (s : Site) → IsSiteOf page s → Fits page s
 fits page s i = site_fits page page s refl i.is
 

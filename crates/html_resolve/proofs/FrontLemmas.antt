@@ -6,15 +6,13 @@ use Rattle.std.proofs.lemmas.Str.{IsCharBoundary-from_take}
 use Rattle.std.specs.Cmp.Lexicographic.{pointwise}
 use Rattle.std.proofs.Math.Seq.{take-suc}
 use Rattle.std.proofs.lemmas.Bool.{ne_eqb}
-use Rattle.std.proofs.lemmas.List.{get_or-take, length-take, length-append, take-take, take-append-drop, drop_at, length-take-le}
+use Rattle.std.proofs.lemmas.List.{get_or-take, length-take, take-take, take-append-drop, drop_at, length-take-le}
+use Rattle.std.proofs.lemmas.List.{length_push}
 use Rattle.html_resolve.specs.Fronts.{NoneBetween, HasNoFront, IsNextFront}
 use Rattle.url_spec.specs.Specifiers.{ends_in_slash}
 
-length_one_more : (p : List ℕ) (b : ℕ) → length (p ++ b ∷ []) ≡ length p + 1
-length_one_more p b = length-append p (b ∷ [])
-
 last : (p : List ℕ) (b : ℕ) → drop (length (p ++ b ∷ []) - 1) (p ++ b ∷ []) ≡ b ∷ []
-last p b = let e = length_one_more p b in drop_at p (b ∷ []) (length (p ++ b ∷ []) - 1) (omega arith)
+last p b = let e = length_push p b in drop_at p (b ∷ []) (length (p ++ b ∷ []) - 1) (omega arith)
 
 ends_slash : (p : List ℕ) → ends_in_slash (p ++ 47 ∷ []) ≡ true
 ends_slash p = ap (pointwise nat_eq (codes "/")) (last p 47)

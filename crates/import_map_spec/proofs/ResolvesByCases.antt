@@ -6,6 +6,7 @@ use Rattle.std.proofs.Common.{refl, ap, sym, ◌∙◌, subst, arith, append-nil
 use Rattle.std.proofs.Math.Seq.{take-append_seam, drop-append_seam}
 use Rattle.std.proofs.lemmas.Bool.{cond-true, cond-false, cases_Bool, cases_eq, cases_lt, true≢false}
 use Rattle.std.proofs.lemmas.List.{take-append-drop, length-take-le}
+use Rattle.std.proofs.lemmas.Option.{none-some}
 use mathlib.Core.Logic.{inl, inr}
 use Rattle.url_spec.specs.Parsing.{parse_against}
 use Rattle.url_spec.specs.Specifiers.{begins, ends_in_slash, as_url, normalized}
@@ -14,9 +15,6 @@ use Rattle.import_map_spec.specs.Resolving.{Resolution, Blocked, takes_prefixes,
 use Rattle.import_map_spec.specs.LookUps.{first_answer, longest_front, exact_match, below_address, prefix_match, prefix_key, resolve_imports_match, scope_match, prefix_scope, resolve_scopes_match, unmatched, answer_or, resolve_normalized, scope_addresses, resolve_in}
 use Rattle.import_map_spec.specs.Laws.{IsFolderFront, NoneAbove, ResolvesByCases}
 use Rattle.import_map_spec.proofs.LongestKey.{key_order, is_some_match}
-
-none_or_some : {A : Type 0} (found : Option A) (x : A) → found ≡ None → found ≡ Some x → ⊥
-none_or_some found x e f = let wrong : None ≡ Some x = sym e ∙ f in cc
 
 -- ---- fronts of a text
 
@@ -122,7 +120,7 @@ module _ (addresses : Addresses) (url : Option (List ℕ)) (text : List ℕ) whe
 
   -- where the text itself is no key, only prefixes apply
   not_itself : (key : List ℕ) (address : Option (List ℕ)) → get addresses text ≡ None → get addresses key ≡ Some address → key ≡ text → ⊥
-  not_itself key address none e same = none_or_some (get addresses text) address none (subst (λ k. get addresses k ≡ Some address) same e)
+  not_itself key address none e same = none-some address (sym none ∙ (subst (λ k. get addresses k ≡ Some address) same e))
 
   none_without_prefixes : get addresses text ≡ None → takes_prefixes url ≡ false → MatchesImports addresses url text None
   none_without_prefixes none f = no_key (λ key address e applies. go key address e applies)
@@ -139,7 +137,7 @@ module _ (addresses : Addresses) (url : Option (List ℕ)) (text : List ℕ) whe
   none_at_front : (key rest : List ℕ) (address : Option (List ℕ)) → text ≡ key ++ rest → ends_in_slash key ≡ true → get addresses key ≡ Some address → prefix_key (get addresses) (take (length key) text) (drop (length key) text) ≡ None → ⊥
   none_at_front key rest address split slash e none =
       let some = is_some_match address rest in
-      none_or_some _ some.0 none (at_front key rest address split slash e ∙ some.1)
+      none-some some.0 (sym none ∙ (at_front key rest address split slash e ∙ some.1))
 
   none_with_prefixes : get addresses text ≡ None → ((j : ℕ) → 0 < j → j ≤ length text → prefix_key (get addresses) (take j text) (drop j text) ≡ None) → MatchesImports addresses url text None
   none_with_prefixes none fronts = no_key (λ key address e applies. go key address e applies)
@@ -157,10 +155,10 @@ module _ (addresses : Addresses) (url : Option (List ℕ)) (text : List ℕ) whe
   from_front : (k : ℕ) (found : Resolution) → prefix_key (get addresses) (take k text) (drop k text) ≡ Some found → AtPrefix k found
   from_front k found here =
       elim (cases_Bool (ends_in_slash (take k text))) [
-        | inr f ↦ absurd (none_or_some _ found (cond-false _ _ _ f) here)
+        | inr f ↦ absurd (none-some found (sym (cond-false _ _ _ f) ∙ here))
         | inl t ↦ (let matched : prefix_match (get addresses (take k text)) (drop k text) ≡ Some found = sym (cond-true _ _ _ t) ∙ here in
             elim (cases_option (get addresses (take k text))) [
-              | inl none ↦ absurd (none_or_some _ found (ap (λ o. prefix_match o (drop k text)) none) matched)
+              | inl none ↦ absurd (none-some found (sym (ap (λ o. prefix_match o (drop k text)) none) ∙ matched))
               | inr (address, e) ↦ record { slash = t; address = address; stands = e; matches = sym (ap (λ o. prefix_match o (drop k text)) e) ∙ matched }
             ])
       ]
@@ -283,7 +281,7 @@ module _ (scopes : Texts Addresses) (referrer : List ℕ) (url : Option (List �
   scope_answers : (key : List ℕ) (answer : Resolution) → ScopeApplies referrer key → asked key ≡ Some answer → Answering key answer
   scope_answers key answer applies e =
       elim (cases_option (get scopes key)) [
-        | inl none ↦ absurd (none_or_some (asked key) answer (ap (λ (o : Option Addresses). scope_match url text (option_map get o)) none) e)
+        | inl none ↦ absurd (none-some answer (sym (ap (λ (o : Option Addresses). scope_match url text (option_map get o)) none) ∙ e))
         | inr (addresses, stands) ↦ record {
           addresses = addresses;
           stands = stands;
@@ -297,10 +295,10 @@ module _ (scopes : Texts Addresses) (referrer : List ℕ) (url : Option (List �
       (λ i. prefix_scope url text (scope_addresses scopes) (front_taken referrer key rest split i) (front_dropped referrer key rest split i)) ∙ cond-true _ _ _ slash
 
   not_at_referrer : (key : List ℕ) (answer : Resolution) → asked referrer ≡ None → Answering key answer → key ≡ referrer → ⊥
-  not_at_referrer key answer none answers same = none_or_some (asked referrer) answer none (ap asked (sym same) ∙ scope_asked key answer answers)
+  not_at_referrer key answer none answers same = none-some answer (sym none ∙ (ap asked (sym same) ∙ scope_asked key answer answers))
 
   not_at_front : (key rest : List ℕ) (answer : Resolution) → referrer ≡ key ++ rest → ends_in_slash key ≡ true → Answering key answer → prefix_scope url text (scope_addresses scopes) (take (length key) referrer) (drop (length key) referrer) ≡ None → ⊥
-  not_at_front key rest answer split slash answers none = none_or_some _ answer none (scope_at_front key rest split slash ∙ scope_asked key answer answers)
+  not_at_front key rest answer split slash answers none = none-some answer (sym none ∙ (scope_at_front key rest split slash ∙ scope_asked key answer answers))
 
   own_meets : (answer : Resolution) → asked referrer ≡ Some answer → MatchesScopes scopes referrer url text (Some answer)
   own_meets answer e = in_scope referrer answer (scope_answers referrer answer (own refl) e) (λ other found answers. shorter other answers.applies)
@@ -312,7 +310,7 @@ module _ (scopes : Texts Addresses) (referrer : List ℕ) (url : Option (List �
   above_meets : (k : ℕ) (answer : Resolution) → asked referrer ≡ None → k ≤ length referrer → prefix_scope url text (scope_addresses scopes) (take k referrer) (drop k referrer) ≡ Some answer → ((j : ℕ) → k < j → j ≤ length referrer → prefix_scope url text (scope_addresses scopes) (take j referrer) (drop j referrer) ≡ None) → MatchesScopes scopes referrer url text (Some answer)
   above_meets k answer none within here longer =
       elim (cases_Bool (ends_in_slash (take k referrer))) [
-        | inr f ↦ absurd (none_or_some _ answer (cond-false _ _ _ f) here)
+        | inr f ↦ absurd (none-some answer (sym (cond-false _ _ _ f) ∙ here))
         | inl t ↦ in_scope (take k referrer) answer (scope_answers (take k referrer) answer (above (drop k referrer) t (sym (take-append-drop k referrer))) (sym (cond-true _ _ _ t) ∙ here))
             (λ other found answers. shorter other found answers answers.applies)
       ]

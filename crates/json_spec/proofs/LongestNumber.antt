@@ -9,6 +9,7 @@ use mathlib.Core.Logic.{inl, inr}
 use Rattle.json_spec.specs.Taken.{taken, refused, Read, and_then, or_else, behind_piece}
 use Rattle.json_spec.specs.Numbers.{AreDigits, IsInt, IsFrac, IsExp, IsTail, IsNumber, leading_digits, after_digits, some_digits, digits_at, joined, maybe, one_of, int_at, frac_at, exp_at, number_at}
 use Rattle.json_spec.specs.Laws.{LongestNumber}
+use Rattle.json_spec.proofs.OneJson.{never_both}
 
 abbrev IsDigit : ℕ → Type 0
 IsDigit b = is_ascii_digit b ≡ true
@@ -417,9 +418,6 @@ number_least number back is =
 same_piece : (out : Read (List ℕ)) (piece rest other left : List ℕ) → out ≡ taken piece rest → out ≡ taken other left → piece ≡ other
 same_piece out piece rest other left e f = let both : ◌≡◌ {A = Read (List ℕ)} (taken piece rest) (taken other left) = sym e ∙ f in cc
 
-never_both : (out : Read (List ℕ)) (piece rest : List ℕ) → out ≡ taken piece rest → out ≡ refused tt → ⊥
-never_both out piece rest e f = let both : ◌≡◌ {A = Read (List ℕ)} (taken piece rest) (refused tt) = sym e ∙ f in cc
-
 pub longest_number : LongestNumber
 longest_number = record {
   is_number = λ bytes number rest e. subst (Fits IsNumber bytes) e (number_fits bytes);
@@ -431,5 +429,5 @@ longest_number = record {
       omega (arith, ap length same);
   none = λ bytes front back e split is.
       let least = number_least front back is in
-      never_both (number_at bytes) least.piece least.rest (ap number_at split ∙ least.took) e;
+      never_both (ap number_at split ∙ least.took) e;
 }

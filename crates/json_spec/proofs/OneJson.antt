@@ -11,7 +11,7 @@ use Rattle.json_spec.specs.Value.{Json, Items, Members}
 same_piece : {A : Type 0} {x y : A} {rest more : List ℕ} {a : Read A} → a ≡ taken x rest → a ≡ taken y more → (x ≡ y) × (rest ≡ more)
 same_piece p q = (cc, cc)
 
-never_both : {A : Type 0} {x : A} {rest : List ℕ} {a : Read A} → a ≡ taken x rest → a ≡ refused tt → ⊥
+pub never_both : {A : Type 0} {x : A} {rest : List ℕ} {a : Read A} → a ≡ taken x rest → a ≡ refused tt → ⊥
 never_both p q = cc
 
 moved : {bytes more : List ℕ} {out : Read (List ℕ)} → bytes ≡ more → ReadsText bytes out → ReadsText more out

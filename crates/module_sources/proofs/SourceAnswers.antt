@@ -1,6 +1,5 @@
 -- What the question of a module's source comes to, by what its parts come to.
 use Rattle.std.proofs.Common.{◌≡◌, Bool, ℕ, List, Option, Result, Ok, Err, refl, sym, ap, ◌∙◌, subst}
-use Rattle.std.specs.Prelude.{IfOk}
 use Rattle.std.specs.Str.{is_utf8, IsUtf8}
 use Rattle.std.specs.Str.Lossy.{utf8_valid_len}
 use Rattle.std.proofs.lemmas.Bool.{cond-true, cond-false, false_from_ne_true}
@@ -130,8 +129,3 @@ good_bytes is_detected bytes read text same is utf8 =
     cond-true _ (by_outline is_detected bytes (read_outline bytes)) _
     (is_utf8-from_IsUtf8 bytes (subst IsUtf8 same utf8))
     ∙ ap (λ t. by_outline is_detected bytes (read_outline t)) (sym (is ∙ same))
-
-pub ok_weaker : {X E : Type 0} (result : Result X E) (P Q : X → Type 0) → ((x : X) → P x → Q x) → IfOk result P
-    → IfOk result Q
-ok_weaker (Ok x) P Q weaker p = weaker x p
-ok_weaker (Err e) P Q weaker p = tt

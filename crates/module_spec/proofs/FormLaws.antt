@@ -1,7 +1,7 @@
 -- The forms are the productions.
 use Rattle.std.proofs.Common.{◌≡◌, ◌≢◌, ◌+◌, ℕ, zero, suc, Bool, true, false, ◌||◌, ◌==◌, codes, List, [], ◌∷◌, ◌++◌, length, if◌then◌else◌, refl, sym, ap, ◌∙◌, subst, arith, append_assoc, append-nil}
 use Rattle.std.proofs.lemmas.List.{length-append}
-use Rattle.std.proofs.lemmas.Bool.{ne_eqb, eq-eqb, eqb-true, eqb-false}
+use Rattle.std.proofs.lemmas.Bool.{ne_eqb, eq-eqb, eqb-true, eqb-false, cond-true, cond-false}
 use Rattle.module_spec.specs.Places.{Placed, is_name, is_text, is_word, is_mark}
 use Rattle.module_spec.specs.Forms.{Form, further, module_specifier, from_clause, imported_binding, name_space_import, braces, second_binding, behind_default, import_declaration, module_export_name, export_all, named_specifier, named_exports, is_exported, export_declaration}
 use Rattle.module_spec.specs.Forms.Form.{wrong, none, alone, asks}
@@ -19,14 +19,6 @@ use Rattle.module_spec.specs.Laws.{ImportForms, ExportForms, FormsAreProductions
 use Rattle.module_spec.proofs.Terminals.{name_no_text, mark_no_name, mark_no_text, mark_no_word, name_no_mark, one_mark, one_word, word_is_name}
 
 -- ---- a choice
-
-yes : (c : Bool) (f g : Form) → c ≡ true → (if c then f else g) ≡ f
-yes true f g e = refl
-yes false f g e = absurd (cc)
-
-no : (c : Bool) (f g : Form) → c ≡ false → (if c then f else g) ≡ g
-no true f g e = absurd (cc)
-no false f g e = refl
 
 -- ---- what a form comes to is a production
 
@@ -169,37 +161,37 @@ behind_asks zero m = ap asks (let e : m ≡ 0 + m = omega arith in e)
 behind_asks (suc n) m = ap further (behind_asks n m) ∙ ap asks (let e : suc (n + m) ≡ suc n + m = omega arith in e)
 
 from_gives : {from : List Placed} → FromClause from → (rest : List Placed) → from_clause (from ++ rest) ≡ asks 1
-from_gives (from_module {f} {s} p q) rest = yes (is_word f (codes "from")) (further (module_specifier (s ∷ rest))) wrong p ∙ ap further (yes (is_text s) (asks 0) wrong q)
+from_gives (from_module {f} {s} p q) rest = cond-true (is_word f (codes "from")) (further (module_specifier (s ∷ rest))) wrong p ∙ ap further (cond-true (is_text s) (asks 0) wrong q)
 
 from_length : {from : List Placed} → FromClause from → length from ≡ 2
 from_length (from_module p q) = refl
 
 partner_gives : {tokens : List Placed} → UpToPartner tokens → (next : List Placed → Form) (rest : List Placed) → braces next (tokens ++ rest) ≡ behind (length tokens) (next rest)
-partner_gives (partner {t} e) next rest = ap further (yes (t.behind == 0) (next rest) (braces next rest) (eq-eqb t.behind 0 e))
-partner_gives (inside {t} {tokens} e u) next rest = ap further (no (t.behind == 0) (next (tokens ++ rest)) (braces next (tokens ++ rest)) (ne_eqb t.behind 0 e) ∙ partner_gives u next rest)
+partner_gives (partner {t} e) next rest = ap further (cond-true (t.behind == 0) (next rest) (braces next rest) (eq-eqb t.behind 0 e))
+partner_gives (inside {t} {tokens} e u) next rest = ap further (cond-false (t.behind == 0) (next (tokens ++ rest)) (braces next (tokens ++ rest)) (ne_eqb t.behind 0 e) ∙ partner_gives u next rest)
 
 name_space_gives : (a x : Placed) (rest : List Placed) → is_word a (codes "as") ≡ true → is_name x ≡ true → name_space_import (a ∷ x ∷ rest) ≡ behind 2 (from_clause rest)
-name_space_gives a x rest q r = yes (is_word a (codes "as")) (further (imported_binding (x ∷ rest))) wrong q ∙ ap further (yes (is_name x) (further (from_clause rest)) wrong r)
+name_space_gives a x rest q r = cond-true (is_word a (codes "as")) (further (imported_binding (x ∷ rest))) wrong q ∙ ap further (cond-true (is_name x) (further (from_clause rest)) wrong r)
 
 second_star : {tokens : List Placed} → NameSpaceImport tokens → (rest : List Placed) → second_binding (tokens ++ rest) ≡ behind (length tokens) (from_clause rest)
 second_star (star_as {s} {a} {x} p q r) rest =
-    yes (is_mark s (codes "*")) (further (name_space_import (a ∷ x ∷ rest))) (if is_mark s (codes "{") then braces from_clause (s ∷ a ∷ x ∷ rest) else wrong) p ∙ ap further (name_space_gives a x rest q r)
+    cond-true (is_mark s (codes "*")) (further (name_space_import (a ∷ x ∷ rest))) (if is_mark s (codes "{") then braces from_clause (s ∷ a ∷ x ∷ rest) else wrong) p ∙ ap further (name_space_gives a x rest q r)
 
 second_curly : {tokens : List Placed} → Braces tokens → (rest : List Placed) → second_binding (tokens ++ rest) ≡ behind (length tokens) (from_clause rest)
 second_curly (curly {t} {tokens} p u) rest =
-    no (is_mark t (codes "*")) (further (name_space_import (tokens ++ rest))) (if is_mark t (codes "{") then braces from_clause (t ∷ tokens ++ rest) else wrong) (one_mark t (codes "{") (codes "*") p refl)
-    ∙ (yes (is_mark t (codes "{")) (braces from_clause (t ∷ tokens ++ rest)) wrong p ∙ partner_gives u from_clause rest)
+    cond-false (is_mark t (codes "*")) (further (name_space_import (tokens ++ rest))) (if is_mark t (codes "{") then braces from_clause (t ∷ tokens ++ rest) else wrong) (one_mark t (codes "{") (codes "*") p refl)
+    ∙ (cond-true (is_mark t (codes "{")) (braces from_clause (t ∷ tokens ++ rest)) wrong p ∙ partner_gives u from_clause rest)
 
 -- a comma behind a default binding
 comma_gives : (c : Placed) (rest : List Placed) → is_mark c (codes ",") ≡ true → behind_default (c ∷ rest) ≡ further (second_binding rest)
 comma_gives c rest p =
-    no (is_word c (codes "from")) (further (module_specifier rest)) (if is_mark c (codes ",") then further (second_binding rest) else wrong) (mark_no_word c (codes ",") (codes "from") p)
-    ∙ yes (is_mark c (codes ",")) (further (second_binding rest)) wrong p
+    cond-false (is_word c (codes "from")) (further (module_specifier rest)) (if is_mark c (codes ",") then further (second_binding rest) else wrong) (mark_no_word c (codes ",") (codes "from") p)
+    ∙ cond-true (is_mark c (codes ",")) (further (second_binding rest)) wrong p
 
 default_from : {from : List Placed} → FromClause from → (rest : List Placed) → behind_default (from ++ rest) ≡ from_clause (from ++ rest)
 default_from (from_module {f} {s} p q) rest =
-    yes (is_word f (codes "from")) (further (module_specifier (s ∷ rest))) (if is_mark f (codes ",") then further (second_binding (s ∷ rest)) else wrong) p
-    ∙ sym (yes (is_word f (codes "from")) (further (module_specifier (s ∷ rest))) wrong p)
+    cond-true (is_word f (codes "from")) (further (module_specifier (s ∷ rest))) (if is_mark f (codes ",") then further (second_binding (s ∷ rest)) else wrong) p
+    ∙ sym (cond-true (is_word f (codes "from")) (further (module_specifier (s ∷ rest))) wrong p)
 
 abbrev by_curly : Placed → List Placed → Form
 by_curly t rest = if is_mark t (codes "{") then braces from_clause (t ∷ rest) else wrong
@@ -211,20 +203,20 @@ abbrev by_name : Placed → List Placed → Form
 by_name t rest = if is_name t then further (behind_default rest) else by_mark t rest
 
 import_name : (x : Placed) (rest : List Placed) → is_name x ≡ true → import_declaration (x ∷ rest) ≡ further (behind_default rest)
-import_name x rest p = no (is_text x) (asks 0) (by_name x rest) (name_no_text x p) ∙ yes (is_name x) (further (behind_default rest)) (by_mark x rest) p
+import_name x rest p = cond-false (is_text x) (asks 0) (by_name x rest) (name_no_text x p) ∙ cond-true (is_name x) (further (behind_default rest)) (by_mark x rest) p
 
 import_mark : (t : Placed) (rest : List Placed) (m : List ℕ) → is_mark t m ≡ true → import_declaration (t ∷ rest) ≡ by_mark t rest
-import_mark t rest m p = no (is_text t) (asks 0) (by_name t rest) (mark_no_text t m p) ∙ no (is_name t) (further (behind_default rest)) (by_mark t rest) (mark_no_name t m p)
+import_mark t rest m p = cond-false (is_text t) (asks 0) (by_name t rest) (mark_no_text t m p) ∙ cond-false (is_name t) (further (behind_default rest)) (by_mark t rest) (mark_no_name t m p)
 
 clause_gives : {tokens from : List Placed} → ImportClause tokens → FromClause from → (rest : List Placed) → import_declaration (tokens ++ (from ++ rest)) ≡ behind (length tokens) (from_clause (from ++ rest))
 clause_gives {from} (default_binding {x} p) f rest = import_name x (from ++ rest) p ∙ ap further (default_from f rest)
 clause_gives {from} (name_space (star_as {s} {a} {x} p q r)) f rest =
     import_mark s (a ∷ x ∷ (from ++ rest)) (codes "*") p
-    ∙ (yes (is_mark s (codes "*")) (further (name_space_import (a ∷ x ∷ (from ++ rest)))) (by_curly s (a ∷ x ∷ (from ++ rest))) p ∙ ap further (name_space_gives a x (from ++ rest) q r))
+    ∙ (cond-true (is_mark s (codes "*")) (further (name_space_import (a ∷ x ∷ (from ++ rest)))) (by_curly s (a ∷ x ∷ (from ++ rest))) p ∙ ap further (name_space_gives a x (from ++ rest) q r))
 clause_gives {from} (named (curly {t} {tokens} p u)) f rest =
     import_mark t (tokens ++ (from ++ rest)) (codes "{") p
-    ∙ (no (is_mark t (codes "*")) (further (name_space_import (tokens ++ (from ++ rest)))) (by_curly t (tokens ++ (from ++ rest))) (one_mark t (codes "{") (codes "*") p refl)
-    ∙ (yes (is_mark t (codes "{")) (braces from_clause (t ∷ tokens ++ (from ++ rest))) wrong p ∙ partner_gives u from_clause (from ++ rest)))
+    ∙ (cond-false (is_mark t (codes "*")) (further (name_space_import (tokens ++ (from ++ rest)))) (by_curly t (tokens ++ (from ++ rest))) (one_mark t (codes "{") (codes "*") p refl)
+    ∙ (cond-true (is_mark t (codes "{")) (braces from_clause (t ∷ tokens ++ (from ++ rest))) wrong p ∙ partner_gives u from_clause (from ++ rest)))
 clause_gives {from} (default_and_name_space {x} {c} {tokens} p q n) f rest =
     import_name x (c ∷ (tokens ++ (from ++ rest))) p ∙ ap further (comma_gives c (tokens ++ (from ++ rest)) q ∙ ap further (second_star n (from ++ rest)))
 clause_gives {from} (default_and_named {x} {c} {tokens} p q b) f rest =
@@ -235,7 +227,7 @@ one_before : (tokens from : List Placed) (count : ℕ) → length from ≡ 2 →
 one_before tokens from count e f = let l = length-append tokens from in omega (arith, e, f, l)
 
 import_gives : {tokens : List Placed} → ImportDeclaration tokens → (count : ℕ) (rest : List Placed) → length tokens ≡ suc count → import_declaration (tokens ++ rest) ≡ asks count
-import_gives (effects {s} p) count rest e = yes (is_text s) (asks 0) (by_name s rest) p ∙ ap asks (let f : 0 ≡ count = omega (arith, e) in f)
+import_gives (effects {s} p) count rest e = cond-true (is_text s) (asks 0) (by_name s rest) p ∙ ap asks (let f : 0 ≡ count = omega (arith, e) in f)
 import_gives (bindings {clause} {from} c f) count rest e =
     ap import_declaration (append_assoc clause from rest)
     ∙ (clause_gives c f rest
@@ -254,28 +246,28 @@ abbrev export_curly : Placed → List Placed → Form
 export_curly t rest = if is_mark t (codes "{") then braces named_exports (t ∷ rest) else by_word t rest
 
 export_star : (s : Placed) (rest : List Placed) → is_mark s (codes "*") ≡ true → export_declaration (s ∷ rest) ≡ further (export_all rest)
-export_star s rest p = yes (is_mark s (codes "*")) (further (export_all rest)) (export_curly s rest) p
+export_star s rest p = cond-true (is_mark s (codes "*")) (further (export_all rest)) (export_curly s rest) p
 
 all_from : {from : List Placed} → FromClause from → (rest : List Placed) → export_all (from ++ rest) ≡ from_clause (from ++ rest)
 all_from (from_module {f} {s} p q) rest =
-    yes (is_word f (codes "from")) (further (module_specifier (s ∷ rest))) (if is_word f (codes "as") then further (module_export_name (s ∷ rest)) else wrong) p
-    ∙ sym (yes (is_word f (codes "from")) (further (module_specifier (s ∷ rest))) wrong p)
+    cond-true (is_word f (codes "from")) (further (module_specifier (s ∷ rest))) (if is_word f (codes "as") then further (module_export_name (s ∷ rest)) else wrong) p
+    ∙ sym (cond-true (is_word f (codes "from")) (further (module_specifier (s ∷ rest))) wrong p)
 
 all_as_name : (a x : Placed) (rest : List Placed) → is_word a (codes "as") ≡ true → (is_name x || is_text x) ≡ true → export_all (a ∷ x ∷ rest) ≡ behind 2 (from_clause rest)
 all_as_name a x rest p q =
-    no (is_word a (codes "from")) (further (module_specifier (x ∷ rest))) (if is_word a (codes "as") then further (module_export_name (x ∷ rest)) else wrong) (one_word a (codes "as") (codes "from") p refl)
-    ∙ (yes (is_word a (codes "as")) (further (module_export_name (x ∷ rest))) wrong p ∙ ap further (yes (is_name x || is_text x) (further (from_clause rest)) wrong q))
+    cond-false (is_word a (codes "from")) (further (module_specifier (x ∷ rest))) (if is_word a (codes "as") then further (module_export_name (x ∷ rest)) else wrong) (one_word a (codes "as") (codes "from") p refl)
+    ∙ (cond-true (is_word a (codes "as")) (further (module_export_name (x ∷ rest))) wrong p ∙ ap further (cond-true (is_name x || is_text x) (further (from_clause rest)) wrong q))
 
 named_from : {from : List Placed} → FromClause from → (rest : List Placed) → named_exports (from ++ rest) ≡ from_clause (from ++ rest)
 named_from (from_module {f} {s} p q) rest =
-    yes (is_word f (codes "from")) (further (named_specifier (s ∷ rest))) alone p
-    ∙ (ap further (yes (is_text s) (asks 0) alone q ∙ sym (yes (is_text s) (asks 0) wrong q))
-    ∙ sym (yes (is_word f (codes "from")) (further (module_specifier (s ∷ rest))) wrong p))
+    cond-true (is_word f (codes "from")) (further (named_specifier (s ∷ rest))) alone p
+    ∙ (ap further (cond-true (is_text s) (asks 0) alone q ∙ sym (cond-true (is_text s) (asks 0) wrong q))
+    ∙ sym (cond-true (is_word f (codes "from")) (further (module_specifier (s ∷ rest))) wrong p))
 
 curly_exports : {tokens : List Placed} → Braces tokens → (rest : List Placed) → export_declaration (tokens ++ rest) ≡ behind (length tokens) (named_exports rest)
 curly_exports (curly {t} {tokens} p u) rest =
-    no (is_mark t (codes "*")) (further (export_all (tokens ++ rest))) (export_curly t (tokens ++ rest)) (one_mark t (codes "{") (codes "*") p refl)
-    ∙ (yes (is_mark t (codes "{")) (braces named_exports (t ∷ tokens ++ rest)) (by_word t (tokens ++ rest)) p ∙ partner_gives u named_exports rest)
+    cond-false (is_mark t (codes "*")) (further (export_all (tokens ++ rest))) (export_curly t (tokens ++ rest)) (one_mark t (codes "{") (codes "*") p refl)
+    ∙ (cond-true (is_mark t (codes "{")) (braces named_exports (t ∷ tokens ++ rest)) (by_word t (tokens ++ rest)) p ∙ partner_gives u named_exports rest)
 
 exporting_gives : {tokens from : List Placed} → ExportFromClause tokens → FromClause from → (rest : List Placed) → export_declaration (tokens ++ (from ++ rest)) ≡ behind (length tokens) (from_clause (from ++ rest))
 exporting_gives {from} (star {s} p) f rest = export_star s (from ++ rest) p ∙ ap further (all_from f rest)
@@ -334,8 +326,8 @@ alone_gives : {tokens : List Placed} → ExportAlone tokens → (rest : List Pla
 alone_gives (names_alone {tokens} b) rest e = behind_no_wrong (length tokens) (named_exports rest) (named_no_wrong rest) (sym (curly_exports b rest) ∙ e)
 alone_gives (first_word {x} p) rest e =
     let name = exported_is_name x p in
-    let f = no (is_mark x (codes "*")) (further (export_all rest)) (export_curly x rest) (name_no_mark x (codes "*") name)
-    ∙ (no (is_mark x (codes "{")) (braces named_exports (x ∷ rest)) (by_word x rest) (name_no_mark x (codes "{") name) ∙ yes (is_exported x) alone wrong p) in
+    let f = cond-false (is_mark x (codes "*")) (further (export_all rest)) (export_curly x rest) (name_no_mark x (codes "*") name)
+    ∙ (cond-false (is_mark x (codes "{")) (braces named_exports (x ∷ rest)) (by_word x rest) (name_no_mark x (codes "{") name) ∙ cond-true (is_exported x) alone wrong p) in
     let g : alone ≡ wrong = sym f ∙ e in cc
 
 alone_complete : (tokens : List Placed) → Begins ExportAlone tokens → export_declaration tokens ≢ wrong

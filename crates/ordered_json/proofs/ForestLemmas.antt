@@ -4,6 +4,7 @@ use Rattle.std.specs.declared.alloc.Global.{Global}
 use Rattle.std.specs.declared.rc.Rc.{Rc}
 use Rattle.std.proofs.Common.{rules, refl, ap, sym, subst, ◌∙◌, arith}
 use Rattle.std.proofs.lemmas.List.{map-append, take-append-le, drop-append-le, take-append-drop, length-map, append-nil, append_assoc, length-drop, length-append, same_from_push, nil_from_length, drop_more, take_more, take_more_set, drop-set-lt}
+use Rattle.std.proofs.lemmas.List.{take_all}
 use Rattle.std.specs.List.{take-map}
 use Rattle.std.proofs.Math.Seq.{take-append_seam, drop-append_seam, get_or-append_seam, set-append_seam, drop-length, take-length, take-nil}
 use Rattle.std.proofs.Math.ListN.{drop_of_length-le}
@@ -21,11 +22,6 @@ use Rattle.ordered_json.specs.declared.forest.Level.{Level}
 use Rattle.ordered_json.specs.declared.forest.Forest.{Forest}
 use Rattle.ordered_json.specs.Shown.{json_of, items_from, items_of}
 use Rattle.ordered_json.specs.Forests.{place_in, level_in, json_in, IsComplete, Means, Deep, deepest, within, Around, outermost, around, HasLevels, Shows, HoldsOne, IsInside, IsFresh, IsClosed, IsLeft, GetsItems, IsFilled, Fills, Filling, FilledAt, FillsAt, Keeps, IsSealed, Seals, ShowsFilled, FillsAll, AddsValue, OpensList, ClosesList, IsTaken, TakesValue}
-
-take_whole : {X : Type 0} (xs : List X) {n : ℕ} → length xs ≤ n → take n xs ≡ xs
-take_whole xs {n} l =
-    let rest : drop n xs ≡ [] = drop_of_length-le xs l in
-    sym (append-nil (take n xs)) ∙ ap (λ ys. take n xs ++ ys) (sym rest) ∙ take-append-drop n xs
 
 -- ---- one level
 
@@ -337,8 +333,8 @@ filling_done block before after place s at_end count ready = record {
   fills = λ inner all means inner_is. record {
     holds = λ other.
         let done : map (json_in other) (take place after.values.items) ≡ take place all = s.done inner all means inner_is other in
-        let whole_all : take place all ≡ all = take_whole all (omega (arith, at_end, count, means_length means)) in
-        let whole : take place after.values.items ≡ after.values.items = take_whole after.values.items at_end in
+        let whole_all : take place all ≡ all = take_all _ all (omega (arith, at_end, count, means_length means)) in
+        let whole : take place after.values.items ≡ after.values.items = take_all _ after.values.items at_end in
         subst (λ xs. map (json_in other) xs ≡ all) whole (done ∙ whole_all);
     ready = ready;
   };

@@ -1,7 +1,8 @@
 -- Placings: one outcome, which is a tree, and below a folder an insertion.
 use Rattle.std.proofs.Common.{sym, ◌∙◌, ap, inl, inr, subst}
+use Rattle.std.proofs.lemmas.Option.{none-some}
 use Rattle.std.specs.FinMap.{get, insert}
-use Rattle.std.specs.Prelude.{◌≡◌, ◌≢◌, ◌⊎◌, ℕ, List, Some, None, Option, codes, ◌↔◌}
+use Rattle.std.specs.Prelude.{◌≡◌, ◌≢◌, ◌⊎◌, ℕ, List, Some, None, codes, ◌↔◌}
 use Rattle.tree_spec.proofs.Insertion.{same_tree, found_or_not, get_here, get_other}
 use Rattle.tree_spec.proofs.PathsAbove.{above_or_not, above_is_path, parent_above, above_other, above_by_parent}
 use Rattle.tree_spec.proofs.ByteLists.{text_same_or_not}
@@ -21,21 +22,18 @@ one_at tree path entry a b other p q (inr n) (inr m) (inr (old, some)) = p.stays
 pub one_placing : (tree : Tree) (path : List ℕ) (entry : Entry) (a b : Tree) → IsPath path → Places tree path entry a → Places tree path entry b → a ≡ b
 one_placing tree path entry a b is p q = same_tree a b (λ other. one_at tree path entry a b other p q (text_same_or_not other path) (above_or_not other path is) (found_or_not tree other))
 
-not_both : (old : Option Entry) (entry : Entry) → old ≡ None → old ≡ Some entry → ⊥
-not_both old entry none some = cc
-
 placed_path : (tree : Tree) (path : List ℕ) (entry : Entry) (after : Tree) (other : List ℕ) (new : Entry) → IsTree tree → IsPath path → Places tree path entry after → get after other ≡ Some new
     → (other ≡ path) ⊎ (other ≢ path) → IsAbove other path ⊎ (IsAbove other path → ⊥) → (get tree other ≡ None) ⊎ ((old : Entry) × (get tree other ≡ Some old)) → IsPath other
 placed_path tree path entry after other new t is p some (inl e) r s = let P : List ℕ → Type 0 = λ x. IsPath x in subst P (sym e) is
 placed_path tree path entry after other new t is p some (inr n) (inl up) s = above_is_path other path up
-placed_path tree path entry after other new t is p some (inr n) (inr m) (inl none) = absurd (not_both (get after other) new (p.no_more other n m none) some)
+placed_path tree path entry after other new t is p some (inr n) (inr m) (inl none) = absurd (none-some new (sym (p.no_more other n m none) ∙ some))
 placed_path tree path entry after other new t is p some (inr n) (inr m) (inr (old, was)) = t.paths other old was
 
 placed_parent : (tree : Tree) (path : List ℕ) (entry : Entry) (after : Tree) (parent other : List ℕ) (new : Entry) → IsTree tree → get tree path ≢ Some Directory → Places tree path entry after → get after other ≡ Some new
     → IsParent parent other → (other ≡ path) ⊎ (other ≢ path) → IsAbove other path ⊎ (IsAbove other path → ⊥) → (get tree other ≡ None) ⊎ ((old : Entry) × (get tree other ≡ Some old)) → get after parent ≡ Some Directory
 placed_parent tree path entry after parent other new t free p some q (inl e) r s = let P : List ℕ → Type 0 = λ x. IsParent parent x in p.above parent (parent_of parent path (subst P e q))
 placed_parent tree path entry after parent other new t free p some q (inr n) (inl up) s = p.above parent (parent_above parent other path q up)
-placed_parent tree path entry after parent other new t free p some q (inr n) (inr m) (inl none) = absurd (not_both (get after other) new (p.no_more other n m none) some)
+placed_parent tree path entry after parent other new t free p some q (inr n) (inr m) (inl none) = absurd (none-some new (sym (p.no_more other n m none) ∙ some))
 placed_parent tree path entry after parent other new t free p some q (inr n) (inr m) (inr (old, was)) =
     let up : get tree parent ≡ Some Directory = t.parents parent other old was q in
     p.stays parent Directory (λ e. free (sym (ap (get tree) e) ∙ up)) up
@@ -59,7 +57,7 @@ inserted_places tree path entry folders = record {
 inserted_at : (tree : Tree) (path : List ℕ) (entry : Entry) (after : Tree) (other : List ℕ) → ((folder : List ℕ) → IsAbove folder path → get tree folder ≡ Some Directory) → Places tree path entry after
     → (other ≡ path) ⊎ (other ≢ path) → (get tree other ≡ None) ⊎ ((old : Entry) × (get tree other ≡ Some old)) → get after other ≡ get (insert tree path entry) other
 inserted_at tree path entry after other folders p (inl e) s = ap (get after) e ∙ p.here ∙ sym (ap (get (insert tree path entry)) e ∙ get_here tree path entry)
-inserted_at tree path entry after other folders p (inr n) (inl none) = p.no_more other n (λ up. not_both (get tree other) Directory none (folders other up)) none ∙ sym (get_other tree path entry other n ∙ none)
+inserted_at tree path entry after other folders p (inr n) (inl none) = p.no_more other n (λ up. none-some Directory (sym none ∙ (folders other up))) none ∙ sym (get_other tree path entry other n ∙ none)
 inserted_at tree path entry after other folders p (inr n) (inr (old, was)) = p.stays other old n was ∙ sym (get_other tree path entry other n ∙ was)
 
 pub places_inserted : (tree : Tree) (path : List ℕ) (entry : Entry) (after : Tree) → ((folder : List ℕ) → IsAbove folder path → get tree folder ≡ Some Directory) → Places tree path entry after → after ≡ insert tree path entry

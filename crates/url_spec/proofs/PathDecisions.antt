@@ -4,7 +4,7 @@ use Rattle.std.specs.Prelude.{codes, bytes_eq, flat_map}
 use Rattle.std.specs.List.{list_all}
 use Rattle.std.proofs.lemmas.Bool.{and_parts, cases_Bool, cond-true, cond-false, eqb-false, eqb-true, ne_eqb, not-true, leb-true, le-leb, true≢false}
 use Rattle.std.proofs.lemmas.Bool.{or_cases, or_right}
-use Rattle.std.proofs.lemmas.List.{append-nil, append_assoc}
+use Rattle.std.proofs.lemmas.List.{append-nil, append_assoc, length_push}
 use Rattle.std.proofs.lemmas.List.Elements.{All-nil, All-cons, All-head, All-tail}
 use Rattle.std.proofs.lemmas.Slice.Eq.{bytes_eq-Decides}
 use Rattle.tree_spec.specs.Paths.{IsSegment, joined, HasDepth, root, child, IsPath}
@@ -148,10 +148,6 @@ all_behind (first ∷ names) name e f =
     let both = and_parts (is_segment first) (list_all is_segment names) e in
     (λ i. both.0 i && all_behind names name both.1 f i)
 
-length_behind : (names : List (List ℕ)) (name : List ℕ) → length (names ++ name ∷ []) ≡ length names + 1
-length_behind [] name = refl
-length_behind (first ∷ names) name = let behind = length_behind names name in omega (arith, behind)
-
 at_top : (name text : List ℕ) → IsSegment name → text ≡ 47 ∷ name → HasParts 1 text
 at_top name text segment whole = record {
   rest = name;
@@ -165,7 +161,7 @@ behind_parts depth parent name text has segment whole = record {
   rest = has.rest ++ 47 ∷ name;
   whole = whole ∙ ap (λ p. p ++ 47 ∷ name) has.whole;
   passes = ap (list_all is_segment) (parts_behind has.rest name segment.no_slash) ∙ all_behind (parts has.rest) name has.passes (test_by_segment name segment);
-  count = ap length (parts_behind has.rest name segment.no_slash) ∙ (length_behind (parts has.rest) name ∙ ap (λ n. n + 1) has.count);
+  count = ap length (parts_behind has.rest name segment.no_slash) ∙ (length_push (parts has.rest) name ∙ ap (λ n. n + 1) has.count);
 }
 
 root_depth : (depth : ℕ) → HasDepth depth (codes "/") → depth ≡ 0

@@ -1,6 +1,7 @@
 use Rattle.std.proofs.Common.{◌≡◌, Ok, IfOk, sym, ◌∙◌}
+use Rattle.std.proofs.lemmas.Result.{IfOk-weaker}
 use Rattle.es_module_parser.specs.Outlines.{as_outline}
-use Rattle.module_sources.proofs.SourceAnswers.{bad_bytes, good_bytes, outline_of, ok_weaker}
+use Rattle.module_sources.proofs.SourceAnswers.{bad_bytes, good_bytes, outline_of}
 use Rattle.module_sources.proofs.reading.source_of_bytes.Goals as goal
 
 pub returns-in-Err-clause-source : goal.returns-in-Err-clause-source
@@ -11,7 +12,7 @@ returns-in-Err-clause-source g c =
 
 pub returns-in-Err-outline-clause-source : goal.returns-in-Err-outline-clause-source
 returns-in-Err-outline-clause-source g c =
-    ok_weaker c.without_outline.result _ _
+    IfOk-weaker c.without_outline.result _ _
     (λ found is. is c.in-Ok.text.now c.args.bytes.value c.args.is_detected c.in-Err-outline.ensures.fault
     ∙ sym (good_bytes c.args.is_detected c.args.bytes.value c.as_bytes.result.now c.in-Ok.text.now
     (c.as_bytes.ensures ∙ c.deref.ensures) c.in-Ok.ensures.cases.0 c.in-Ok.ensures.cases.1))
@@ -19,7 +20,7 @@ returns-in-Err-outline-clause-source g c =
 
 pub returns-in-Ok-outline-clause-source : goal.returns-in-Ok-outline-clause-source
 returns-in-Ok-outline-clause-source g c =
-    ok_weaker c.source_of_outline.result _ _
+    IfOk-weaker c.source_of_outline.result _ _
     (λ found is. is
     ∙ sym (good_bytes c.args.is_detected c.args.bytes.value c.as_bytes.result.now c.in-Ok.text.now
     (c.as_bytes.ensures ∙ c.deref.ensures) c.in-Ok.ensures.cases.0 c.in-Ok.ensures.cases.1
