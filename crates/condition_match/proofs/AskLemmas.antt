@@ -15,6 +15,7 @@ use Rattle.node_spec.specs.PackageTargets.ResolvesText.{own_place, bare, no_targ
 use Rattle.node_spec.specs.PackageTargets.ResolvesTarget.{text_target, index_key, object_target, empty_list, list_target, null_target, bool_target, number_target}
 use Rattle.node_spec.specs.PackageTargets.ResolvesMembers.{no_member, untried, defined, undefined}
 use Rattle.node_spec.specs.PackageTargets.ResolvesItems.{no_item, decided, passed}
+use Rattle.node_spec.specs.TargetCalls.{Calls}
 use Rattle.ordered_json.specs.declared.value.Value as value
 use Rattle.ordered_json.specs.declared.value.Value.{Value}
 use Rattle.ordered_json.specs.declared.value.Items as code
@@ -25,7 +26,7 @@ use Rattle.ordered_json.proofs.IsJsonLemmas.{json_of_null, json_of_bool, json_of
 use Rattle.ordered_json.specs.Shown.{json_of, items_of, members_of}
 use Rattle.node_spec.proofs.PlacesBeginWithDotSlash.{places_begin_with_dot_slash}
 use Rattle.node_spec.proofs.SomeOutcome.{found_text, found_items, found_members, undefined_from, text_found, sound_items, sound_members}
-use Rattle.condition_match.specs.Choosing.{Calls, Asks, IsLeft, Begins, Comes, AsksOne, Chooses, Tries}
+use Rattle.condition_match.specs.Choosing.{Asks, IsLeft, Begins, Comes, AsksOne, Chooses, Tries}
 
 -- ---- outcomes
 

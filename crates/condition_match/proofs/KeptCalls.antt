@@ -3,7 +3,6 @@ use Rattle.std.specs.Prelude.{◌≡◌, ℕ, Bool, true, List, [], ◌∷◌}
 use Rattle.std.proofs.Common.{ap, ◌∙◌}
 use Rattle.node_spec.specs.declared.BareAnswer.{BareAnswer}
 use Rattle.node_spec.specs.PackageTargets.{Call}
-use Rattle.condition_match.specs.Choosing.{Calls}
 use Rattle.condition_match.specs.CallLaws.{CallsKeep}
 
 pub calls_keep : {B : Type 0} (gives : B → List ℕ → BareAnswer → B → Type 0) → CallsKeep gives

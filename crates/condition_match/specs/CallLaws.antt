@@ -3,7 +3,7 @@
 use Rattle.std.specs.Prelude.{◌≡◌, ℕ, Bool, true, List}
 use Rattle.node_spec.specs.declared.BareAnswer.{BareAnswer}
 use Rattle.node_spec.specs.PackageTargets.{Call}
-use Rattle.condition_match.specs.Choosing.{Calls}
+use Rattle.node_spec.specs.TargetCalls.{Calls}
 
 -- own law: where a test of the object passes after each call before which it passes, it passes after a row of calls
 -- before which it passes

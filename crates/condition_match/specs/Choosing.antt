@@ -12,12 +12,8 @@ use Rattle.json_spec.specs.Value.{Json}
 use Rattle.node_spec.specs.PackageTargets as targets
 use Rattle.node_spec.specs.PackageTargets.{Call, Answers, Agrees, bare_outcome, is_tried, ResolvesTarget, ResolvesUnder}
 use Rattle.node_spec.specs.Laws.{BeginsWithDotSlash}
+use Rattle.node_spec.specs.TargetCalls.{Calls}
 use Rattle.condition_match.specs.declared.choice.Rules.{Rules}
-
--- the object after these calls, one after another
-abbrev pub Calls : {B : Type 0} → (B → List ℕ → BareAnswer → B → Type 0) → B → List Call → B → Type 0
-Calls gives old [] new = new ≡ old
-Calls {B} gives old (call ∷ more) new = (middle : B) × gives old call.0 call.1 middle × Calls gives middle more new
 
 pub record Asks {B : Type 0} (gives : B → List ℕ → BareAnswer → B → Type 0) (Is : List Call → Outcome → Type 0)
     (old new : B) (out : Outcome) : Type 0 where

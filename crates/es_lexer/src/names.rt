@@ -1,12 +1,13 @@
 ghost use Rattle.std.specs.Prelude.{◌≡◌, ◌==◌, ◌+◌, ◌<◌, slice_index, ◌≤◌, length, MatchOption};
-ghost use Rattle.module_spec.specs.Characters.{is_digit, is_hex_digit, hex_digits, braced_size};
+ghost use Rattle.std.specs.Char.{is_ascii_digit};
+ghost use Rattle.module_spec.specs.Characters.{is_hex_digit, hex_digits, braced_size};
 ghost use Rattle.module_spec.specs.Characters.{unicode_size, escape_size, is_name_byte};
 ghost use Rattle.module_spec.specs.Characters.{name_size, begins_digit, begins_name, name_rest};
 
 use crate::characters::{begins_wide_space, behind, character_size};
 
 pub fn is_digit(b: u8) -> bool
-    ensures { result ≡ is_digit b }
+    ensures { result ≡ is_ascii_digit b }
 {
     b'0' <= b && b <= b'9'
 }

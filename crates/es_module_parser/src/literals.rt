@@ -1,7 +1,8 @@
 ghost use Rattle.std.specs.Prelude.{◌≡◌, ◌<◌, ◌≤◌, [], ◌∷◌, true, false, MatchOption, IfOk, drop, ◌==◌, ◌||◌, if◌then◌else◌};
 ghost use Rattle.std.specs.String.{string_bytes as bytes};
 ghost use Rattle.std.specs.Str.{chars};
-ghost use Rattle.module_spec.specs.Characters.{is_hex_digit, hex_digits, is_wide_line_end, is_digit, begins_digit};
+ghost use Rattle.std.specs.Char.{is_ascii_digit};
+ghost use Rattle.module_spec.specs.Characters.{is_hex_digit, hex_digits, is_wide_line_end, begins_digit};
 ghost use Rattle.module_spec.specs.StringValues.{begins_line_feed, escaped_character, string_value, between_quotes};
 ghost use Rattle.module_spec.specs.StringValues.{is_high_surrogate, is_low_surrogate};
 ghost use Rattle.module_spec.specs.StringValues.Element.{unit};
@@ -165,7 +166,7 @@ fn begins_digit(text: &str) -> bool
 }
 
 fn is_digit(code: u32) -> bool
-    ensures { result ≡ is_digit code }
+    ensures { result ≡ is_ascii_digit code }
 {
     code >= 48 && code <= 57
 }

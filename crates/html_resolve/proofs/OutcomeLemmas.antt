@@ -4,8 +4,9 @@ use Rattle.std.specs.Prelude.{Result, Ok, Err, unwrap_or}
 use Rattle.import_map_spec.specs.Resolving as html
 use Rattle.import_map_spec.specs.Resolving.{Resolution, Resolved}
 use Rattle.import_map_spec.specs.LookUps as looked
-use Rattle.import_map_spec.specs.LookUps.{first_answer, exact_match, prefix_match, below_address, answer_or, scope_addresses, resolve_scopes_match, resolve_imports_match, resolve_normalized}
+use Rattle.import_map_spec.specs.LookUps.{exact_match, prefix_match, below_address, answer_or, scope_addresses, resolve_scopes_match, resolve_imports_match, resolve_normalized}
 use Rattle.std.specs.FinMap.{get}
+use Rattle.std.specs.Option.{option_or}
 use Rattle.std.proofs.lemmas.Bool.{cond-true, cond-false}
 use Rattle.url_spec.specs.Parsing.{parse_against}
 use Rattle.url_spec.specs.Specifiers.{begins, as_url, normalized}
@@ -14,11 +15,11 @@ use Rattle.html_resolve.specs.declared.html_fault.HtmlFault.{HtmlFault}
 use Rattle.html_resolve.specs.declared.html_fault.HtmlFault.TheVariants.{Blocked, Bare, Backtrack, BadRest, Memory}
 use Rattle.html_resolve.specs.Outcomes.{IsSame, IsAnswer, Finds, ComesTo}
 
-fails_first : (e : HtmlFault) (a b : Option Resolution) → IsSame e a → IsSame e (first_answer a b)
-fails_first Blocked a b f = ap (λ o. first_answer o b) f
-fails_first Bare a b f = ap (λ o. first_answer o b) f
-fails_first Backtrack a b f = ap (λ o. first_answer o b) f
-fails_first BadRest a b f = ap (λ o. first_answer o b) f
+fails_first : (e : HtmlFault) (a b : Option Resolution) → IsSame e a → IsSame e (option_or a b)
+fails_first Blocked a b f = ap (λ o. option_or o b) f
+fails_first Bare a b f = ap (λ o. option_or o b) f
+fails_first Backtrack a b f = ap (λ o. option_or o b) f
+fails_first BadRest a b f = ap (λ o. option_or o b) f
 fails_first Memory a b f = tt
 
 fails_or : (e : HtmlFault) (a : Option Resolution) (r : Resolution) → IsSame e a → IsSame e (Some (answer_or a r))
@@ -28,17 +29,17 @@ fails_or Backtrack a r f = ap (λ o. Some (answer_or o r)) f
 fails_or BadRest a r f = ap (λ o. Some (answer_or o r)) f
 fails_or Memory a r f = tt
 
-pub first_fails : (e : HtmlFault) (a b : Option Resolution) → IsAnswer e a → IsAnswer e (first_answer a b)
+pub first_fails : (e : HtmlFault) (a b : Option Resolution) → IsAnswer e a → IsAnswer e (option_or a b)
 first_fails e a b f = record { same = fails_first e a b f.same }
 
-pub first_some : (r : Resolution) (a b : Option Resolution) → a ≡ Some r → first_answer a b ≡ Some r
-first_some r a b e = ap (λ o. first_answer o b) e
+pub first_some : (r : Resolution) (a b : Option Resolution) → a ≡ Some r → option_or a b ≡ Some r
+first_some r a b e = ap (λ o. option_or o b) e
 
-pub second : (a b : Option Resolution) → a ≡ None → first_answer a b ≡ b
-second a b e = ap (λ o. first_answer o b) e
+pub second : (a b : Option Resolution) → a ≡ None → option_or a b ≡ b
+second a b e = ap (λ o. option_or o b) e
 
 -- the second answer, where the first one is none
-pub second_answers : (out : Result (Option (List ℕ)) HtmlFault) (a b : Option Resolution) → a ≡ None → Finds out b → Finds out (first_answer a b)
+pub second_answers : (out : Result (Option (List ℕ)) HtmlFault) (a b : Option Resolution) → a ≡ None → Finds out b → Finds out (option_or a b)
 second_answers out a b e h = subst (Finds out) (sym (second a b e)) h
 
 pub answers_moved : (out : Result (Option (List ℕ)) HtmlFault) (a b : Option Resolution) → a ≡ b → Finds out b → Finds out a
@@ -85,7 +86,7 @@ prefix_fails fault found address rest e b = fails_moved fault _ _ (ap (λ o. pre
 -- the whole, from what the scopes and the imports answer
 module _ (m : ParsedMap) (referrer specifier : List ℕ) where
   abbrev pub Matched : Option (List ℕ) → List ℕ → Option Resolution
-  Matched url text = first_answer (resolve_scopes_match url text referrer (scope_addresses m.scopes)) (resolve_imports_match url text (get m.imports))
+  Matched url text = option_or (resolve_scopes_match url text referrer (scope_addresses m.scopes)) (resolve_imports_match url text (get m.imports))
 
   by_url : (url : List ℕ) → as_url referrer specifier ≡ Some url → looked.resolve_in m referrer specifier ≡ answer_or (Matched (Some url) url) (Resolved url)
   unfolding looked.resolve_in normalized
@@ -135,22 +136,22 @@ module _ (m : ParsedMap) (referrer specifier : List ℕ) where
   whole_bare e (Ok (Some found)) h = bare_found m referrer specifier found e h
   whole_bare e (Err fault) h = bare_fails m referrer specifier fault e h
 
-  pub url_by : (url : List ℕ) → as_url referrer specifier ≡ Some url → (r t : List ℕ) → r ≡ referrer → t ≡ url → (out shown : Result (Option (List ℕ)) HtmlFault) → out ≡ shown → Finds out (first_answer (resolve_scopes_match (Some url) t r (scope_addresses m.scopes)) (resolve_imports_match (Some url) t (get m.imports))) → ComesTo (or_url url shown) (looked.resolve_in m referrer specifier)
+  pub url_by : (url : List ℕ) → as_url referrer specifier ≡ Some url → (r t : List ℕ) → r ≡ referrer → t ≡ url → (out shown : Result (Option (List ℕ)) HtmlFault) → out ≡ shown → Finds out (option_or (resolve_scopes_match (Some url) t r (scope_addresses m.scopes)) (resolve_imports_match (Some url) t (get m.imports))) → ComesTo (or_url url shown) (looked.resolve_in m referrer specifier)
   url_by url e r t p q out shown is h =
-      whole_url url e shown (subst (λ o. Finds o (Matched m referrer specifier (Some url) url)) is (subst (λ (x : List ℕ × List ℕ). Finds out (first_answer (resolve_scopes_match (Some url) x.1 x.0 (scope_addresses m.scopes)) (resolve_imports_match (Some url) x.1 (get m.imports)))) (λ i. (p i, q i)) h))
+      whole_url url e shown (subst (λ o. Finds o (Matched m referrer specifier (Some url) url)) is (subst (λ (x : List ℕ × List ℕ). Finds out (option_or (resolve_scopes_match (Some url) x.1 x.0 (scope_addresses m.scopes)) (resolve_imports_match (Some url) x.1 (get m.imports)))) (λ i. (p i, q i)) h))
 
-  pub bare_by : as_url referrer specifier ≡ None → (r : List ℕ) → r ≡ referrer → (out shown : Result (Option (List ℕ)) HtmlFault) → out ≡ shown → Finds out (first_answer (resolve_scopes_match None specifier r (scope_addresses m.scopes)) (resolve_imports_match None specifier (get m.imports))) → ComesTo (or_bare shown) (looked.resolve_in m referrer specifier)
+  pub bare_by : as_url referrer specifier ≡ None → (r : List ℕ) → r ≡ referrer → (out shown : Result (Option (List ℕ)) HtmlFault) → out ≡ shown → Finds out (option_or (resolve_scopes_match None specifier r (scope_addresses m.scopes)) (resolve_imports_match None specifier (get m.imports))) → ComesTo (or_bare shown) (looked.resolve_in m referrer specifier)
   bare_by e r p out shown is h =
-      whole_bare e shown (subst (λ o. Finds o (Matched m referrer specifier None specifier)) is (subst (λ x. Finds out (first_answer (resolve_scopes_match None specifier x (scope_addresses m.scopes)) (resolve_imports_match None specifier (get m.imports)))) p h))
+      whole_bare e shown (subst (λ o. Finds o (Matched m referrer specifier None specifier)) is (subst (λ x. Finds out (option_or (resolve_scopes_match None specifier x (scope_addresses m.scopes)) (resolve_imports_match None specifier (get m.imports)))) p h))
 
 -- one step of a walk, where the walk so far has answered nothing
-pub step_fails : (fault : HtmlFault) (full here a b : Option Resolution) → full ≡ here → here ≡ first_answer a b → IsAnswer fault a → IsAnswer fault full
-step_fails fault full here a b e n f = fails_moved fault full (first_answer a b) (e ∙ n) (first_fails fault a b f)
+pub step_fails : (fault : HtmlFault) (full here a b : Option Resolution) → full ≡ here → here ≡ option_or a b → IsAnswer fault a → IsAnswer fault full
+step_fails fault full here a b e n f = fails_moved fault full (option_or a b) (e ∙ n) (first_fails fault a b f)
 
-pub step_some : (o : Option (List ℕ)) (url : List ℕ) (full here a b : Option Resolution) → full ≡ here → here ≡ first_answer a b → o ≡ Some url → Finds (Ok o) a → full ≡ Some (Resolved url)
+pub step_some : (o : Option (List ℕ)) (url : List ℕ) (full here a b : Option Resolution) → full ≡ here → here ≡ option_or a b → o ≡ Some url → Finds (Ok o) a → full ≡ Some (Resolved url)
 step_some o url full here a b e n is h = e ∙ (n ∙ first_some (Resolved url) a b (subst (λ (x : Option (List ℕ)). Finds (Ok x) a) is h))
 
-pub step_none : (o : Option (List ℕ)) (full here a b : Option Resolution) → full ≡ here → here ≡ first_answer a b → o ≡ None → Finds (Ok o) a → full ≡ b
+pub step_none : (o : Option (List ℕ)) (full here a b : Option Resolution) → full ≡ here → here ≡ option_or a b → o ≡ None → Finds (Ok o) a → full ≡ b
 step_none o full here a b e n is h = e ∙ (n ∙ second a b (subst (λ (x : Option (List ℕ)). Finds (Ok x) a) is h))
 
 pub resolves_moved : (out : Result (List ℕ) HtmlFault) (a b : Resolution) → a ≡ b → ComesTo out a → ComesTo out b
@@ -164,7 +165,7 @@ module _ (m : ParsedMap) (referrer text : List ℕ) where
   Normal url = resolve_normalized (get m.imports) (scope_addresses m.scopes) referrer url text
 
   abbrev pub Matching : Option (List ℕ) → Option Resolution
-  Matching url = first_answer (resolve_scopes_match url text referrer (scope_addresses m.scopes)) (resolve_imports_match url text (get m.imports))
+  Matching url = option_or (resolve_scopes_match url text referrer (scope_addresses m.scopes)) (resolve_imports_match url text (get m.imports))
 
   normal_url : (url : List ℕ) (out : Result (Option (List ℕ)) HtmlFault) → Finds out (Matching (Some url)) → ComesTo (or_url url out) (Normal (Some url))
   normal_url url (Ok None) h = ap (λ o. answer_or o (Resolved url)) h

@@ -4,8 +4,9 @@ ghost use Rattle.url_spec.specs.Parsing.{parse_alone};
 ghost use Rattle.url_spec.specs.Specifiers.{normalized};
 ghost use Rattle.import_map_spec.specs.Resolving.{takes_prefixes};
 ghost use Rattle.import_map_spec.specs.LookUps as html;
+ghost use Rattle.std.specs.Option.{option_or};
 ghost use Rattle.import_map_spec.specs.LookUps.{resolve_normalized, resolve_imports_match, resolve_scopes_match};
-ghost use Rattle.import_map_spec.specs.LookUps.{scope_addresses, first_answer};
+ghost use Rattle.import_map_spec.specs.LookUps.{scope_addresses};
 ghost use Rattle.html_resolve.specs.Outcomes.{Finds, ComesTo};
 
 use crate::HtmlFault;
@@ -94,7 +95,7 @@ fn match_in(
     prefixes: bool,
 ) -> Result<Option<WebUrl>, HtmlFault>
     ensures { (url : Option (List ℕ)) → takes_prefixes url ≡ prefixes
-        → Finds result (first_answer (resolve_scopes_match url text.now referrer.now (scope_addresses map.now.scopes))
+        → Finds result (option_or (resolve_scopes_match url text.now referrer.now (scope_addresses map.now.scopes))
         (resolve_imports_match url text.now (get map.now.imports))) }
 {
     match match_scopes(alloc, map, referrer, text, prefixes)? {

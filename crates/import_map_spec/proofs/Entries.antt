@@ -10,9 +10,9 @@ use Rattle.std.specs.Ordering.{nat_cmp, eq_by_cmp, is_eq, is_lt}
 use Rattle.std.specs.Prelude.{◌⊎◌, ℕ, Bool, List, ◌≡◌, true, false, ◌&&◌, T, Option, Some, None, cond, [], ◌∷◌, ⊤}
 use Rattle.std.specs.declared.cmp.Ordering.{Ordering}
 use Rattle.std.specs.declared.cmp.Ordering.TheVariants.{Less, Equal, Greater}
+use Rattle.std.specs.Option.{option_or}
 use mathlib.Core.Logic.{inl, inr}
 use Rattle.import_map_spec.specs.ParsedMap.{Texts}
-use Rattle.import_map_spec.specs.LookUps.{first_answer}
 use Rattle.import_map_spec.specs.WrittenMaps.{insert_all}
 
 -- the same text, as the order of keys has it
@@ -39,7 +39,7 @@ not_same Less t = refl
 not_same Equal t = absurd t
 not_same Greater t = absurd t
 
-pub none_after : {X : Type 0} (o : Option X) → first_answer o None ≡ o
+pub none_after : {X : Type 0} (o : Option X) → option_or o None ≡ o
 none_after None = refl
 none_after (Some x) = refl
 
@@ -109,18 +109,18 @@ module _ {X : Type 0} where
   pub all_entries : (P : List ℕ → X → Type 0) (m : Texts X) → ((k : List ℕ) (x : X) → get m k ≡ Some x → P k x) → AllEntries P (entries m)
   all_entries P m f = all_found P (entries m) (entries_sorted m) (λ k x h. f k x (get-entries m k ∙ h))
 
-  shuffled : (b : Bool) (x : X) (o g : Option X) → (b ≡ true → o ≡ None) → first_answer o (cond b (Some x) g) ≡ first_answer (cond b (Some x) o) g
+  shuffled : (b : Bool) (x : X) (o g : Option X) → (b ≡ true → o ≡ None) → option_or o (cond b (Some x) g) ≡ option_or (cond b (Some x) o) g
   shuffled true x o g none = rw (none refl) refl
   shuffled false x o g none = refl
 
-  get-insert_all : (es : List (List ℕ × X)) (m : Texts X) (q : List ℕ) → Sorted es → get (insert_all m es) q ≡ first_answer (found q es) (get m q)
+  get-insert_all : (es : List (List ℕ × X)) (m : Texts X) (q : List ℕ) → Sorted es → get (insert_all m es) q ≡ option_or (found q es) (get m q)
   get-insert_all [] m q s = refl
   get-insert_all (e ∷ es) m q s =
       let p = parts _ _ s in
-      get-insert_all es (insert m e.0 e.1) q p.1 ∙ (ap (first_answer (found q es)) (get-insert nat_list_cmp_total m e.0 e.1 q) ∙ shuffled (same_key q e.0) e.1 (found q es) (get m q) (absent_at q e.0 es p.0))
+      get-insert_all es (insert m e.0 e.1) q p.1 ∙ (ap (option_or (found q es)) (get-insert nat_list_cmp_total m e.0 e.1 q) ∙ shuffled (same_key q e.0) e.1 (found q es) (get m q) (absent_at q e.0 es p.0))
 
   -- a map is its entries, inserted one after another
   pub inserted_entries : (m : Texts X) → insert_all empty (entries m) ≡ m
   inserted_entries m =
       same_map nat_list_cmp_total (slice_cmp-IsAntisymmetric nat_cmp-IsAntisymmetric) _ _
-      (λ q. get-insert_all (entries m) empty q (entries_sorted m) ∙ (ap (first_answer (found q (entries m))) (get-empty (slice_cmp nat_cmp) q) ∙ (none_after (found q (entries m)) ∙ sym (get-entries m q))))
+      (λ q. get-insert_all (entries m) empty q (entries_sorted m) ∙ (ap (option_or (found q (entries m))) (get-empty (slice_cmp nat_cmp) q) ∙ (none_after (found q (entries m)) ∙ sym (get-entries m q))))

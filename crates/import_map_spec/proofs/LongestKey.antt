@@ -7,12 +7,13 @@ use Rattle.std.specs.Prelude.{◌↔◌, [], ◌∷◌, ◌++◌}
 use Rattle.std.specs.declared.cmp.Ordering.TheVariants.{Less, Equal, Greater}
 use Rattle.std.specs.Ordering.{nat_cmp, ordering_then}
 use Rattle.std.specs.Cmp.Lexicographic.{slice_cmp}
+use Rattle.std.specs.Option.{option_or}
 use Rattle.std.proofs.Common.{append-nil}
 use Rattle.std.proofs.lemmas.Cmp.{tied_itself, nat_cmp_total}
 use Rattle.import_map_spec.specs.Resolving.{KeyApplies, itself, prefix, ScopeApplies, own, above}
 use Rattle.import_map_spec.specs.Laws.{NoneAbove, IsFolderFront, KeyOrder}
 use Rattle.url_spec.specs.Specifiers.{ends_in_slash}
-use Rattle.import_map_spec.specs.LookUps.{first_answer, longest_front, prefix_match, exact_match, Lookup, prefix_key, scope_match, prefix_scope}
+use Rattle.import_map_spec.specs.LookUps.{longest_front, prefix_match, exact_match, Lookup, prefix_key, scope_match, prefix_scope}
 use Rattle.import_map_spec.specs.Resolving.{Resolution, takes_prefixes}
 
 module _ {A : Type 0} (answer : List ℕ → List ℕ → Option A) (text : List ℕ) where
@@ -23,13 +24,13 @@ module _ {A : Type 0} (answer : List ℕ → List ℕ → Option A) (text : List
   longest_some zero k a p l e none = absurd (omega arith)
   longest_some (suc n) k a p l e none =
       elim (cases_eq k (suc n)) [
-        | inl same ↦ ap (λ o. first_answer o (longest_front answer text n)) (subst (λ j. At j ≡ Some a) same e)
-        | inr other ↦ ap (λ o. first_answer o (longest_front answer text n)) (none (suc n) (omega arith) (omega arith)) ∙ longest_some n k a p (omega arith) e (λ j m o. none j m (omega arith))
+        | inl same ↦ ap (λ o. option_or o (longest_front answer text n)) (subst (λ j. At j ≡ Some a) same e)
+        | inr other ↦ ap (λ o. option_or o (longest_front answer text n)) (none (suc n) (omega arith) (omega arith)) ∙ longest_some n k a p (omega arith) e (λ j m o. none j m (omega arith))
       ]
 
   longest_none : (n : ℕ) → ((j : ℕ) → 0 < j → j ≤ n → At j ≡ None) → longest_front answer text n ≡ None
   longest_none zero none = refl
-  longest_none (suc n) none = ap (λ o. first_answer o (longest_front answer text n)) (none (suc n) (omega arith) (omega arith)) ∙ longest_none n (λ j m o. none j m (omega arith))
+  longest_none (suc n) none = ap (λ o. option_or o (longest_front answer text n)) (none (suc n) (omega arith) (omega arith)) ∙ longest_none n (λ j m o. none j m (omega arith))
 
 slash_only : {A : Type 0} (look : List ℕ → Option A) (text : List ℕ) (k j : ℕ) → NoneAbove look text k → k < j → j ≤ length text → (if ends_in_slash (take j text) then look (take j text) else None) ≡ None
 slash_only look text k j none l m =
@@ -47,7 +48,7 @@ no_match : (o : Option (Option (List ℕ))) (t : Bool) (rest : List ℕ) → (if
 no_match o true rest e = rw e refl
 no_match o false rest e = refl
 
-first_exact : (address : Option (List ℕ)) (other : Option Resolution) → first_answer (exact_match (Some address)) other ≡ exact_match (Some address)
+first_exact : (address : Option (List ℕ)) (other : Option Resolution) → option_or (exact_match (Some address)) other ≡ exact_match (Some address)
 first_exact None other = refl
 first_exact (Some url) other = refl
 
@@ -97,17 +98,17 @@ scope_front referrer key (above rest slash parts) = record { rest = rest; parts 
 
 pub key_order : KeyOrder
 key_order = record {
-  exact = λ addresses url text address e. ap (λ o. first_answer (exact_match o) (if takes_prefixes url then longest_front (prefix_key addresses) text (length text) else None)) e ∙ first_exact address _;
-  prefix = λ addresses url text k address e p front found none. ap (λ o. first_answer (exact_match o) (if takes_prefixes url then longest_front (prefix_key addresses) text (length text) else None)) e
+  exact = λ addresses url text address e. ap (λ o. option_or (exact_match o) (if takes_prefixes url then longest_front (prefix_key addresses) text (length text) else None)) e ∙ first_exact address _;
+  prefix = λ addresses url text k address e p front found none. ap (λ o. option_or (exact_match o) (if takes_prefixes url then longest_front (prefix_key addresses) text (length text) else None)) e
       ∙ (cond-true _ _ _ p ∙ prefix_answers addresses text k address front found none);
-  no_key = λ addresses url text e none. ap (λ o. first_answer (exact_match o) (if takes_prefixes url then longest_front (prefix_key addresses) text (length text) else None)) e
+  no_key = λ addresses url text e none. ap (λ o. option_or (exact_match o) (if takes_prefixes url then longest_front (prefix_key addresses) text (length text) else None)) e
       ∙ none_either (takes_prefixes url) (longest_front (prefix_key addresses) text (length text)) (longest_none (prefix_key addresses) text (length text) (λ j l m. no_longer addresses text 0 none j l m));
-  no_prefix = λ addresses url text e f. ap (λ o. first_answer (exact_match o) (if takes_prefixes url then longest_front (prefix_key addresses) text (length text) else None)) e ∙ cond-false _ _ _ f;
-  own_scope = λ scopes url text referrer answer e. ap (λ (o : Option Resolution). first_answer o (longest_front (prefix_scope url text scopes) referrer (length referrer))) e;
+  no_prefix = λ addresses url text e f. ap (λ o. option_or (exact_match o) (if takes_prefixes url then longest_front (prefix_key addresses) text (length text) else None)) e ∙ cond-false _ _ _ f;
+  own_scope = λ scopes url text referrer answer e. ap (λ (o : Option Resolution). option_or o (longest_front (prefix_scope url text scopes) referrer (length referrer))) e;
   keys_descend = λ url text one other a b. let p = key_front url text one a in let q = key_front url text other b in fronts_in_order text one other p.rest q.rest p.parts q.parts;
   scopes_descend = λ referrer one other a b. let p = scope_front referrer one a in let q = scope_front referrer other b in fronts_in_order referrer one other p.rest q.rest p.parts q.parts;
-  scope = λ scopes url text referrer k answer e front found none. ap (λ o. first_answer o (longest_front (prefix_scope url text scopes) referrer (length referrer))) e
+  scope = λ scopes url text referrer k answer e front found none. ap (λ o. option_or o (longest_front (prefix_scope url text scopes) referrer (length referrer))) e
       ∙ longest_some (prefix_scope url text scopes) referrer (length referrer) k answer front.some front.within (cond-true _ _ _ front.slash ∙ found) (λ j l m. slash_only (λ key. scope_match url text (scopes key)) referrer k j none l m);
-  no_scope = λ scopes url text referrer e none. ap (λ o. first_answer o (longest_front (prefix_scope url text scopes) referrer (length referrer))) e
+  no_scope = λ scopes url text referrer e none. ap (λ o. option_or o (longest_front (prefix_scope url text scopes) referrer (length referrer))) e
       ∙ longest_none (prefix_scope url text scopes) referrer (length referrer) (λ j l m. slash_only (λ key. scope_match url text (scopes key)) referrer 0 j none l m);
 }

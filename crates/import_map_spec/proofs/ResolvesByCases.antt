@@ -2,6 +2,7 @@
 use Rattle.import_map_spec.proofs.Entries.{cases_option}
 use Rattle.std.specs.Prelude.{◌≡◌, ◌≢◌, ◌≤◌, ◌<◌, ◌⊎◌, ℕ, zero, suc, true, false, List, [], ◌∷◌, ◌++◌, take, drop, length, Option, Some, None, option_map, if◌then◌else◌}
 use Rattle.std.specs.FinMap.{get}
+use Rattle.std.specs.Option.{option_or}
 use Rattle.std.proofs.Common.{refl, ap, sym, ◌∙◌, subst, arith, append-nil, length-append}
 use Rattle.std.proofs.Math.Seq.{take-append_seam, drop-append_seam}
 use Rattle.std.proofs.lemmas.Bool.{cond-true, cond-false, cases_Bool, cases_eq, cases_lt, true≢false}
@@ -12,7 +13,7 @@ use Rattle.url_spec.specs.Parsing.{parse_against}
 use Rattle.url_spec.specs.Specifiers.{begins, ends_in_slash, as_url, normalized}
 use Rattle.import_map_spec.specs.ParsedMap.{Texts, Addresses, ParsedMap}
 use Rattle.import_map_spec.specs.Resolving.{Resolution, Blocked, takes_prefixes, KeyApplies, itself, prefix, Answers, MatchesImports, no_key, null_address, at_key, bad_rest, backtrack, below_key, ScopeApplies, own, above, AnswersInScope, MatchesScopes, no_scope, in_scope, ResolvesAs, by_scopes, by_imports, by_url, bare}
-use Rattle.import_map_spec.specs.LookUps.{first_answer, longest_front, exact_match, below_address, prefix_match, prefix_key, resolve_imports_match, scope_match, prefix_scope, resolve_scopes_match, unmatched, answer_or, resolve_normalized, scope_addresses, resolve_in}
+use Rattle.import_map_spec.specs.LookUps.{longest_front, exact_match, below_address, prefix_match, prefix_key, resolve_imports_match, scope_match, prefix_scope, resolve_scopes_match, unmatched, answer_or, resolve_normalized, scope_addresses, resolve_in}
 use Rattle.import_map_spec.specs.Laws.{IsFolderFront, NoneAbove, ResolvesByCases}
 use Rattle.import_map_spec.proofs.LongestKey.{key_order, is_some_match}
 
@@ -72,7 +73,7 @@ module _ {A : Type 0} (answer : List ℕ → List ℕ → Option A) (text : List
           within = omega arith;
           here = e;
           none = λ j l m. absurd (omega arith);
-          is = ap (λ o. first_answer o (longest_front answer text n)) e;
+          is = ap (λ o. option_or o (longest_front answer text n)) e;
         })
         | inl e ↦ elim (searched n) [
           | inl f ↦ inl (record {
@@ -82,9 +83,9 @@ module _ {A : Type 0} (answer : List ℕ → List ℕ → Option A) (text : List
             within = (let w = f.within in omega arith);
             here = f.here;
             none = none_more n f.k e f.none;
-            is = ap (λ o. first_answer o (longest_front answer text n)) e ∙ f.is;
+            is = ap (λ o. option_or o (longest_front answer text n)) e ∙ f.is;
           })
-          | inr f ↦ inr (record { none = none_more n 0 e f.none; is = ap (λ o. first_answer o (longest_front answer text n)) e ∙ f.is })
+          | inr f ↦ inr (record { none = none_more n 0 e f.none; is = ap (λ o. option_or o (longest_front answer text n)) e ∙ f.is })
         ]
       ]
 
@@ -190,7 +191,7 @@ module _ (addresses : Addresses) (url : Option (List ℕ)) (text : List ℕ) whe
       ]
     where
       as_walk : get addresses text ≡ None → takes_prefixes url ≡ true → answered ≡ longest_front (prefix_key (get addresses)) text (length text)
-      as_walk none t = ap (λ o. first_answer (exact_match o) (if takes_prefixes url then longest_front (prefix_key (get addresses)) text (length text) else None)) none ∙ cond-true _ _ _ t
+      as_walk none t = ap (λ o. option_or (exact_match o) (if takes_prefixes url then longest_front (prefix_key (get addresses)) text (length text) else None)) none ∙ cond-true _ _ _ t
 
       by_search : get addresses text ≡ None → takes_prefixes url ≡ true → FoundFront (prefix_key (get addresses)) text (length text) ⊎ NoFront (prefix_key (get addresses)) text (length text) → MatchesImports addresses url text answered
       by_search none t (inl f) = subst (MatchesImports addresses url text) (sym (as_walk none t ∙ f.is)) (found_meets f.k f.found none t f.within f.here f.none)
@@ -338,7 +339,7 @@ module _ (scopes : Texts Addresses) (referrer : List ℕ) (url : Option (List �
       ]
     where
       as_walk : asked referrer ≡ None → scopes_answered ≡ longest_front (prefix_scope url text (scope_addresses scopes)) referrer (length referrer)
-      as_walk none = ap (λ (o : Option Resolution). first_answer o (longest_front (prefix_scope url text (scope_addresses scopes)) referrer (length referrer))) none
+      as_walk none = ap (λ (o : Option Resolution). option_or o (longest_front (prefix_scope url text (scope_addresses scopes)) referrer (length referrer))) none
 
       by_search : asked referrer ≡ None → FoundFront (prefix_scope url text (scope_addresses scopes)) referrer (length referrer) ⊎ NoFront (prefix_scope url text (scope_addresses scopes)) referrer (length referrer) → MatchesScopes scopes referrer url text scopes_answered
       by_search none (inl f) = subst (MatchesScopes scopes referrer url text) (sym (as_walk none ∙ f.is)) (above_meets f.k f.found none f.within f.here f.none)
@@ -393,7 +394,7 @@ module _ (scopes : Texts Addresses) (referrer : List ℕ) (url : Option (List �
 -- ---- the whole
 
 module _ (map : ParsedMap) (referrer : List ℕ) (url : Option (List ℕ)) (text : List ℕ) where
-  whole_meets : (scopes imports : Option Resolution) (given : Option (List ℕ)) → url ≡ given → MatchesScopes map.scopes referrer url text scopes → MatchesImports map.imports url text imports → ResolvesAs map referrer url text (answer_or (first_answer scopes imports) (unmatched given))
+  whole_meets : (scopes imports : Option Resolution) (given : Option (List ℕ)) → url ≡ given → MatchesScopes map.scopes referrer url text scopes → MatchesImports map.imports url text imports → ResolvesAs map referrer url text (answer_or (option_or scopes imports) (unmatched given))
   whole_meets (Some answer) imports given e s i = by_scopes answer s
   whole_meets None (Some answer) given e s i = by_imports answer s i
   whole_meets None None (Some given) e s i = by_url given s i e
@@ -403,7 +404,7 @@ module _ (map : ParsedMap) (referrer : List ℕ) (url : Option (List ℕ)) (text
   resolves_meet = whole_meets _ _ url refl (scopes_meet map.scopes referrer url text) (imports_meet map.imports url text)
 
   abbrev resolved : Option Resolution → Option Resolution → Option (List ℕ) → Resolution
-  resolved scopes imports given = answer_or (first_answer scopes imports) (unmatched given)
+  resolved scopes imports given = answer_or (option_or scopes imports) (unmatched given)
 
   resolves_are : (resolution : Resolution) → ResolvesAs map referrer url text resolution → resolve_normalized (get map.imports) (scope_addresses map.scopes) referrer url text ≡ resolution
   resolves_are resolution (by_scopes _ s) = ap (λ found. resolved found (resolve_imports_match url text (get map.imports)) url) (scopes_are map.scopes referrer url text (Some resolution) s)

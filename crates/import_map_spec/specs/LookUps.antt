@@ -5,21 +5,18 @@
 --     resolve_scopes_match url text referrer scopes      what the scopes answer
 use Rattle.std.specs.FinMap.{get}
 use Rattle.std.specs.Prelude.{Option, Some, None, ℕ, List, zero, suc, take, drop, if◌then◌else◌, length, option_map}
+use Rattle.std.specs.Option.{option_or}
 use Rattle.url_spec.specs.Parsing.{parse_against}
 use Rattle.url_spec.specs.Specifiers.{begins, ends_in_slash, as_url, normalized}
 use Rattle.import_map_spec.specs.ParsedMap.{Texts, Addresses, ParsedMap}
 use Rattle.import_map_spec.specs.Resolving.{Resolution, Resolved, Blocked, Backtrack, BadRest, takes_prefixes, Bare}
-
-abbrev pub first_answer : {A : Type 0} → Option A → Option A → Option A
-first_answer None other = other
-first_answer (Some x) other = Some x
 
 -- what the longest front of the text answers, of those of at most n bytes that answer. A front is asked with what
 -- follows it
 abbrev pub longest_front : {A : Type 0} → (List ℕ → List ℕ → Option A) → List ℕ → ℕ → Option A
 longest_front answer text zero = None
 longest_front answer text (suc n) =
-    first_answer (answer (take (suc n) text) (drop (suc n) text)) (longest_front answer text n)
+    option_or (answer (take (suc n) text) (drop (suc n) text)) (longest_front answer text n)
 
 -- a key that is the normalized specifier (HTML, import maps: resolve an imports match)
 abbrev pub exact_match : Option (Option (List ℕ)) → Option Resolution
@@ -50,7 +47,7 @@ prefix_key addresses front rest = if ends_in_slash front then prefix_match (addr
 -- resolve an imports match)
 abbrev pub resolve_imports_match : Option (List ℕ) → List ℕ → Lookup (Option (List ℕ)) → Option Resolution
 resolve_imports_match url text addresses =
-    first_answer (exact_match (addresses text))
+    option_or (exact_match (addresses text))
     (if takes_prefixes url then longest_front (prefix_key addresses) text (length text) else None)
 
 abbrev pub scope_match : Option (List ℕ) → List ℕ → Option (Lookup (Option (List ℕ))) → Option Resolution
@@ -67,7 +64,7 @@ prefix_scope url text scopes front rest = if ends_in_slash front then scope_matc
 abbrev pub resolve_scopes_match :
     Option (List ℕ) → List ℕ → List ℕ → Lookup (Lookup (Option (List ℕ))) → Option Resolution
 resolve_scopes_match url text referrer scopes =
-    first_answer (scope_match url text (scopes referrer))
+    option_or (scope_match url text (scopes referrer))
     (longest_front (prefix_scope url text scopes) referrer (length referrer))
 
 -- a URL that no key matches stands for itself
@@ -83,7 +80,7 @@ answer_or (Some answer) other = answer
 abbrev pub resolve_normalized :
     Lookup (Option (List ℕ)) → Lookup (Lookup (Option (List ℕ))) → List ℕ → Option (List ℕ) → List ℕ → Resolution
 resolve_normalized imports scopes referrer url text =
-    answer_or (first_answer (resolve_scopes_match url text referrer scopes) (resolve_imports_match url text imports))
+    answer_or (option_or (resolve_scopes_match url text referrer scopes) (resolve_imports_match url text imports))
     (unmatched url)
 
 abbrev pub scope_addresses : Texts Addresses → Lookup (Lookup (Option (List ℕ)))

@@ -4,12 +4,12 @@ use Rattle.std.proofs.lemmas.Bool.{cases_Bool, true≢false}
 use Rattle.std.proofs.lemmas.Option.{same_Some, none-some}
 use Rattle.std.proofs.lemmas.Slice.Eq.{bytes_eq-Decides}
 use Rattle.std.specs.Prelude.{◌≡◌, ◌≢◌, ◌⊎◌, ℕ, false, List, [], ◌∷◌, Option, Some, None, take, unwrap_or, bytes_eq, Contains}
+use Rattle.std.specs.Option.{option_or}
 use mathlib.Core.Logic.{inl, inr}
 use Rattle.url_spec.proofs.NoUrls.{no_urls}
 use Rattle.url_spec.specs.Parsing.{IsUrl}
 use Rattle.url_spec.specs.Specifiers.{ends_in_slash}
 use Rattle.import_map_spec.proofs.Entries.{cases_option}
-use Rattle.import_map_spec.specs.LookUps.{first_answer}
 use Rattle.import_map_spec.specs.ParsedMap.{ParsedMap}
 use Rattle.layout_spec.proofs.AgreedLaws.{held_is}
 use Rattle.layout_spec.proofs.Contained.{contains_here, contains_there, contains_cases, contains_none}
@@ -28,8 +28,8 @@ first_of_one : {A : Type 0} (answer : List ℕ → Option A) (a : A) (places : L
 first_of_one answer a [] at each c e = absurd (contains_none at c)
 first_of_one answer a (place ∷ more) at each c e =
     elim (each place (contains_here place more)) [
-      | inr found ↦ ap (λ o. first_answer o (first_of answer more)) found
-      | inl none ↦ ap (λ o. first_answer o (first_of answer more)) none ∙ elim (contains_cases at place more c) [
+      | inr found ↦ ap (λ o. option_or o (first_of answer more)) found
+      | inl none ↦ ap (λ o. option_or o (first_of answer more)) none ∙ elim (contains_cases at place more c) [
         | inl same ↦ absurd (none-some a (sym (subst (λ p. answer p ≡ None) same none) ∙ e))
         | inr later ↦ first_of_one answer a more at (λ other d. each other (contains_there other place more d)) later e
       ]
@@ -38,7 +38,7 @@ first_of_one answer a (place ∷ more) at each c e =
 -- where no place has an answer, there is none
 first_of_none : {A : Type 0} (answer : List ℕ → Option A) (places : List (List ℕ)) → ((place : List ℕ) → Contains places place → answer place ≡ None) → first_of answer places ≡ None
 first_of_none answer [] each = refl
-first_of_none answer (place ∷ more) each = ap (λ o. first_answer o (first_of answer more)) (each place (contains_here place more)) ∙ first_of_none answer more (λ other c. each other (contains_there other place more c))
+first_of_none answer (place ∷ more) each = ap (λ o. option_or o (first_of answer more)) (each place (contains_here place more)) ∙ first_of_none answer more (λ other c. each other (contains_there other place more c))
 
 -- a file's URL is a place of its own referrer alone
 own_place : (referrer file : List ℕ) → IsUrl file → ends_in_slash file ≡ false → Contains (places referrer) file → referrer ≡ file

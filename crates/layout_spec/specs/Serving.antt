@@ -7,7 +7,7 @@
 --     IsTidy map      no scope is that of the top level, and none is empty
 use Rattle.std.specs.FinMap.{get, empty}
 use Rattle.std.specs.Prelude.{◌≡◌, ℕ, List, [], ◌∷◌, Option, Some, None, unwrap_or, Contains}
-use Rattle.import_map_spec.specs.LookUps.{first_answer}
+use Rattle.std.specs.Option.{option_or}
 use Rattle.import_map_spec.specs.ParsedMap.{Texts, Addresses, ParsedMap}
 use Rattle.layout_spec.specs.Places.{places}
 use Rattle.layout_spec.specs.declared.Need.{Need}
@@ -28,7 +28,7 @@ held m asked place = get (addresses_at m place) asked
 -- the answer of the first place that has one
 abbrev pub first_of : {A : Type 0} → (List ℕ → Option A) → List (List ℕ) → Option A
 first_of answer [] = None
-first_of answer (place ∷ more) = first_answer (answer place) (first_of answer more)
+first_of answer (place ∷ more) = option_or (answer place) (first_of answer more)
 
 -- own: of the referrer's places that hold the specifier the longest holds the target; or none holds it, and the target
 -- is the specifier

@@ -1,5 +1,6 @@
 -- What is left behind a token is an end of the text, and shorter than what was left before it.
 use Rattle.std.specs.Prelude.{◌≡◌, ℕ, zero, suc, ◌-◌, ◌<◌, ◌≤◌, Bool, true, false, not, ◌&&◌, ◌||◌, ◌==◌, nat_le, List, [], ◌∷◌, if◌then◌else◌, Option, Some, None, length, drop}
+use Rattle.std.specs.Char.{is_ascii_digit}
 use Rattle.std.proofs.Common.{refl, sym, ap, subst, arith}
 use Rattle.std.proofs.lemmas.Bool.{and_parts, not-true}
 use Rattle.module_spec.specs.declared.token.Mark.{Mark}
@@ -9,7 +10,7 @@ use Rattle.module_spec.specs.declared.token.Bracket.{Bracket}
 use Rattle.module_spec.specs.declared.token.LexKind.{LexKind}
 use Rattle.module_spec.specs.declared.token.LexKind.TheVariants.{Unreadable}
 use Rattle.module_spec.specs.Sorts.{opens, closes}
-use Rattle.module_spec.specs.Characters.{space_size, is_digit, is_name_byte, begins_digit, begins_name, name_size, passed}
+use Rattle.module_spec.specs.Characters.{space_size, is_name_byte, begins_digit, begins_name, name_size, passed}
 use Rattle.module_spec.specs.Spellings.{hashbang_rest, line_rest, comment_rest, slash_rest, blank_rest, number_size, begins_sign, begins_number, has_base_letter, text_size, closed_rest, text_rest, begins_substitution, template_size, part_rest, template_rest, regex_body_rest, begins, first_of, punctuators, punctuator, is_question_before_number}
 use Rattle.module_spec.specs.Tokens.{Piece, as_piece, first_part, later_part, regex_piece, punctuator_piece, slash_piece, private_piece, piece, Lexeme, Next, next_from, next_at, unless_refused, refusal, Skips, IsNext, is_template, opener, depth}
 use Rattle.module_spec.specs.Tokens.Next.{Ends, Faults, Gives}
@@ -212,12 +213,12 @@ if_one : (c : Bool) (n : ℕ) → c ≡ true → ((if c then 1 else n) == 0) ≡
 if_one true n e = refl
 if_one false n e = absurd (cc)
 
-digit_some : (b : ℕ) (rest : List ℕ) → is_digit b ≡ true → (name_size (b ∷ rest) == 0) ≡ false
+digit_some : (b : ℕ) (rest : List ℕ) → is_ascii_digit b ≡ true → (name_size (b ∷ rest) == 0) ≡ false
 unfolding name_size
-digit_some b rest e = if_one (is_name_byte b) _ (or_third (nat_le 97 b && nat_le b 122) (nat_le 65 b && nat_le b 90) (is_digit b) (b == 95) (b == 36) e)
+digit_some b rest e = if_one (is_name_byte b) _ (or_third (nat_le 97 b && nat_le b 122) (nat_le 65 b && nat_le b 90) (is_ascii_digit b) (b == 95) (b == 36) e)
 
 name_some : (b : ℕ) (rest : List ℕ) → begins_name (b ∷ rest) ≡ true → (name_size (b ∷ rest) == 0) ≡ false
-name_some b rest e = not-true _ (and_parts (not (is_digit b)) (not (name_size (b ∷ rest) == 0)) e).1
+name_some b rest e = not-true _ (and_parts (not (is_ascii_digit b)) (not (name_size (b ∷ rest) == 0)) e).1
 
 number_case : (d p q r : Bool) (n : ℕ) → (d || p && r) ≡ true → (d ≡ true → (n == 0) ≡ false) → ((if p then 1 else if q then 2 else n) == 0) ≡ false
 number_case d true q r n e h = refl
@@ -227,7 +228,7 @@ number_case false false false r n e h = absurd (cc)
 
 number_some : (exponent : Bool) (b : ℕ) (rest : List ℕ) → begins_number (b ∷ rest) ≡ true → (number_size exponent (b ∷ rest) == 0) ≡ false
 number_some exponent b rest e =
-    number_case (is_digit b) (b == 46) (exponent && (b == 101 || b == 69) && begins_sign rest) (begins_digit rest) (name_size (b ∷ rest)) e (λ d. digit_some b rest d)
+    number_case (is_ascii_digit b) (b == 46) (exponent && (b == 101 || b == 69) && begins_sign rest) (begins_digit rest) (name_size (b ∷ rest)) e (λ d. digit_some b rest d)
 
 piece_suffix : (regex part : Bool) (b : ℕ) (rest : List ℕ) → PieceRests (piece regex part (b ∷ rest)) rest
 unfolding piece

@@ -1,11 +1,12 @@
 -- What is left behind a token begins with a whole character, where the text is UTF-8. RFC 3629, 3.
 use Rattle.std.specs.Prelude.{◌≡◌, ℕ, zero, suc, ◌+◌, ◌-◌, ◌*◌, ◌%◌, ◌<◌, ◌≤◌, Bool, true, false, not, ◌&&◌, ◌||◌, ◌==◌, nat_le, nat_lt, List, [], ◌∷◌, if◌then◌else◌, Option, Some, None, length, drop, slice_index, codes}
+use Rattle.std.specs.Char.{is_ascii_digit}
 use Rattle.std.proofs.Common.{refl, sym, ◌∙◌, subst, arith}
 use Rattle.std.proofs.lemmas.Bool.{and_parts, eqb-true, leb-true, ltb-true, ltb-false, lt-ltb, le-ltb}
 use Rattle.module_spec.specs.declared.token.Mark.{Mark}
 use Rattle.module_spec.specs.declared.token.Sort.{Sort}
 use Rattle.module_spec.specs.declared.token.Sort.TheVariants.{Text}
-use Rattle.module_spec.specs.Characters.{character_size, code_point, is_wide_line_end, is_wide_space, is_ascii_space, begins_line_end, space_size, is_digit, is_hex_digit, hex_digits, braced_size, unicode_size, escape_size, is_name_byte, name_size, passed, begins_name, begins_digit}
+use Rattle.module_spec.specs.Characters.{character_size, code_point, is_wide_line_end, is_wide_space, is_ascii_space, begins_line_end, space_size, is_hex_digit, hex_digits, braced_size, unicode_size, escape_size, is_name_byte, name_size, passed, begins_name, begins_digit}
 use Rattle.module_spec.specs.Spellings.{hashbang_rest, line_rest, comment_rest, slash_rest, blank_rest, number_size, begins_sign, begins_number, has_base_letter, text_size, closed_rest, text_rest, begins_substitution, template_size, part_rest, template_rest, regex_body_rest, begins, first_of, punctuators, punctuator, is_question_before_number}
 use Rattle.module_spec.specs.Tokens.{Piece, as_piece, first_part, later_part, regex_piece, punctuator_piece, slash_piece, private_piece, piece, Skips}
 use Rattle.module_spec.specs.Tokens.Skips.{stop, more}
@@ -233,11 +234,11 @@ hashbang_tail (b ∷ c ∷ rest) t =
 -- ---- names and numbers
 
 hex_low : (b : ℕ) → is_hex_digit b ≡ true → b < 128
-hex_low b e = or_low b (is_digit b || nat_le 97 b && nat_le b 102) (nat_le 65 b && nat_le b 70) (or_low b (is_digit b) (nat_le 97 b && nat_le b 102) (below_low b 57 (nat_le 48 b) (omega arith)) (below_low b 102 (nat_le 97 b) (omega arith))) (below_low b 70 (nat_le 65 b) (omega arith)) e
+hex_low b e = or_low b (is_ascii_digit b || nat_le 97 b && nat_le b 102) (nat_le 65 b && nat_le b 70) (or_low b (is_ascii_digit b) (nat_le 97 b && nat_le b 102) (below_low b 57 (nat_le 48 b) (omega arith)) (below_low b 102 (nat_le 97 b) (omega arith))) (below_low b 70 (nat_le 65 b) (omega arith)) e
 
 name_low : (b : ℕ) → is_name_byte b ≡ true → b < 128
 name_low b e =
-    or_low b _ (b == 36) (or_low b _ (b == 95) (or_low b _ (is_digit b) (or_low b (nat_le 97 b && nat_le b 122) (nat_le 65 b && nat_le b 90) (below_low b 122 (nat_le 97 b) (omega arith)) (below_low b 90 (nat_le 65 b) (omega arith))) (below_low b 57 (nat_le 48 b) (omega arith)))
+    or_low b _ (b == 36) (or_low b _ (b == 95) (or_low b _ (is_ascii_digit b) (or_low b (nat_le 97 b && nat_le b 122) (nat_le 65 b && nat_le b 90) (below_low b 122 (nat_le 97 b) (omega arith)) (below_low b 90 (nat_le 65 b) (omega arith))) (below_low b 57 (nat_le 48 b) (omega arith)))
     (byte_low b 95 (omega arith))) (byte_low b 36 (omega arith)) e
 
 record HexStep (k b : ℕ) (rest : List ℕ) : Type 0 where

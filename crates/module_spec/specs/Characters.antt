@@ -5,6 +5,7 @@
 --     name_size bytes       the same for a character of a name
 use lib.Utf8.{scalar}
 use Rattle.std.specs.Prelude.{ℕ, zero, suc, ◌+◌, ◌-◌, ◌*◌, ◌%◌, Bool, false, not, ◌&&◌, ◌||◌, ◌==◌, nat_le, nat_lt, List, [], ◌∷◌, if◌then◌else◌, slice_index}
+use Rattle.std.specs.Char.{is_ascii_digit}
 use Rattle.ucd_category.specs.GeneralCategory.{general_category, general_category_eq}
 use Rattle.ucd_category.specs.declared.GeneralCategory.TheVariants.{SpaceSeparator}
 
@@ -50,12 +51,9 @@ space_size (b ∷ rest) =
     else if is_wide_space (code_point (b ∷ rest)) then character_size b
     else 0
 
-abbrev pub is_digit : ℕ → Bool
-is_digit b = nat_le 48 b && nat_le b 57
-
 -- ECMA-262, 12.9.3: a digit of base 16, in either case
 abbrev pub is_hex_digit : ℕ → Bool
-is_hex_digit b = is_digit b || nat_le 97 b && nat_le b 102 || nat_le 65 b && nat_le b 70
+is_hex_digit b = is_ascii_digit b || nat_le 97 b && nat_le b 102 || nat_le 65 b && nat_le b 70
 
 -- how many stand at the front
 abbrev pub hex_digits : List ℕ → ℕ
@@ -80,7 +78,7 @@ escape_size (b ∷ rest) = if b == 117 then unicode_size rest else 0
 
 -- ECMA-262, 12.7: letters, digits, `$` and `_`
 abbrev pub is_name_byte : ℕ → Bool
-is_name_byte b = nat_le 97 b && nat_le b 122 || nat_le 65 b && nat_le b 90 || is_digit b || b == 95 || b == 36
+is_name_byte b = nat_le 97 b && nat_le b 122 || nat_le 65 b && nat_le b 90 || is_ascii_digit b || b == 95 || b == 36
 
 -- own: of ECMA-262, 12.7, past ASCII each character that is no white space and no line end, and an escape whatever it
 -- stands for
@@ -95,7 +93,7 @@ name_size (b ∷ rest) =
 
 abbrev pub begins_digit : List ℕ → Bool
 begins_digit [] = false
-begins_digit (b ∷ rest) = is_digit b
+begins_digit (b ∷ rest) = is_ascii_digit b
 
 -- ECMA-262, 12.7: a name begins with a character of names that is no digit
 abbrev pub begins_name : List ℕ → Bool

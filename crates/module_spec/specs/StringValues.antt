@@ -7,7 +7,8 @@
 use lib.Utf8.{scalar}
 use Rattle.std.specs.Prelude.{ℕ, zero, suc, ◌+◌, ◌-◌, ◌*◌, Bool, false, not, ◌&&◌, ◌||◌, ◌==◌, nat_le, nat_lt, List, [], ◌∷◌, if◌then◌else◌, Option, Some, None, option_map, slice_index, take, drop, length}
 use Rattle.std.specs.Str.{chars, encode_utf8_all}
-use Rattle.module_spec.specs.Characters.{is_digit, begins_digit, is_hex_digit, hex_digits, is_wide_line_end}
+use Rattle.std.specs.Char.{is_ascii_digit}
+use Rattle.module_spec.specs.Characters.{begins_digit, is_hex_digit, hex_digits, is_wide_line_end}
 
 -- what a character or an escape adds: a code unit, or a character that needs two of them; nothing; or the literal is
 -- wrong
@@ -72,7 +73,7 @@ escape (c ∷ rest) =
     if c == 117 then unicode_escape rest
     else if c == 120 then hex_escape rest
     else if c == 48 && not (begins_digit rest) then (1, unit 0)
-    else if is_digit c then (0, wrong)
+    else if is_ascii_digit c then (0, wrong)
     else if c == 13 then ((if begins_line_feed rest then 2 else 1), nothing)
     else if c == 10 || is_wide_line_end c then (1, nothing)
     else (1, unit (escaped_character c))

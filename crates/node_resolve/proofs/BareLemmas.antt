@@ -98,7 +98,7 @@ pub calls_seen : {B : Type 0} (gives : B → List ℕ → BareAnswer → B → T
     (ask_of : B → List ℕ → Resolving Url)
     → ((old new : B) (text : List ℕ) (answer : BareAnswer) → gives old text answer new
     → (ask_of new ≡ ask_of old) × GivesBare (ask_of old) (see old) text answer (see new))
-    → (old new : B) (asked : List Call) → choosing.Calls gives old asked new
+    → (old new : B) (asked : List Call) → Calls gives old asked new
     → Calls (GivesBare (ask_of old)) (see old) asked (see new)
 calls_seen gives see ask_of says old new [] calls = ap see calls
 calls_seen gives see ask_of says old new (call ∷ more) calls =
@@ -111,7 +111,7 @@ calls_seen gives see ask_of says old new (call ∷ more) calls =
 
 pub calls_keep : {B N : Type 0} (gives : B → List ℕ → BareAnswer → B → Type 0) (name : B → N)
     → ((old new : B) (text : List ℕ) (answer : BareAnswer) → gives old text answer new → name new ≡ name old)
-    → (old new : B) (asked : List Call) → choosing.Calls gives old asked new → name new ≡ name old
+    → (old new : B) (asked : List Call) → Calls gives old asked new → name new ≡ name old
 calls_keep gives name keeps old new [] calls = ap name calls
 calls_keep gives name keeps old new (call ∷ more) calls =
     calls_keep gives name keeps calls.0 new more calls.2 ∙ keeps old calls.0 call.0 call.1 calls.1
@@ -462,8 +462,8 @@ pub answered_as : {X : Type 0} (before after : State) (asking : LookAsking X) (o
 answered_as before after asking one other e a = subst (λ r. Answered before asking r after) e a
 
 pub calls_end : {B : Type 0} (gives : B → List ℕ → BareAnswer → B → Type 0) (old middle new : B) (asked : List Call)
-    → new ≡ middle → choosing.Calls gives old asked middle → choosing.Calls gives old asked new
-calls_end gives old middle new asked same calls = subst (λ b. choosing.Calls gives old asked b) (sym same) calls
+    → new ≡ middle → Calls gives old asked middle → Calls gives old asked new
+calls_end gives old middle new asked same calls = subst (λ b. Calls gives old asked b) (sym same) calls
 
 pub lost_same : {X : Type 0} (one other : Failing) → other ≡ one → fails_of X one ≡ fails_of X other
 lost_same {X} one other e = ap (fails_of X) (sym e)

@@ -23,7 +23,6 @@ use Rattle.asking_spec.specs.Askings.{answered, outcome, and_then, on_ok, and_ok
 use Rattle.asking_spec.specs.Evaluation.{Ended, ends, then_ended, evaluated, AreAlways}
 use Rattle.node_spec.specs.NodeAnswers.{Refusal, by_cause, too_deep, Resolving}
 use Rattle.node_spec.specs.declared.Cause.TheVariants as cause
-use Rattle.tree_spec.specs.Counts.{Rose}
 use Rattle.tree_spec.specs.LookAskings.{Sights, LookAsking, looks}
 use Rattle.tree_spec.specs.LookLimits.{Trail, look_limits, counted, told, limited}
 use Rattle.tree_spec.specs.States.{FolderState, OnlyLooks}

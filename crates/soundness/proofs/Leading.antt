@@ -5,6 +5,7 @@ use Rattle.std.proofs.lemmas.Bool.{cases_Bool, cond-true, cond-false, true≢fal
 use Rattle.std.proofs.lemmas.Option.{none-some, same_Some}
 use Rattle.std.specs.FinMap.{get, empty}
 use Rattle.std.specs.Prelude.{◌≡◌, ℕ, zero, suc, Bool, true, false, List, [], ◌∷◌, ◌++◌, length, take, drop, Option, Some, None, option_map, unwrap_or, Contains, if◌then◌else◌}
+use Rattle.std.specs.Option.{option_or}
 use mathlib.Core.Logic.{inl, inr}
 use Rattle.url_spec.proofs.NoUrls.{no_urls}
 use Rattle.url_spec.proofs.OwnUrls.{own_urls}
@@ -12,7 +13,7 @@ use Rattle.url_spec.specs.Parsing.{IsUrl}
 use Rattle.url_spec.specs.Specifiers.{as_url, normalized, ends_in_slash}
 use Rattle.import_map_spec.proofs.Entries.{get_nowhere, cases_option, none_after}
 use Rattle.import_map_spec.proofs.LongestKey.{key_order}
-use Rattle.import_map_spec.specs.LookUps.{first_answer, answer_or, unmatched, exact_match, resolve_imports_match, scope_match, longest_front, prefix_scope, resolve_scopes_match, scope_addresses, resolve_normalized, resolve_in}
+use Rattle.import_map_spec.specs.LookUps.{answer_or, unmatched, exact_match, resolve_imports_match, scope_match, longest_front, prefix_scope, resolve_scopes_match, scope_addresses, resolve_normalized, resolve_in}
 use Rattle.import_map_spec.specs.ParsedMap.{Addresses, ParsedMap}
 use Rattle.import_map_spec.specs.Resolving.{Resolved}
 use Rattle.layout_spec.proofs.PlaceLemmas.{folder_from_test, folder_test, place_url}
@@ -23,23 +24,23 @@ use Rattle.soundness.specs.Soundness.{NamesUrls}
 
 -- ---- first answers
 
-either_first : (a b : Option (Option (List ℕ))) → first_answer (exact_match a) (exact_match b) ≡ exact_match (first_answer a b)
+either_first : (a b : Option (Option (List ℕ))) → option_or (exact_match a) (exact_match b) ≡ exact_match (option_or a b)
 either_first None b = refl
 either_first (Some None) b = refl
 either_first (Some (Some url)) b = refl
 
-answers_twice : {A : Type 0} (o : Option A) (t : Bool) (x : Option A) → first_answer o (first_answer (if t then o else None) x) ≡ first_answer o x
+answers_twice : {A : Type 0} (o : Option A) (t : Bool) (x : Option A) → option_or o (option_or (if t then o else None) x) ≡ option_or o x
 answers_twice None true x = refl
 answers_twice None false x = refl
 answers_twice (Some a) t x = refl
 
-first_apart : {A : Type 0} (o p q : Option A) → first_answer o (first_answer p q) ≡ first_answer (first_answer o p) q
+first_apart : {A : Type 0} (o p q : Option A) → option_or o (option_or p q) ≡ option_or (option_or o p) q
 first_apart None p q = refl
 first_apart (Some x) p q = refl
 
-first_over : {A : Type 0} (answer : List ℕ → Option A) (ps : List (List ℕ)) (last : List ℕ) → first_of answer (ps ++ last ∷ []) ≡ first_answer (first_of answer ps) (answer last)
+first_over : {A : Type 0} (answer : List ℕ → Option A) (ps : List (List ℕ)) (last : List ℕ) → first_of answer (ps ++ last ∷ []) ≡ option_or (first_of answer ps) (answer last)
 first_over answer [] last = none_after (answer last)
-first_over answer (p ∷ ps) last = ap (first_answer (answer p)) (first_over answer ps last) ∙ first_apart (answer p) (first_of answer ps) (answer last)
+first_over answer (p ∷ ps) last = ap (option_or (answer p)) (first_over answer ps last) ∙ first_apart (answer p) (first_of answer ps) (answer last)
 
 -- ---- what scopes and imports answer
 
@@ -105,29 +106,29 @@ module _ (needs : List Need) (m : ParsedMap) (of_needs : OfNeeds needs m) (files
       let back = exact_match (first_of (held m asked) (folders (b ∷ rest) n)) in
       elim (cases_Bool (is_folder front)) [
         | inl is ↦
-            (λ i. first_answer (cond-true (ends_in_slash front) (scope_match url asked (scope_addresses m.scopes front)) None (folder_from_test front is).slash i) (below i))
-            ∙ (ap (λ o. first_answer o back) (scope_answers url asked b (take n rest))
+            (λ i. option_or (cond-true (ends_in_slash front) (scope_match url asked (scope_addresses m.scopes front)) None (folder_from_test front is).slash i) (below i))
+            ∙ (ap (λ o. option_or o back) (scope_answers url asked b (take n rest))
             ∙ (either_first (held m asked front) (first_of (held m asked) (folders (b ∷ rest) n)) ∙ ap (λ ps. exact_match (first_of (held m asked) ps)) (sym (cond-true _ _ _ is))))
         | inr not_folder ↦
-            (λ i. first_answer (silent url asked front (drop (suc n) (b ∷ rest)) not_folder i) (below i)) ∙ ap (λ ps. exact_match (first_of (held m asked) ps)) (sym (cond-false _ _ _ not_folder))
+            (λ i. option_or (silent url asked front (drop (suc n) (b ∷ rest)) not_folder i) (below i)) ∙ ap (λ ps. exact_match (first_of (held m asked) ps)) (sym (cond-false _ _ _ not_folder))
       ]
 
-  scopes_answer : (url : Option (List ℕ)) (asked : List ℕ) (b : ℕ) (rest : List ℕ) → resolve_scopes_match url asked (b ∷ rest) (scope_addresses m.scopes) ≡ exact_match (first_answer (held m asked (b ∷ rest)) (first_of (held m asked) (folders (b ∷ rest) (length rest))))
+  scopes_answer : (url : Option (List ℕ)) (asked : List ℕ) (b : ℕ) (rest : List ℕ) → resolve_scopes_match url asked (b ∷ rest) (scope_addresses m.scopes) ≡ exact_match (option_or (held m asked (b ∷ rest)) (first_of (held m asked) (folders (b ∷ rest) (length rest))))
   scopes_answer url asked b rest =
       let own = scope_match url asked (scope_addresses m.scopes (b ∷ rest)) in
       let inner = longest_front (prefix_scope url asked (scope_addresses m.scopes)) (b ∷ rest) (length rest) in
-      ap (λ (r : List ℕ). first_answer own (first_answer (if ends_in_slash r then scope_match url asked (scope_addresses m.scopes r) else None) inner)) (take-length (b ∷ rest))
+      ap (λ (r : List ℕ). option_or own (option_or (if ends_in_slash r then scope_match url asked (scope_addresses m.scopes r) else None) inner)) (take-length (b ∷ rest))
       ∙ (answers_twice own (ends_in_slash (b ∷ rest)) inner
-      ∙ ((λ i. first_answer (scope_answers url asked b rest i) (folders_answer url asked b rest (length rest) i)) ∙ either_first (held m asked (b ∷ rest)) (first_of (held m asked) (folders (b ∷ rest) (length rest)))))
+      ∙ ((λ i. option_or (scope_answers url asked b rest i) (folders_answer url asked b rest (length rest) i)) ∙ either_first (held m asked (b ∷ rest)) (first_of (held m asked) (folders (b ∷ rest) (length rest)))))
 
   -- scopes and imports answer what the first place holds
-  places_answer : (url : Option (List ℕ)) (asked : List ℕ) (b : ℕ) (rest : List ℕ) → first_answer (resolve_scopes_match url asked (b ∷ rest) (scope_addresses m.scopes)) (resolve_imports_match url asked (get m.imports)) ≡ exact_match (first_of (held m asked) (places (b ∷ rest)))
+  places_answer : (url : Option (List ℕ)) (asked : List ℕ) (b : ℕ) (rest : List ℕ) → option_or (resolve_scopes_match url asked (b ∷ rest) (scope_addresses m.scopes)) (resolve_imports_match url asked (get m.imports)) ≡ exact_match (first_of (held m asked) (places (b ∷ rest)))
   places_answer url asked b rest =
       let below : List (List ℕ) = folders (b ∷ rest) (length rest) in
       let look = held m asked in
-      (λ i. first_answer (scopes_answer url asked b rest i) (place_answers url asked [] i))
-      ∙ (either_first (first_answer (look (b ∷ rest)) (first_of look below)) (look [])
-      ∙ ap exact_match (sym (ap (first_answer (look (b ∷ rest))) (first_over look below []) ∙ first_apart (look (b ∷ rest)) (first_of look below) (look []))))
+      (λ i. option_or (scopes_answer url asked b rest i) (place_answers url asked [] i))
+      ∙ (either_first (option_or (look (b ∷ rest)) (first_of look below)) (look [])
+      ∙ ap exact_match (sym (ap (option_or (look (b ∷ rest))) (first_over look below []) ∙ first_apart (look (b ∷ rest)) (first_of look below) (look []))))
 
   leads_from : (referrer asked target : List ℕ) (url : Option (List ℕ)) → IsUrl referrer → unwrap_or (first_of (held m asked) (places referrer)) (Some asked) ≡ Some target → (asked ≡ target → url ≡ Some target) → resolve_normalized (get m.imports) (scope_addresses m.scopes) referrer url asked ≡ Resolved target
   leads_from [] asked target url is serves alone = absurd (none-some _ (sym no_urls.1 ∙ is))

@@ -4,12 +4,13 @@ use Rattle.clap.specs.Walk.{Held, more_values, settled, with_values}
 use Rattle.clap.specs.Words.{Row, Text}
 use Rattle.clap.specs.declared.parser.matches.ValueSource.TheVariants.{CommandLine}
 use Rattle.std.proofs.Common.{◌≡◌, List, [], ◌∷◌, ◌++◌, append-nil, codes, find, true, false, Some, None, option_map, refl, ap, ◌∙◌}
+use Rattle.std.specs.Option.{option_or}
 use Rattle.words_spec.specs.declared.LinkOption.{LinkOption}
 use Rattle.words_spec.specs.declared.LinkOption.TheVariants.{Base, Page, Conditions}
 use Rattle.words_spec.specs.PlainWords.{LinkOptions, value_of, with_value}
 use Rattle.words_clap_spec.specs.Holding.{as_text, is_row, option_name, row}
 use Rattle.words_clap_spec.proofs.LinkTurns.{after_joined, after_value, put_value, rules, value_settled, value_settles}
-use Rattle.words_clap_spec.proofs.Rows.{at_row-none, find-append, first_of, first_of-none, has_row-none}
+use Rattle.words_clap_spec.proofs.Rows.{at_row-none, find-append, option_or-none, has_row-none}
 
 -- the row of each option is that of its value
 abbrev pub OptionRows : LinkOptions → List Row → Type 0
@@ -34,12 +35,12 @@ put_last o value rows none =
 -- a row of another name is found no more and no less
 other_row : (id : Text) (old new : List Row) (r : Row) → find (is_row id) (r ∷ []) ≡ None → new ≡ old ++ r ∷ [] → find (is_row id) new ≡ find (is_row id) old
 other_row id old new r none is =
-    ap (find (is_row id)) is ∙ find-append id old (r ∷ []) ∙ ap (first_of (find (is_row id) old)) none
-    ∙ first_of-none (find (is_row id) old)
+    ap (find (is_row id)) is ∙ find-append id old (r ∷ []) ∙ ap (option_or (find (is_row id) old)) none
+    ∙ option_or-none (find (is_row id) old)
 
 own_row : (id : Text) (old new : List Row) (r : Row) → find (is_row id) (r ∷ []) ≡ Some r → find (is_row id) old ≡ None → new ≡ old ++ r ∷ [] → find (is_row id) new ≡ Some r
 own_row id old new r own none is =
-    ap (find (is_row id)) is ∙ find-append id old (r ∷ []) ∙ ap (λ found. first_of found (find (is_row id) (r ∷ []))) none
+    ap (find (is_row id)) is ∙ find-append id old (r ∷ []) ∙ ap (λ found. option_or found (find (is_row id) (r ∷ []))) none
     ∙ own
 
 one_more_row : (options : LinkOptions) (old new : List Row) (o : LinkOption) (value : Text) → OptionRows options old → find (is_row (option_name o)) old ≡ None → new ≡ old ++ row (option_name o) (value ∷ []) ∷ [] → OptionRows (with_value o value options) new

@@ -2,23 +2,20 @@
 use Rattle.clap.specs.Walk.{at_row, has_row}
 use Rattle.clap.specs.Words.{Row, Text}
 use Rattle.std.proofs.Common.{◌≡◌, ◌||◌, List, [], ◌∷◌, ◌++◌, Option, Some, None, is_some, find, Bool, true, false, if◌then◌else◌, refl, ap}
+use Rattle.std.specs.Option.{option_or}
 use Rattle.words_clap_spec.specs.Holding.{is_row}
 
-abbrev pub first_of : {X : Type 0} → Option X → Option X → Option X
-first_of None other = other
-first_of (Some found) other = Some found
+pub option_or-none : {X : Type 0} (found : Option X) → option_or found None ≡ found
+option_or-none None = refl
+option_or-none (Some found) = refl
 
-pub first_of-none : {X : Type 0} (found : Option X) → first_of found None ≡ found
-first_of-none None = refl
-first_of-none (Some found) = refl
-
-pub find-append : (id : Text) (rows more : List Row) → find (is_row id) (rows ++ more) ≡ first_of (find (is_row id) rows) (find (is_row id) more)
+pub find-append : (id : Text) (rows more : List Row) → find (is_row id) (rows ++ more) ≡ option_or (find (is_row id) rows) (find (is_row id) more)
 find-append id [] more = refl
 find-append id (r ∷ rows) more = by_test (is_row id r) (find-append id rows more)
   where
-    by_test : (test : Bool) → find (is_row id) (rows ++ more) ≡ first_of (find (is_row id) rows) (find (is_row id) more)
+    by_test : (test : Bool) → find (is_row id) (rows ++ more) ≡ option_or (find (is_row id) rows) (find (is_row id) more)
         → (if test then Some r else find (is_row id) (rows ++ more))
-        ≡ first_of (if test then Some r else find (is_row id) rows) (find (is_row id) more)
+        ≡ option_or (if test then Some r else find (is_row id) rows) (find (is_row id) more)
     by_test true below = refl
     by_test false below = below
 
