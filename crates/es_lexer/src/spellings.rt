@@ -1,5 +1,5 @@
 ghost use Rattle.std.specs.Prelude.{◌≡◌, ◌<◌, ◌==◌, ◌||◌, false, [], ◌∷◌, None, Some, length, MatchOption};
-ghost use Rattle.module_spec.specs.Spellings.{begins, line_rest, comment_rest, slash_rest, blank_rest};
+ghost use Rattle.module_spec.specs.Spellings.{begins_with, line_rest, comment_rest, slash_rest, blank_rest};
 ghost use Rattle.module_spec.specs.Spellings.{hashbang_rest, has_base_letter, begins_sign, number_size, number_rest};
 ghost use Rattle.module_spec.specs.Spellings.{begins_number, text_size, closed_rest, text_rest, begins_substitution};
 ghost use Rattle.module_spec.specs.Spellings.{template_size, part_rest, template_rest, regex_body_rest};
@@ -10,7 +10,7 @@ use crate::characters::{begins_line_end, behind, space_size};
 use crate::names::{begins_digit, is_digit, name_size};
 
 fn stands_first(wanted: u8, bytes: &[u8]) -> bool
-    ensures { result ≡ begins (wanted ∷ []) bytes.now }
+    ensures { result ≡ begins_with (wanted ∷ []) bytes.now }
 {
     match bytes.split_first() {
         None => false,
@@ -196,7 +196,7 @@ pub fn begins_number(bytes: &[u8]) -> bool
 }
 
 fn begins_return_and_line_feed(bytes: &[u8]) -> bool
-    ensures { result ≡ begins (13 ∷ 10 ∷ []) bytes.now }
+    ensures { result ≡ begins_with (13 ∷ 10 ∷ []) bytes.now }
 {
     match bytes.split_first() {
         Some((b'\r', rest)) => stands_first(b'\n', rest),

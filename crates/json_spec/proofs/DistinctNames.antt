@@ -2,7 +2,7 @@
 use Rattle.std.proofs.lemmas.Bool.{cond_both}
 use Rattle.std.specs.Prelude.{⊤, ℕ, List, bytes_eq, Option, Some, None, codes, ◌∷◌, zero, suc, [], IfOk}
 use Rattle.json_spec.proofs.Settled.{distinct_settled}
-use Rattle.json_spec.specs.Grammar.{Reading, behind_item, behind_member, as_list, as_object, as_text, as_number, word_else, scalar_at, Member, a_pair, paired, ReadsMember, member_value, member_name, MoreMembers, members_close, members_next, members_fault, members_other, members_end, ReadsMembers, no_member, first_member, member_fault, object_ends, MoreItems, items_close, items_next, items_fault, items_other, items_end, ReadsItems, no_item, first_item, item_fault, list_ends, ReadsWith, reads_text, reads_list, reads_object, reads_scalar, value_ends, IsTooDeep, after_space, Reads, alone, whole_text, with_offset, json_text, most_brackets}
+use Rattle.json_spec.specs.Grammar.{Reading, behind_item, behind_member, as_list, as_object, as_text, as_number, word_else, scalar_at, Member, a_pair, paired, ReadsMember, member_value, member_name, MoreMembers, members_close, members_next, members_fault, members_other, members_end, ReadsMembers, no_member, first_member, member_fault, object_ends, MoreItems, items_close, items_next, items_fault, items_other, items_end, ReadsItems, no_item, first_item, item_fault, list_ends, ReadsWith, reads_text, reads_list, reads_object, reads_scalar, value_ends, IsTooDeep, after_space, Reads, alone, whole_text, with_offset, json_text, most_depth}
 use Rattle.json_spec.specs.Laws.{NamesAreDistinct}
 use Rattle.json_spec.specs.Numbers.{number_at}
 use Rattle.json_spec.specs.Strings.{behind}
@@ -122,4 +122,4 @@ whole_names n (taken v rest) d = alone_names (after_space rest)
 whole_names n (refused f) d = tt
 
 pub names_are_distinct : NamesAreDistinct
-names_are_distinct bytes out (json_text o r) = whole_names _ o (reads_names most_brackets _ o r)
+names_are_distinct bytes out (json_text o r) = whole_names _ o (reads_names most_depth _ o r)

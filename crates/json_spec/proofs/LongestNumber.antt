@@ -7,7 +7,7 @@ use Rattle.std.proofs.lemmas.List.{append-nil}
 use Rattle.std.proofs.lemmas.List.Elements.{All-nil, All-cons, All-head, All-tail}
 use mathlib.Core.Logic.{inl, inr}
 use Rattle.json_spec.specs.Taken.{taken, refused, Read, and_then, or_else, behind_piece}
-use Rattle.json_spec.specs.Numbers.{AreDigits, IsInt, IsFrac, IsExp, IsTail, IsNumber, leading_digits, after_digits, some_digits, digits_at, joined, maybe, one_of, int_at, frac_at, exp_at, number_at}
+use Rattle.json_spec.specs.Numbers.{AreDigits, IsInt, IsFrac, IsExp, IsTail, IsNumber, leading_digits, after_digits, some_digits, digits_at, piece_then, maybe, one_of, int_at, frac_at, exp_at, number_at}
 use Rattle.json_spec.specs.Laws.{LongestNumber}
 use Rattle.json_spec.proofs.OneJson.{never_both}
 
@@ -34,7 +34,7 @@ behind_fits : (Other Both : List ℕ → Type 0) (bytes piece rest : List ℕ) (
 behind_fits Other Both bytes piece rest (taken more left) e puts fits = (puts more fits.0, e ∙ (ap (λ (xs : List ℕ). piece ++ xs) fits.1 ∙ sym (append_assoc piece more left)))
 behind_fits Other Both bytes piece rest (refused r) e puts fits = tt
 
-joined_fits : (One Other Both : List ℕ → Type 0) (one other : Reader) (bytes : List ℕ) → Puts One Other Both → Fits One bytes (one bytes) → ((rest : List ℕ) → Fits Other rest (other rest)) → Fits Both bytes (joined one other bytes)
+joined_fits : (One Other Both : List ℕ → Type 0) (one other : Reader) (bytes : List ℕ) → Puts One Other Both → Fits One bytes (one bytes) → ((rest : List ℕ) → Fits Other rest (other rest)) → Fits Both bytes (piece_then one other bytes)
 joined_fits One Other Both one other bytes puts fits more = go (one bytes) fits
   where
     go : (out : Read (List ℕ)) → Fits One bytes out → Fits Both bytes (and_then out (λ piece rest. behind_piece piece (other rest)))
@@ -128,7 +128,7 @@ record IsSigned (text : List ℕ) : Type 0 where
   is_sign : Missing IsSign sign
   are_digits : AreDigits digits
 
-signed_fits : (bytes : List ℕ) → Fits IsSigned bytes (joined (maybe (one_of (λ b. b == 43 || b == 45))) digits_at bytes)
+signed_fits : (bytes : List ℕ) → Fits IsSigned bytes (piece_then (maybe (one_of (λ b. b == 43 || b == 45))) digits_at bytes)
 signed_fits bytes =
     joined_fits (Missing IsSign) AreDigits IsSigned (maybe (one_of (λ b. b == 43 || b == 45))) digits_at bytes
     (λ piece more is are. record { sign = piece; digits = more; parts = refl; is_sign = is; are_digits = are })
@@ -152,10 +152,10 @@ exp_puts piece more m s = record {
 
 exp_fits : (bytes : List ℕ) → Fits IsExp bytes (exp_at bytes)
 exp_fits bytes =
-    joined_fits IsMark IsSigned IsExp (one_of (λ b. b == 101 || b == 69)) (joined (maybe (one_of (λ b. b == 43 || b == 45))) digits_at) bytes exp_puts
+    joined_fits IsMark IsSigned IsExp (one_of (λ b. b == 101 || b == 69)) (piece_then (maybe (one_of (λ b. b == 43 || b == 45))) digits_at) bytes exp_puts
     (one_fits IsMark (λ b. b == 101 || b == 69) bytes (λ b t. record { mark = b; whole = refl; is_mark = either_byte 101 69 b t })) signed_fits
 
-tail_fits : (bytes : List ℕ) → Fits IsTail bytes (joined (maybe frac_at) (maybe exp_at) bytes)
+tail_fits : (bytes : List ℕ) → Fits IsTail bytes (piece_then (maybe frac_at) (maybe exp_at) bytes)
 tail_fits bytes =
     joined_fits (Missing IsFrac) (Missing IsExp) IsTail (maybe frac_at) (maybe exp_at) bytes (λ piece more f e. record { frac = piece; exp = more; parts = refl; is_frac = f; is_exp = e })
     (maybe_fits IsFrac frac_at bytes (frac_fits bytes)) (λ rest. maybe_fits IsExp exp_at rest (exp_fits rest))
@@ -167,16 +167,16 @@ record IsBody (text : List ℕ) : Type 0 where
   is_int : IsInt int
   is_tail : IsTail tail
 
-body_fits : (bytes : List ℕ) → Fits IsBody bytes (joined int_at (joined (maybe frac_at) (maybe exp_at)) bytes)
+body_fits : (bytes : List ℕ) → Fits IsBody bytes (piece_then int_at (piece_then (maybe frac_at) (maybe exp_at)) bytes)
 body_fits bytes =
-    joined_fits IsInt IsTail IsBody int_at (joined (maybe frac_at) (maybe exp_at)) bytes (λ piece more i t. record { int = piece; tail = more; parts = refl; is_int = i; is_tail = t }) (int_fits bytes) tail_fits
+    joined_fits IsInt IsTail IsBody int_at (piece_then (maybe frac_at) (maybe exp_at)) bytes (λ piece more i t. record { int = piece; tail = more; parts = refl; is_int = i; is_tail = t }) (int_fits bytes) tail_fits
 
 abbrev IsMinus : List ℕ → Type 0
 IsMinus text = text ≡ 45 ∷ []
 
 number_fits : (bytes : List ℕ) → Fits IsNumber bytes (number_at bytes)
 number_fits bytes =
-    joined_fits (Missing IsMinus) IsBody IsNumber (maybe (one_of (λ b. b == 45))) (joined int_at (joined (maybe frac_at) (maybe exp_at))) bytes
+    joined_fits (Missing IsMinus) IsBody IsNumber (maybe (one_of (λ b. b == 45))) (piece_then int_at (piece_then (maybe frac_at) (maybe exp_at))) bytes
     (λ piece more m b. record { minus = piece; int = b.int; tail = b.tail; parts = ap (λ (rest : List ℕ). piece ++ rest) b.parts; is_minus = m; is_int = b.is_int; is_tail = b.is_tail })
     (maybe_fits IsMinus (one_of (λ b. b == 45)) bytes (one_fits IsMinus (λ b. b == 45) bytes (λ b t. byte_is 45 b t))) body_fits
 
@@ -192,7 +192,7 @@ fewer : (size more : ℕ) (out : Read (List ℕ)) → size ≤ more → AtLeast 
 fewer size more out l a = record { piece = a.piece; rest = a.rest; took = a.took; long = (let m = a.long in omega arith) }
 
 module _ (one other : Reader) (bytes piece middle : List ℕ) (took : one bytes ≡ taken piece middle) where
-  joined_least : (size : ℕ) → AtLeast size (other middle) → AtLeast (length piece + size) (joined one other bytes)
+  joined_least : (size : ℕ) → AtLeast size (other middle) → AtLeast (length piece + size) (piece_then one other bytes)
   joined_least size a = record {
     piece = piece ++ a.piece;
     rest = a.rest;
@@ -269,18 +269,18 @@ sign_stop (d ∷ digits) back are =
     let t = All-head IsDigit d digits are.1 in
     cond-false _ _ _ (neither_mark d 43 45 (no_mark d 43 refl t) (no_mark d 45 refl t))
 
-signed_least : (sign digits back : List ℕ) → Missing IsSign sign → AreDigits digits → AtLeast (length sign + length digits) (joined (maybe (one_of (λ b. b == 43 || b == 45))) digits_at (sign ++ (digits ++ back)))
+signed_least : (sign digits back : List ℕ) → Missing IsSign sign → AreDigits digits → AtLeast (length sign + length digits) (piece_then (maybe (one_of (λ b. b == 43 || b == 45))) digits_at (sign ++ (digits ++ back)))
 signed_least sign digits back (inl none) are =
     let reader = one_of (λ b. b == 43 || b == 45) in
-    subst (λ front. AtLeast (length front + length digits) (joined (maybe reader) digits_at (front ++ (digits ++ back)))) (sym none)
+    subst (λ front. AtLeast (length front + length digits) (piece_then (maybe reader) digits_at (front ++ (digits ++ back)))) (sym none)
     (joined_least (maybe reader) digits_at (digits ++ back) [] (digits ++ back) (maybe_refused reader (digits ++ back) (sign_stop digits back are)) (length digits) (digits_least digits back are))
 signed_least sign digits back (inr (inl plus)) are =
     let reader = one_of (λ b. b == 43 || b == 45) in
-    subst (λ front. AtLeast (length front + length digits) (joined (maybe reader) digits_at (front ++ (digits ++ back)))) (sym plus)
+    subst (λ front. AtLeast (length front + length digits) (piece_then (maybe reader) digits_at (front ++ (digits ++ back)))) (sym plus)
     (joined_least (maybe reader) digits_at (43 ∷ (digits ++ back)) (43 ∷ []) (digits ++ back) refl (length digits) (digits_least digits back are))
 signed_least sign digits back (inr (inr minus)) are =
     let reader = one_of (λ b. b == 43 || b == 45) in
-    subst (λ front. AtLeast (length front + length digits) (joined (maybe reader) digits_at (front ++ (digits ++ back)))) (sym minus)
+    subst (λ front. AtLeast (length front + length digits) (piece_then (maybe reader) digits_at (front ++ (digits ++ back)))) (sym minus)
     (joined_least (maybe reader) digits_at (45 ∷ (digits ++ back)) (45 ∷ []) (digits ++ back) refl (length digits) (digits_least digits back are))
 
 mark_taken : (mark : ℕ) (rest : List ℕ) → (mark ≡ 101) ⊎ (mark ≡ 69) → one_of (λ b. b == 101 || b == 69) (mark ∷ rest) ≡ taken (mark ∷ []) rest
@@ -289,7 +289,7 @@ mark_taken mark rest (inr e) = subst (λ b. one_of (λ x. x == 101 || x == 69) (
 
 marked_least : (mark : ℕ) (sign digits back : List ℕ) → (mark ≡ 101) ⊎ (mark ≡ 69) → Missing IsSign sign → AreDigits digits → AtLeast (1 + (length sign + length digits)) (exp_at (mark ∷ (sign ++ (digits ++ back))))
 marked_least mark sign digits back m s are =
-    joined_least (one_of (λ b. b == 101 || b == 69)) (joined (maybe (one_of (λ b. b == 43 || b == 45))) digits_at) (mark ∷ (sign ++ (digits ++ back))) (mark ∷ []) (sign ++ (digits ++ back))
+    joined_least (one_of (λ b. b == 101 || b == 69)) (piece_then (maybe (one_of (λ b. b == 43 || b == 45))) digits_at) (mark ∷ (sign ++ (digits ++ back))) (mark ∷ []) (sign ++ (digits ++ back))
     (mark_taken mark (sign ++ (digits ++ back)) m) (length sign + length digits) (signed_least sign digits back s are)
 
 exp_least : (exp back : List ℕ) → IsExp exp → AtLeast (length exp) (exp_at (exp ++ back))
@@ -311,7 +311,7 @@ exp_first exp back is = subst (λ text. Stops (text ++ back) × (frac_at (text +
     go mark (inr e) = subst (λ b. Stops (b ∷ ((is.sign ++ is.digits) ++ back)) × (frac_at (b ∷ ((is.sign ++ is.digits) ++ back)) ≡ refused tt)) (sym e) (refl, refl)
 
 abbrev tail_at : Reader
-tail_at bytes = joined (maybe frac_at) (maybe exp_at) bytes
+tail_at bytes = piece_then (maybe frac_at) (maybe exp_at) bytes
 
 tail_any : (bytes : List ℕ) → AtLeast 0 (tail_at bytes)
 tail_any bytes =
@@ -367,7 +367,7 @@ tail_stops tail back is = by_frac is.frac is.exp is.parts is.is_frac is.is_exp
 -- ---- the whole
 
 abbrev body_at : Reader
-body_at bytes = joined int_at tail_at bytes
+body_at bytes = piece_then int_at tail_at bytes
 
 int_other : (b : ℕ) (digits back : List ℕ) → b ≢ 48 → int_at ((b ∷ digits) ++ back) ≡ digits_at ((b ∷ digits) ++ back)
 int_other b digits back n = cond-false _ _ _ (ne_eqb b 48 n)

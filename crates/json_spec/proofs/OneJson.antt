@@ -1,7 +1,7 @@
 -- One text has one outcome.
 use Rattle.std.proofs.Common.{refl, ap, arith, subst, sym, ◌∙◌}
 use Rattle.std.specs.Prelude.{◌≡◌, ℕ, List, [], ◌∷◌, IsUtf8, zero, suc, length, Result}
-use Rattle.json_spec.specs.Grammar.{Reading, after_space, ReadsName, name_text, no_name, name_ends, text_behind, colon_at, Fault, a_pair, Member, ReadsMember, member_value, member_name, MoreMembers, members_close, members_next, members_fault, members_other, members_end, ReadsMembers, no_member, first_member, member_fault, object_ends, MoreItems, items_close, items_next, items_fault, items_other, items_end, ReadsItems, no_item, first_item, item_fault, list_ends, as_text, as_list, as_object, ReadsWith, reads_text, reads_list, reads_object, reads_scalar, value_ends, IsTooDeep, Reads, ReadsJson, json_text, most_brackets, whole_text, with_offset}
+use Rattle.json_spec.specs.Grammar.{Reading, after_space, ReadsName, name_text, no_name, name_ends, text_behind, colon_at, Fault, a_pair, Member, ReadsMember, member_value, member_name, MoreMembers, members_close, members_next, members_fault, members_other, members_end, ReadsMembers, no_member, first_member, member_fault, object_ends, MoreItems, items_close, items_next, items_fault, items_other, items_end, ReadsItems, no_item, first_item, item_fault, list_ends, as_text, as_list, as_object, ReadsWith, reads_text, reads_list, reads_object, reads_scalar, value_ends, IsTooDeep, Reads, ReadsJson, json_text, most_depth, whole_text, with_offset}
 use Rattle.json_spec.specs.Laws.{OneJson}
 use Rattle.json_spec.specs.Strings.{ReadsText, close, plain, escape, no_escape, control, text_ends, ReadsString, in_utf8, no_utf8, no_string}
 use Rattle.json_spec.specs.Taken.{taken, Read, refused, behind_piece}
@@ -183,7 +183,7 @@ reads_one (suc depth) =
     with_one (λ bytes. items_one (reads_one depth) (after_space bytes)) (λ bytes. members_one (reads_one depth) (after_space bytes))
 
 json_one : {bytes : List ℕ} {a c : Result Json Fault} → ReadsJson bytes a → ReadsJson bytes c → a ≡ c
-json_one (json_text {bytes = bytes} p r) (json_text q s) = ap (λ out. with_offset (length bytes) (whole_text out)) (reads_one most_brackets _ _ _ r s)
+json_one (json_text {bytes = bytes} p r) (json_text q s) = ap (λ out. with_offset (length bytes) (whole_text out)) (reads_one most_depth _ _ _ r s)
 
 pub one_json : OneJson
 one_json bytes a c r s = json_one r s

@@ -6,7 +6,7 @@ use Rattle.std.proofs.lemmas.Bool.{eqb-true, eqb-false, ltb-true, ltb-false}
 use Rattle.std.proofs.lemmas.Str.{IsUtf8-from_is_utf8}
 use Rattle.std.specs.Prelude.{ℕ, Bool, true, false, List, [], ◌∷◌, nat_lt, ◌==◌, zero, suc, length, ◌≡◌, ◌≤◌, ◌≢◌, ◌<◌, if◌then◌else◌, Result}
 use Rattle.std.specs.Str.{is_utf8}
-use Rattle.json_spec.specs.Grammar.{Reading, after_space, fault_here, text_behind, colon_at, ReadsName, name_text, no_name, name_ends, Member, paired, a_pair, behind_member, behind_item, ReadsMember, member_value, member_name, MoreMembers, members_close, members_next, members_fault, members_other, members_end, ReadsMembers, no_member, first_member, member_fault, object_ends, MoreItems, items_close, items_next, items_fault, items_other, items_end, ReadsItems, no_item, first_item, item_fault, list_ends, scalar_at, as_object, as_list, as_text, TooDeep, ReadsWith, reads_text, reads_list, reads_object, reads_scalar, value_ends, IsTooDeep, Reads, Fault, most_brackets, whole_text, with_offset, ReadsJson, json_text}
+use Rattle.json_spec.specs.Grammar.{Reading, after_space, fault_here, text_behind, colon_at, ReadsName, name_text, no_name, name_ends, Member, paired, a_pair, behind_member, behind_item, ReadsMember, member_value, member_name, MoreMembers, members_close, members_next, members_fault, members_other, members_end, ReadsMembers, no_member, first_member, member_fault, object_ends, MoreItems, items_close, items_next, items_fault, items_other, items_end, ReadsItems, no_item, first_item, item_fault, list_ends, scalar_at, as_object, as_list, as_text, TooDeep, ReadsWith, reads_text, reads_list, reads_object, reads_scalar, value_ends, IsTooDeep, Reads, Fault, most_depth, whole_text, with_offset, ReadsJson, json_text}
 use Rattle.json_spec.specs.Strings.{escape_at, ReadsText, close, plain, escape, no_escape, control, text_ends, ReadsString, in_utf8, no_utf8, no_string}
 use Rattle.json_spec.specs.Taken.{refused, Read, behind_piece, and_then, taken}
 use Rattle.json_spec.specs.Value.{Json, Members, no_members, Items, no_items}
@@ -351,7 +351,7 @@ value_sound (suc depth) n =
     (inside n (ReadsMembers (Reads depth)) (read_members (read_member (λ xs. read_value depth n xs) n) n) (members_sound n (Reads depth) (read_member (λ xs. read_value depth n xs) n) (member_sound n (Reads depth) (λ xs. read_value depth n xs) (value_sound depth n))))
 
 abbrev pub read_json : List ℕ → Result Json Fault
-read_json bytes = with_offset (length bytes) (whole_text (read_value most_brackets (suc (length bytes)) (after_space bytes)))
+read_json bytes = with_offset (length bytes) (whole_text (read_value most_depth (suc (length bytes)) (after_space bytes)))
 
 pub json_sound : (bytes : List ℕ) → ReadsJson bytes (read_json bytes)
-json_sound bytes = let s = space_at_most bytes in json_text (read_value most_brackets (suc (length bytes)) (after_space bytes)) (value_sound most_brackets (suc (length bytes)) (after_space bytes) (omega arith)).0
+json_sound bytes = let s = space_at_most bytes in json_text (read_value most_depth (suc (length bytes)) (after_space bytes)) (value_sound most_depth (suc (length bytes)) (after_space bytes) (omega arith)).0

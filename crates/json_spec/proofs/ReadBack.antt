@@ -3,7 +3,7 @@ use Rattle.std.specs.Prelude.{ℕ, zero, suc, List, [], IsUtf8, ◌∷◌}
 use Rattle.json_spec.proofs.PrintedUtf8.{text_utf8}
 use Rattle.json_spec.proofs.TextBack.{text_back}
 use Rattle.json_spec.proofs.ValueBack.{text_reads}
-use Rattle.json_spec.specs.Grammar.{Reads, reads_text, json_text, most_brackets}
+use Rattle.json_spec.specs.Grammar.{Reads, reads_text, json_text, most_depth}
 use Rattle.json_spec.specs.Laws.{TextsReadBack, StringsReadBack, ValuesReadBack, PrintsUtf8}
 use Rattle.json_spec.specs.PrintedString.{quoted}
 use Rattle.json_spec.specs.Strings.{in_utf8}
@@ -18,10 +18,10 @@ string_reads zero text u = reads_text {out = taken text []} (in_utf8 (text_back 
 string_reads (suc depth) text u = reads_text {out = taken text []} (in_utf8 (text_back text []) u)
 
 pub strings_read_back : StringsReadBack
-strings_read_back text u = json_text (taken (a_text text) []) (string_reads most_brackets text u)
+strings_read_back text u = json_text (taken (a_text text) []) (string_reads most_depth text u)
 
 pub values_read_back : ValuesReadBack
-values_read_back v p = json_text (taken v (10 ∷ [])) (text_reads most_brackets v p)
+values_read_back v p = json_text (taken v (10 ∷ [])) (text_reads most_depth v p)
 
 pub prints_utf8 : PrintsUtf8
 prints_utf8 depth v p = text_utf8 depth v p

@@ -4,7 +4,7 @@ use Rattle.std.proofs.Common.{arith}
 use Rattle.std.proofs.lemmas.Bool.{cond_both}
 use Rattle.std.specs.Prelude.{ℕ, ◌≤◌, length, ⊤, ◌<◌, suc, List, Option, Some, None, zero, ◌+◌, ◌*◌, [], ◌∷◌, ◌==◌, Bool, true, false, cond, encode_utf8, codes}
 use Rattle.json_spec.specs.Grammar.{is_space, after_space, as_number, Reading, word_else, scalar_at}
-use Rattle.json_spec.specs.Numbers.{maybe, joined, one_of, after_digits, leading_digits, some_digits, digits_at, int_at, frac_at, exp_at, number_at}
+use Rattle.json_spec.specs.Numbers.{maybe, piece_then, one_of, after_digits, leading_digits, some_digits, digits_at, int_at, frac_at, exp_at, number_at}
 use Rattle.json_spec.specs.Strings.{taken_from, hex_value, hex_digits, behind, is_low_surrogate, pair_character, second_half, four_digits, is_high_surrogate, unicode_character, short_escape, escape_at}
 use Rattle.json_spec.specs.Taken.{Taken, taken, refused, and_then, Read, behind_piece, or_else}
 use Rattle.json_spec.specs.Value.{Json, a_null, a_bool}
@@ -108,16 +108,16 @@ keeps_maybe one k bytes = go (one bytes) (k bytes)
     go (taken x rest) l = l
     go (refused e) l = omega arith
 
-keeps_joined : (one another : List ℕ → Read (List ℕ)) → Keeps one → Keeps another → Keeps (joined one another)
+keeps_joined : (one another : List ℕ → Read (List ℕ)) → Keeps one → Keeps another → Keeps (piece_then one another)
 keeps_joined one another k l bytes =
     then_at_most (length bytes) (one bytes) (λ piece rest. behind_piece piece (another rest)) (k bytes) (λ piece rest m. piece_at_most _ piece (another rest) (more_room (length rest) _ (another rest) m (l rest)))
 
-takes_first : (one another : List ℕ → Read (List ℕ)) → Takes one → Keeps another → Takes (joined one another)
+takes_first : (one another : List ℕ → Read (List ℕ)) → Takes one → Keeps another → Takes (piece_then one another)
 takes_first one another t k bytes =
     then_below (length bytes) (one bytes) (λ piece rest. behind_piece piece (another rest)) (t bytes)
     (λ piece rest m. piece_below _ piece (another rest) (less_room (suc (length rest)) _ (another rest) m (below_next _ (another rest) (k rest))))
 
-takes_second : (one another : List ℕ → Read (List ℕ)) → Keeps one → Takes another → Takes (joined one another)
+takes_second : (one another : List ℕ → Read (List ℕ)) → Keeps one → Takes another → Takes (piece_then one another)
 takes_second one another k t bytes = go (one bytes) (k bytes)
   where
     go : (out : Read (List ℕ)) → AtMost (length bytes) out → Below (length bytes) (and_then out (λ piece rest. behind_piece piece (another rest)))

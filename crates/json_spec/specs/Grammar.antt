@@ -3,7 +3,7 @@
 --     Reads depth bytes out      the same of one value at the front of the bytes, in which depth brackets may be
 --         open at once
 --     ReadsMembers, ReadsItems      the same of the members of an object and the values of a list
---     most_brackets      how many brackets may be open at once
+--     most_depth      how many brackets may be open at once
 -- A fault's place is counted from the end while the text is read, and is turned into an offset once, in `ReadsJson`.
 use Rattle.std.specs.Prelude.{ℕ, Bool, ◌||◌, ◌==◌, List, [], ◌∷◌, if◌then◌else◌, length, Option, Some, None, true}
 use Rattle.std.specs.Prelude.{false, codes, suc, ◌≢◌, ◌≡◌, zero, Result, Ok, Err, ◌-◌}
@@ -16,7 +16,7 @@ use Rattle.json_spec.specs.Value.{Json, a_number, a_null, a_bool, Members, a_mem
 use Rattle.json_spec.specs.Value.{no_items, a_text, a_list, an_object, settled}
 
 -- own: what ends the reading of a text, and its place. `NotJson`: nothing is left there, or what comes is no token, or
--- one that the grammar hasn't at that point. `TooDeep`: a `[` or `{` that the grammar has there, while `most_brackets`
+-- one that the grammar hasn't at that point. `TooDeep`: a `[` or `{` that the grammar has there, while `most_depth`
 -- others are open
 pub data Fault : Type 0 where
   NotJson : ℕ → Fault
@@ -174,8 +174,8 @@ Reads (suc depth) =
     (λ bytes. ReadsMembers (Reads depth) (after_space bytes))
 
 -- own: how many brackets may be open at once
-unfoldable pub most_brackets : ℕ
-most_brackets = limit_number Depth
+unfoldable pub most_depth : ℕ
+most_depth = limit_number Depth
 
 -- RFC 8259, 2: nothing but white space stands behind the value
 abbrev pub alone : Json → List ℕ → Result Json Fault
@@ -198,5 +198,5 @@ with_offset n (Err fault) = Err (offset_in n fault)
 -- RFC 8259, 2 and 8.1: a JSON text. No token but a string has a byte past U+007F, so strings alone ask for UTF-8
 pub data ReadsJson : List ℕ → Result Json Fault → Type 0 where
   json_text :
-      {bytes : List ℕ} (out : Reading Json) → Reads most_brackets (after_space bytes) out
+      {bytes : List ℕ} (out : Reading Json) → Reads most_depth (after_space bytes) out
       → ReadsJson bytes (with_offset (length bytes) (whole_text out))

@@ -1,7 +1,7 @@
 -- The laws of JSON texts and of their printed form. Each is the contract of a function of this crate.
 use Rattle.std.specs.Prelude.{◌≡◌, ◌≤◌, ◌==◌, ℕ, true, false, not, List, ◌∷◌, ◌++◌, length, filter, Result, IfOk, Ok, IsUtf8, All}
 use Rattle.std.specs.List.Sorted.{IsPermutation, IsNonDecreasingBy}
-use Rattle.json_spec.specs.Grammar.{Fault, ReadsJson, most_brackets}
+use Rattle.json_spec.specs.Grammar.{Fault, ReadsJson, most_depth}
 use Rattle.json_spec.specs.Numbers.{IsNumber, number_at}
 use Rattle.json_spec.specs.PropertyOrder.{Pair, pairs_of, is_array_index, number_of, index_members, other_members}
 use Rattle.json_spec.specs.PropertyOrder.{in_property_order}
@@ -55,7 +55,7 @@ StringsReadBack = (text : List ℕ) → IsUtf8 text → ReadsJson (quoted text) 
 
 -- own law: the printed text of a printable value has that value
 abbrev pub ValuesReadBack : Type 0
-ValuesReadBack = (v : Json) → IsPrintable most_brackets v → ReadsJson (printed_text v) (Ok v)
+ValuesReadBack = (v : Json) → IsPrintable most_depth v → ReadsJson (printed_text v) (Ok v)
 
 -- own law: the printed text of a printable value is UTF-8
 abbrev pub PrintsUtf8 : Type 0

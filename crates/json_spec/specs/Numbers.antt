@@ -68,8 +68,8 @@ abbrev pub digits_at : List ℕ → Read (List ℕ)
 digits_at bytes = some_digits (leading_digits bytes) (after_digits bytes)
 
 -- one piece and then another, and a piece that may be missing
-abbrev pub joined : (List ℕ → Read (List ℕ)) → (List ℕ → Read (List ℕ)) → List ℕ → Read (List ℕ)
-joined one another bytes = and_then (one bytes) (λ piece rest. behind_piece piece (another rest))
+abbrev pub piece_then : (List ℕ → Read (List ℕ)) → (List ℕ → Read (List ℕ)) → List ℕ → Read (List ℕ)
+piece_then one another bytes = and_then (one bytes) (λ piece rest. behind_piece piece (another rest))
 
 abbrev pub maybe : (List ℕ → Read (List ℕ)) → List ℕ → Read (List ℕ)
 maybe one bytes = or_else (one bytes) (taken [] bytes)
@@ -84,11 +84,13 @@ int_at [] = refused tt
 int_at (b ∷ bytes) = if b == 48 then taken (b ∷ []) bytes else digits_at (b ∷ bytes)
 
 abbrev pub frac_at : List ℕ → Read (List ℕ)
-frac_at bytes = joined (one_of (λ b. b == 46)) digits_at bytes
+frac_at bytes = piece_then (one_of (λ b. b == 46)) digits_at bytes
 
 abbrev pub exp_at : List ℕ → Read (List ℕ)
 exp_at bytes =
-    joined (one_of (λ b. b == 101 || b == 69)) (joined (maybe (one_of (λ b. b == 43 || b == 45))) digits_at) bytes
+    piece_then (one_of (λ b. b == 101 || b == 69))
+    (piece_then (maybe (one_of (λ b. b == 43 || b == 45))) digits_at) bytes
 
 abbrev pub number_at : List ℕ → Read (List ℕ)
-number_at bytes = joined (maybe (one_of (λ b. b == 45))) (joined int_at (joined (maybe frac_at) (maybe exp_at))) bytes
+number_at bytes =
+    piece_then (maybe (one_of (λ b. b == 45))) (piece_then int_at (piece_then (maybe frac_at) (maybe exp_at))) bytes

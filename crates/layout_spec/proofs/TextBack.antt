@@ -7,7 +7,7 @@ use Rattle.std.specs.Prelude.{ℕ, List, Option, Some, None, [], ◌∷◌, suc,
 use Rattle.json_spec.proofs.NoMarkup.{prints_no_markup}
 use Rattle.json_spec.proofs.PrintedUtf8.{text_utf8}
 use Rattle.json_spec.proofs.ReadBack.{values_read_back}
-use Rattle.json_spec.specs.Grammar.{most_brackets}
+use Rattle.json_spec.specs.Grammar.{most_depth}
 use Rattle.json_spec.specs.PrintedValue.{IsPrintable, MembersArePrintable}
 use Rattle.json_spec.specs.Value.{a_text, Members, no_members, a_member, IsNewName, AreDistinct}
 use Rattle.import_map_spec.proofs.Entries.{AllEntries, all_entries}
@@ -68,8 +68,8 @@ map_printable depth base m k =
     let scopes_part = printable_part (suc depth) (codes "scopes") scopes last names_utf8.1 (distinct_members addresses_value m.scopes) (scopes_printable depth base (entries m.scopes) (all_entries (IsKeptScope base) m.scopes k.scopes)) last_printable in
     ((new_imports, distinct), (names_utf8.0, value_printable (suc depth) base m.imports k.imports, scopes_part))
 
-within_limit : (base : List ℕ) (m : ParsedMap) → IsKept base m → IsPrintable most_brackets (map_value m)
-unfolding most_brackets
+within_limit : (base : List ℕ) (m : ParsedMap) → IsKept base m → IsPrintable most_depth (map_value m)
+unfolding most_depth
 within_limit base m k = map_printable 125 base m k
 
 pub texts_read_back : TextsReadBack
@@ -80,4 +80,4 @@ pub texts_are_plain : TextsArePlain
 unfolding map_text
 texts_are_plain base m k =
     let printable = within_limit base m k in
-    (text_utf8 most_brackets (map_value m) printable, prints_no_markup most_brackets (map_value m) printable)
+    (text_utf8 most_depth (map_value m) printable, prints_no_markup most_depth (map_value m) printable)

@@ -11,7 +11,7 @@ use Rattle.std.proofs.lemmas.List.Elements.{All-head, All-tail}
 use Rattle.scope_builder.specs.Keys.{InKeyOrder}
 use Rattle.scope_builder.proofs.KeyOrder.{sorted, entries_of, same_keys}
 use Rattle.scope_builder.specs.Lists.{scope_entries, scope_entry}
-use Rattle.map_flatten.specs.Grouped.{Scope, addresses_of, scope_of, listed_scope}
+use Rattle.map_flatten.specs.Grouped.{Scope, addresses_of, grouped_scope, listed_scope}
 use Rattle.map_flatten.proofs.Updates.{mapped}
 
 pub entries_mapped : {X Y : Type 0} (f : X → Y) (es : List (List ℕ × X)) → InKeyOrder es → entries (from_entries {R = slice_cmp nat_cmp} (mapped f es)) ≡ mapped f es
@@ -22,7 +22,7 @@ entries_mapped f es h =
     (λ q. get-from_entries nat_list_cmp_total (mapped f es) q ∙ sym (get-from_sorted (slice_cmp nat_cmp) (mapped f es) q (subst T (sym (sorted (mapped f es) order)) tt))))
     ∙ entries_of (mapped f es) order
 
-pub scopes_listed : (es : List (List ℕ × Scope)) → All (λ scope. InKeyOrder scope.1) (map listed_scope es) → map scope_entries (map scope_of es) ≡ map scope_entry (map listed_scope es)
+pub scopes_listed : (es : List (List ℕ × Scope)) → All (λ scope. InKeyOrder scope.1) (map listed_scope es) → map scope_entries (map grouped_scope es) ≡ map scope_entry (map listed_scope es)
 scopes_listed [] each = refl
 scopes_listed (e ∷ es) each =
     let here : InKeyOrder e.1.entries = All-head (λ (scope : List ℕ × List (List ℕ × List ℕ)). InKeyOrder scope.1) (listed_scope e) (map listed_scope es) each in

@@ -51,7 +51,7 @@ at_scope [] asked target imports scopes after some put = absurd (some refl)
 at_scope (b ∷ rest) asked target imports scopes after some put = λ i. record { imports = addresses imports; scopes = put i; integrity = empty }
 
 pub nothing_yet : (imports : Scope) (scopes : BTreeMap (List ℕ) Scope) → imports.entries ≡ [] → scopes.entries ≡ [] → made_of (addresses imports) scopes ≡ nothing_mapped
-nothing_yet imports scopes none no_scope = λ i. record { imports = addresses_of (none i); scopes = from_entries (map grouped.scope_of (no_scope i)); integrity = empty }
+nothing_yet imports scopes none no_scope = λ i. record { imports = addresses_of (none i); scopes = from_entries (map grouped.grouped_scope (no_scope i)); integrity = empty }
 
 -- ---- the lists
 

@@ -11,7 +11,7 @@ use Rattle.module_spec.specs.declared.token.LexKind.{LexKind}
 use Rattle.module_spec.specs.declared.token.LexKind.TheVariants.{Unreadable}
 use Rattle.module_spec.specs.Sorts.{opens, closes}
 use Rattle.module_spec.specs.Characters.{space_size, is_name_byte, begins_digit, begins_name, name_size, passed}
-use Rattle.module_spec.specs.Spellings.{hashbang_rest, line_rest, comment_rest, slash_rest, blank_rest, number_size, begins_sign, begins_number, has_base_letter, text_size, closed_rest, text_rest, begins_substitution, template_size, part_rest, template_rest, regex_body_rest, begins, first_of, punctuators, punctuator, is_question_before_number}
+use Rattle.module_spec.specs.Spellings.{hashbang_rest, line_rest, comment_rest, slash_rest, blank_rest, number_size, begins_sign, begins_number, has_base_letter, text_size, closed_rest, text_rest, begins_substitution, template_size, part_rest, template_rest, regex_body_rest, begins_with, first_of, punctuators, punctuator, is_question_before_number}
 use Rattle.module_spec.specs.Tokens.{Piece, as_piece, first_part, later_part, regex_piece, punctuator_piece, slash_piece, private_piece, piece, Lexeme, Next, next_from, next_at, unless_refused, refusal, Skips, IsNext, is_template, opener, depth}
 use Rattle.module_spec.specs.Tokens.Next.{Ends, Faults, Gives}
 use Rattle.module_spec.specs.Tokens.Skips.{stop, more}
@@ -187,7 +187,7 @@ row_takes (b ∷ text) mark e = a_mark
 
 table_takes : (table : List (List ℕ × Mark)) (bytes : List ℕ) → all_spelled table ≡ true → TakesSome (first_of table bytes)
 table_takes [] bytes e = no_mark
-table_takes (row ∷ table) bytes e = let parts = and_parts (is_spelled row.0) (all_spelled table) e in if_mark (begins row.0 bytes) (row_takes row.0 row.1 parts.0) (table_takes table bytes parts.1)
+table_takes (row ∷ table) bytes e = let parts = and_parts (is_spelled row.0) (all_spelled table) e in if_mark (begins_with row.0 bytes) (row_takes row.0 row.1 parts.0) (table_takes table bytes parts.1)
 
 mark_takes : (bytes : List ℕ) → TakesSome (punctuator bytes)
 mark_takes bytes = if_mark (is_question_before_number bytes) a_mark (table_takes punctuators bytes refl)

@@ -7,7 +7,7 @@ use Rattle.module_spec.specs.declared.token.Mark.{Mark}
 use Rattle.module_spec.specs.declared.token.Sort.{Sort}
 use Rattle.module_spec.specs.declared.token.Sort.TheVariants.{Text}
 use Rattle.module_spec.specs.Characters.{character_size, code_point, is_wide_line_end, is_wide_space, is_ascii_space, begins_line_end, space_size, is_hex_digit, hex_digits, braced_size, unicode_size, escape_size, is_name_byte, name_size, passed, begins_name, begins_digit}
-use Rattle.module_spec.specs.Spellings.{hashbang_rest, line_rest, comment_rest, slash_rest, blank_rest, number_size, begins_sign, begins_number, has_base_letter, text_size, closed_rest, text_rest, begins_substitution, template_size, part_rest, template_rest, regex_body_rest, begins, first_of, punctuators, punctuator, is_question_before_number}
+use Rattle.module_spec.specs.Spellings.{hashbang_rest, line_rest, comment_rest, slash_rest, blank_rest, number_size, begins_sign, begins_number, has_base_letter, text_size, closed_rest, text_rest, begins_substitution, template_size, part_rest, template_rest, regex_body_rest, begins_with, first_of, punctuators, punctuator, is_question_before_number}
 use Rattle.module_spec.specs.Tokens.{Piece, as_piece, first_part, later_part, regex_piece, punctuator_piece, slash_piece, private_piece, piece, Skips}
 use Rattle.module_spec.specs.Tokens.Skips.{stop, more}
 
@@ -136,7 +136,7 @@ line_end_lead : (b : ℕ) (rest : List ℕ) → 128 ≤ b → is_wide_line_end (
 line_end_lead b rest l e = ge_or b 224 (λ m. absurd (line_end_size b rest l m e)) (λ m. omega arith)
 
 -- behind two bytes of ASCII that stand at the front
-two_tail : {n : ℕ} (b k l : ℕ) (rest : List ℕ) → k < 128 → l < 128 → (b == k && begins (l ∷ []) rest) ≡ true → Tail n (b ∷ rest) → Tail 0 (drop 1 rest)
+two_tail : {n : ℕ} (b k l : ℕ) (rest : List ℕ) → k < 128 → l < 128 → (b == k && begins_with (l ∷ []) rest) ≡ true → Tail n (b ∷ rest) → Tail 0 (drop 1 rest)
 two_tail b k l [] below small e t = done
 two_tail b k l (c ∷ rest) below small e t =
     let parts = and_parts (b == k) (l == c && true) e in
@@ -147,7 +147,7 @@ comment_bounds : (n : ℕ) (bytes : List ℕ) → Tail n bytes → Bounds (comme
 comment_bounds n [] t = nothing
 comment_bounds n (b ∷ rest) t =
     let more = at_any t in
-    if_bounds (b == 42 && begins (codes "/") rest) (λ e. something (two_tail b 42 47 rest (omega arith) (omega arith) e t)) (comment_bounds more.left rest more.rest)
+    if_bounds (b == 42 && begins_with (codes "/") rest) (λ e. something (two_tail b 42 47 rest (omega arith) (omega arith) e t)) (comment_bounds more.left rest more.rest)
 
 if_any : (c : Bool) {x y : List ℕ} → Any x → Any y → Any (if c then x else y)
 if_any true a b = a
@@ -322,12 +322,12 @@ abbrev table_low : List (List ℕ × Mark) → Bool
 table_low [] = true
 table_low (row ∷ table) = all_low row.0 && table_low table
 
-begun_tail : (text bytes : List ℕ) → all_low text ≡ true → begins text bytes ≡ true → Tail 0 bytes → Tail 0 (drop (length text) bytes)
+begun_tail : (text bytes : List ℕ) → all_low text ≡ true → begins_with text bytes ≡ true → Tail 0 bytes → Tail 0 (drop (length text) bytes)
 begun_tail [] bytes a e t = t
 begun_tail (f ∷ text) [] a e t = t
 begun_tail (f ∷ text) (b ∷ bytes) a e t =
     let lows = and_parts (nat_lt f 128) (all_low text) a in
-    let parts = and_parts (f == b) (begins text bytes) e in
+    let parts = and_parts (f == b) (begins_with text bytes) e in
     begun_tail text bytes lows.1 parts.1 (past_low (let g = eqb-true f b parts.0 in let h = ltb-true f 128 lows.0 in omega arith) t)
 
 -- the bytes behind a mark
@@ -343,15 +343,15 @@ table_bounds : (table : List (List ℕ × Mark)) (bytes : List ℕ) → table_lo
 table_bounds [] bytes a t = no_mark
 table_bounds (row ∷ table) bytes a t =
     let lows = and_parts (all_low row.0) (table_low table) a in
-    if_mark (begins row.0 bytes) bytes (λ e. a_mark (begun_tail row.0 bytes lows.0 e t)) (table_bounds table bytes lows.1 t)
+    if_mark (begins_with row.0 bytes) bytes (λ e. a_mark (begun_tail row.0 bytes lows.0 e t)) (table_bounds table bytes lows.1 t)
 
-question_tail : (bytes : List ℕ) → begins (codes "?.") bytes ≡ true → Tail 0 bytes → Tail 0 (drop 1 bytes)
+question_tail : (bytes : List ℕ) → begins_with (codes "?.") bytes ≡ true → Tail 0 bytes → Tail 0 (drop 1 bytes)
 question_tail [] e t = t
-question_tail (b ∷ bytes) e t = past_low (let f = eqb-true 63 b (and_parts (63 == b) (begins (codes ".") bytes) e).0 in omega arith) t
+question_tail (b ∷ bytes) e t = past_low (let f = eqb-true 63 b (and_parts (63 == b) (begins_with (codes ".") bytes) e).0 in omega arith) t
 
 mark_bounds : (bytes : List ℕ) → Tail 0 bytes → MarkBounds bytes (punctuator bytes)
 mark_bounds bytes t =
-    if_mark (is_question_before_number bytes) bytes (λ e. a_mark (question_tail bytes (and_parts (begins (codes "?.") bytes) (begins_digit (drop 2 bytes)) e).0 t)) (table_bounds punctuators bytes refl t)
+    if_mark (is_question_before_number bytes) bytes (λ e. a_mark (question_tail bytes (and_parts (begins_with (codes "?.") bytes) (begins_digit (drop 2 bytes)) e).0 t)) (table_bounds punctuators bytes refl t)
 
 -- ---- tokens
 

@@ -7,10 +7,10 @@ use Rattle.module_spec.specs.declared.token.Mark.TheVariants.{OpenRound, OpenSqu
 use Rattle.module_spec.specs.Characters.{begins_line_end, space_size, begins_digit, name_size, passed}
 
 -- the first text stands at the front of the second one
-abbrev pub begins : List ℕ → List ℕ → Bool
-begins [] bytes = true
-begins (f ∷ front) [] = false
-begins (f ∷ front) (b ∷ bytes) = f == b && begins front bytes
+abbrev pub begins_with : List ℕ → List ℕ → Bool
+begins_with [] bytes = true
+begins_with (f ∷ front) [] = false
+begins_with (f ∷ front) (b ∷ bytes) = f == b && begins_with front bytes
 
 -- ECMA-262, 12.4: a comment to the end of its line, before the line end
 abbrev pub line_rest : List ℕ → List ℕ
@@ -20,7 +20,7 @@ line_rest (b ∷ rest) = if begins_line_end (b ∷ rest) then b ∷ rest else li
 -- ECMA-262, 12.4: to behind the next `*/`
 abbrev pub comment_rest : List ℕ → Option (List ℕ)
 comment_rest [] = None
-comment_rest (b ∷ rest) = if b == 42 && begins (codes "/") rest then Some (drop 1 rest) else comment_rest rest
+comment_rest (b ∷ rest) = if b == 42 && begins_with (codes "/") rest then Some (drop 1 rest) else comment_rest rest
 
 -- ECMA-262, 12.4: what stands behind the first `/`
 abbrev pub slash_rest : List ℕ → Option (List ℕ)
@@ -78,7 +78,7 @@ abbrev pub text_size : ℕ → List ℕ → ℕ
 text_size quote [] = 0
 text_size quote (b ∷ rest) =
     if b == quote || b == 10 || b == 13 then 0
-    else if b == 92 then (if begins (13 ∷ 10 ∷ []) rest then 3 else 2)
+    else if b == 92 then (if begins_with (13 ∷ 10 ∷ []) rest then 3 else 2)
     else 1
 
 -- behind the quote, where it stands at the front
@@ -93,7 +93,7 @@ text_rest quote bytes = closed_rest quote (passed (λ more. text_size quote more
 -- ECMA-262, 12.9.6: `${` stands at the front
 abbrev pub begins_substitution : List ℕ → Bool
 begins_substitution [] = false
-begins_substitution (b ∷ rest) = b == 36 && begins (codes "{") rest
+begins_substitution (b ∷ rest) = b == 36 && begins_with (codes "{") rest
 
 -- ECMA-262, 12.9.6: how many bytes a part of a template takes next: none at a backquote and at `${`. A `\` is taken
 -- with what stands behind it.
@@ -151,11 +151,11 @@ punctuators =
 -- the first text of a table that begins the bytes: its mark and length
 abbrev pub first_of : List (List ℕ × Mark) → List ℕ → Option (Mark × ℕ)
 first_of [] bytes = None
-first_of (row ∷ table) bytes = if begins row.0 bytes then Some (row.1, length row.0) else first_of table bytes
+first_of (row ∷ table) bytes = if begins_with row.0 bytes then Some (row.1, length row.0) else first_of table bytes
 
 -- ECMA-262, 12.8: `?.` is no punctuator before a digit
 abbrev pub is_question_before_number : List ℕ → Bool
-is_question_before_number bytes = begins (codes "?.") bytes && begins_digit (drop 2 bytes)
+is_question_before_number bytes = begins_with (codes "?.") bytes && begins_digit (drop 2 bytes)
 
 abbrev pub punctuator : List ℕ → Option (Mark × ℕ)
 punctuator bytes = if is_question_before_number bytes then Some (Operator, 1) else first_of punctuators bytes

@@ -20,7 +20,7 @@ use Rattle.node_spec.specs.LegacyMainResolve.{serves}
 use Rattle.node_spec.specs.NodeAnswers.{Module, Refusal, by_cause, refuses, as_node}
 use Rattle.node_spec.specs.Resolution as node
 use Rattle.node_spec.specs.Resolution.{is_folder_path}
-use Rattle.node_spec.specs.RelativeResolution.{named_path, judged, judged_at}
+use Rattle.node_spec.specs.RelativeResolution.{named_path, entry_judged, judged_at}
 use Rattle.node_spec.specs.declared.Cause.TheVariants.{InvalidSpecifier, NotFound}
 use Rattle.node_spec.proofs.RelativeLemmas.{names_pass}
 use Rattle.package_lookup.specs.Answered.{State, Answered}
@@ -50,7 +50,7 @@ named_none url no_separator none =
 
 same_judged : (url path : List ℕ) (folder_only : Bool) (suffix : List ℕ) → folder_only ≡ is_folder_path (url_path url)
     → suffix ≡ suffix_of url → (found : Option Entry)
-    → judged url path found ≡ judged_there path folder_only suffix found
+    → entry_judged url path found ≡ judged_there path folder_only suffix found
 same_judged url path folder_only suffix slash tail None = refl
 same_judged url path folder_only suffix slash tail (Some Directory) = refl
 same_judged url path folder_only suffix slash tail (Some (Stored bytes)) =

@@ -19,7 +19,7 @@ use Rattle.node_spec.specs.FileLooks.{without_host, check_url}
 use Rattle.node_spec.specs.NodeAnswers.{Module, Refusal, Resolving, as_node}
 use Rattle.node_spec.specs.NodeLaws.{OneNode, SomeNode, GivesFile, SameNode, SameFormat, RelativeNode}
 use Rattle.node_spec.specs.RelativeResolution.{judged_at, url_judged, named_path, joined_judged, relative_resolution}
-use Rattle.node_spec.specs.RelativeResolution.{judged as judged_there}
+use Rattle.node_spec.specs.RelativeResolution.{entry_judged}
 use Rattle.node_spec.specs.Resolution.{Answer, Resolved, Refused, is_folder_path, joined_url}
 use Rattle.node_spec.specs.declared.Cause.TheVariants.{InvalidSpecifier, NotFound}
 use Rattle.std.specs.FinMap.{get}
@@ -99,7 +99,7 @@ record IsFileAt (sights : Sights) (looks : List (List ℕ)) (path : List ℕ) : 
   stored : sights path ≡ Some (Stored bytes)
 
 by_entry : (sights : Sights) (url path : List ℕ) (found : Option Entry) (answer : Module) → sights path ≡ found
-    → as_node (judged_there url path found) ≡ Ok answer → IsFileAt sights (path ∷ []) answer.path
+    → as_node (entry_judged url path found) ≡ Ok answer → IsFileAt sights (path ∷ []) answer.path
 by_entry sights url path None answer s e = absurd (cc)
 by_entry sights url path (Some Directory) answer s e = absurd (cc)
 by_entry sights url path (Some (Stored bytes)) answer s e =

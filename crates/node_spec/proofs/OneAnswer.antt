@@ -8,7 +8,7 @@ use Rattle.node_spec.specs.Laws.{OneAnswer}
 use Rattle.node_spec.specs.Resolution.{Answer, Judges, Joins}
 use Rattle.node_spec.specs.Resolution.Joins.{no_url, other_host, joined}
 use Rattle.node_spec.specs.Resolution.Judges.{separator, folder, nameless, absent, no_folder, file}
-use Rattle.node_spec.specs.Resolution.Resolves.{relative}
+use Rattle.node_spec.specs.Resolution.ResolvesRelative.{relative}
 
 -- a file URL names one path
 same_path : (url path other : List ℕ) → NamesPath (url_path url) path → NamesPath (url_path url) other → path ≡ other

@@ -11,11 +11,11 @@ use Rattle.url_spec.specs.FileUrls.{names_host, url_path, escapes_separator, spe
 use Rattle.url_spec.specs.Specifiers.{is_relative}
 use Rattle.url_spec.specs.Suffixes.{suffix_of}
 use Rattle.node_spec.specs.declared.Cause.TheVariants.{InvalidSpecifier, NotFound}
-use Rattle.node_spec.specs.Resolution.{Resolved, Refused, is_folder_path, joined_url, Judges, Joins, Resolves}
+use Rattle.node_spec.specs.Resolution.{Resolved, Refused, is_folder_path, joined_url, Judges, Joins, ResolvesRelative}
 use Rattle.node_spec.specs.Resolution.Judges.{separator, folder, nameless, absent, no_folder, file}
 use Rattle.node_spec.specs.Resolution.Joins.{no_url, other_host, joined}
-use Rattle.node_spec.specs.Resolution.Resolves.{relative}
-use Rattle.node_spec.specs.RelativeResolution.{named_path, judged, judged_at, url_judged, joined_judged, relative_resolution}
+use Rattle.node_spec.specs.Resolution.ResolvesRelative.{relative}
+use Rattle.node_spec.specs.RelativeResolution.{named_path, entry_judged, judged_at, url_judged, joined_judged, relative_resolution}
 use Rattle.url_spec.specs.PathTests.{is_path}
 use Rattle.url_spec.proofs.PathDecisions.{path_by_test, test_by_path}
 use Rattle.tree_spec.specs.Paths.{IsPath}
@@ -31,7 +31,7 @@ names_pass text path names =
     ap (λ b. b && is_path (spelled_path text)) utf8 ∙ path
 
 module _ (tree : Tree) where
-  by_entry : (url path : List ℕ) → NamesPath (url_path url) path → (found : Option Entry) → get tree path ≡ found → (slash : Bool) → is_folder_path (url_path url) ≡ slash → Judges tree url (judged url path found)
+  by_entry : (url path : List ℕ) → NamesPath (url_path url) path → (found : Option Entry) → get tree path ≡ found → (slash : Bool) → is_folder_path (url_path url) ≡ slash → Judges tree url (entry_judged url path found)
   by_entry url path names None e slash s = absent path names e
   by_entry url path names (Some Directory) e slash s = folder path names e
   by_entry url path names (Some (Stored bytes)) e true s = subst (Judges tree url) (sym (cond-true _ (Refused NotFound) (Resolved path (suffix_of url)) s)) (no_folder path bytes names e s)
@@ -62,5 +62,5 @@ module _ (tree : Tree) where
   by_url parent specifier None e = no_url e
   by_url parent specifier (Some url) e = by_host parent specifier url e (names_host url) refl
 
-pub finds_relative : (tree : Tree) (parent specifier : List ℕ) → is_relative specifier ≡ true → Resolves tree parent specifier (outcome (get tree) (relative_resolution parent specifier))
+pub finds_relative : (tree : Tree) (parent specifier : List ℕ) → is_relative specifier ≡ true → ResolvesRelative tree parent specifier (outcome (get tree) (relative_resolution parent specifier))
 finds_relative tree parent specifier r = relative (outcome (get tree) (relative_resolution parent specifier)) r (by_url tree parent specifier (joined_url parent specifier) refl)

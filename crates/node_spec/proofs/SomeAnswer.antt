@@ -17,7 +17,7 @@ use Rattle.node_spec.specs.Laws.{SomeAnswer}
 use Rattle.node_spec.specs.Resolution.{Answer, Judges, Resolved, Refused, is_folder_path, joined_url, Joins}
 use Rattle.node_spec.specs.Resolution.Joins.{other_host, joined, no_url}
 use Rattle.node_spec.specs.Resolution.Judges.{folder, absent, no_folder, file, nameless, separator}
-use Rattle.node_spec.specs.Resolution.Resolves.{relative}
+use Rattle.node_spec.specs.Resolution.ResolvesRelative.{relative}
 use Rattle.node_spec.specs.declared.Cause.TheVariants.{NotFound, DirectoryImport, InvalidSpecifier}
 
 abbrev Judged : Tree → List ℕ → Type 0

@@ -15,7 +15,7 @@ use Rattle.node_spec.specs.BareCalls.{IsDecided, Alike, IsSame, answers_of, Tell
 use Rattle.node_spec.specs.PackageTargets.{Rules, Call, ResolvesTarget, Answers, ResolvesUnder}
 use Rattle.node_spec.specs.PatternKeys.{IsPattern, FitsPattern, KeyMatch, PatternMatch, Matches, Precedes, IsChoice, MatchesNone}
 use Rattle.node_spec.specs.Records.{Record, RecordFault, ReadsRecord}
-use Rattle.node_spec.specs.Resolution.{Answer, Resolves}
+use Rattle.node_spec.specs.Resolution.{Answer, ResolvesRelative}
 use Rattle.node_spec.specs.declared.BareAnswer.{BareAnswer}
 use Rattle.node_spec.specs.declared.Outcome.{Outcome}
 use Rattle.node_spec.specs.declared.Outcome.TheVariants.{Undefined, Null, Place, Bare, Stopped, InvalidTarget, InvalidSpecifier, InvalidConfig}
@@ -23,14 +23,14 @@ use Rattle.node_spec.specs.declared.Outcome.TheVariants.{Undefined, Null, Place,
 -- own law: a specifier in a file of a tree has one answer at most
 abbrev pub OneAnswer : Type 0
 OneAnswer =
-    (tree : Tree) (parent specifier : List ℕ) (some other : Answer) → Resolves tree parent specifier some
-    → Resolves tree parent specifier other → some ≡ other
+    (tree : Tree) (parent specifier : List ℕ) (some other : Answer) → ResolvesRelative tree parent specifier some
+    → ResolvesRelative tree parent specifier other → some ≡ other
 
 -- own law: in each tree a relative specifier has an answer
 abbrev pub SomeAnswer : Type 0
 SomeAnswer =
     (tree : Tree) (parent specifier : List ℕ) → is_relative specifier ≡ true
-    → (answer : Answer) × Resolves tree parent specifier answer
+    → (answer : Answer) × ResolvesRelative tree parent specifier answer
 
 -- own law: the bytes of a package.json have one record, or one reason for having none
 abbrev pub OneRecord : Type 0

@@ -15,7 +15,7 @@ use Rattle.url_spec.specs.PathTests.{is_path}
 use Rattle.url_spec.specs.Specifiers.{is_relative}
 use Rattle.url_spec.specs.Suffixes.{suffix_of}
 use Rattle.node_spec.specs.declared.Cause.TheVariants.{InvalidSpecifier, NotFound, DirectoryImport}
-use Rattle.node_spec.specs.Resolution.{Answer, Resolved, Refused, is_folder_path, joined_url, Resolves}
+use Rattle.node_spec.specs.Resolution.{Answer, Resolved, Refused, is_folder_path, joined_url, ResolvesRelative}
 
 -- the path, where the spelled bytes are one
 abbrev pub as_path : List ℕ → Option (List ℕ)
@@ -25,16 +25,16 @@ abbrev pub named_path : List ℕ → Option (List ℕ)
 named_path url = as_path (spelled_path (url_path url))
 
 -- by what stands at the path that the URL names
-abbrev pub judged : List ℕ → List ℕ → Option Entry → Answer
-judged url path None = Refused NotFound
-judged url path (Some Directory) = Refused DirectoryImport
-judged url path (Some (Stored bytes)) =
+abbrev pub entry_judged : List ℕ → List ℕ → Option Entry → Answer
+entry_judged url path None = Refused NotFound
+entry_judged url path (Some Directory) = Refused DirectoryImport
+entry_judged url path (Some (Stored bytes)) =
     if is_folder_path (url_path url) then Refused NotFound else Resolved path (suffix_of url)
 
 -- own: where the URL's path names no path, nothing stands there
 abbrev pub judged_at : List ℕ → Option (List ℕ) → LookAsking Answer
 judged_at url None = answered (Refused NotFound)
-judged_at url (Some path) = ask path (λ found. answered (judged url path found))
+judged_at url (Some path) = ask path (λ found. answered (entry_judged url path found))
 
 abbrev pub url_judged : List ℕ → LookAsking Answer
 url_judged url =
@@ -52,4 +52,4 @@ relative_resolution parent specifier = joined_judged (joined_url parent specifie
 abbrev pub FindsRelative : Type 0
 FindsRelative =
     (tree : Tree) (parent specifier : List ℕ) → is_relative specifier ≡ true
-    → Resolves tree parent specifier (outcome (get tree) (relative_resolution parent specifier))
+    → ResolvesRelative tree parent specifier (outcome (get tree) (relative_resolution parent specifier))

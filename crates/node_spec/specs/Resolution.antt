@@ -1,5 +1,5 @@
 -- Node's resolution of a relative specifier in a parent file (Node.js, ECMAScript modules: resolution algorithm).
---     Resolves tree parent specifier answer      the answer for a specifier in the file at the path `parent`
+--     ResolvesRelative tree parent specifier answer      the answer for a specifier in the file at the path `parent`
 --     Judges tree url answer      what stands at a file URL
 --     joined_url parent specifier      the URL of a relative specifier in that file
 use Rattle.std.specs.FinMap.{get}
@@ -62,7 +62,7 @@ pub data Joins (tree : Tree) (parent specifier : List ℕ) : Answer → Type 0 w
 
 -- a specifier that begins with `/`, `./` or `../`; no other specifier has an answer here (Node.js, ECMAScript modules:
 -- ESM_RESOLVE)
-pub data Resolves (tree : Tree) (parent specifier : List ℕ) : Answer → Type 0 where
+pub data ResolvesRelative (tree : Tree) (parent specifier : List ℕ) : Answer → Type 0 where
   relative :
       (answer : Answer) → is_relative specifier ≡ true → Joins tree parent specifier answer
-      → Resolves tree parent specifier answer
+      → ResolvesRelative tree parent specifier answer

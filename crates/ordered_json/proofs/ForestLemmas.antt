@@ -21,7 +21,7 @@ use Rattle.ordered_json.proofs.ShownLemmas.{json_of_list, span_shown}
 use Rattle.ordered_json.specs.declared.forest.Level.{Level}
 use Rattle.ordered_json.specs.declared.forest.Forest.{Forest}
 use Rattle.ordered_json.specs.Shown.{json_of, items_from, items_of}
-use Rattle.ordered_json.specs.Forests.{place_in, level_in, json_in, IsComplete, Means, Deep, deepest, within, Around, outermost, around, HasLevels, Shows, HoldsOne, IsInside, IsFresh, IsClosed, IsLeft, GetsItems, IsFilled, Fills, Filling, FilledAt, FillsAt, Keeps, IsSealed, Seals, ShowsFilled, FillsAll, AddsValue, OpensList, ClosesList, IsTaken, TakesValue}
+use Rattle.ordered_json.specs.Forests.{place_in, level_in, json_in, IsComplete, Means, Deep, deepest, within, Around, outermost, around, HasLevels, Shows, HoldsOne, IsInside, IsFresh, IsClosed, StartsNextList, GetsItems, IsFilled, Fills, Filling, FilledAt, FillsAt, Keeps, IsSealed, Seals, ShowsFilled, FillsAll, AddsValue, OpensList, ClosesList, IsTaken, TakesValue}
 
 -- ---- one level
 
@@ -81,7 +81,7 @@ nil_no_push : {X : Type 0} (xs : List X) (x : X) → [] ≡ xs ++ x ∷ [] → �
 nil_no_push xs x e = let l : 0 ≡ length (xs ++ x ∷ []) = ap length e in omega (arith, l, length-append xs (x ∷ []))
 
 -- the level of a list that was closed has its values
-module _ {before after : Level} {inner all : List Json} (means : Means before inner all) (left : IsLeft before after) where
+module _ {before after : Level} {inner all : List Json} (means : Means before inner all) (left : StartsNextList before after) where
   same_values : after.values.items ≡ before.values.items
   same_values = ap (λ vs. vs.items) left.values
 
@@ -191,7 +191,7 @@ module _ (before after : Forest) (number : after.innermost ≡ before.innermost 
 
 -- the innermost list is closed, and is a value of the one around it
 module _ (before after : Forest) (found left over pushed : Level) (middle : List Level) (list : Value) (at : found ≡ get_or before.levels.items before.innermost found) (stored : middle ≡ set before.levels.items before.innermost left) (over_at : over ≡ get_or middle (before.innermost - 1) over) (stored_over : after.levels.items ≡ set middle (before.innermost - 1) pushed) (number : after.innermost ≡ before.innermost - 1) where
-  pub list_closed : pushed.values.items ≡ over.values.items ++ list ∷ [] → pushed.ready ≡ over.ready → pushed.start ≡ over.start → IsClosed found list → IsLeft found left → ClosesList before after
+  pub list_closed : pushed.values.items ≡ over.values.items ++ list ∷ [] → pushed.ready ≡ over.ready → pushed.start ≡ over.start → IsClosed found list → StartsNextList found left → ClosesList before after
   list_closed values ready start closed is_left = record { closes = λ lists others items shows. done lists others items shows shows.above }
     where
       done : (lists : List (List Json)) (others items : List Json) → (shows : Shows before (lists ++ others ∷ []) items) → Around shows.outer (take shows.level.start shows.all) (lists ++ others ∷ []) → Shows after lists (others ++ a_list (items_from items) ∷ [])
@@ -204,7 +204,7 @@ module _ (before after : Forest) (found left over pushed : Level) (middle : List
           let same_lists : (lists ≡ lists_above) × (others ≡ drop level.start all) = same_from_push lists lists_above others (drop level.start all) lists_are in
           let value : Json = a_list (items_from items) in
           let start_is : pushed.start ≡ level.start = start ∙ ap (λ (l : Level). l.start) over_is in
-          let left_of : IsLeft shows.level left = subst (λ (l : Level). IsLeft l left) found_is is_left in
+          let left_of : StartsNextList shows.level left = subst (λ (l : Level). StartsNextList l left) found_is is_left in
           record {
             outer = above;
             level = pushed;

@@ -5,7 +5,7 @@ use Rattle.std.proofs.lemmas.Bool.{cond-false, false_from_ne_true, eqb-true}
 use Rattle.json_spec.specs.Value.{Json, a_text, a_list, an_object, Items, no_items, an_item, Members, no_members, settled_onto, put}
 use Rattle.json_spec.specs.Taken.{taken, refused, and_then}
 use Rattle.json_spec.specs.Strings.{ReadsString}
-use Rattle.json_spec.specs.Grammar.{Fault, NotJson, TooDeep, Reading, after_space, fault_here, scalar_at, colon_at, ReadsName, name_text, no_name, name_ends, Member, a_pair, ReadsMember, member_value, member_name, behind_member, behind_item, MoreMembers, members_close, members_next, members_fault, members_other, members_end, ReadsMembers, no_member, first_member, member_fault, object_ends, MoreItems, items_close, items_next, items_fault, items_other, items_end, ReadsItems, no_item, first_item, item_fault, list_ends, as_list, as_object, reads_text, reads_list, reads_object, reads_scalar, value_ends, Reads, most_brackets, alone, with_offset, ReadsJson, json_text}
+use Rattle.json_spec.specs.Grammar.{Fault, NotJson, TooDeep, Reading, after_space, fault_here, scalar_at, colon_at, ReadsName, name_text, no_name, name_ends, Member, a_pair, ReadsMember, member_value, member_name, behind_member, behind_item, MoreMembers, members_close, members_next, members_fault, members_other, members_end, ReadsMembers, no_member, first_member, member_fault, object_ends, MoreItems, items_close, items_next, items_fault, items_other, items_end, ReadsItems, no_item, first_item, item_fault, list_ends, as_list, as_object, reads_text, reads_list, reads_object, reads_scalar, value_ends, Reads, most_depth, alone, with_offset, ReadsJson, json_text}
 use Rattle.json_spec.proofs.Shorter.{Below, space_at_most, scalar_below}
 use Rattle.json_spec.proofs.OneJson.{name_one, reads_one, taken_or_refused}
 use Rattle.ordered_json.specs.declared.fault.Stop.{Stop}
@@ -302,10 +302,10 @@ object_fails m depth d bytes rest s e b NoMemory r = tt
 -- ---- the whole text
 
 -- a reading in which `most` brackets may be opened, at the start of a text
-begun_at : (most : ℕ) (bytes start : List ℕ) (out : Reading Json) → most ≡ most_brackets → start ≡ after_space bytes → Reads most start out → Reads most_brackets (after_space bytes) out
-begun_at most bytes start out m s r = subst (λ xs. Reads most_brackets xs out) s (subst (λ n. Reads n start out) m r)
+begun_at : (most : ℕ) (bytes start : List ℕ) (out : Reading Json) → most ≡ most_depth → start ≡ after_space bytes → Reads most start out → Reads most_depth (after_space bytes) out
+begun_at most bytes start out m s r = subst (λ xs. Reads most_depth xs out) s (subst (λ n. Reads n start out) m r)
 
-pub whole_fault : (most : ℕ) (bytes start : List ℕ) → most ≡ most_brackets → start ≡ after_space bytes → (stop : Stop) → Fails (Reads most start) stop → WholeFails bytes stop
+pub whole_fault : (most : ℕ) (bytes start : List ℕ) → most ≡ most_depth → start ≡ after_space bytes → (stop : Stop) → Fails (Reads most start) stop → WholeFails bytes stop
 whole_fault most bytes start m s (Unreadable left) r = record { value = refused (NotJson left); reads = begun_at most bytes start _ m s r; whole = refl }
 whole_fault most bytes start m s (Deep left) r = record { value = refused (TooDeep left); reads = begun_at most bytes start _ m s r; whole = refl }
 whole_fault most bytes start m s NoMemory r = tt
@@ -317,8 +317,8 @@ before_end : (v : Json) (rest : List ℕ) → rest ≢ [] → alone v rest ≡ E
 before_end v [] n = absurd (n refl)
 before_end v (b ∷ rest) n = refl
 
-module _ (most : ℕ) (bytes start rest space : List ℕ) (v : Json) (limit : most ≡ most_brackets) (begun : start ≡ after_space bytes) (here : Reads most start (taken v rest)) (skipped : space ≡ after_space rest) where
-  read_here : Reads most_brackets (after_space bytes) (taken v rest)
+module _ (most : ℕ) (bytes start rest space : List ℕ) (v : Json) (limit : most ≡ most_depth) (begun : start ≡ after_space bytes) (here : Reads most start (taken v rest)) (skipped : space ≡ after_space rest) where
+  read_here : Reads most_depth (after_space bytes) (taken v rest)
   read_here = begun_at most bytes start (taken v rest) limit begun here
 
   pub whole_value : space ≡ [] → IsWhole bytes (Ok v)

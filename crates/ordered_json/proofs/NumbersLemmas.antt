@@ -8,7 +8,7 @@ use Rattle.std.proofs.lemmas.Bool.{cond-true, cond-false, leb-true, and_parts, f
 use Rattle.std.proofs.lemmas.Str.{IsUtf8-append, IsUtf8-nil}
 use Rattle.json_spec.proofs.PrintedUtf8.{ascii_first}
 use Rattle.json_spec.specs.Taken.{taken, refused, Read, and_then, or_else, behind_piece}
-use Rattle.json_spec.specs.Numbers.{leading_digits, after_digits, some_digits, digits_at, int_at, frac_at, exp_at, number_at, joined, maybe, one_of}
+use Rattle.json_spec.specs.Numbers.{leading_digits, after_digits, some_digits, digits_at, int_at, frac_at, exp_at, number_at, piece_then, maybe, one_of}
 use Rattle.ordered_json.specs.Scanned.{Cut}
 
 one_of_cut : (test : ℕ → Bool) (b : ℕ) (rest bytes : List ℕ) → bytes ≡ b ∷ rest → test b ≡ true → b < 128 → Cut (one_of test bytes) bytes rest
@@ -18,7 +18,7 @@ some_cut : (one : List ℕ → Read (List ℕ)) (bytes rest : List ℕ) → Cut 
 some_cut one bytes rest c = record { piece = c.piece; took = ap (λ out. or_else out (taken [] bytes)) c.took; split = c.split; utf8 = c.utf8 }
 
 module _ (one another : List ℕ → Read (List ℕ)) (bytes : List ℕ) where
-  joined_cut : (middle rest : List ℕ) → Cut (one bytes) bytes middle → Cut (another middle) middle rest → Cut (joined one another bytes) bytes rest
+  joined_cut : (middle rest : List ℕ) → Cut (one bytes) bytes middle → Cut (another middle) middle rest → Cut (piece_then one another bytes) bytes rest
   joined_cut middle rest c d = record {
     piece = c.piece ++ d.piece;
     took = ap (λ out. and_then out (λ piece after. behind_piece piece (another after))) c.took ∙ ap (behind_piece c.piece) d.took;
@@ -26,10 +26,10 @@ module _ (one another : List ℕ → Read (List ℕ)) (bytes : List ℕ) where
     utf8 = IsUtf8-append _ _ c.utf8 d.utf8;
   }
 
-  joined_no_first : one bytes ≡ refused tt → joined one another bytes ≡ refused tt
+  joined_no_first : one bytes ≡ refused tt → piece_then one another bytes ≡ refused tt
   joined_no_first e = ap (λ out. and_then out (λ piece after. behind_piece piece (another after))) e
 
-  joined_no_second : (middle : List ℕ) → Cut (one bytes) bytes middle → another middle ≡ refused tt → joined one another bytes ≡ refused tt
+  joined_no_second : (middle : List ℕ) → Cut (one bytes) bytes middle → another middle ≡ refused tt → piece_then one another bytes ≡ refused tt
   joined_no_second middle c e = ap (λ out. and_then out (λ piece after. behind_piece piece (another after))) c.took ∙ ap (behind_piece c.piece) e
 
 differs : (b c : ℕ) → b ≢ c → (b == c) ≡ false
@@ -96,13 +96,13 @@ fraction_of bytes middle (Some rest) e c = joined_cut (one_of (λ b. b == 46)) d
 
 pub exponent_of : (bytes middle after : List ℕ) (found : Option (Bor (List ℕ))) → Cut (one_of is_exponent_letter bytes) bytes middle → Cut (maybe (one_of is_sign) middle) middle after → MatchOption found (digits_at after ≡ refused tt) (λ rest. Cut (digits_at after) after rest.now) → MatchOption found (exp_at bytes ≡ refused tt) (λ rest. Cut (exp_at bytes) bytes rest.now)
 exponent_of bytes middle after None l s n =
-    joined_no_second (one_of is_exponent_letter) (joined (maybe (one_of is_sign)) digits_at) bytes middle l (joined_no_second (maybe (one_of is_sign)) digits_at middle after s n)
+    joined_no_second (one_of is_exponent_letter) (piece_then (maybe (one_of is_sign)) digits_at) bytes middle l (joined_no_second (maybe (one_of is_sign)) digits_at middle after s n)
 exponent_of bytes middle after (Some rest) l s c =
-    joined_cut (one_of is_exponent_letter) (joined (maybe (one_of is_sign)) digits_at) bytes middle rest.now l (joined_cut (maybe (one_of is_sign)) digits_at middle after rest.now s c)
+    joined_cut (one_of is_exponent_letter) (piece_then (maybe (one_of is_sign)) digits_at) bytes middle rest.now l (joined_cut (maybe (one_of is_sign)) digits_at middle after rest.now s c)
 
 abbrev unsigned : List ℕ → Read (List ℕ)
-unsigned bytes = joined int_at (joined (maybe frac_at) (maybe exp_at)) bytes
+unsigned bytes = piece_then int_at (piece_then (maybe frac_at) (maybe exp_at)) bytes
 
 pub number_of : (bytes sign int fraction rest : List ℕ) → Cut (maybe (one_of (λ b. b == 45)) bytes) bytes sign → Cut (int_at sign) sign int → Cut (maybe frac_at int) int fraction → Cut (maybe exp_at fraction) fraction rest → Cut (number_at bytes) bytes rest
 number_of bytes sign int fraction rest m i f e =
-    joined_cut (maybe (one_of (λ b. b == 45))) unsigned bytes sign rest m (joined_cut int_at (joined (maybe frac_at) (maybe exp_at)) sign int rest i (joined_cut (maybe frac_at) (maybe exp_at) int fraction rest f e))
+    joined_cut (maybe (one_of (λ b. b == 45))) unsigned bytes sign rest m (joined_cut int_at (piece_then (maybe frac_at) (maybe exp_at)) sign int rest i (joined_cut (maybe frac_at) (maybe exp_at) int fraction rest f e))

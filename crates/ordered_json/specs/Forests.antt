@@ -138,7 +138,7 @@ pub record IsClosed (level : Level) (value : Value) : Type 0 where
       ≡ a_list (items_from (take (length level.values.items - level.start) (drop level.start inner)))
 
 -- the values of the level are as they were, and the next list starts behind them
-pub record IsLeft (before after : Level) : Type 0 where
+pub record StartsNextList (before after : Level) : Type 0 where
   pub values : after.values ≡ before.values
   pub ready : after.ready ≡ before.ready
   pub start : after.start ≡ length after.values.items

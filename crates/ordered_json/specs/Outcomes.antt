@@ -11,7 +11,7 @@ use Rattle.json_spec.specs.Value.{Json, Members, settled}
 use Rattle.json_spec.specs.Taken.{taken, refused, and_then}
 use Rattle.json_spec.specs.Grammar as grammar
 use Rattle.json_spec.specs.Grammar.{Fault, Reading, after_space, scalar_at, a_pair, ReadsMember, ReadsMembers, Reads}
-use Rattle.json_spec.specs.Grammar.{most_brackets, whole_text, ReadsJson}
+use Rattle.json_spec.specs.Grammar.{most_depth, whole_text, ReadsJson}
 use Rattle.ordered_json.specs.declared.fault.Stop.{Stop}
 use Rattle.ordered_json.specs.declared.fault.Stop.TheVariants.{Unreadable, Deep, NoMemory}
 use Rattle.ordered_json.specs.declared.fault.JsonFault.{JsonFault}
@@ -75,7 +75,7 @@ NoObject depth bytes stop = Fails (ReadsSettled (Reads depth) (after_space bytes
 -- the outcome of a whole text, where a fault's place is still counted from its end
 pub record IsWhole (bytes : List ℕ) (out : Result Json Fault) : Type 0 where
   pub value : Reading Json
-  pub reads : Reads most_brackets (after_space bytes) value
+  pub reads : Reads most_depth (after_space bytes) value
   pub whole : whole_text value ≡ out
 
 abbrev pub WholeFails : List ℕ → Stop → Type 0

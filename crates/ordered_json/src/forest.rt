@@ -1,5 +1,5 @@
 ghost use Rattle.std.specs.Prelude.{◌≡◌, ◌<◌, ◌+◌, [], length, IfOk, OnOk};
-ghost use Rattle.ordered_json.specs.Forests.{IsFresh, IsClosed, IsLeft, GetsItems, Fills, FillsAt, FillsAll, Seals};
+ghost use Rattle.ordered_json.specs.Forests.{IsFresh, IsClosed, StartsNextList, GetsItems, Fills, FillsAt, FillsAll, Seals};
 ghost use Rattle.ordered_json.specs.Forests.{Keeps, Shows, IsInside, HoldsOne, AddsValue, OpensList, ClosesList};
 ghost use Rattle.ordered_json.specs.declared.value.Value.{List};
 ghost use Rattle.ordered_json.specs.Forests.{TakesValue, StaysThere, GoesDeeper, GoesOut};
@@ -64,7 +64,7 @@ impl Level {
     #[inline(always)]
     fn close(&mut self, alloc: Global) -> Result<(Value, bool), Memory>
         ensures closed { IfOk result (λ list. IsClosed self.old list.0) }
-        ensures left { OnOk result (IsLeft self.old self.new) }
+        ensures left { OnOk result (StartsNextList self.old self.new) }
     {
         let count = self.values.as_slice().len();
         let len = count.saturating_sub(self.start);

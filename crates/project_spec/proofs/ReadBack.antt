@@ -9,7 +9,7 @@ use Rattle.std.proofs.lemmas.Str.{IsUtf8-from_ascii}
 use Rattle.std.proofs.lemmas.Str.Ascii.{IsAscii-nil, IsAscii-cons}
 use Rattle.tree_spec.proofs.ByteLists.{texts_differ}
 use Rattle.json_spec.proofs.ReadBack.{values_read_back}
-use Rattle.json_spec.specs.Grammar.{most_brackets}
+use Rattle.json_spec.specs.Grammar.{most_depth}
 use Rattle.json_spec.specs.PrintedValue.{IsPrintable, ArePrintable}
 use Rattle.json_spec.specs.Value.{Json, a_text, a_list, no_members, a_member, IsNewName}
 use Rattle.url_spec.proofs.Bases.{folder_kept}
@@ -65,8 +65,8 @@ value_printable depth config is page entries =
       (names_utf8.0, base_utf8 config.base is.base, (names_utf8.1, page, (names_utf8.2, conditions, (names_utf8.3, strings_printable depth config.entries entries, tt)))),
     )
 
-within_limit : (config : Config) → IsProject config → IsUtf8 config.page → All IsUtf8 config.entries → IsPrintable most_brackets (project_value config)
-unfolding most_brackets
+within_limit : (config : Config) → IsProject config → IsUtf8 config.page → All IsUtf8 config.entries → IsPrintable most_depth (project_value config)
+unfolding most_depth
 within_limit config is page entries = value_printable 126 config is page entries
 
 described : (config : Config) → IsProject config → Describes (project_value config) config

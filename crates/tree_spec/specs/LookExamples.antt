@@ -1,6 +1,6 @@
 -- Worked examples of looks with limits and of folders, each proved by computation. At most two paths may be looked at,
 -- a file may have three bytes, and all files together four.
---     told path                 what stands there
+--     told_sights path                 what stands there
 --     trail paths size question      the trail with these
 --     Ends before paths after, Stops before paths name after      looks at these paths end so
 --     LimitExamples, FootprintExamples, FolderExamples      the examples
@@ -22,8 +22,8 @@ abbrev pub stands : List (String × Entry) → Sights
 stands [] path = None
 stands (first ∷ more) path = if bytes_eq (codes first.0) path then Some first.1 else stands more path
 
-abbrev pub told : Sights
-told =
+abbrev pub told_sights : Sights
+told_sights =
     stands
     (("/", Directory)
     ∷ ("/one", Stored (replicate 1 7))
@@ -39,10 +39,11 @@ abbrev pub trail : List String → ℕ → List String → Trail
 trail paths size question = record { paths = texts paths; size = size; question = texts question }
 
 abbrev pub Ends : Trail → List String → Trail → Type 0
-Ends before paths after = evaluated (limited few told) before (look_at_each (texts paths)) ≡ ends tt after
+Ends before paths after = evaluated (limited few told_sights) before (look_at_each (texts paths)) ≡ ends tt after
 
 abbrev pub Stops : Trail → List String → LimitName → Trail → Type 0
-Stops before paths name after = evaluated (limited few told) before (look_at_each (texts paths)) ≡ stopped name after
+Stops before paths name after =
+    evaluated (limited few told_sights) before (look_at_each (texts paths)) ≡ stopped name after
 
 pub record LimitExamples : Type 0 where
   pub nothing : Ends (trail [] 0 []) [] (trail [] 0 [])
@@ -70,8 +71,8 @@ pub record LimitExamples : Type 0 where
       (trail ("/three" ∷ "/a" ∷ []) 3 ("/three" ∷ []))
 
 pub record FootprintExamples : Type 0 where
-  pub each_once : footprint told (look_at_each (texts ("/b" ∷ "/a" ∷ "/b" ∷ []))) ≡ texts ("/b" ∷ "/a" ∷ [])
-  pub none : footprint told (look_at_each []) ≡ []
+  pub each_once : footprint told_sights (look_at_each (texts ("/b" ∷ "/a" ∷ "/b" ∷ []))) ≡ texts ("/b" ∷ "/a" ∷ [])
+  pub none : footprint told_sights (look_at_each []) ≡ []
 
 pub record FolderExamples : Type 0 where
   pub of_root : folders_from (codes "/") ≡ texts ("/" ∷ [])

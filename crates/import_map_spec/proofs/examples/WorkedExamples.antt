@@ -6,7 +6,7 @@ use Rattle.std.specs.Prelude.{◌≡◌, Ok, Result, codes, Some}
 use Rattle.std.specs.Str.{is_utf8, chars}
 use Rattle.url.proofs.OnLiterals.{url_on_literals}
 use Rattle.json_spec.proofs.PlainReader.{json_sound}
-use Rattle.json_spec.specs.Grammar.{most_brackets}
+use Rattle.json_spec.specs.Grammar.{most_depth}
 use Rattle.json_spec.specs.PropertyOrder.{is_array_index}
 use Rattle.json_spec.specs.Value.{Json}
 use Rattle.url_spec.specs.Parsing.{text_of, parse_alone, parse_against}
@@ -76,7 +76,7 @@ unfolding is_array_index
 order_examples = record { by_number = refl; greatest = refl; no_digits = refl }
 
 byte_examples : ByteExamples
-unfolding parsed_map is_array_index normalized as_url parse_alone parse_against text_of url_on_literals most_brackets is_utf8 chars encode_utf8
+unfolding parsed_map is_array_index normalized as_url parse_alone parse_against text_of url_on_literals most_depth is_utf8 chars encode_utf8
 byte_examples = record { map = record { json = _; reads = json_sound _; is = refl }; no_object = record { json = _; reads = json_sound _; is = refl }; no_json = record { json = _; reads = json_sound _; is = refl } }
 
 pub worked_examples : WorkedExamples

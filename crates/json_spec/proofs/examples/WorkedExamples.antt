@@ -4,7 +4,7 @@ use Rattle.std.specs.Char.{encode_utf8}
 use Rattle.std.specs.Prelude.{◌≡◌, ℕ, List, Result}
 use Rattle.std.specs.Str.{is_utf8, chars}
 use Rattle.json_spec.proofs.PlainReader.{read_json, json_sound}
-use Rattle.json_spec.specs.Grammar.{Fault, ReadsJson, most_brackets}
+use Rattle.json_spec.specs.Grammar.{Fault, ReadsJson, most_depth}
 use Rattle.json_spec.specs.Value.{Json}
 use Rattle.json_spec.specs.WorkedExamples.{PrintedExamples, TokenExamples, TextExamples, ByteExamples, WorkedExamples}
 
@@ -19,7 +19,7 @@ reads : (bytes : List ℕ) (out : Result Json Fault) → read_json bytes ≡ out
 reads bytes out e = rw (← e) (json_sound bytes)
 
 text_examples : TextExamples
-unfolding most_brackets is_utf8 chars encode_utf8
+unfolding most_depth is_utf8 chars encode_utf8
 text_examples = record {
   repeated = reads _ _ refl;
   spaced = reads _ _ refl;
@@ -42,7 +42,7 @@ text_examples = record {
 }
 
 byte_examples : ByteExamples
-unfolding most_brackets is_utf8 chars encode_utf8
+unfolding most_depth is_utf8 chars encode_utf8
 byte_examples = record { in_string = reads _ _ refl; in_name = reads _ _ refl; cut_character = reads _ _ refl; after_fault = reads _ _ refl; no_token = reads _ _ refl; after_deep = reads _ _ refl }
 
 pub worked_examples : WorkedExamples

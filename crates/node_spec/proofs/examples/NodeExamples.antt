@@ -3,7 +3,7 @@ use Rattle.std.specs.Prelude.{refl}
 use Rattle.std.specs.Char.{encode_utf8}
 use Rattle.std.specs.Str.{is_utf8, chars}
 use Rattle.percent_encoding.specs.Percent.{percent_encode_byte, percent_decode}
-use Rattle.json_spec.specs.Grammar.{most_brackets}
+use Rattle.json_spec.specs.Grammar.{most_depth}
 use Rattle.json_spec.specs.PropertyOrder.{is_array_index}
 use Rattle.tree_spec.specs.FoldersAbove.{folders_from}
 use Rattle.url.proofs.OnLiterals.{url_on_literals}
@@ -20,7 +20,7 @@ use Rattle.node_spec.specs.NodeExamples.{ExportExamples, ConfigExamples, OwnPack
 
 -- what a resolution unfolds to compute on literals
 unfoldable pub node_on_literals : Unit {0}
-unfolding is_utf8 chars encode_utf8 file_text escaped holds_escape spelled_path names_host url_path url_scheme scheme_of percent_encode_byte percent_decode parse_alone parse_against text_of url_on_literals most_brackets folders_from is_builtin is_node_modules is_invalid_segment names_package is_array_index read_record
+unfolding is_utf8 chars encode_utf8 file_text escaped holds_escape spelled_path names_host url_path url_scheme scheme_of percent_encode_byte percent_decode parse_alone parse_against text_of url_on_literals most_depth folders_from is_builtin is_node_modules is_invalid_segment names_package is_array_index read_record
 node_on_literals = tt
 
 export_examples : ExportExamples

@@ -4,7 +4,7 @@ use Rattle.std.specs.Char.{encode_utf8}
 use Rattle.std.specs.Prelude.{◌≡◌, ℕ, List, Result}
 use Rattle.std.specs.Str.{is_utf8, chars}
 use Rattle.json_spec.proofs.PlainReader.{read_json, json_sound}
-use Rattle.json_spec.specs.Grammar.{most_brackets}
+use Rattle.json_spec.specs.Grammar.{most_depth}
 use Rattle.node_spec.specs.RecordExamples.{RecordExamples}
 use Rattle.node_spec.specs.Records.{Record, RecordFault, record_outcome, after_mark, ReadsRecord, reads_record}
 
@@ -12,7 +12,7 @@ reads : (bytes : List ℕ) (out : Result Record RecordFault) → record_outcome 
 reads bytes out e = rw (← e) (reads_record (read_json (after_mark bytes)) (json_sound (after_mark bytes)))
 
 pub record_examples : RecordExamples
-unfolding most_brackets is_utf8 chars encode_utf8
+unfolding most_depth is_utf8 chars encode_utf8
 record_examples = record {
   module_type = reads _ _ refl;
   commonjs_type = reads _ _ refl;

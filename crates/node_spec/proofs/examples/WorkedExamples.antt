@@ -16,10 +16,10 @@ use Rattle.url_spec.specs.Parsing.{text_of, parse_alone, parse_against}
 use Rattle.url_spec.specs.ServedPaths.{holds_escape}
 use Rattle.url_spec.specs.Specifiers.{is_relative}
 use Rattle.url_spec.specs.WebNames.{escaped}
-use Rattle.node_spec.specs.Resolution.{Answer, joined_url, Judges, Resolves}
+use Rattle.node_spec.specs.Resolution.{Answer, joined_url, Judges, ResolvesRelative}
 use Rattle.node_spec.specs.Resolution.Joins.{joined, other_host}
 use Rattle.node_spec.specs.Resolution.Judges.{file, separator, folder, absent, no_folder}
-use Rattle.node_spec.specs.Resolution.Resolves.{relative}
+use Rattle.node_spec.specs.Resolution.ResolvesRelative.{relative}
 use Rattle.node_spec.specs.WorkedExamples.{main, FileExamples, RefusedExamples, WorkedExamples}
 
 abbrev has_no_mark : List ℕ → Bool
@@ -60,7 +60,7 @@ c_folder = in_a (codes "c") (segment _ refl refl refl refl) (omega arith)
 named : (text path : List ℕ) → escapes_separator text ≡ false → path ≡ spelled_path text → is_utf8 path ≡ true → IsPath path → NamesPath text path
 named text path s e u is = record { no_separator = s; spelled = e; utf8 = IsUtf8-from_is_utf8 path u; is_path = is }
 
-by_url : (tree : Tree) (specifier url : List ℕ) (answer : Answer) → is_relative specifier ≡ true → joined_url main specifier ≡ Some url → names_host url ≡ false → Judges tree url answer → Resolves tree main specifier answer
+by_url : (tree : Tree) (specifier url : List ℕ) (answer : Answer) → is_relative specifier ≡ true → joined_url main specifier ≡ Some url → names_host url ≡ false → Judges tree url answer → ResolvesRelative tree main specifier answer
 by_url tree specifier url answer r e h judged = relative answer r (joined url answer e h judged)
 
 file_examples : FileExamples
