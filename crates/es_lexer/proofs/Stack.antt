@@ -108,12 +108,12 @@ slash_kept (Punctuator mark) w i a = mark_kept mark i a
 
 -- ---- what is not refused
 
-below : (d : ℕ) (c : Bool) → (d == 4096) ≡ c → (if c then Some TooDeep else None) ≡ None → d ≢ 4096
+below : (d : ℕ) (c : Bool) → (d == most_brackets) ≡ c → (if c then Some TooDeep else None) ≡ None → d ≢ most_brackets
 below d true e f = absurd (cc)
-below d false e f = eqb-false d 4096 e
+below d false e f = eqb-false d most_brackets e
 
 pub has_room : (k : brackets.Bracket) (inner : Option brackets.Bracket) (d : ℕ) → refusal (Some k) None inner d ≡ None → d ≢ most_brackets
-has_room k inner d e = below d (d == 4096) refl e
+has_room k inner d e = below d (d == most_brackets) refl e
 
 -- ---- the brackets
 

@@ -3,6 +3,8 @@
 --                                         a module
 --     ReadsOutline text (Err fault)      its first fault
 use Rattle.std.specs.Prelude.{◌≡◌, ℕ, zero, suc, ◌-◌, Bool, false, ◌||◌, ◌==◌, List, [], ◌∷◌, ◌++◌, if◌then◌else◌, Option, Some, None, Result, Ok, Err, length, reverse}
+use Rattle.tree_spec.specs.declared.LimitName.TheVariants.{ModuleRequests}
+use Rattle.tree_spec.specs.Limits.{limit_number}
 use Rattle.module_spec.specs.declared.token.LexKind as lex_kinds
 use Rattle.module_spec.specs.declared.token.LexKind.TheVariants as lex_kind
 use Rattle.module_spec.specs.declared.request.Request.{Request}
@@ -43,7 +45,7 @@ findings asked (t ∷ rest) = found t asked (declaration t rest) (λ next. findi
 -- ---- requests
 
 abbrev pub most_requests : ℕ
-most_requests = 4096
+most_requests = limit_number ModuleRequests
 
 abbrev pub asked_by : Placed → List ℕ → Request
 asked_by t text = record { from = t.token.from; to = t.token.to; text = text }

@@ -3,6 +3,8 @@
 --     ReadsTokens text (Err fault)      its first fault
 -- In between a list of lexemes is what was read so far, the last one first.
 use Rattle.std.specs.Prelude.{◌≡◌, ℕ, ◌+◌, ◌-◌, Bool, true, false, not, ◌&&◌, ◌||◌, ◌==◌, List, [], ◌∷◌, if◌then◌else◌, Option, Some, None, Result, Ok, Err, length, take, drop, map, reverse}
+use Rattle.tree_spec.specs.declared.LimitName.TheVariants.{Brackets}
+use Rattle.tree_spec.specs.Limits.{limit_number}
 use Rattle.module_spec.specs.declared.token.Mark.{Mark}
 use Rattle.module_spec.specs.declared.token.Mark.TheVariants.{OpenRound, OpenSquare, OpenCurly, CloseRound, CloseSquare, CloseCurly, Dot, Step, Stop, Operator}
 use Rattle.module_spec.specs.declared.token.Sort.{Sort}
@@ -158,7 +160,7 @@ depth [] = 0
 depth (t ∷ before) = (depth before + count (opens t.sort)) - count (closes t.sort)
 
 abbrev pub most_brackets : ℕ
-most_brackets = 4096
+most_brackets = limit_number Brackets
 
 -- ---- the slash
 
