@@ -1,5 +1,6 @@
 -- Segments, and texts for `*`, as the code cuts and joins them.
-use Rattle.std.specs.Prelude.{◌==◌, ◌||◌, ℕ, Bool, List, [], ◌∷◌, codes, bytes_eq, flat_map, Option, Some, None, if◌then◌else◌}
+use Rattle.std.specs.Prelude.{◌==◌, ◌||◌, ℕ, Bool, List, [], ◌∷◌, codes, bytes_eq, flat_map, Option, Some, None}
+use Rattle.std.specs.Prelude.{if◌then◌else◌}
 use Rattle.std.specs.List.{list_any}
 use Rattle.url.specs.Input.{lowercase}
 use Rattle.node_spec.specs.PackageTargets.{segments}

@@ -1,5 +1,6 @@
 ghost use Rattle.std.specs.Prelude.{◌≡◌, ◌<◌, ◌+◌, ◌∷◌, IfOk, OnErr, drop, length, option_map};
-ghost use Rattle.node_spec.specs.PackageTargets.{ResolvesTarget, ResolvesItems, ResolvesMembers, is_undefined, is_passed, is_tried, last_of};
+ghost use Rattle.node_spec.specs.PackageTargets.{ResolvesTarget, ResolvesItems, ResolvesMembers, is_undefined};
+ghost use Rattle.node_spec.specs.PackageTargets.{is_passed, is_tried, last_of};
 ghost use Rattle.ordered_json.specs.Lists.{values_of, pairs_of};
 ghost use Rattle.ordered_json.specs.Shown.{json_of, items_of, members_of};
 ghost use Rattle.condition_match.specs.Choosing.{Begins, Comes, Chooses, Tries, judged_by, rules_of};

@@ -1,4 +1,5 @@
-ghost use Rattle.std.specs.Prelude.{◌≡◌, ◌↔◌, ◌==◌, ◌∷◌, true, All, IfOk, IsTrue, IsErrOf, bytes_eq, length, slice_get, option_copied, option_map};
+ghost use Rattle.std.specs.Prelude.{◌≡◌, ◌↔◌, ◌==◌, ◌∷◌, true, All, IfOk, IsTrue, IsErrOf, bytes_eq, length, slice_get};
+ghost use Rattle.std.specs.Prelude.{option_copied, option_map};
 ghost use Rattle.std.specs.List.{list_any, slice_split};
 ghost use Rattle.condition_match.specs.Conditions.{names_in, names_left, is_name_byte, IsCondition, AreConditions};
 

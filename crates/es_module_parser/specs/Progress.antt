@@ -1,6 +1,7 @@
 -- How the parser goes on from token to token. Each word says what a function of the code gives; the lemmas on them
 -- tie it to the forms.
-use Rattle.std.specs.Prelude.{◌≡◌, ℕ, Bool, false, ◌&&◌, ◌||◌, ◌==◌, ◌++◌, [], ◌∷◌, length, bytes_eq, codes, List, if◌then◌else◌, Option, Some, None, slice_range}
+use Rattle.std.specs.Prelude.{◌≡◌, ℕ, Bool, false, ◌&&◌, ◌||◌, ◌==◌, ◌++◌, [], ◌∷◌, length, bytes_eq, codes, List}
+use Rattle.std.specs.Prelude.{if◌then◌else◌, Option, Some, None, slice_range}
 use Rattle.module_spec.specs.declared.token.Kind.{Kind}
 use Rattle.module_spec.specs.declared.token.Token.{Token}
 use Rattle.module_spec.specs.declared.request.Request.{Request}
@@ -10,7 +11,11 @@ use Rattle.module_spec.specs.Places.{is_name_kind, is_text_kind, is_punctuator_k
 use Rattle.module_spec.specs.StringValues.{string_value}
 use Rattle.module_spec.specs.Outlines.{most_requests}
 use Rattle.es_module_parser.specs.declared.expect.Expect.{Expect}
-use Rattle.es_module_parser.specs.declared.expect.Expect.TheVariants.{ImportDeclaration, BehindDefault, SecondBinding, NameSpaceImport, ImportedBinding, ImportBraces, FromClause, ModuleSpecifier, ExportDeclaration, ExportAll, ModuleExportName, ExportBraces, NamedExports, NamedSpecifier}
+use Rattle.es_module_parser.specs.declared.expect.Expect.TheVariants.{ImportDeclaration, BehindDefault, SecondBinding}
+use Rattle.es_module_parser.specs.declared.expect.Expect.TheVariants.{NameSpaceImport, ImportedBinding, ImportBraces}
+use Rattle.es_module_parser.specs.declared.expect.Expect.TheVariants.{FromClause, ModuleSpecifier, ExportDeclaration}
+use Rattle.es_module_parser.specs.declared.expect.Expect.TheVariants.{ExportAll, ModuleExportName, ExportBraces}
+use Rattle.es_module_parser.specs.declared.expect.Expect.TheVariants.{NamedExports, NamedSpecifier}
 use Rattle.es_module_parser.specs.declared.expect.Turn.{Turn}
 use Rattle.es_module_parser.specs.declared.expect.Turn.TheVariants as turns
 use Rattle.es_module_parser.specs.declared.expect.Seen.{Seen}

@@ -25,7 +25,8 @@ use Rattle.generator_spec.specs.Checking.{check_status, check_lines}
 use Rattle.generator_spec.specs.Commands.{IsGenerating, IsMapText, Opens, IsRefusalOf, NewFile, Writes}
 use Rattle.generator_spec.specs.Generation.{Generates}
 use Rattle.generator_spec.specs.Serves.{Serves, KnowsModules}
-use Rattle.generator_spec.specs.Statuses.{done_status, words_status, read_fault_status, write_fault_status, memory_status}
+use Rattle.generator_spec.specs.Statuses.{done_status, words_status, read_fault_status, write_fault_status}
+use Rattle.generator_spec.specs.Statuses.{memory_status}
 use Rattle.config_spec.specs.Words.{IsCommandOf, IsPlain, RefusesWords}
 use Rattle.config_spec.specs.Projects.{IsConfigOf, IsConfigFor, CanRefuseConfig}
 use Rattle.generator_spec.specs.Lines.{status_of, line_of, counts_line, done_line, differs_line}

@@ -1,5 +1,6 @@
 -- The laws of JSON texts and of their printed form. Each is the contract of a function of this crate.
-use Rattle.std.specs.Prelude.{◌≡◌, ◌≤◌, ◌==◌, ℕ, true, false, not, List, ◌∷◌, ◌++◌, length, filter, Result, IfOk, Ok, IsUtf8, All}
+use Rattle.std.specs.Prelude.{◌≡◌, ◌≤◌, ◌==◌, ℕ, true, false, not, List, ◌∷◌, ◌++◌, length, filter, Result, IfOk, Ok}
+use Rattle.std.specs.Prelude.{IsUtf8, All}
 use Rattle.std.specs.List.Sorted.{IsPermutation, IsNonDecreasingBy}
 use Rattle.json_spec.specs.Grammar.{Fault, ReadsJson, most_depth}
 use Rattle.json_spec.specs.Numbers.{IsNumber, number_at}

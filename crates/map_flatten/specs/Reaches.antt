@@ -6,7 +6,8 @@
 --     IsOwnPlace referrer      the referrer is a place of no other one
 --     IsMapped need reach      the need has a mapping
 use Rattle.std.specs.List.{common_prefix_len}
-use Rattle.std.specs.Prelude.{◌≡◌, ◌≢◌, ◌⊎◌, ℕ, suc, min, ◌<◌, ◌≤◌, false, nat_eq, List, [], ◌∷◌, length, Option, Some, None, bytes_eq, if◌then◌else◌, Contains}
+use Rattle.std.specs.Prelude.{◌≡◌, ◌≢◌, ◌⊎◌, ℕ, suc, min, ◌<◌, ◌≤◌, false, nat_eq, List, [], ◌∷◌, length, Option, Some}
+use Rattle.std.specs.Prelude.{None, bytes_eq, if◌then◌else◌, Contains}
 use Rattle.layout_spec.specs.Places.{is_folder, above, places}
 use Rattle.layout_spec.specs.declared.Need.{Need}
 

@@ -8,7 +8,8 @@
 -- with_target m i to   m with the target of the i-th request set
 -- SetsTarget old new i to done     done, and the i-th request's target is set; or there is no such request, and
 -- nothing changes
-use Rattle.std.specs.Prelude.{◌≡◌, ℕ, ◌-◌, ◌<◌, ◌≤◌, Bool, true, false, List, length, take, drop, slice_get, slice_set, Option, Some, None}
+use Rattle.std.specs.Prelude.{◌≡◌, ℕ, ◌-◌, ◌<◌, ◌≤◌, Bool, true, false, List, length, take, drop, slice_get, slice_set}
+use Rattle.std.specs.Prelude.{Option, Some, None}
 use Rattle.slot_arena.specs.declared.slot.Slot.{Slot}
 use Rattle.module_spec.specs.declared.request.Request.{Request}
 use Rattle.module_graph.specs.declared.module.Module.{Module}

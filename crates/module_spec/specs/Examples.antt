@@ -1,5 +1,6 @@
 -- Worked examples, as statements: what texts have for tokens, and what they ask for.
-use Rattle.std.specs.Prelude.{◌≡◌, ℕ, ◌+◌, Bool, true, false, List, [], ◌∷◌, Some, None, Result, Ok, Err, codes, replicate, length}
+use Rattle.std.specs.Prelude.{◌≡◌, ℕ, ◌+◌, Bool, true, false, List, [], ◌∷◌, Some, None, Result, Ok, Err, codes}
+use Rattle.std.specs.Prelude.{replicate, length}
 use Rattle.module_spec.specs.declared.token.Kind.{Kind}
 use Rattle.module_spec.specs.declared.token.Kind.TheVariants as kinds
 use Rattle.module_spec.specs.declared.token.LexKind.TheVariants.{Unreadable, TooDeep}

@@ -3,7 +3,8 @@
 --     innermost unclosed            those up to the innermost one
 --     next_of before rest       what comes behind these tokens, where this is the rest of the text
 --     read_outline text         what `ReadsOutline` relates to the text
-use Rattle.std.specs.Prelude.{ℕ, zero, suc, ◌-◌, Bool, true, List, [], ◌∷◌, Option, Some, None, Result, Err, length, reverse}
+use Rattle.std.specs.Prelude.{ℕ, zero, suc, ◌-◌, Bool, true, List, [], ◌∷◌, Option, Some, None, Result, Err, length}
+use Rattle.std.specs.Prelude.{reverse}
 use Rattle.module_spec.specs.declared.token.Bracket.{Bracket}
 use Rattle.module_spec.specs.declared.request.ModuleFault.{ModuleFault}
 use Rattle.module_spec.specs.declared.request.ModuleFault.TheVariants.{Unreadable}

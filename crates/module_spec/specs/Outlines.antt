@@ -2,7 +2,8 @@
 --     ReadsOutline text (Ok outline)      the requests of the text in their order, and whether it has declarations of
 --                                         a module
 --     ReadsOutline text (Err fault)      its first fault
-use Rattle.std.specs.Prelude.{◌≡◌, ℕ, zero, suc, ◌-◌, Bool, false, ◌||◌, ◌==◌, List, [], ◌∷◌, ◌++◌, if◌then◌else◌, Option, Some, None, Result, Ok, Err, length, reverse}
+use Rattle.std.specs.Prelude.{◌≡◌, ℕ, zero, suc, ◌-◌, Bool, false, ◌||◌, ◌==◌, List, [], ◌∷◌, ◌++◌, if◌then◌else◌}
+use Rattle.std.specs.Prelude.{Option, Some, None, Result, Ok, Err, length, reverse}
 use Rattle.tree_spec.specs.declared.LimitName.TheVariants.{ModuleRequests}
 use Rattle.tree_spec.specs.Limits.{limit_number}
 use Rattle.module_spec.specs.declared.token.LexKind as lex_kinds

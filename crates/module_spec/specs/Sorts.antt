@@ -2,11 +2,13 @@
 -- 12.9.
 use Rattle.std.specs.Prelude.{ℕ, Bool, true, false, List, bytes_eq, codes, ◌||◌, if◌then◌else◌, Option, Some, None}
 use Rattle.module_spec.specs.declared.token.Mark.{Mark}
-use Rattle.module_spec.specs.declared.token.Mark.TheVariants.{OpenRound, OpenSquare, OpenCurly, CloseRound, CloseSquare, CloseCurly, Dot, Step, Stop, Operator}
+use Rattle.module_spec.specs.declared.token.Mark.TheVariants.{OpenRound, OpenSquare, OpenCurly, CloseRound, CloseSquare}
+use Rattle.module_spec.specs.declared.token.Mark.TheVariants.{CloseCurly, Dot, Step, Stop, Operator}
 use Rattle.module_spec.specs.declared.token.Kind as kinds
 use Rattle.module_spec.specs.declared.token.Kind.TheVariants as kind
 use Rattle.module_spec.specs.declared.token.Sort.{Sort}
-use Rattle.module_spec.specs.declared.token.Sort.TheVariants.{Name, Private, Number, Text, TemplateWhole, TemplateHead, TemplateMiddle, TemplateTail, Regex, Punctuator}
+use Rattle.module_spec.specs.declared.token.Sort.TheVariants.{Name, Private, Number, Text, TemplateWhole, TemplateHead}
+use Rattle.module_spec.specs.declared.token.Sort.TheVariants.{TemplateMiddle, TemplateTail, Regex, Punctuator}
 use Rattle.module_spec.specs.declared.token.Bracket.{Bracket}
 use Rattle.module_spec.specs.declared.token.Bracket.TheVariants.{Round, Square, Curly, Template}
 use Rattle.module_spec.specs.declared.token.Word.{Word}

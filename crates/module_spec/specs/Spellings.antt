@@ -1,9 +1,11 @@
 -- How far comments, literals and punctuators reach: the bytes behind them, or none where the text ends before they
 -- do. ECMA-262, 12.4, 12.8 and 12.9.
-use Rattle.std.specs.Prelude.{ℕ, Bool, true, false, not, ◌&&◌, ◌||◌, ◌==◌, List, [], ◌∷◌, if◌then◌else◌, Option, Some, None, slice_index, drop, length, codes}
+use Rattle.std.specs.Prelude.{ℕ, Bool, true, false, not, ◌&&◌, ◌||◌, ◌==◌, List, [], ◌∷◌, if◌then◌else◌, Option, Some}
+use Rattle.std.specs.Prelude.{None, slice_index, drop, length, codes}
 use Rattle.std.specs.Char.{is_ascii_digit}
 use Rattle.module_spec.specs.declared.token.Mark.{Mark}
-use Rattle.module_spec.specs.declared.token.Mark.TheVariants.{OpenRound, OpenSquare, OpenCurly, CloseRound, CloseSquare, CloseCurly, Dot, Step, Stop, Operator}
+use Rattle.module_spec.specs.declared.token.Mark.TheVariants.{OpenRound, OpenSquare, OpenCurly, CloseRound, CloseSquare}
+use Rattle.module_spec.specs.declared.token.Mark.TheVariants.{CloseCurly, Dot, Step, Stop, Operator}
 use Rattle.module_spec.specs.Characters.{begins_line_end, space_size, begins_digit, name_size, passed}
 
 -- the first text stands at the front of the second one

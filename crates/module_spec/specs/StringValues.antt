@@ -5,7 +5,8 @@
 --     escape characters      what the `\` before these characters begins, and how many of them belong to it
 -- Characters are told by their numbers.
 use lib.Utf8.{scalar}
-use Rattle.std.specs.Prelude.{ℕ, zero, suc, ◌+◌, ◌-◌, ◌*◌, Bool, false, not, ◌&&◌, ◌||◌, ◌==◌, nat_le, nat_lt, List, [], ◌∷◌, if◌then◌else◌, Option, Some, None, option_map, slice_index, take, drop, length}
+use Rattle.std.specs.Prelude.{ℕ, zero, suc, ◌+◌, ◌-◌, ◌*◌, Bool, false, not, ◌&&◌, ◌||◌, ◌==◌, nat_le, nat_lt, List, []}
+use Rattle.std.specs.Prelude.{◌∷◌, if◌then◌else◌, Option, Some, None, option_map, slice_index, take, drop, length}
 use Rattle.std.specs.Str.{chars, encode_utf8_all}
 use Rattle.std.specs.Char.{is_ascii_digit}
 use Rattle.module_spec.specs.Characters.{begins_digit, is_hex_digit, hex_digits, is_wide_line_end}

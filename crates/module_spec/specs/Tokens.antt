@@ -2,13 +2,16 @@
 --     ReadsTokens text (Ok tokens)      the tokens of the text, in their order
 --     ReadsTokens text (Err fault)      its first fault
 -- In between a list of lexemes is what was read so far, the last one first.
-use Rattle.std.specs.Prelude.{◌≡◌, ℕ, ◌+◌, ◌-◌, Bool, true, false, not, ◌&&◌, ◌||◌, ◌==◌, List, [], ◌∷◌, if◌then◌else◌, Option, Some, None, Result, Ok, Err, length, take, drop, map, reverse}
+use Rattle.std.specs.Prelude.{◌≡◌, ℕ, ◌+◌, ◌-◌, Bool, true, false, not, ◌&&◌, ◌||◌, ◌==◌, List, [], ◌∷◌, if◌then◌else◌}
+use Rattle.std.specs.Prelude.{Option, Some, None, Result, Ok, Err, length, take, drop, map, reverse}
 use Rattle.tree_spec.specs.declared.LimitName.TheVariants.{Brackets}
 use Rattle.tree_spec.specs.Limits.{limit_number}
 use Rattle.module_spec.specs.declared.token.Mark.{Mark}
-use Rattle.module_spec.specs.declared.token.Mark.TheVariants.{OpenRound, OpenSquare, OpenCurly, CloseRound, CloseSquare, CloseCurly, Dot, Step, Stop, Operator}
+use Rattle.module_spec.specs.declared.token.Mark.TheVariants.{OpenRound, OpenSquare, OpenCurly, CloseRound, CloseSquare}
+use Rattle.module_spec.specs.declared.token.Mark.TheVariants.{CloseCurly, Dot, Step, Stop, Operator}
 use Rattle.module_spec.specs.declared.token.Sort.{Sort}
-use Rattle.module_spec.specs.declared.token.Sort.TheVariants.{Name, Private, Number, Text, TemplateWhole, TemplateHead, TemplateMiddle, TemplateTail, Regex, Punctuator}
+use Rattle.module_spec.specs.declared.token.Sort.TheVariants.{Name, Private, Number, Text, TemplateWhole, TemplateHead}
+use Rattle.module_spec.specs.declared.token.Sort.TheVariants.{TemplateMiddle, TemplateTail, Regex, Punctuator}
 use Rattle.module_spec.specs.declared.token.Bracket.{Bracket}
 use Rattle.module_spec.specs.declared.token.Bracket.TheVariants.{Round, Square, Curly, Template}
 use Rattle.module_spec.specs.declared.token.Word.{Word}
@@ -18,8 +21,10 @@ use Rattle.module_spec.specs.declared.token.LexKind.TheVariants.{Unreadable, Too
 use Rattle.module_spec.specs.declared.token.Token.{Token}
 use Rattle.module_spec.specs.declared.token.LexFault.{LexFault}
 use Rattle.module_spec.specs.Characters.{begins_name, name_rest}
-use Rattle.module_spec.specs.Spellings.{blank_rest, hashbang_rest, number_rest, begins_number, text_rest, template_rest, regex_body_rest, punctuator}
-use Rattle.module_spec.specs.Sorts.{kind_of, opens, closes, same_bracket, word, is_dot, sort_before_value, is_condition, is_for, is_await}
+use Rattle.module_spec.specs.Spellings.{blank_rest, hashbang_rest, number_rest, begins_number, text_rest, template_rest}
+use Rattle.module_spec.specs.Spellings.{regex_body_rest, punctuator}
+use Rattle.module_spec.specs.Sorts.{kind_of, opens, closes, same_bracket, word, is_dot, sort_before_value, is_condition}
+use Rattle.module_spec.specs.Sorts.{is_for, is_await}
 
 -- ---- one token
 

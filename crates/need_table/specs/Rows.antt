@@ -3,7 +3,8 @@
 --     IsFresh needs need after       the need is of a row of its own, and is put at the end
 --     IsKnown needs need             the need is there, and clashes with none
 --     ClashesAt needs need first     the need at this place clashes with it, and none before
-use Rattle.std.specs.Prelude.{◌≡◌, ◌≢◌, ℕ, Bool, true, false, List, [], ◌∷◌, ◌++◌, bytes_eq, Some, slice_get, take, Contains}
+use Rattle.std.specs.Prelude.{◌≡◌, ◌≢◌, ℕ, Bool, true, false, List, [], ◌∷◌, ◌++◌, bytes_eq, Some, slice_get, take}
+use Rattle.std.specs.Prelude.{Contains}
 use Rattle.std.specs.List.{list_any}
 use Rattle.std.specs.Ordering.{on, eq_of_both}
 use Rattle.layout_spec.specs.declared.Need.{Need}

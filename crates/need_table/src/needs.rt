@@ -1,4 +1,5 @@
-ghost use Rattle.std.specs.Prelude.{◌≡◌, ◌≢◌, ◌==◌, ◌++◌, ◌∷◌, List, [], ℕ, Bool, length, true, false, slice_get, option_copied, Some, OnOk, OnErr, IfErr, MatchOption};
+ghost use Rattle.std.specs.Prelude.{◌≡◌, ◌≢◌, ◌==◌, ◌++◌, ◌∷◌, List, [], ℕ, Bool, length, true, false, slice_get};
+ghost use Rattle.std.specs.Prelude.{option_copied, Some, OnOk, OnErr, IfErr, MatchOption};
 ghost use Rattle.std.specs.List.{list_any};
 ghost use Rattle.layout_spec.specs.Needs.{NoClash};
 ghost use Rattle.layout_spec.specs.declared.Need.{Need};

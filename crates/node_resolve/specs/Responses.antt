@@ -10,7 +10,8 @@ use Rattle.tree_spec.specs.LookAskings.{Sights, LookAsking}
 use Rattle.tree_spec.specs.LookLimits.{Trail, look_limits, limited}
 use Rattle.node_spec.specs.NodeAnswers.{Refusal, by_cause, Resolving}
 use Rattle.node_spec.specs.declared.Cause.TheVariants.{InvalidConfig}
-use Rattle.package_lookup.specs.Responses.{Response, given, fails, Failing, passes, not_read, no_memory, never, by_limit, deep_config}
+use Rattle.package_lookup.specs.Responses.{Response, given, fails, Failing, passes, not_read, no_memory, never}
+use Rattle.package_lookup.specs.Responses.{by_limit, deep_config}
 use Rattle.package_lookup.specs.declared.fault.LookupFault.{LookupFault}
 use Rattle.package_lookup.specs.declared.fault.LookupFault.TheVariants as lookup
 use Rattle.node_resolve.specs.declared.fault.NodeFault.{NodeFault}

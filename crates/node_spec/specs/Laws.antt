@@ -6,19 +6,22 @@
 --     PartStands asked base trailer      a part that isn't empty stands between the base and the trailer
 --     IsPatternMatch asked key from to      the pattern match is the slice of the asked text between the key's base
 --         and trailer
-use Rattle.std.specs.Prelude.{◌≡◌, ◌≢◌, ◌⊎◌, ◌↔◌, ◌<◌, ◌+◌, ◌-◌, ℕ, true, false, List, [], ◌++◌, length, take, drop, codes, Result, IfOk, ⊤}
+use Rattle.std.specs.Prelude.{◌≡◌, ◌≢◌, ◌⊎◌, ◌↔◌, ◌<◌, ◌+◌, ◌-◌, ℕ, true, false, List, [], ◌++◌, length, take, drop}
+use Rattle.std.specs.Prelude.{codes, Result, IfOk, ⊤}
 use Rattle.std.specs.List.{Contains}
 use Rattle.tree_spec.specs.Trees.{Tree}
 use Rattle.json_spec.specs.Value.{HasDistinctNames, Json}
 use Rattle.url_spec.specs.Specifiers.{is_relative, begins}
 use Rattle.node_spec.specs.BareCalls.{IsDecided, Alike, IsSame, answers_of, Tells, AnswersBehind, TellsBehind}
 use Rattle.node_spec.specs.PackageTargets.{Rules, Call, ResolvesTarget, Answers, ResolvesUnder}
-use Rattle.node_spec.specs.PatternKeys.{IsPattern, FitsPattern, KeyMatch, PatternMatch, Matches, Precedes, IsChoice, MatchesNone}
+use Rattle.node_spec.specs.PatternKeys.{IsPattern, FitsPattern, KeyMatch, PatternMatch, Matches, Precedes, IsChoice}
+use Rattle.node_spec.specs.PatternKeys.{MatchesNone}
 use Rattle.node_spec.specs.Records.{Record, RecordFault, ReadsRecord}
 use Rattle.node_spec.specs.Resolution.{Answer, ResolvesRelative}
 use Rattle.node_spec.specs.declared.BareAnswer.{BareAnswer}
 use Rattle.node_spec.specs.declared.Outcome.{Outcome}
-use Rattle.node_spec.specs.declared.Outcome.TheVariants.{Undefined, Null, Place, Bare, Stopped, InvalidTarget, InvalidSpecifier, InvalidConfig}
+use Rattle.node_spec.specs.declared.Outcome.TheVariants.{Undefined, Null, Place, Bare, Stopped, InvalidTarget}
+use Rattle.node_spec.specs.declared.Outcome.TheVariants.{InvalidSpecifier, InvalidConfig}
 
 -- own law: a specifier in a file of a tree has one answer at most
 abbrev pub OneAnswer : Type 0

@@ -10,17 +10,21 @@
 --     HasFormat files path format      the file has this format
 --     ExportExamples, ConfigExamples, OwnPackageExamples, ImportExamples, SpecifierExamples, FolderExamples,
 --         FootprintExamples, FormatExamples, OwnRuleExamples      the examples
-use Rattle.std.specs.Prelude.{◌≡◌, ℕ, List, [], ◌∷◌, ◌++◌, codes, map, bytes_eq, replicate, Some, None, Result, Ok, Err, if◌then◌else◌}
+use Rattle.std.specs.Prelude.{◌≡◌, ℕ, List, [], ◌∷◌, ◌++◌, codes, map, bytes_eq, replicate, Some, None, Result, Ok, Err}
+use Rattle.std.specs.Prelude.{if◌then◌else◌}
 use Rattle.asking_spec.specs.Askings.{outcome}
 use Rattle.tree_spec.specs.LookAskings.{Sights, footprint}
 use Rattle.tree_spec.specs.declared.Entry.{Entry}
 use Rattle.tree_spec.specs.declared.Entry.TheVariants.{Stored, Directory}
 use Rattle.node_spec.specs.BuiltinNames.{texts}
-use Rattle.node_spec.specs.EsmFileFormat.{Format, IsModule, IsDetected, IsCommonJs, IsJson, IsAddon, HasBadConfig, IsOther, file_format}
+use Rattle.node_spec.specs.EsmFileFormat.{Format, IsModule, IsDetected, IsCommonJs, IsJson, IsAddon, HasBadConfig}
+use Rattle.node_spec.specs.EsmFileFormat.{IsOther, file_format}
 use Rattle.node_spec.specs.EsmResolve.{node}
 use Rattle.node_spec.specs.NodeAnswers.{Module, Refusal, by_cause, too_deep}
 use Rattle.node_spec.specs.declared.Cause.{Cause}
-use Rattle.node_spec.specs.declared.Cause.TheVariants.{Builtin, ExternalUrl, InvalidSpecifier, InvalidConfig, InvalidTarget, NotExported, ImportNotDefined, NotFound, DirectoryImport}
+use Rattle.node_spec.specs.declared.Cause.TheVariants.{Builtin, ExternalUrl, InvalidSpecifier, InvalidConfig}
+use Rattle.node_spec.specs.declared.Cause.TheVariants.{InvalidTarget, NotExported, ImportNotDefined, NotFound}
+use Rattle.node_spec.specs.declared.Cause.TheVariants.{DirectoryImport}
 use Prim.Native.String.{String}
 
 abbrev pub Files : Type 0

@@ -1,6 +1,7 @@
 -- The laws of Node's rules as askings. Each is the contract of a function of this crate.
 use Rattle.std.specs.FinMap.{get}
-use Rattle.std.specs.Prelude.{◌≡◌, ◌↔◌, ◌++◌, ℕ, true, false, List, [], ◌∷◌, Option, Some, Result, Ok, MatchOption, ◌≢◌, None}
+use Rattle.std.specs.Prelude.{◌≡◌, ◌↔◌, ◌++◌, ℕ, true, false, List, [], ◌∷◌, Option, Some, Result, Ok, MatchOption, ◌≢◌}
+use Rattle.std.specs.Prelude.{None}
 use Rattle.asking_spec.specs.Askings.{outcome}
 use Rattle.asking_spec.specs.Laws.{AgreesOn}
 use Rattle.json_spec.specs.Value.{Json}

@@ -5,7 +5,8 @@
 --     name_length text                 how long the package name is at the front of a bare specifier
 --     is_package_name name             the name may be that of a package
 --     package_resolve conditions from text      the URL that the bare specifier has
-use Rattle.std.specs.Prelude.{◌≡◌, ◌&&◌, ◌||◌, ◌==◌, ◌+◌, ◌++◌, not, ℕ, nat_lt, Bool, true, false, List, [], ◌∷◌, codes, bytes_eq, length, take, drop, if◌then◌else◌, Option, Some, None, option_map}
+use Rattle.std.specs.Prelude.{◌≡◌, ◌&&◌, ◌||◌, ◌==◌, ◌+◌, ◌++◌, not, ℕ, nat_lt, Bool, true, false, List, [], ◌∷◌, codes}
+use Rattle.std.specs.Prelude.{bytes_eq, length, take, drop, if◌then◌else◌, Option, Some, None, option_map}
 use Rattle.std.specs.List.{list_any, prefix_len}
 use Rattle.asking_spec.specs.Askings.{answered, and_then, and_ok}
 use Rattle.tree_spec.specs.LookAskings.{LookAsking}

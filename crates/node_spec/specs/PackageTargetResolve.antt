@@ -8,18 +8,21 @@
 --     judge_bare found                 what a target makes of the answer to a bare text
 use Rattle.std.specs.Prelude.{ℕ, List, codes, if◌then◌else◌, Option, Some, None, Result, Ok, Err}
 use Rattle.asking_spec.specs.Askings.{answered, and_then}
-use Rattle.json_spec.specs.Value.{Json, a_null, a_bool, a_number, a_text, a_list, an_object, Items, no_items, an_item, Members, no_members, a_member}
+use Rattle.json_spec.specs.Value.{Json, a_null, a_bool, a_number, a_text, a_list, an_object, Items, no_items, an_item}
+use Rattle.json_spec.specs.Value.{Members, no_members, a_member}
 use Rattle.tree_spec.specs.LookAskings.{LookAsking}
 use Rattle.url_spec.specs.Specifiers.{begins}
 use Rattle.node_spec.specs.FileLooks.{url_in, check_url}
 use Rattle.node_spec.specs.NodeAnswers.{Refusal, by_cause, too_deep, Url, Resolving, refuses}
-use Rattle.node_spec.specs.PackageTargets.{Rules, own_outcome, names_package, with_match, bare_outcome, has_index_key, is_tried, is_undefined, is_passed, last_of}
+use Rattle.node_spec.specs.PackageTargets.{Rules, own_outcome, names_package, with_match, bare_outcome, has_index_key}
+use Rattle.node_spec.specs.PackageTargets.{is_tried, is_undefined, is_passed, last_of}
 use Rattle.node_spec.specs.declared.BareAnswer.{BareAnswer}
 use Rattle.node_spec.specs.declared.BareAnswer.TheVariants as bare_answer
 use Rattle.node_spec.specs.declared.Cause.{Cause}
 use Rattle.node_spec.specs.declared.Cause.TheVariants as cause
 use Rattle.node_spec.specs.declared.Outcome.{Outcome}
-use Rattle.node_spec.specs.declared.Outcome.TheVariants.{Undefined, Null, Place, Bare, Stopped, InvalidTarget, InvalidSpecifier, InvalidConfig}
+use Rattle.node_spec.specs.declared.Outcome.TheVariants.{Undefined, Null, Place, Bare, Stopped, InvalidTarget}
+use Rattle.node_spec.specs.declared.Outcome.TheVariants.{InvalidSpecifier, InvalidConfig}
 
 pub record Bares (X : Type 0) : Type 0 where
   pub ask : List ℕ → LookAsking X

@@ -9,17 +9,20 @@ use Rattle.std.specs.Cmp.Lexicographic.{slice_cmp}
 use Rattle.std.specs.FinMap.{FinMap, get}
 use Rattle.std.specs.List.{slice_split, list_any}
 use Rattle.std.specs.Ordering.{nat_cmp}
-use Rattle.std.specs.Prelude.{ℕ, Bool, List, Option, ◌==◌, ◌||◌, [], ◌∷◌, codes, bytes_eq, drop, false, Some, None, flat_map, if◌then◌else◌, ◌&&◌, not, is_none, ◌≡◌, true, ◌++◌, ⊤}
+use Rattle.std.specs.Prelude.{ℕ, Bool, List, Option, ◌==◌, ◌||◌, [], ◌∷◌, codes, bytes_eq, drop, false, Some, None}
+use Rattle.std.specs.Prelude.{flat_map, if◌then◌else◌, ◌&&◌, not, is_none, ◌≡◌, true, ◌++◌, ⊤}
 use Rattle.percent_encoding.specs.Percent.{percent_decode}
 use Rattle.url.specs.Input.{lowercase, strip_tabs_and_new_lines}
 use Rattle.json_spec.specs.PropertyOrder.{is_array_index}
-use Rattle.json_spec.specs.Value.{Members, no_members, a_member, Json, a_null, a_bool, a_number, a_text, a_list, an_object, Items, no_items, an_item}
+use Rattle.json_spec.specs.Value.{Members, no_members, a_member, Json, a_null, a_bool, a_number, a_text, a_list}
+use Rattle.json_spec.specs.Value.{an_object, Items, no_items, an_item}
 use Rattle.url_spec.specs.Parsing.{parse_alone}
 use Rattle.url_spec.specs.Specifiers.{begins}
 use Rattle.node_spec.specs.declared.BareAnswer.{BareAnswer}
 use Rattle.node_spec.specs.declared.BareAnswer.TheVariants as bare_answer
 use Rattle.node_spec.specs.declared.Outcome.{Outcome}
-use Rattle.node_spec.specs.declared.Outcome.TheVariants.{Place, InvalidTarget, InvalidSpecifier, Bare, Stopped, Undefined, Null, InvalidConfig}
+use Rattle.node_spec.specs.declared.Outcome.TheVariants.{Place, InvalidTarget, InvalidSpecifier, Bare, Stopped}
+use Rattle.node_spec.specs.declared.Outcome.TheVariants.{Undefined, Null, InvalidConfig}
 
 -- what a target is judged by, beside the package: the names of the conditions, which count as a set, what stands for
 -- each `*` (Node's patternMatch), and whether the target stands in `imports`

@@ -4,7 +4,8 @@
 --     key_match asked key       how the key matches the text that is asked for, where it does
 --     first_key asked keys      of the keys that match, the one that no other precedes
 --     pattern_match asked found      what stands for `*`, where the key is a pattern
-use Rattle.std.specs.Prelude.{◌==◌, ◌&&◌, ◌||◌, ◌-◌, not, ℕ, nat_le, nat_lt, nat_eq, Bool, true, false, List, [], ◌∷◌, take, drop, length, filter, bytes_eq, if◌then◌else◌, Option, Some, None}
+use Rattle.std.specs.Prelude.{◌==◌, ◌&&◌, ◌||◌, ◌-◌, not, ℕ, nat_le, nat_lt, nat_eq, Bool, true, false, List, [], ◌∷◌}
+use Rattle.std.specs.Prelude.{take, drop, length, filter, bytes_eq, if◌then◌else◌, Option, Some, None}
 use Rattle.std.specs.List.{ends_with}
 use Rattle.url_spec.specs.Specifiers.{begins}
 use Rattle.node_spec.specs.PatternKeys.{KeyMatch, Itself, PatternMatch}

@@ -12,7 +12,8 @@ use Rattle.tree_spec.specs.declared.Entry.TheVariants.{Stored, Directory}
 use Rattle.node_spec.specs.FileLooks.{look_at_text, is_file}
 use Rattle.node_spec.specs.LookupPackageScope.{package_json}
 use Rattle.node_spec.specs.NodeAnswers.{Refusal, by_cause, too_deep, Resolving}
-use Rattle.node_spec.specs.Records.{Record, RecordFault, InvalidRecord, DeepRecord, record_outcome, after_mark, ReadsRecord}
+use Rattle.node_spec.specs.Records.{Record, RecordFault, InvalidRecord, DeepRecord, record_outcome, after_mark}
+use Rattle.node_spec.specs.Records.{ReadsRecord}
 use Rattle.node_spec.specs.declared.Cause.TheVariants.{InvalidConfig}
 
 -- what `ReadsRecord` relates to the bytes

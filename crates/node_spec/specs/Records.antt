@@ -2,10 +2,12 @@
 -- package.json field definitions).
 --     ReadsRecord bytes out      the file's bytes have the record, or the reason for having none, out
 --     record_of members      the record of an object with these members
-use Rattle.std.specs.Prelude.{ℕ, List, Option, bytes_eq, if◌then◌else◌, Some, None, codes, Result, Ok, Err, [], ◌∷◌, unwrap_or}
+use Rattle.std.specs.Prelude.{ℕ, List, Option, bytes_eq, if◌then◌else◌, Some, None, codes, Result, Ok, Err, [], ◌∷◌}
+use Rattle.std.specs.Prelude.{unwrap_or}
 use Rattle.json_spec.specs.Grammar.{Fault, NotJson, TooDeep, ReadsJson}
 use Rattle.json_spec.specs.Strings.{behind}
-use Rattle.json_spec.specs.Value.{Json, a_null, Members, no_members, a_member, a_bool, a_number, a_text, a_list, an_object}
+use Rattle.json_spec.specs.Value.{Json, a_null, Members, no_members, a_member, a_bool, a_number, a_text, a_list}
+use Rattle.json_spec.specs.Value.{an_object}
 use Rattle.node_spec.specs.declared.PackageKind.{PackageKind}
 use Rattle.node_spec.specs.declared.PackageKind.TheVariants.{Module, CommonJs, Unstated}
 

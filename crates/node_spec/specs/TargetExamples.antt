@@ -1,11 +1,13 @@
 -- Worked examples of targets. The text `x` is answered by InvalidTarget, `s` by Stop, any other by Found.
 --     StringExamples, NestedExamples      strings, and objects and lists
 use Rattle.std.specs.Prelude.{false, [], ◌∷◌, codes, None, true, ℕ, List, Some}
-use Rattle.json_spec.specs.Value.{Json, a_list, no_items, an_item, an_object, no_members, a_member, a_text, a_null, a_bool}
+use Rattle.json_spec.specs.Value.{Json, a_list, no_items, an_item, an_object, no_members, a_member, a_text, a_null}
+use Rattle.json_spec.specs.Value.{a_bool}
 use Rattle.node_spec.specs.PackageTargets.{Rules, ResolvesTarget}
 use Rattle.node_spec.specs.declared.BareAnswer.TheVariants as bare_answer
 use Rattle.node_spec.specs.declared.Outcome.{Outcome}
-use Rattle.node_spec.specs.declared.Outcome.TheVariants.{Place, Bare, InvalidTarget, InvalidSpecifier, Undefined, Null, Stopped, InvalidConfig}
+use Rattle.node_spec.specs.declared.Outcome.TheVariants.{Place, Bare, InvalidTarget, InvalidSpecifier, Undefined, Null}
+use Rattle.node_spec.specs.declared.Outcome.TheVariants.{Stopped, InvalidConfig}
 
 -- in `exports`, in `imports`, and in `exports` with a text for `*`; the one condition is `import`
 abbrev exporting : Rules

@@ -1,5 +1,6 @@
 ghost use Rattle.std.specs.Prelude.{◌≡◌, ◌<◌, ◌+◌, [], length, IfOk, OnOk};
-ghost use Rattle.ordered_json.specs.Forests.{IsFresh, IsClosed, StartsNextList, GetsItems, Fills, FillsAt, FillsAll, Seals};
+ghost use Rattle.ordered_json.specs.Forests.{IsFresh, IsClosed, StartsNextList, GetsItems, Fills, FillsAt, FillsAll};
+ghost use Rattle.ordered_json.specs.Forests.{Seals};
 ghost use Rattle.ordered_json.specs.Forests.{Keeps, Shows, IsInside, HoldsOne, AddsValue, OpensList, ClosesList};
 ghost use Rattle.ordered_json.specs.declared.value.Value.{List};
 ghost use Rattle.ordered_json.specs.Forests.{TakesValue, StaysThere, GoesDeeper, GoesOut};

@@ -7,7 +7,8 @@
 --                                           those alone of which this holds
 --     Answered before asking response after what the call does
 --     Asks before path after                the folder was asked for the path where it isn't known, and only there
-use Rattle.std.specs.Prelude.{◌≡◌, ◌≢◌, ◌++◌, [], ◌∷◌, ℕ, List, Some, None, All, Contains, ⊤, IfSome, is_some, Bool, true, bytes_eq, not, ◌&&◌, if◌then◌else◌}
+use Rattle.std.specs.Prelude.{◌≡◌, ◌≢◌, ◌++◌, [], ◌∷◌, ℕ, List, Some, None, All, Contains, ⊤, IfSome, is_some, Bool}
+use Rattle.std.specs.Prelude.{true, bytes_eq, not, ◌&&◌, if◌then◌else◌}
 use Rattle.std.specs.List.{IsDistinct}
 use Rattle.asking_spec.specs.Evaluation.{Ended, ends, stopped, evaluated}
 use Rattle.tree_spec.specs.LookAskings.{Sights, LookAsking, looks}

@@ -1,7 +1,8 @@
 -- A look that is held for a path, by a look at the folder where none was.
 --     LooksNow before path result after             a look at the folder
 --     Fetches before old path result after new      what that does
-use Rattle.std.specs.Prelude.{◌≡◌, ◌⊎◌, ◌++◌, [], ◌∷◌, ℕ, List, Some, Result, Ok, Err, IfOk, IfErr, IfSome, is_some, is_ok, ⊤, if◌then◌else◌}
+use Rattle.std.specs.Prelude.{◌≡◌, ◌⊎◌, ◌++◌, [], ◌∷◌, ℕ, List, Some, Result, Ok, Err, IfOk, IfErr, IfSome, is_some}
+use Rattle.std.specs.Prelude.{is_ok, ⊤, if◌then◌else◌}
 use Rattle.std.specs.FinMap.{get}
 use Rattle.tree_spec.specs.States.{FolderState, OnlyLooks}
 use Rattle.tree_spec.specs.declared.Look.{Look}

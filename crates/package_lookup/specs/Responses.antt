@@ -9,7 +9,8 @@ use Rattle.std.specs.Prelude.{Result, Ok, Err}
 use Rattle.node_spec.specs.NodeAnswers.{Refusal, by_cause, too_deep}
 use Rattle.node_spec.specs.declared.Cause.TheVariants as cause
 use Rattle.tree_spec.specs.declared.LimitName.{LimitName}
-use Rattle.tree_spec.specs.declared.LimitName.TheVariants.{File, Bytes, Looks, Modules, ModuleRequests, Requests, Specifier, Entries, Brackets, Depth, Session, Map, Choices}
+use Rattle.tree_spec.specs.declared.LimitName.TheVariants.{File, Bytes, Looks, Modules, ModuleRequests, Requests}
+use Rattle.tree_spec.specs.declared.LimitName.TheVariants.{Specifier, Entries, Brackets, Depth, Session, Map, Choices}
 use Rattle.package_lookup.specs.declared.fault.LookupFault.{LookupFault}
 use Rattle.package_lookup.specs.declared.fault.LookupFault.TheVariants.{ReadFault, Limit, InvalidConfig, Memory}
 

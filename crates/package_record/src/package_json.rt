@@ -1,6 +1,7 @@
 ghost use Rattle.std.specs.Prelude.{◌≡◌, MatchOption, MatchResult, IfOk, Ok, Err};
 ghost use Rattle.json_spec.specs.Value.{an_object, HasDistinctNames, Members as Spec};
-ghost use Rattle.node_spec.specs.Records.{InvalidRecord, ReadsRecord, after_mark, kind_of, record_in, record_of, text_in};
+ghost use Rattle.node_spec.specs.Records.{InvalidRecord, ReadsRecord, after_mark, kind_of, record_in, record_of};
+ghost use Rattle.node_spec.specs.Records.{text_in};
 ghost use Rattle.ordered_json.specs.Lists.{pairs_of};
 ghost use Rattle.ordered_json.specs.Shown.{json_of, members_of};
 ghost use Rattle.package_record.specs.Fields.{HoldsFields};

@@ -1,4 +1,5 @@
-ghost use Rattle.std.specs.Prelude.{◌≡◌, ◌==◌, if◌then◌else◌, List, [], ◌∷◌, ◌++◌, ℕ, length, slice_get, option_copied, is_ok, IfOk};
+ghost use Rattle.std.specs.Prelude.{◌≡◌, ◌==◌, if◌then◌else◌, List, [], ◌∷◌, ◌++◌, ℕ, length, slice_get, option_copied};
+ghost use Rattle.std.specs.Prelude.{is_ok, IfOk};
 
 use crate::Memory;
 use std::alloc::Global;

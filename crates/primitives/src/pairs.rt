@@ -1,4 +1,5 @@
-ghost use Rattle.std.specs.Prelude.{◌≡◌, ◌==◌, if◌then◌else◌, List, [], ◌∷◌, ◌++◌, ℕ, length, slice_get, option_map, is_ok};
+ghost use Rattle.std.specs.Prelude.{◌≡◌, ◌==◌, if◌then◌else◌, List, [], ◌∷◌, ◌++◌, ℕ, length, slice_get, option_map};
+ghost use Rattle.std.specs.Prelude.{is_ok};
 
 use crate::Memory;
 use std::alloc::Global;

@@ -6,7 +6,8 @@ ghost use Rattle.ordered_json.specs.Lists.{pairs_of, values_of};
 ghost use Rattle.ordered_json.specs.Shown.{json_of, items_of, members_of};
 ghost use Rattle.condition_match.specs.Conditions.{AreConditions};
 ghost use Rattle.project_file.specs.Strings.{list_found, object_in, string_found};
-ghost use Rattle.project_file.specs.Parts.{HasNoParts, HoldsStrings, IsFilled, IsPage, IsWritten, NotWritten, has_written};
+ghost use Rattle.project_file.specs.Parts.{HasNoParts, HoldsStrings, IsFilled, IsPage, IsWritten, NotWritten};
+ghost use Rattle.project_file.specs.Parts.{has_written};
 
 use crate::lists::{are_distinct, are_names, joined, list_of, string_of, strings_in};
 use crate::project::Project;

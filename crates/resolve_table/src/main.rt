@@ -4,15 +4,15 @@
 //! one trail takes until one passes a limit.
 //!
 //! A table is read line by line, and a line that begins with four spaces goes on with the one before it. `-- ` begins a
-//! comment, and `§` a tree. Behind a `¶` stands a file, its path and behind a `⇒` its text, or a folder, whose path ends
-//! in `/`. Behind a `»` stands the path of the file that asks, and behind `conditions:` the conditions that hold. Where
-//! nothing is said, `/app.mjs` asks, under `browser` and `import`. A line `JSON | NAMES` begins the tree of a package `p`
-//! in the root's `node_modules`, with this package.json and these empty files, where `-` stands for none; more of their
-//! names may stand on a line behind `| `. A case is what is asked for and, behind ` => `, what comes of it: the module
-//! that is found, a refusal, a limit, behind `looks ` the paths that are looked at, behind `format ` the format of the
-//! file at the path that is asked for, or behind `scope ` the package scope of the folder there. The first case of a
-//! package may stand on its line, behind another ` | `.
-//! `⟨U+9⟩` stands for the character of that number, and `⟨/s×64⟩` for a text so many times.
+//! comment, and `§` a tree. Behind a `¶` stands a file, its path and behind a `⇒` its text, or a folder, whose path
+//! ends in `/`. Behind a `»` stands the path of the file that asks, and behind `conditions:` the conditions that hold.
+//! Where nothing is said, `/app.mjs` asks, under `browser` and `import`. A line `JSON | NAMES` begins the tree of a
+//! package `p` in the root's `node_modules`, with this package.json and these empty files, where `-` stands for none;
+//! more of their names may stand on a line behind `| `. A case is what is asked for and, behind ` => `, what comes of
+//! it: the module that is found, a refusal, a limit, behind `looks ` the paths that are looked at, behind `format ` the
+//! format of the file at the path that is asked for, or behind `scope ` the package scope of the folder there. The
+//! first case of a package may stand on its line, behind another ` | `. `⟨U+9⟩` stands for the character of that
+//! number, and `⟨/s×64⟩` for a text so many times.
 #![tactic(auto)]
 
 ghost use Rattle.std.specs.Prelude.{◌≡◌, ◌<◌};

@@ -71,8 +71,8 @@ impl Site {
         self.put(alloc, path, Some(text.as_bytes()))
     }
 
-    /// Empty files of the package `p` in the root's `node_modules`, with `, ` between each two of their names; `-` stands
-    /// for none.
+    /// Empty files of the package `p` in the root's `node_modules`, with `, ` between each two of their names; `-`
+    /// stands for none.
     pub fn put_names(&mut self, alloc: Global, names: &str) -> io::Result<()> {
         if names == "-" {
             return Ok(());

@@ -1,4 +1,5 @@
-ghost use Rattle.std.specs.Prelude.{◌≡◌, ◌==◌, List, [], ◌∷◌, ◌++◌, ℕ, length, slice_get, option_map, if◌then◌else◌, is_ok, IfOk};
+ghost use Rattle.std.specs.Prelude.{◌≡◌, ◌==◌, List, [], ◌∷◌, ◌++◌, ℕ, length, slice_get, option_map, if◌then◌else◌};
+ghost use Rattle.std.specs.Prelude.{is_ok, IfOk};
 ghost use Rattle.scope_builder.specs.Keys.{InKeyOrder};
 
 use primitives::{Memory, Text};

@@ -8,7 +8,8 @@
 -- GrewLess old new n fewer places were made, 64 at a time, than are wanted
 -- IsSound p          a place with a value gave a slot, and no place gives a generation past the last
 -- IsArena a          all places are so, and a number of 32 bits counts them
-use Rattle.std.specs.Prelude.{◌≡◌, ℕ, ◌+◌, ◌*◌, ◌-◌, ◌/◌, ◌^◌, ◌<◌, ◌≤◌, nat_lt, if◌then◌else◌, List, [], ◌∷◌, length, Option, Some, None}
+use Rattle.std.specs.Prelude.{◌≡◌, ℕ, ◌+◌, ◌*◌, ◌-◌, ◌/◌, ◌^◌, ◌<◌, ◌≤◌, nat_lt, if◌then◌else◌, List, [], ◌∷◌, length}
+use Rattle.std.specs.Prelude.{Option, Some, None}
 use Rattle.slot_arena.specs.Slots.{Place, place_at, with_places}
 
 module _ {X : Type 0} where

@@ -6,7 +6,8 @@
 -- retired               a place that has no slot left
 -- AreFields vs ns free c m     the fields of an arena: a next generation to each place, and the others as they must be
 -- IsKept a free c m     `free` names each place that has a slot to give, once; c slots are live; m places fit
-use Rattle.std.specs.Prelude.{◌≡◌, ℕ, zero, suc, ◌+◌, ◌^◌, ◌<◌, ◌≤◌, ◌==◌, if◌then◌else◌, List, [], ◌∷◌, length, get_or, Option, None}
+use Rattle.std.specs.Prelude.{◌≡◌, ℕ, zero, suc, ◌+◌, ◌^◌, ◌<◌, ◌≤◌, ◌==◌, if◌then◌else◌, List, [], ◌∷◌, length, get_or}
+use Rattle.std.specs.Prelude.{Option, None}
 use Rattle.slot_arena.specs.Slots.{Place, place, place_at}
 use Rattle.slot_arena.specs.Counts.{vacancy, spare, live, IsSound}
 

@@ -9,7 +9,8 @@
 -- set_at a s v       the place of s has v, and s is the last slot that it gave
 -- with_places a n    n places more at the end, empty, none of which gave a slot
 -- taken_from a s o   what is left where o was taken out from under s: the place of s is empty, or nothing changed
-use Rattle.std.specs.Prelude.{◌≡◌, ℕ, ◌+◌, ◌^◌, ◌<◌, ◌==◌, if◌then◌else◌, List, ◌++◌, length, get_or, slice_set, replicate, Option, Some, None, refl}
+use Rattle.std.specs.Prelude.{◌≡◌, ℕ, ◌+◌, ◌^◌, ◌<◌, ◌==◌, if◌then◌else◌, List, ◌++◌, length, get_or, slice_set}
+use Rattle.std.specs.Prelude.{replicate, Option, Some, None, refl}
 use Rattle.std.specs.Coded.{Coded, code_by, coded×, coded_list, coded_option, coded_ℕ}
 use Rattle.slot_arena.specs.declared.slot.Slot.{Slot}
 

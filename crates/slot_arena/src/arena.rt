@@ -1,4 +1,5 @@
-ghost use Rattle.std.specs.Prelude.{◌≡◌, ◌↔◌, ◌+◌, ◌*◌, ◌-◌, ◌^◌, ◌<◌, ◌≤◌, ℕ, length, replicate, option_copied, IfOk, OnOk, OnErr, Some, None, IsTrue, IsSome, ◌++◌, ◌∷◌, [], vec_len, vec_capacity};
+ghost use Rattle.std.specs.Prelude.{◌≡◌, ◌↔◌, ◌+◌, ◌*◌, ◌-◌, ◌^◌, ◌<◌, ◌≤◌, ℕ, length, replicate, option_copied, IfOk};
+ghost use Rattle.std.specs.Prelude.{OnOk, OnErr, Some, None, IsTrue, IsSome, ◌++◌, ◌∷◌, [], vec_len, vec_capacity};
 ghost use Rattle.slot_arena.specs.Slots.{place, value_at, IsFresh, set_at, with_places, taken_from};
 ghost use Rattle.slot_arena.specs.Counts.{spare, live, wanted, GrewLess, IsArena};
 ghost use Rattle.slot_arena.specs.Kept.{down_to};

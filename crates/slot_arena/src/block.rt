@@ -1,7 +1,8 @@
 //! A block of memory as a row of places, each empty or with a value: the one module with raw pointers. Its six
 //! functions make a block, put a value into a place, lend it, lend it to be written to, take it out, and give the
 //! block back.
-ghost use Rattle.std.specs.Prelude.{◌≡◌, ℕ, ◌<◌, List, Option, Some, None, length, replicate, get_or, slice_set, IfOk, ⊤};
+ghost use Rattle.std.specs.Prelude.{◌≡◌, ℕ, ◌<◌, List, Option, Some, None, length, replicate, get_or, slice_set, IfOk};
+ghost use Rattle.std.specs.Prelude.{⊤};
 ghost use Rattle.std.specs.Borrow.{sem};
 ghost use Rattle.std.specs.Vec.Ownership.{FitsInBlock};
 ghost use base.Fml.{ftrue};

@@ -7,7 +7,8 @@ ghost use Rattle.trace_spec.specs.Checks.{Gathered, wanted_by, checked, follows}
 ghost use Rattle.trace_walk.specs.Kinds.{IsOfWalk};
 ghost use Rattle.trace_walk.specs.Meeting.{Met};
 ghost use Rattle.trace_walk.specs.Refusing.{IsUnwanted};
-ghost use Rattle.trace_walk.specs.Walking.{IsReferrer, AllNamed, AreBeside, KeepsUrls, Grows, IsGiven, wanted_of, IsBounded};
+ghost use Rattle.trace_walk.specs.Walking.{IsReferrer, AllNamed, AreBeside, KeepsUrls, Grows, IsGiven, wanted_of};
+ghost use Rattle.trace_walk.specs.Walking.{IsBounded};
 ghost use Rattle.trace_walk.specs.Shown.{before_of, done};
 
 use crate::answerer::{Answerer, NodeAnswer};

@@ -1,4 +1,5 @@
-ghost use Rattle.std.specs.Prelude.{◌≡◌, ◌≢◌, ◌≤◌, ◌↔◌, ◌++◌, [], ◌∷◌, if◌then◌else◌, Option, Some, None, true, false, is_ok, option_copied, IfOk, OnOk, OnErr, IsErr, IsErrOf};
+ghost use Rattle.std.specs.Prelude.{◌≡◌, ◌≢◌, ◌≤◌, ◌↔◌, ◌++◌, [], ◌∷◌, if◌then◌else◌, Option, Some, None, true, false};
+ghost use Rattle.std.specs.Prelude.{is_ok, option_copied, IfOk, OnOk, OnErr, IsErr, IsErrOf};
 ghost use Rattle.std.specs.List.{Contains};
 ghost use Rattle.std.specs.FinMap.{get};
 ghost use Rattle.tree_spec.specs.Counts.{following};

@@ -2,7 +2,8 @@
 --     base_of text      the base that a text gives
 --     IsBase text      the text is a base
 use Rattle.url_spec.specs.Specifiers.{ends_in_slash}
-use Rattle.std.specs.Prelude.{◌&&◌, ◌||◌, not, Bool, codes, bytes_eq, is_some, false, Option, Some, None, ℕ, List, if◌then◌else◌, ◌≡◌}
+use Rattle.std.specs.Prelude.{◌&&◌, ◌||◌, not, Bool, codes, bytes_eq, is_some, false, Option, Some, None, ℕ, List}
+use Rattle.std.specs.Prelude.{if◌then◌else◌, ◌≡◌}
 use Rattle.url.specs.Parts.{Parts, has_credentials}
 use Rattle.url_spec.specs.Parsing.{parts_of, parse_alone}
 

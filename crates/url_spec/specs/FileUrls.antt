@@ -6,7 +6,8 @@
 --     NamesPath text path      a file URL's path names this path
 --     IsPlace url path folder_only escaped suffix      the place that a file URL names
 use Rattle.url_spec.specs.Specifiers.{ends_in_slash}
-use Rattle.std.specs.Prelude.{◌&&◌, not, ℕ, Bool, List, [], ◌++◌, codes, bytes_eq, if◌then◌else◌, false, Option, Some, None, ◌||◌, ◌==◌, flat_map, length, filter, ◌≡◌, MatchOption}
+use Rattle.std.specs.Prelude.{◌&&◌, not, ℕ, Bool, List, [], ◌++◌, codes, bytes_eq, if◌then◌else◌, false, Option, Some}
+use Rattle.std.specs.Prelude.{None, ◌||◌, ◌==◌, flat_map, length, filter, ◌≡◌, MatchOption}
 use Rattle.std.specs.Str.{IsUtf8}
 use Rattle.url.specs.Parts.{Parts, has_host}
 use Rattle.tree_spec.specs.Paths.{IsPath}

@@ -1,6 +1,7 @@
 -- The laws of URLs as texts. Each is the contract of a function of this crate.
 --     IsNoStart b      the byte is neither a letter nor one that the URL parser trims or drops
-use Rattle.std.specs.Prelude.{◌≡◌, ◌↔◌, ℕ, List, Some, None, true, false, [], ◌∷◌, ◌≢◌, ◌<◌, ◌++◌, drop, All, codes, Bool, Option, Ok}
+use Rattle.std.specs.Prelude.{◌≡◌, ◌↔◌, ℕ, List, Some, None, true, false, [], ◌∷◌, ◌≢◌, ◌<◌, ◌++◌, drop, All, codes}
+use Rattle.std.specs.Prelude.{Bool, Option, Ok}
 use Rattle.std.specs.Char.{is_ascii_alphabetic}
 use Rattle.std.specs.Str.{IsAscii}
 use Rattle.url.specs.Canonical.{IsCanonical}

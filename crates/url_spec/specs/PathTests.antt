@@ -3,7 +3,8 @@
 --     is_segment name                the name may stand between two slashes
 --     is_path text                   the text is a path
 --     is_served base url path        the base serves this path at the URL
-use Rattle.std.specs.Prelude.{◌&&◌, ◌||◌, ◌==◌, not, nat_le, ℕ, Bool, false, List, [], ◌∷◌, ◌++◌, length, drop, codes, bytes_eq, flat_map, if◌then◌else◌}
+use Rattle.std.specs.Prelude.{◌&&◌, ◌||◌, ◌==◌, not, nat_le, ℕ, Bool, false, List, [], ◌∷◌, ◌++◌, length, drop, codes}
+use Rattle.std.specs.Prelude.{bytes_eq, flat_map, if◌then◌else◌}
 use Rattle.std.specs.List.{list_all}
 use Rattle.std.specs.Str.{is_utf8}
 use Rattle.url_spec.specs.Suffixes.{before_suffix}

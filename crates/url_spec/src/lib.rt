@@ -2,7 +2,8 @@
 //! and their laws as the contracts of functions that do nothing.
 #![tactic(auto)]
 
-ghost use Rattle.url_spec.specs.Laws.{SameAgainst, FilesEndInNoSlash, FileUrls, AsciiUrls, KeptWhole, KeptUrls, NoUrls, OwnUrls, NormalTexts, BasesStay, OneServed, OnePlace, PathsAreTested};
+ghost use Rattle.url_spec.specs.Laws.{SameAgainst, FilesEndInNoSlash, FileUrls, AsciiUrls, KeptWhole, KeptUrls, NoUrls};
+ghost use Rattle.url_spec.specs.Laws.{OwnUrls, NormalTexts, BasesStay, OneServed, OnePlace, PathsAreTested};
 ghost use Rattle.url_spec.specs.WorkedExamples.{WorkedExamples};
 
 /// What parsing gives, with or without a base, is the text of a URL, and so is a web name.
