@@ -4,8 +4,9 @@ use Rattle.std.specs.Char.{is_ascii_digit}
 use Rattle.std.proofs.Common.{refl, ap, sym, ◌∙◌, subst, arith, append-nil, length-append}
 use Rattle.std.proofs.lemmas.Bool.{cases_Bool, cases_lt, cond-false, eqb-true, true≢false}
 use Rattle.std.proofs.lemmas.Bool.Decides.{nat_tests}
-use Rattle.std.proofs.lemmas.List.Elements.{All-nil, All-cons, All-head, All-tail, All-append, All-weaker}
+use Rattle.std.proofs.lemmas.List.Elements.{All-nil, All-cons, All-head, All-append, All-weaker}
 use mathlib.Core.Logic.{inl, inr}
+use Rattle.tree_spec.proofs.Fronts.{all_behind}
 use Rattle.json_spec.specs.Value.{Json, a_null, a_bool, a_number}
 use Rattle.json_spec.specs.Taken.{taken}
 use Rattle.json_spec.specs.Strings.{behind}
@@ -98,14 +99,10 @@ longer_front (a ∷ front) rest (b ∷ other) left e l =
     let behind = longer_front front rest other left tails (omega arith) in
     (behind.0, (λ i. sym same i ∷ behind.1 i), behind.2)
 
-back_bytes : (front back : List ℕ) → All IsNumberByte (front ++ back) → All IsNumberByte back
-back_bytes [] back all = all
-back_bytes (a ∷ front) back all = back_bytes front back (All-tail IsNumberByte a (front ++ back) all)
-
 nothing_more : (number more rest left piece : List ℕ) → piece ≡ number ++ more → rest ≡ more ++ left → All IsNumberByte piece → Closes rest → more ≡ []
 nothing_more number [] rest left piece e f all closes = refl
 nothing_more number (c ∷ more) rest left piece e f all closes =
-    let here : is_number_byte c ≡ true = All-head IsNumberByte c more (back_bytes number (c ∷ more) (subst (All IsNumberByte) e all)) in
+    let here : is_number_byte c ≡ true = All-head IsNumberByte c more (all_behind IsNumberByte number (c ∷ more) (subst (All IsNumberByte) e all)) in
     let ends : is_number_byte c ≡ false = subst Closes f closes in
     absurd (true≢false (sym here ∙ ends))
 

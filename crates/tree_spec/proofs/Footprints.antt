@@ -9,20 +9,11 @@ use Rattle.asking_spec.proofs.AskingLemmas.{same_by_questions}
 use Rattle.asking_spec.specs.Laws.{AgreesOn}
 use Rattle.tree_spec.specs.Laws.{SameByFootprint}
 use Rattle.tree_spec.specs.LookAskings.{Sights, LookAsking, looks, is_seen, with_seen, noted, footprint}
+use Rattle.tree_spec.proofs.Fronts.{all_front, all_behind}
 
 module _ (one other : Sights) where
   abbrev Same : List ℕ → Type 0
   Same path = one path ≡ other path
-
-  front_same : (front back : List (List ℕ)) → All Same (front ++ back) → All Same front
-  front_same [] back all = All-nil Same
-  front_same (path ∷ front) back all =
-      All-cons Same path front (All-head Same path (front ++ back) all)
-      (front_same front back (All-tail Same path (front ++ back) all))
-
-  back_same : (front back : List (List ℕ)) → All Same (front ++ back) → All Same back
-  back_same [] back all = all
-  back_same (path ∷ front) back all = back_same front back (All-tail Same path (front ++ back) all)
 
   by_first : (path first : List ℕ) (more : List (List ℕ)) (b : Bool) → Decides b (first ≡ path)
       → (b || is_seen path more) ≡ true → Same first → (is_seen path more ≡ true → Same path) → Same path
@@ -43,7 +34,7 @@ module _ (one other : Sights) where
   with_same seen path =
       cond_both (is_seen path seen) seen (seen ++ path ∷ []) (λ paths. All Same paths → All Same seen × Same path)
       (λ held all. (all, seen_same path seen all held))
-      (λ new all. (front_same seen (path ∷ []) all, All-head Same path [] (back_same seen (path ∷ []) all)))
+      (λ new all. (all_front Same seen (path ∷ []) all, All-head Same path [] (all_behind Same seen (path ∷ []) all)))
 
   noted_same : (seen paths : List (List ℕ)) → All Same (noted seen paths) → Both seen paths
   noted_same seen [] all = record { before = all; each = All-nil Same }

@@ -12,3 +12,4 @@ pub mod FolderLemmas
 pub mod LookExamples
 pub mod FootprintSets
 pub mod ToldStates
+pub mod Fronts

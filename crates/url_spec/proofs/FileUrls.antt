@@ -1,5 +1,6 @@
 -- The URL of a path is a URL, without a host, and its path is the escaped path.
 use Rattle.tree_spec.proofs.PathParts.{not_empty}
+use Rattle.tree_spec.proofs.Fronts.{all_front, all_behind}
 use Rattle.std.proofs.Common.{ℕ, List, [], ◌∷◌, ◌≡◌, ◌++◌, refl, true, ap, ◌∙◌, false, All, sym, subst, ⊎_elim, ◌<◌, length, arith, ◌≤◌, ◌≢◌, ◌/◌, ◌%◌, Bool, ◌==◌, ◌&&◌, ◌||◌, not, suc, codes, append-nil, cond, Some, None, inl, take, drop, IsAscii}
 use Rattle.std.proofs.lemmas.Bool.{cond-true, cond-false, cases_Bool, cases_lt, true≢false, cases_eq, ne_eqb, eqb-true, and_parts, or_cases}
 use Rattle.std.proofs.lemmas.Bool.Decides.{nat_tests}
@@ -181,14 +182,6 @@ more_segments text segment front is = record {
   each = All-push (IsSegment File) front.list segment front.each is;
 }
 
-All_left : (P : ℕ → Type 0) (xs ys : List ℕ) → All P (xs ++ ys) → All P xs
-All_left P [] ys all = All-nil P
-All_left P (x ∷ xs) ys all = All-cons P x xs (All-head P x (xs ++ ys) all) (All_left P xs ys (All-tail P x (xs ++ ys) all))
-
-All_right : (P : ℕ → Type 0) (xs ys : List ℕ) → All P (xs ++ ys) → All P ys
-All_right P [] ys all = all
-All_right P (x ∷ xs) ys all = All_right P xs ys (All-tail P x (xs ++ ys) all)
-
 nothing_escaped : escaped [] ≡ []
 unfolding escaped
 nothing_escaped = refl
@@ -197,8 +190,8 @@ child_segments : (at_root : Bool) (parent name : List ℕ) → (All (λ b. b < 2
 child_segments true parent name up is small =
     subst Segments (sym (escaped_plain 47 name refl)) (one_segment (escaped name) (name_segment name is (All-tail (λ b. b < 256) 47 name small)))
 child_segments false parent name up is small =
-    let front = All_left (λ b. b < 256) parent (47 ∷ name) small in
-    let behind = All-tail (λ b. b < 256) 47 name (All_right (λ b. b < 256) parent (47 ∷ name) small) in
+    let front = all_front (λ b. b < 256) parent (47 ∷ name) small in
+    let behind = All-tail (λ b. b < 256) 47 name (all_behind (λ b. b < 256) parent (47 ∷ name) small) in
     subst Segments (sym (escaped-append parent (47 ∷ name) ∙ ap (λ xs. escaped parent ++ xs) (escaped_plain 47 name refl))) (more_segments (escaped parent) (escaped name) (up front) (name_segment name is behind))
 
 path_segments : (depth : ℕ) (path : List ℕ) → HasDepth depth path → All (λ b. b < 256) path → Segments (escaped path)
