@@ -1,18 +1,13 @@
 -- Lists of distinct paths.
-use Rattle.std.proofs.Common.{◌≡◌, ℕ, false, List, [], ◌∷◌, ◌++◌, refl, ap, ◌∙◌}
-use Rattle.std.specs.Prelude.{◌||◌, bytes_eq, All, if◌then◌else◌}
-use Rattle.std.specs.List.{list_any, IsDistinct, AllByRecursion}
+use Rattle.std.proofs.Common.{◌≡◌, ℕ, false, List, [], ◌∷◌, ◌++◌, ap, ◌∙◌}
+use Rattle.std.specs.Prelude.{bytes_eq, All, if◌then◌else◌}
+use Rattle.std.specs.List.{IsDistinct, AllByRecursion}
 use Rattle.std.proofs.lemmas.Bool.{cond-false}
 use Rattle.std.proofs.lemmas.List.Elements.{All-head, All-tail, recursion_from_All}
-use Rattle.std.proofs.lemmas.Cmp.{nat_list_eq_equiv}
 use Rattle.tree_spec.specs.LookAskings.{is_seen, with_seen}
 use Rattle.tree_spec.specs.LookLimits.{Trail}
+use Rattle.tree_spec.proofs.FootprintSets.{seen_by}
 use Rattle.indexmap.specs.IndexSet.{insert_key}
-
-pub seen_by : (path : List ℕ) (paths : List (List ℕ)) → list_any (bytes_eq path) paths ≡ is_seen path paths
-seen_by path [] = refl
-seen_by path (first ∷ paths) =
-    (λ i. (nat_list_eq_equiv.symm path first i) || (seen_by path paths i))
 
 -- a set keeps the order of first insertions
 pub inserted : (path : List ℕ) (paths : List (List ℕ)) → insert_key bytes_eq paths path ≡ with_seen paths path

@@ -1,15 +1,21 @@
 -- A footprint has each path once, in the order of first looks, and footprints are joined as looks are.
 use Rattle.std.proofs.Common.{◌≡◌, ℕ, Bool, true, false, List, [], ◌∷◌, ◌++◌, refl, sym, ap, ◌∙◌}
 use Rattle.std.specs.Prelude.{◌||◌, bytes_eq}
-use Rattle.std.specs.List.{IsDistinct, AllByRecursion}
-use Rattle.std.proofs.lemmas.Bool.{cond-true, cond_both, or_parts}
+use Rattle.std.specs.List.{IsDistinct, list_any}
+use Rattle.std.proofs.lemmas.Bool.{cond-true, cond_both, or_right}
 use Rattle.std.proofs.lemmas.List.Folds.{list_any-append}
 use Rattle.std.proofs.lemmas.Slice.Eq.{bytes_eq-Decides}
 use Rattle.std.proofs.Math.Bool.{or_assoc, or-false}
+use Rattle.std.proofs.lemmas.Cmp.{nat_list_eq_equiv}
+use Rattle.std.proofs.lemmas.Map.Keys.{IsDistinct-push}
 use Rattle.tree_spec.specs.Laws.{FootprintIsSet, FootprintsJoin}
 use Rattle.tree_spec.specs.LookAskings.{looks, is_seen, with_seen, noted}
 
 -- ---- which paths are seen
+
+pub seen_by : (path : List ℕ) (paths : List (List ℕ)) → list_any (bytes_eq path) paths ≡ is_seen path paths
+seen_by path [] = refl
+seen_by path (first ∷ paths) = λ i. nat_list_eq_equiv.symm path first i || seen_by path paths i
 
 or_held : (a b : Bool) → (b ≡ true → a ≡ true) → (a || b) ≡ a
 or_held true b e = refl
@@ -47,24 +53,11 @@ pub distinct_one : (text : List ℕ) → IsDistinct bytes_eq (text ∷ [])
 unfolding IsDistinct
 distinct_one text = (tt, tt)
 
-all_push : (P : List ℕ → Type 0) (xs : List (List ℕ)) (y : List ℕ) → AllByRecursion P xs → P y
-    → AllByRecursion P (xs ++ y ∷ [])
-all_push P [] y all p = (p, tt)
-all_push P (x ∷ xs) y all p = (all.0, all_push P xs y all.1 p)
-
-distinct_push : (xs : List (List ℕ)) (y : List ℕ) → IsDistinct bytes_eq xs → is_seen y xs ≡ false
-    → IsDistinct bytes_eq (xs ++ y ∷ [])
-unfolding IsDistinct
-distinct_push [] y d n = (tt, tt)
-distinct_push (x ∷ xs) y d n =
-    let parts = or_parts (bytes_eq x y) (is_seen y xs) n in
-    (all_push (λ z. bytes_eq x z ≡ false) xs y d.0 parts.0, distinct_push xs y d.1 parts.1)
-
 distinct_with : (seen : List (List ℕ)) (path : List ℕ) → IsDistinct bytes_eq seen
     → IsDistinct bytes_eq (with_seen seen path)
 distinct_with seen path d =
     cond_both (is_seen path seen) seen (seen ++ path ∷ []) (λ ps. IsDistinct bytes_eq ps) (λ held. d)
-    (λ new. distinct_push seen path d new)
+    (λ new. IsDistinct-push nat_list_eq_equiv seen path d (seen_by path seen ∙ new))
 
 distinct_noted : (seen paths : List (List ℕ)) → IsDistinct bytes_eq seen → IsDistinct bytes_eq (noted seen paths)
 distinct_noted seen [] d = d
@@ -86,12 +79,7 @@ noted_append seen (path ∷ front) back = noted_append (with_seen seen path) fro
 held_in : (path : List ℕ) (seen paths : List (List ℕ)) → is_seen path paths ≡ true
     → is_seen path (noted seen paths) ≡ true
 held_in path seen paths e =
-    seen_noted path seen paths
-    ∙ (ap (λ b. is_seen path seen || b) e ∙ or_true (is_seen path seen))
-  where
-    or_true : (b : Bool) → (b || true) ≡ true
-    or_true true = refl
-    or_true false = refl
+    seen_noted path seen paths ∙ or_right (is_seen path seen) (is_seen path paths) e
 
 one_noted : (seen before : List (List ℕ)) (path : List ℕ)
     → noted seen (with_seen before path) ≡ with_seen (noted seen before) path
