@@ -9,8 +9,9 @@ use Rattle.std.specs.Cmp.Lexicographic.{slice_cmp}
 use Rattle.std.specs.declared.cmp.Ordering.TheVariants.{Less}
 use Rattle.std.specs.FinMap.{entries, from_sorted, entries-from_sorted}
 use Rattle.std.specs.FinMap.Entries.{below_all, is_sorted}
+use Rattle.std.specs.Map.{keys_of}
 use Rattle.import_map_spec.specs.ParsedMap.{Addresses}
-use Rattle.scope_builder.specs.Keys.{keys_of, InKeyOrder}
+use Rattle.scope_builder.specs.Keys.{InKeyOrder}
 use Rattle.scope_builder.specs.Lists.{address_entry, scope_entries, scope_entry}
 use Rattle.scope_builder.specs.SomeMap.{SomeMap}
 
