@@ -15,7 +15,7 @@ use Rattle.page_spec.specs.declared.kinds.InjectFault.{InjectFault}
 use Rattle.page_spec.specs.Injection as injection
 use Rattle.page_spec.specs.Injection.{Injection, TakesMaps}
 use Rattle.page_spec.specs.Laws.{AreKeptOut}
-use Rattle.page_spec.proofs.Injections.{one_injection}
+use Rattle.page_spec.proofs.Injections.{one_injection, ok_same}
 use Rattle.page_spec.proofs.KeptOut.{takes_or_keeps_out}
 use Rattle.trace_spec.specs.declared.TraceFault.{TraceFault}
 use Rattle.trace_spec.specs.Modules.{Config, web_name}
@@ -277,13 +277,9 @@ module _ (tree : Tree) (config : Config) where
 
 -- ---- what is written
 
-abbrev as_page : List ℕ → Result (List ℕ) InjectFault
-as_page page = Ok page
-
 one_page : (map page other new another : List ℕ) → page ≡ other → Injection map page (Ok new) → Injection map other (Ok another) → new ≡ another
 one_page map page other new another same i j =
-    let e : as_page new ≡ as_page another = one_injection map page (Ok new) (Ok another) i (subst (λ p. Injection map p (Ok another)) (sym same) j) in
-    cc
+    ok_same (one_injection map page (Ok new) (Ok another) i (subst (λ p. Injection map p (Ok another)) (sym same) j))
 
 pub one_write : (tree : Tree) (config : Config) (map : List ℕ) (command : Command) (files others : List NewFile) → Writes tree config map command files → Writes tree config map command others → files ≡ others
 one_write tree config map command files others writes.linked writes.linked = refl

@@ -78,10 +78,10 @@ place_inserted text page parts others n c e s =
     let q : n ≡ (0 + length s.front) + length {A = ℕ} [] = omega (arith, p) in
     ap (λ m. replaced m n (element text) page) p ∙ (ap (λ m. replaced (0 + length s.front) m (element text) page) q ∙ (ap (λ b. replaced (0 + length s.front) ((0 + length s.front) + length {A = ℕ} []) (element text) b) (c ∙ s.was) ∙ (seam_replaced s.front [] (element text) s.back ∙ sym s.now)))
 
-abbrev as_page : List ℕ → Result (List ℕ) InjectFault
+abbrev pub as_page : List ℕ → Result (List ℕ) InjectFault
 as_page x = Ok x
 
-ok_same : {x y : List ℕ} → as_page x ≡ as_page y → x ≡ y
+pub ok_same : {x y : List ℕ} → as_page x ≡ as_page y → x ≡ y
 ok_same e = cc
 
 put_by : (text page result : List ℕ) (parts : List Part) → is_utf8 page ≡ true → Pieces None page parts → (fault : Option InjectFault) (span : Option (ℕ × ℕ)) (at_place : Option ℕ) → first_fault 0 false parts ≡ fault → map_span 0 parts ≡ span → place 0 parts ≡ at_place → unless_faulted fault (put_into text page span at_place) ≡ Ok result → Putting text page result
