@@ -26,6 +26,7 @@ use Rattle.generator_spec.specs.declared.PageFault.TheVariants.{Absent, TooLarge
 use Rattle.generator_spec.specs.declared.Refusal.{Refusal}
 use Rattle.generator_spec.specs.declared.Refusal.TheVariants as refusal
 use Rattle.generator_spec.proofs.Refusals.{written_is_opened}
+use Rattle.generator_spec.proofs.Configs.{command_for}
 use Rattle.generator_spec.proofs.Endings.{one_line_text}
 use Rattle.generator_spec.specs.Commands.{IsGenerating, HoldsMap, NewFile, new_file, map_path, Writes, Writes as writes_file}
 use Rattle.generator_spec.specs.Checking.{difference_line, difference_lines, check_status}
@@ -322,9 +323,6 @@ config_stop_end words command is before after out out_after result stop (stops_c
 
 -- ---- a command that is stopped before its write
 
-pub command_for : (words : List (List ℕ)) (command : Command) (config : Config) → IsConfigFor words command config → IsCommandOf words command
-command_for words command config is = record { asked = is.asked; asks = is.asks; is = is.is; settings = is.settings; sets = is.sets }
-
 module _ (words : List (List ℕ)) (command : Command) (config : Config) (before after : FolderState) (out out_after : SinkState) (result : ℕ) (is_config : IsConfigAt words command config before) where
   pub stop_end : (stop : Stop) → EndsBefore command config before after stop → TellsStop stop out out_after result → out.faults ≤ out_after.faults → EndsAs words before after out out_after result
   stop_end (stops.Refused why) is told more =
@@ -349,7 +347,7 @@ module _ (words : List (List ℕ)) (command : Command) (config : Config) (before
   looks = wrote.looks ∙ quiet
 
   counted : IsCounted words done_here
-  counted = record { command = command; is_command = command_for words command config is_config.can; generating = generating; modules = prepared.modules; requests = prepared.requests; mappings = prepared.mappings; says = refl }
+  counted = record { command = command; config = config; is_config = is_config.can; generating = generating; modules = prepared.modules; requests = prepared.requests; mappings = prepared.mappings; says = refl }
 
   generated_of : (tree : Tree) → IsConfigOf words tree command config → (ready : IsPrepared command config tree prepared) → IsGenerated words tree (map_text (with_digests config ready.all ready.layout)) done_here
   generated_of tree of ready = record {

@@ -8,4 +8,5 @@ mod prepared;
 mod project;
 mod running;
 
+pub use project_file::{ProjectFault, print_project, read_project};
 pub use running::run;

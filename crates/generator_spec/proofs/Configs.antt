@@ -27,6 +27,10 @@ as_refused fault = Err fault
 pub command_is : (words : List (List ℕ)) (tree : Tree) (command : Command) (outcome : Result Config ConfigFault) → Configures words tree command outcome → IsCommandOf words command
 command_is words tree command outcome is = record { asked = is.asked; asks = is.asks; is = is.is; settings = is.settings; sets = is.sets }
 
+-- words that can have a config ask for its command
+pub command_for : (words : List (List ℕ)) (command : Command) (config : Config) → IsConfigFor words command config → IsCommandOf words command
+command_for words command config is = record { asked = is.asked; asks = is.asks; is = is.is; settings = is.settings; sets = is.sets }
+
 pub command_is_plain : (words : List (List ℕ)) (command : Command) → IsCommandOf words command → IsPlain words
 command_is_plain words command is = record { asked = is.asked; asks = is.asks }
 

@@ -6,7 +6,6 @@ ghost use Rattle.generator_spec.specs.Laws.{OneGeneration, SomeGeneration, Nothi
 ghost use Rattle.generator_spec.specs.Laws.{OneOutcome, SomeOutcome, EndsKeepPromises};
 
 pub use config_spec::Command;
-
 use config_spec::ConfigFault;
 use import_map_spec::MapPart;
 use page_spec::InjectFault;
