@@ -38,7 +38,7 @@ use Rattle.generation.specs.declared.stop.Stop.TheVariants.{Refused, ReadFault, 
 use Rattle.generation.specs.Generating.{Tracing}
 use Rattle.generator_core.specs.declared.checking.Report.{Report}
 use Rattle.generator_core.specs.Preparing.{EndsBefore, AsksOwn}
-use Rattle.generator_core.specs.Checking.{IsMapTextFound, FindsMapText, IsMapStop, FindsMap, IsReport, IsChecked, IsReported, ChecksBy, Checks}
+use Rattle.generator_core.specs.Checking.{IsMapTextFound, FindsMapText, IsMapStop, FindsMap, IsReport, IsHeldAndTraced, IsReported, ChecksBy, Checks}
 use Rattle.generator_core.specs.Checking.{IsMapStop as map_stop}
 use Rattle.generator_core.proofs.Preparings.{if_some, if_two, looks_as, then_looks, earlier_end, own_asked, own_alone, own_then}
 use Rattle.generator_core.proofs.Endings.{ends_as, serves_where_done}
@@ -166,7 +166,7 @@ module _ (config : Config) (before middle after : FolderState) where
     map = is.map;
     all = is.all;
     is_report = is.is_report;
-    told = subst (λ held. IfSome held (λ tree. IsChecked config tree is.map is.all)) looks.tree is.told;
+    told = subst (λ held. IfSome held (λ tree. IsHeldAndTraced config tree is.map is.all)) looks.tree is.told;
     looks = then_looks before middle after looks is.looks;
   }
 
@@ -261,7 +261,7 @@ module _ (words : List (List ℕ)) (config : Config) (before after : FolderState
   abbrev lines : List (List ℕ)
   lines = check_lines (length is.all.needs) (difference_lines is.map is.all)
 
-  outcome_told : (held told : Option Tree) → told ≡ held → IfSome held (λ tree. IsConfigOf words tree Check config) → IfSome held (λ tree. IsChecked config tree is.map is.all)
+  outcome_told : (held told : Option Tree) → told ≡ held → IfSome held (λ tree. IsConfigOf words tree Check config) → IfSome held (λ tree. IsHeldAndTraced config tree is.map is.all)
       → IfSome held (λ tree. (later : Tree) × Outcome words tree report.status lines later × (told ≡ Some later))
   outcome_told None told same of checked = tt
   outcome_told (Some tree) told same of checked =
@@ -273,7 +273,7 @@ module _ (words : List (List ℕ)) (config : Config) (before after : FolderState
       (shaped.checked (record { config = config; is_config = is_config.can; needs = length is.all.needs; differing = difference_lines is.map is.all; few = few_differ is.map is.all; are_differences = all_differ is.all (differences is.map is.all.needs) (differs_from is.map is.all); ends = is.is_report.status; says = refl }))
       (outcome_told before.holds after.holds is.looks.tree is_config.told is.told) (is.looks.quiet (λ e. e)) is.looks.writes
 
-  served_told : (held told : Option Tree) → told ≡ held → IfSome held (λ tree. IsConfigOf words tree Check config) → IfSome held (λ tree. IsChecked config tree is.map is.all) → report.status ≡ 0 → IfSome held (λ tree. IsDone words tree told)
+  served_told : (held told : Option Tree) → told ≡ held → IfSome held (λ tree. IsConfigOf words tree Check config) → IfSome held (λ tree. IsHeldAndTraced config tree is.map is.all) → report.status ≡ 0 → IfSome held (λ tree. IsDone words tree told)
   served_told None told same of checked zero = tt
   served_told (Some tree) told same of checked zero =
       done.served (serves_where_done words tree config is.map is.all of checked.holds checked.is_traced (sym is.is_report.status ∙ zero)) same

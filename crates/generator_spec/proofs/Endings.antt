@@ -1,5 +1,5 @@
 -- What the status of an end says of the folder and of the faults.
-use Rattle.std.proofs.Common.{◌≡◌, ◌≢◌, ◌<◌, ◌++◌, ◌⊎◌, ℕ, zero, suc, List, [], ◌∷◌, length, take, Option, Some, None, IfSome, inl, inr, ⊎_elim, refl, sym, ap, ◌∙◌, subst, arith}
+use Rattle.std.proofs.Common.{◌≡◌, ◌≢◌, ◌⊎◌, ℕ, List, [], ◌∷◌, Option, Some, None, IfSome, inl, inr, ⊎_elim, refl, sym, ap, ◌∙◌, subst, arith}
 use Rattle.std.specs.List.{concat}
 use Rattle.std.proofs.lemmas.List.{append-nil}
 use Rattle.tree_spec.specs.Counts.{Rose}
@@ -28,11 +28,11 @@ use Rattle.generator_spec.specs.declared.MapFileFault.TheVariants as map_file
 use Rattle.generator_spec.specs.declared.PageFault.{PageFault}
 use Rattle.generator_spec.specs.declared.PageFault.TheVariants.{Absent, TooLarge, KeepsMapsOut}
 use Rattle.generator_spec.specs.Commands.{IsOfPage, IsRefusalOf, IsRefusalOf as kind, NewFile}
-use Rattle.generator_spec.specs.Checking.{check_status, check_lines}
+use Rattle.generator_spec.specs.Checking.{check_status}
 use Rattle.generator_spec.specs.Lines.{config_status, config_line, page_status, map_file_status, trace_status, status_of, line_of, memory_line}
 use Rattle.generator_spec.specs.Statuses.{LeavesTree}
 use Rattle.generator_spec.specs.Outcome.{ComesTo, ComesTo as comes, FilesPlaced, Outcome}
-use Rattle.generator_spec.specs.Ending.{CanRefuse, CanRefuse as can, IsDone, IsChecked, StopsWriting, Shaped, Says, Ends}
+use Rattle.generator_spec.specs.Ending.{CanRefuse, CanRefuse as can, IsDone, StopsWriting, Shaped, Says, Ends}
 use Rattle.generator_spec.specs.Ending.{Shaped as shaped, Says as says, Ends as ends}
 use Rattle.generator_spec.specs.Promises.{AreWrong, HasStopped, Untouched, Shows}
 use Rattle.generator_spec.proofs.Configs.{command_for, command_is_plain, one_words_fault, refused_is_plain, refused_or_command}
