@@ -14,7 +14,7 @@ use Rattle.command_words.specs.declared.fault.WordsFault.{WordsFault}
 use Rattle.command_words.specs.declared.order.Order.{Order}
 use Rattle.command_words.specs.Settings.{IsFilePage, no_settings}
 use Rattle.command_words.specs.Orders.{IsOrderOf, IsOrder}
-use Rattle.command_words.specs.Faults.{RefusesAs, RefusesAsked, Explains}
+use Rattle.command_words.specs.Faults.{RefusesAs, RefusesOrder, Explains}
 use Rattle.command_words.proofs.Refusals.{words_refused}
 
 -- ---- one option
@@ -52,6 +52,6 @@ nothing_set = record { base = no_base; page = no_page; conditions = no_condition
 pub same_asked : (order : Order) (asked other : Asked) → asked ≡ other → IsOrderOf order other → IsOrderOf order asked
 same_asked order asked other same is = subst (IsOrderOf order) (sym same) is
 
-pub of_words : (texts : List (List ℕ)) (asked : Asked) (result : Result Order WordsFault) → Asks texts asked → MatchResult result (λ order. IsOrderOf order asked) (RefusesAs (RefusesAsked asked)) → MatchResult result (IsOrder texts) (Explains texts)
+pub of_words : (texts : List (List ℕ)) (asked : Asked) (result : Result Order WordsFault) → Asks texts asked → MatchResult result (λ order. IsOrderOf order asked) (RefusesAs (RefusesOrder asked)) → MatchResult result (IsOrder texts) (Explains texts)
 of_words texts asked (Ok order) asks is = record { asked = asked; asks = asks; is_order = is }
 of_words texts asked (Err fault) asks refuses = words_refused texts asked fault asks refuses

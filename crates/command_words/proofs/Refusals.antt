@@ -1,5 +1,5 @@
 -- Faults of options, of what is asked for, and of words.
-use Rattle.std.proofs.Common.{◌≡◌, ℕ, List, Option, Some, None, Result, Ok, Err, refl, sym, subst, ap}
+use Rattle.std.proofs.Common.{◌≡◌, ℕ, List, Option, None, Result, Ok, Err, refl, sym, subst}
 use Rattle.std.specs.Prelude.{IsErrAnd, MatchResult}
 use Rattle.config_spec.specs.declared.ConfigFault.{ConfigFault}
 use Rattle.config_spec.specs.declared.ConfigFault.TheVariants as config
@@ -10,7 +10,7 @@ use Rattle.config_spec.specs.Words.RefusesWords.{not_built as words_not_built, b
 use Rattle.words_spec.specs.PlainWords.{Asked, Asks, LinkOptions, linking}
 use Rattle.command_words.specs.declared.fault.WordsFault.{WordsFault}
 use Rattle.command_words.specs.declared.fault.WordsFault.TheVariants.{Told, NotPlain, Refused, Memory}
-use Rattle.command_words.specs.Faults.{RefusesAs, IsBadBase, IsBadPath, IsBadConditions, RefusesAsked, not_built, bad_option, Explains}
+use Rattle.command_words.specs.Faults.{RefusesAs, IsBadBase, IsBadPath, IsBadConditions, RefusesOrder, not_built, bad_option, Explains}
 
 -- ---- the options, in their order
 
@@ -34,25 +34,25 @@ conditions_refused given base page Memory set set_page refuses = tt
 
 -- ---- what is asked for
 
-pub link_refused : (given : LinkOptions) (entries : List (List ℕ)) (fault : WordsFault) → RefusesAs (RefusesOptions given) fault → RefusesAs (RefusesAsked (linking given entries)) fault
+pub link_refused : (given : LinkOptions) (entries : List (List ℕ)) (fault : WordsFault) → RefusesAs (RefusesOptions given) fault → RefusesAs (RefusesOrder (linking given entries)) fault
 link_refused given entries (Told told) refuses = refuses
 link_refused given entries NotPlain refuses = refuses
 link_refused given entries (Refused fault) refuses = bad_option Link fault refl refuses
 link_refused given entries Memory refuses = tt
 
-pub not_built_refused : (asked : Asked) (fault : WordsFault) → command_of asked ≡ None → RefusesAs (λ f. f ≡ config.NotBuilt) fault → RefusesAs (RefusesAsked asked) fault
+pub not_built_refused : (asked : Asked) (fault : WordsFault) → command_of asked ≡ None → RefusesAs (λ f. f ≡ config.NotBuilt) fault → RefusesAs (RefusesOrder asked) fault
 not_built_refused asked (Told told) none refuses = refuses
 not_built_refused asked NotPlain none refuses = refuses
-not_built_refused asked (Refused fault) none refuses = subst (RefusesAsked asked) (sym refuses) (not_built none)
+not_built_refused asked (Refused fault) none refuses = subst (RefusesOrder asked) (sym refuses) (not_built none)
 not_built_refused asked Memory none refuses = tt
 
 -- ---- words
 
-of_asked : (texts : List (List ℕ)) (asked : Asked) (fault : ConfigFault) → Asks texts asked → RefusesAsked asked fault → RefusesWords texts fault
+of_asked : (texts : List (List ℕ)) (asked : Asked) (fault : ConfigFault) → Asks texts asked → RefusesOrder asked fault → RefusesWords texts fault
 of_asked texts asked fault asks (not_built none) = words_not_built asked asks none
 of_asked texts asked fault asks (bad_option command other is refuses) = words_bad_option asked command other asks is refuses
 
-pub words_refused : (texts : List (List ℕ)) (asked : Asked) (fault : WordsFault) → Asks texts asked → RefusesAs (RefusesAsked asked) fault → Explains texts fault
+pub words_refused : (texts : List (List ℕ)) (asked : Asked) (fault : WordsFault) → Asks texts asked → RefusesAs (RefusesOrder asked) fault → Explains texts fault
 words_refused texts asked (Told told) asks refuses = absurd refuses
 words_refused texts asked NotPlain asks refuses = absurd refuses
 words_refused texts asked (Refused fault) asks refuses = of_asked texts asked fault asks refuses

@@ -1,7 +1,7 @@
 -- Why words give no order.
 --     RefusesAs Refuses fault      the fault is a refusal that is right so, or want of memory
 --     IsBadBase given fault, IsBadPath given fault, IsBadConditions given fault      the text of one option is refused
---     RefusesAsked asked fault     what is asked for is refused
+--     RefusesOrder asked fault     what is asked for is refused
 --     Explains words fault         the fault is right of the words
 use Rattle.std.specs.Prelude.{◌≡◌, ℕ, List, Option, Some, None, ⊤}
 use Rattle.condition_match.specs.Conditions.{AreConditions, names_in}
@@ -40,11 +40,11 @@ pub record IsBadConditions (given : Option (List ℕ)) (fault : ConfigFault) : T
   pub is : fault ≡ config.BadConditions text
 
 -- own: a command that isn't built, or an option whose text is refused
-pub data RefusesAsked (asked : Asked) : ConfigFault → Type 0 where
-  not_built : command_of asked ≡ None → RefusesAsked asked config.NotBuilt
+pub data RefusesOrder (asked : Asked) : ConfigFault → Type 0 where
+  not_built : command_of asked ≡ None → RefusesOrder asked config.NotBuilt
   bad_option :
       (command : Command) (fault : ConfigFault) → command_of asked ≡ Some command
-      → RefusesOptions (options_of asked) fault → RefusesAsked asked fault
+      → RefusesOptions (options_of asked) fault → RefusesOrder asked fault
 
 -- own: words that aren't plain are told of or not; plain words are refused, or memory is wanted
 abbrev pub Explains : List (List ℕ) → WordsFault → Type 0

@@ -1,7 +1,7 @@
 ghost use Rattle.std.specs.Prelude.{◌≡◌, MatchResult, Some, map, string_bytes};
 ghost use Rattle.words_read.specs.Shown.{options_of, shown};
 ghost use Rattle.words_spec.specs.PlainWords.{linking};
-ghost use Rattle.command_words.specs.Faults.{Explains, RefusesAs, RefusesAsked};
+ghost use Rattle.command_words.specs.Faults.{Explains, RefusesAs, RefusesOrder};
 ghost use Rattle.command_words.specs.Orders.{IsOrder, IsOrderOf, command_ordered};
 
 use crate::fault::WordsFault;
@@ -59,7 +59,7 @@ pub fn order_of<'a>(alloc: Global, words: &'a [String]) -> Result<Order<'a>, Wor
 
 fn order_parsed<'a>(alloc: Global, parsed: Parsed<'a>) -> Result<Order<'a>, WordsFault>
     ensures { MatchResult result (λ order. IsOrderOf order (shown parsed.entry))
-        (RefusesAs (RefusesAsked (shown parsed.entry))) }
+        (RefusesAs (RefusesOrder (shown parsed.entry))) }
 {
     match parsed {
         Parsed::Link(values, entries) => link_order(alloc, values, entries),
@@ -80,7 +80,7 @@ fn link_order<'a>(
 ) -> Result<Order<'a>, WordsFault>
     ensures { MatchResult result
         (λ order. IsOrderOf order (linking (options_of values.entry) (map string_bytes entries.now)))
-        (RefusesAs (RefusesAsked (linking (options_of values.entry) (map string_bytes entries.now)))) }
+        (RefusesAs (RefusesOrder (linking (options_of values.entry) (map string_bytes entries.now)))) }
 {
     match settings_of(alloc, values) {
         Ok(settings) => Ok(Order::Link { settings, entries }),

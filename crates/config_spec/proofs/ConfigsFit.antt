@@ -1,11 +1,12 @@
 -- The config that words and a tree give can be written as a project, with the values of the options.
 use Rattle.std.proofs.Common.{All, Contains, ◌≡◌, ◌≤◌, ℕ, Bool, true, false, List, [], ◌∷◌, refl, sym, ap, subst}
 use Rattle.std.proofs.Common.{length, lit≤, arith}
-use Rattle.std.specs.List.{IsDistinct, list_any}
+use Rattle.std.specs.List.{AllByRecursion, IsDistinct, list_any}
 use Rattle.std.specs.Prelude.{codes, bytes_eq, nat_lt, not, Option, Some, None, unwrap_or, Result, Ok, Err}
 use Rattle.std.specs.Prelude.{if◌then◌else◌}
 use Rattle.std.proofs.lemmas.Bool.{ltb-false}
 use Rattle.std.proofs.lemmas.List.Elements.{All-nil, All-cons}
+use Rattle.std.proofs.lemmas.Map.Keys.{IsDistinct-cons}
 use Rattle.tree_spec.proofs.ByteLists.{texts_differ}
 use Rattle.tree_spec.proofs.FootprintSets.{distinct_none}
 use Rattle.tree_spec.specs.Limits.{limit_number}
@@ -22,7 +23,7 @@ use Rattle.project_spec.proofs.ReadBack.{read_projects}
 use Rattle.project_spec.specs.ProjectFiles as project
 use Rattle.project_spec.specs.ProjectFiles.{IsProject, ReadsProject}
 use Rattle.config_spec.proofs.Entries.{filtered_distinct, filtered_fewer, onto_distinct, onto_holds}
-use Rattle.config_spec.proofs.Entries.{without_lacks, without_within}
+use Rattle.config_spec.proofs.Entries.{all_within, apart_without, found_there, without_lacks, without_within}
 use Rattle.config_spec.proofs.Options.{one_settings}
 use Rattle.config_spec.proofs.TwoConditions.{two_conditions}
 use Rattle.config_spec.specs.Laws.{ConfigsAreProjects}
@@ -251,6 +252,31 @@ unlinked_gone (entry ∷ more) config result is =
         (unlinked_within more (record config { entries = without entry config.entries }) result entry is held)) (rest is)
     by false rest is = absurd (cc)
 
+-- each was there, so none is named twice
+record AreThere (config : Config) (named : List (List ℕ)) : Type 0 where
+  there : AllByRecursion (Contains config.entries) named
+  distinct : IsDistinct bytes_eq named
+
+unlinked_there :
+    (entries : List (List ℕ)) (config result : Config) → Ok result ≡ unlinked entries config → AreThere config entries
+unlinked_there [] config result is = record { there = tt; distinct = distinct_none }
+unlinked_there (entry ∷ more) config result is =
+    by (list_any (bytes_eq entry) config.entries) refl
+    (unlinked_there more (record config { entries = without entry config.entries }) result) is
+  where
+    by : (there : Bool) → list_any (bytes_eq entry) config.entries ≡ there
+        → (Ok result ≡ unlinked more (record config { entries = without entry config.entries })
+        → AreThere (record config { entries = without entry config.entries }) more)
+        → Ok result ≡ (if there then unlinked more (record config { entries = without entry config.entries }) else Err (NotLinked entry))
+        → AreThere config (entry ∷ more)
+    by true e rest is =
+        let later = rest is in
+        record {
+          there = (found_there entry config.entries e, all_within entry config.entries more later.there);
+          distinct = IsDistinct-cons bytes_eq entry more (apart_without entry config.entries more later.there) later.distinct;
+        }
+    by false e rest is = absurd (cc)
+
 -- a project that is there, and what comes of it
 record Fitting (asked : Asked) (result : Config) : Type 0 where
   fits : Fits result
@@ -283,7 +309,7 @@ comes_in (unlinking entries) settings found result sets fits is =
     taken_comes (unlinking entries) settings (unlinked entries) found result sets fits
     (λ old held comes. record {
       fits = unlinked_fits entries old result held comes;
-      entries = unlinked_gone entries old result comes;
+      entries = record { distinct = (unlinked_there entries old result comes).distinct; gone = unlinked_gone entries old result comes };
     }) is
 comes_in refreshing settings found result sets fits is =
     taken_comes refreshing settings Ok found result sets fits (same_fits refreshing result tt) is

@@ -1,7 +1,7 @@
 -- Entries that are put to those of a project, and entries that are taken out.
 use Rattle.std.proofs.Common.{◌≡◌, ◌≤◌, refl, ℕ, Bool, true, false, List, [], ◌∷◌, ◌++◌, length, arith, ◌≢◌}
 use Rattle.std.proofs.Common.{All, Contains, sym, ap, ◌∙◌, true≢false}
-use Rattle.std.specs.List.{IsDistinct, list_any}
+use Rattle.std.specs.List.{IsDistinct, list_any, AllByRecursion}
 use Rattle.std.specs.Prelude.{bytes_eq, filter, not, if◌then◌else◌}
 use Rattle.std.proofs.lemmas.Cmp.{nat_list_eq_equiv}
 use Rattle.std.proofs.lemmas.List.Elements.{All-nil, All-cons, All-contains, All-contains_itself, All-filter}
@@ -79,3 +79,36 @@ pub without_within :
 without_within entry entries text held =
     All-contains (Contains entries) (without entry entries) text
     (All-filter (λ other. not (bytes_eq entry other)) (Contains entries) entries (All-contains_itself entries)) held
+
+-- ---- what is taken out one after another is named once
+
+-- what is there without an entry isn't that entry
+without_other :
+    (entry : List ℕ) (entries : List (List ℕ)) (text : List ℕ) → Contains (without entry entries) text
+    → bytes_eq entry text ≡ false
+without_other entry entries text held =
+    let test : List ℕ → Bool = λ other. not (bytes_eq entry other) in
+    by (bytes_eq entry text) (All-contains (λ x. test x ≡ true) (filter test entries) text (filter_passes test entries) held)
+  where
+    by : (b : Bool) → not b ≡ true → b ≡ false
+    by true e = absurd (true≢false (sym e))
+    by false e = refl
+
+pub apart_without :
+    (entry : List ℕ) (entries named : List (List ℕ)) → AllByRecursion (Contains (without entry entries)) named
+    → AllByRecursion (λ other. bytes_eq entry other ≡ false) named
+apart_without entry entries [] held = tt
+apart_without entry entries (text ∷ named) held =
+    (without_other entry entries text held.0, apart_without entry entries named held.1)
+
+pub all_within :
+    (entry : List ℕ) (entries named : List (List ℕ)) → AllByRecursion (Contains (without entry entries)) named
+    → AllByRecursion (Contains entries) named
+all_within entry entries [] held = tt
+all_within entry entries (text ∷ named) held =
+    (without_within entry entries text held.0, all_within entry entries named held.1)
+
+pub found_there : (entry : List ℕ) (entries : List (List ℕ)) → list_any (bytes_eq entry) entries ≡ true
+    → Contains entries entry
+found_there entry entries e =
+    Contains-from_any {eq = bytes_eq} (λ one other same. (bytes_eq-Decides one other).0 same) entry entries e

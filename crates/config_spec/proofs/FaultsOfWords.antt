@@ -1,14 +1,16 @@
 -- Whatever the tree holds, words are refused for these reasons alone.
-use Rattle.std.proofs.Common.{◌≡◌, ℕ, Bool, true, false, List, [], ◌∷◌, refl, subst}
-use Rattle.std.specs.List.{list_any}
+use Rattle.std.proofs.Common.{◌≡◌, ℕ, Bool, true, false, List, [], ◌∷◌, ◌++◌, refl, ap, subst}
+use Rattle.std.specs.List.{AllByRecursion, IsDistinct, list_any}
 use Rattle.std.specs.Prelude.{bytes_eq, nat_lt, length, Contains, Option, Some, None, Result, Ok, Err, if◌then◌else◌}
-use Rattle.std.proofs.lemmas.List.Elements.{Contains-append_left, Contains-append_right, Contains-push}
+use Rattle.std.proofs.lemmas.Map.Keys.{IsDistinct-cons}
+use Rattle.config_spec.proofs.Entries.{all_within, apart_without, found_there}
 use Rattle.json_spec.specs.Grammar as json
 use Rattle.json_spec.specs.Value.{Json}
 use Rattle.tree_spec.specs.Limits.{limit_number}
 use Rattle.tree_spec.specs.Trees.{Tree}
 use Rattle.tree_spec.specs.declared.LimitName.{LimitName}
 use Rattle.tree_spec.specs.declared.LimitName.TheVariants.{Entries}
+use Rattle.tree_spec.proofs.FootprintSets.{distinct_none}
 use Rattle.trace_spec.specs.Modules.{Config}
 use Rattle.words_spec.specs.PlainWords.{Asked, Asks, LinkOptions, linking, unlinking, refreshing, checking}
 use Rattle.words_spec.specs.PlainWords.{listing, injecting, editing, measuring}
@@ -89,34 +91,49 @@ linked_refuses options settings entries None fault sets is =
 linked_refuses options settings entries (Some old) fault sets is =
     subst (RefusesAsked (linking options entries)) (few_refuses _ fault is) (too_many_entries options entries)
 
--- one of the entries isn't there
-record LacksOne (entries : List (List ℕ)) (fault : ConfigFault) : Type 0 where
+-- an entry isn't there at its turn; those before it were
+record LacksOne (entries : List (List ℕ)) (config : Config) (fault : ConfigFault) : Type 0 where
+  front : List (List ℕ)
   entry : List ℕ
-  named : Contains entries entry
+  more : List (List ℕ)
+  parts : entries ≡ front ++ entry ∷ more
+  there : AllByRecursion (Contains config.entries) front
+  distinct : IsDistinct bytes_eq front
   is : NotLinked entry ≡ fault
 
 unlinked_refuses :
     (entries : List (List ℕ)) (config : Config) (fault : ConfigFault) → Err fault ≡ unlinked entries config
-    → LacksOne entries fault
+    → LacksOne entries config fault
 unlinked_refuses [] config fault is = absurd (cc)
 unlinked_refuses (entry ∷ more) config fault is =
-    by (list_any (bytes_eq entry) config.entries)
+    by (list_any (bytes_eq entry) config.entries) refl
     (unlinked_refuses more (record config { entries = without entry config.entries }) fault) is
   where
-    by : (there : Bool)
-        → (Err fault ≡ unlinked more (record config { entries = without entry config.entries }) → LacksOne more fault)
+    by : (there : Bool) → list_any (bytes_eq entry) config.entries ≡ there
+        → (Err fault ≡ unlinked more (record config { entries = without entry config.entries })
+        → LacksOne more (record config { entries = without entry config.entries }) fault)
         → Err fault ≡ (if there then unlinked more (record config { entries = without entry config.entries }) else Err (NotLinked entry))
-        → LacksOne (entry ∷ more) fault
-    by true rest is =
+        → LacksOne (entry ∷ more) config fault
+    by true e rest is =
         let lacks = rest is in
         record {
+          front = entry ∷ lacks.front;
           entry = lacks.entry;
-          named = Contains-append_right (entry ∷ []) more lacks.entry lacks.named;
+          more = lacks.more;
+          parts = ap (λ texts. entry ∷ texts) lacks.parts;
+          there = (found_there entry config.entries e, all_within entry config.entries lacks.front lacks.there);
+          distinct =
+              IsDistinct-cons bytes_eq entry lacks.front (apart_without entry config.entries lacks.front lacks.there)
+              lacks.distinct;
           is = lacks.is;
         }
-    by false rest is = record {
+    by false e rest is = record {
+      front = [];
       entry = entry;
-      named = Contains-append_left (entry ∷ []) more entry (Contains-push [] entry);
+      more = more;
+      parts = refl;
+      there = tt;
+      distinct = distinct_none;
       is = cc;
     }
 
@@ -137,7 +154,8 @@ unlinking_refuses :
     → RefusesAsked (unlinking entries) fault
 unlinking_refuses entries fault old is =
     let lacks = unlinked_refuses entries old fault is in
-    subst (RefusesAsked (unlinking entries)) lacks.is (not_linked entries lacks.entry lacks.named)
+    subst (RefusesAsked (unlinking entries)) lacks.is
+    (not_linked entries lacks.front lacks.entry lacks.more lacks.parts lacks.distinct)
 
 refuses_in :
     (asked : Asked) (settings : Settings) (found : Option Config) (fault : ConfigFault)

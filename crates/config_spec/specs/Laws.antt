@@ -64,7 +64,7 @@ pub record ConfigDecides (words : List (List ℕ)) (tree : Tree) : Type 0 where
 abbrev pub ConfigsAreJudged : Type 0
 ConfigsAreJudged = (words : List (List ℕ)) (tree : Tree) → ConfigDecides words tree
 
--- own law: the config is one whose project can be written and read back, with the values of the options
+-- own law: the config is one that a project's file can hold, with the values of the options
 abbrev pub ConfigsAreProjects : Type 0
 ConfigsAreProjects =
     (words : List (List ℕ)) (tree : Tree) (command : Command) (config : Config) → IsConfigOf words tree command config

@@ -5,10 +5,10 @@
 --     config_by asked settings found    the config that a command generates for, or why there is none
 --     IsConfigOf words tree command config    these words, over this tree, ask for this command with this config
 --     RefusesConfig words tree fault    they ask for a command, and there is no config for it
---     IsConfigFor words command config  some tree may give them this config
---     CanRefuseConfig words fault       some tree may refuse them so
+--     IsConfigFor words command config  no tree gives them a config that isn't so
+--     CanRefuseConfig words fault       no tree refuses them in another way
 use Rattle.std.specs.FinMap.{get}
-use Rattle.std.specs.List.{list_any}
+use Rattle.std.specs.List.{IsDistinct, list_any}
 use Rattle.std.specs.Prelude.{◌≡◌, ◌≤◌, ◌<◌, ℕ, nat_lt, not, List, [], ◌∷◌, ◌++◌, length, filter, codes, bytes_eq}
 use Rattle.std.specs.Prelude.{Option, Some, None, unwrap_or, Result, Ok, Err, All, Contains, if◌then◌else◌}
 use Rattle.tree_spec.specs.declared.Entry.TheVariants.{Stored, Directory}
@@ -141,10 +141,15 @@ pub record RefusesConfig (words : List (List ℕ)) (tree : Tree) (fault : Config
 
 -- ---- whatever the tree holds
 
+-- own: what `unlink` names is gone afterwards; each was there at its turn, so none is named twice
+pub record AreTaken (named entries : List (List ℕ)) : Type 0 where
+  pub distinct : IsDistinct bytes_eq named
+  pub gone : All (λ entry. Contains entries entry → ⊥) named
+
 -- own: after `link` each of its entries is there, and after `unlink` none of them is
 abbrev pub HasEntriesOf : Asked → List (List ℕ) → Type 0
 HasEntriesOf (linking options named) entries = All (Contains entries) named
-HasEntriesOf (unlinking named) entries = All (λ entry. Contains entries entry → ⊥) named
+HasEntriesOf (unlinking named) entries = AreTaken named entries
 HasEntriesOf refreshing entries = Unit {0}
 HasEntriesOf checking entries = Unit {0}
 HasEntriesOf listing entries = Unit {0}
@@ -185,8 +190,8 @@ pub data RefusesAsked : Asked → ConfigFault → Type 0 where
   too_many_entries :
       (options : LinkOptions) (entries : List (List ℕ)) → RefusesAsked (linking options entries) TooManyEntries
   not_linked :
-      (entries : List (List ℕ)) (entry : List ℕ) → Contains entries entry
-      → RefusesAsked (unlinking entries) (NotLinked entry)
+      (entries front : List (List ℕ)) (entry : List ℕ) (rest : List (List ℕ)) → entries ≡ front ++ entry ∷ rest
+      → IsDistinct bytes_eq front → RefusesAsked (unlinking entries) (NotLinked entry)
 
 pub record CanRefuseConfig (words : List (List ℕ)) (fault : ConfigFault) : Type 0 where
   pub command : Command

@@ -1,5 +1,5 @@
 -- What comes of a trace for which nothing was known.
-use Rattle.std.proofs.Common.{◌∙◌, ◌≡◌, ◌≢◌, ◌≤◌, ℕ, List, [], ◌∷◌, length, Bool, true, false, arith, append-nil, Option, Some, None, IfSome, Result, Ok, Err, refl, sym, ap, subst}
+use Rattle.std.proofs.Common.{◌∙◌, ◌≡◌, ◌≢◌, ℕ, List, [], Bool, true, false, arith, append-nil, Option, Some, None, IfSome, Result, Ok, Err, refl, sym, ap, subst}
 use Rattle.std.specs.FinMap.{get}
 use Rattle.std.specs.List.{ends_with}
 use Rattle.std.specs.Prelude.{◌++◌, ⊤, All, Contains, MatchOption, nat_eq, codes}
@@ -12,12 +12,10 @@ use Rattle.tree_spec.specs.LookAskings.{Sights, footprint}
 use Rattle.tree_spec.specs.States.{FolderState, OnlyLooks}
 use Rattle.tree_spec.specs.Trees.{Tree}
 use Rattle.tree_spec.specs.declared.LimitName.TheVariants.{Map}
-use Rattle.tree_spec.specs.Limits.{limit_number}
 use Rattle.tree_spec.proofs.ToldStates.{if_some, looks_as}
 use Rattle.tree_spec.proofs.FootprintSets.{distinct_none}
 use Rattle.package_lookup.specs.declared.known.Known.{Known}
-use Rattle.package_lookup.specs.Answered.{AsksOnce}
-use Rattle.package_lookup.specs.Looked.{kept_at, laid_at, known_at, look_or, Sees}
+use Rattle.package_lookup.specs.Looked.{kept_at, laid_at, look_or, Sees}
 use Rattle.trace_spec.specs.declared.TraceFault.{TraceFault}
 use Rattle.trace_spec.specs.declared.TraceFault.TheVariants as fault
 use Rattle.trace_spec.specs.Checks.{Gathered}
@@ -36,12 +34,12 @@ use Rattle.generator_spec.specs.Generation.{PageIsFile}
 use Rattle.trace_spec.specs.Traces.{traced, generation}
 use Rattle.trace_walk.specs.Kinds.{IsOfWalk}
 use Rattle.trace_walk.specs.Meeting.{IsTold}
-use Rattle.request_trace.specs.Tracing.{IsOfFootprint, Traces, known_of}
+use Rattle.request_trace.specs.Tracing.{IsOfFootprint, Traces}
 use Rattle.generator_spec.specs.Commands.{Refuses as refuses, IsRefusalOf as kind}
 use Rattle.generation.specs.declared.generated.Generated.{Generated}
 use Rattle.generation.specs.declared.stop.Stop.{Stop}
 use Rattle.generation.specs.declared.stop.Stop.TheVariants.{Refused, ReadFault, Memory}
-use Rattle.generation.specs.Generating.{StopsAs, IsMapOf, HasLargeMap, IsGenerated, AsksNoPathTwice, AsksFootprint, Tracing, Generating}
+use Rattle.generation.specs.Generating.{StopsAs, IsMapOf, HasLargeMap, AsksNoPathTwice, AsksFootprint, Tracing, Generating}
 use Rattle.generation.specs.Generating.StopsAs.{failed_look, memory, refused}
 use Rattle.generation.specs.Paging.{IsUnserved, IsUnserved as unserved_page, IsUnservedAt, IsUnservedAt as unserved_there}
 use Rattle.generator_spec.specs.declared.Refusal.TheVariants.{Limit, Trace}

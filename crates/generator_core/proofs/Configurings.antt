@@ -27,7 +27,7 @@ use Rattle.generator_spec.specs.declared.Refusal.TheVariants.{Config as Configur
 use Rattle.generation.specs.declared.stop.Stop.{Stop}
 use Rattle.generation.specs.declared.stop.Stop.TheVariants.{Refused, ReadFault, Memory}
 use Rattle.generator_core.specs.Preparing.{AsksOwn}
-use Rattle.generator_core.specs.Configuring.{CanBeHeld, StopsProject, StopsProject as stops_project, FindsProject, StopsConfig, StopsConfig as stops_config, Configures}
+use Rattle.generator_core.specs.Configuring.{CanBeHeld, StopsProject, StopsProject as stops_project, FindsProject, StopsConfig, StopsConfig as stops_config, FindsConfig}
 use Rattle.generator_core.proofs.Preparings.{own_asked}
 
 -- ---- what is held
@@ -126,11 +126,11 @@ module _ (words : List (List ℕ)) (order : Order) (is : IsOrder words order) (b
   stops_by stop (stops_project.read_fault same looks) = stops_config.read_fault same looks
   stops_by stop (stops_project.memory same looks) = stops_config.memory same looks
 
-  pub project_stops : (stop : Stop) → FindsProject before (Err stop) after → Configures words command before (Err stop) after
+  pub project_stops : (stop : Stop) → FindsProject before (Err stop) after → FindsConfig words command before (Err stop) after
   project_stops stop at = record { found = tt; asked = at.asked; stopped = stops_by stop at.stopped }
 
   module _ (found : Option Config) (at : FindsProject before (Ok found) after) where
-    pub config_found : (config : Config) → config_in is.asked (settings_ordered order) found ≡ Ok config → Configures words command before (Ok config) after
+    pub config_found : (config : Config) → config_in is.asked (settings_ordered order) found ≡ Ok config → FindsConfig words command before (Ok config) after
     config_found config comes = record {
       found = record {
         is = record {
@@ -143,7 +143,7 @@ module _ (words : List (List ℕ)) (order : Order) (is : IsOrder words order) (b
       stopped = tt;
     }
 
-    pub config_refused : (fault : ConfigFault) (stop : Stop) → stop ≡ Refused (Configured fault) → config_in is.asked (settings_ordered order) found ≡ Err fault → Configures words command before (Err stop) after
+    pub config_refused : (fault : ConfigFault) (stop : Stop) → stop ≡ Refused (Configured fault) → config_in is.asked (settings_ordered order) found ≡ Err fault → FindsConfig words command before (Err stop) after
     config_refused fault stop same comes = record {
       found = tt;
       asked = at.asked;
@@ -155,5 +155,5 @@ module _ (words : List (List ℕ)) (order : Order) (is : IsOrder words order) (b
           (fault_for words command fault is.asked (settings_ordered order) (Ok found) is.asks is.is_order.is is.is_order.sets at.found.can.faults (sym comes)) at.found.looks;
     }
 
-    pub config_lacks : (stop : Stop) → stop ≡ Memory → Configures words command before (Err stop) after
+    pub config_lacks : (stop : Stop) → stop ≡ Memory → FindsConfig words command before (Err stop) after
     config_lacks stop same = record { found = tt; asked = at.asked; stopped = stops_config.memory same at.found.looks }

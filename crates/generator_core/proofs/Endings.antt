@@ -27,6 +27,7 @@ use Rattle.generator_spec.specs.declared.PageFault.TheVariants.{Absent, TooLarge
 use Rattle.generator_spec.specs.declared.Refusal.{Refusal}
 use Rattle.generator_spec.specs.declared.Refusal.TheVariants as refusal
 use Rattle.generator_spec.proofs.Refusals.{written_is_opened}
+use Rattle.generator_spec.proofs.Configs.{command_for}
 use Rattle.generator_spec.proofs.Endings.{one_line_text}
 use Rattle.generator_spec.specs.Commands.{IsGenerating, HoldsMap, NewFile, new_file, map_path, Writes, Writes as writes_file}
 use Rattle.generator_spec.specs.Checking.{difference_line, difference_lines, check_status}
@@ -37,7 +38,7 @@ use Rattle.config_spec.specs.declared.ConfigFault.TheVariants as config
 use Rattle.config_spec.specs.declared.ProjectFault.{ProjectFault}
 use Rattle.config_spec.specs.declared.ProjectFault.TheVariants as project
 use Rattle.config_spec.specs.Words.{IsCommandOf, IsPlain}
-use Rattle.config_spec.specs.Projects.{project_path, IsConfigOf, IsConfigFor}
+use Rattle.config_spec.specs.Projects.{project_path, IsConfigOf}
 use Rattle.project_spec.specs.ProjectFiles.{project_text}
 use Rattle.generator_spec.specs.Lines.{page_status, map_file_status, config_status, project_status, status_of, line_of, counts_line, memory_line, read_fault_line}
 use Rattle.generator_spec.specs.Outcome.{ComesTo as comes, RefusesRun as refuses_run, RefusesRun, Outcome}
@@ -53,7 +54,7 @@ use Rattle.command_words.specs.declared.fault.WordsFault.TheVariants as words_fa
 use Rattle.command_words.specs.Faults.{Explains}
 use Rattle.generator_core.specs.Configuring.{IsConfigAt, StopsConfig, StopsConfig as stops_config}
 use Rattle.generator_core.specs.Preparing.{EndsBefore, IsPrepared, IsReady, shown_files}
-use Rattle.generator_core.specs.Writing.{AreSome, SaysWrite, TellsNoMeaning, TellsNoMeaning as tells_text, TellsStop, TellsWords, Finishes, SpendsFew}
+use Rattle.generator_core.specs.Writing.{AreSome, SaysWrite, TellsNoMeaning, TellsNoMeaning as tells_text, TellsStop, TellsWords, EndsWriting, SpendsFew}
 use Rattle.generator_core.specs.Writing.{SaysWrite as writes}
 
 pub written_is : (tree : Tree) (path bytes slice : List ℕ) (told : Option Tree) → ((after : Tree) × (told ≡ Some after) × Places tree path (Stored slice) after) → slice ≡ bytes → AreWritten tree (new_file path bytes ∷ []) told
@@ -236,7 +237,7 @@ stop_not_done stops.ReadFault out out_after result told zero = let e = status_do
 stop_not_done stops.Memory out out_after result told zero = let e = status_done 8 memory_line out out_after result told zero in absurd (omega (arith, e))
 
 -- where 0 is answered, the line of a map went out
-said_done : (prepared : Prepared) (before after : FolderState) (out out_after : SinkState) (result : ℕ) → Finishes prepared before after out out_after result → result ≡ 0 → out_after.got ≡ option_map (λ front. front ++ counts_line prepared.modules prepared.requests prepared.mappings) out.got
+said_done : (prepared : Prepared) (before after : FolderState) (out out_after : SinkState) (result : ℕ) → EndsWriting prepared before after out out_after result → result ≡ 0 → out_after.got ≡ option_map (λ front. front ++ counts_line prepared.modules prepared.requests prepared.mappings) out.got
 said_done prepared before after out out_after result wrote zero = by wrote.says wrote.ends
   where
     by : SaysWrite before after (shown_files prepared) (counts_line prepared.modules prepared.requests prepared.mappings) wrote.status wrote.line → Ends wrote.status wrote.line out out_after result → out_after.got ≡ option_map (λ front. front ++ counts_line prepared.modules prepared.requests prepared.mappings) out.got
@@ -245,7 +246,7 @@ said_done prepared before after out out_after result wrote zero = by wrote.says 
     by (writes.memory s l h w) (ends.said is given quiet) = let e = sym s ∙ (sym is ∙ zero) in absurd (omega (arith, e))
     by says_so (ends.output_fault is gives rose) = let e = sym is ∙ zero in absurd (omega (arith, e))
 
-pub spends_few : (prepared : Prepared) (before after : FolderState) (out out_after : SinkState) (result steps later : ℕ) → Finishes prepared before after out out_after result → later ≤ steps + (prepared.modules + prepared.requests) → result ≡ 0 → SpendsFew out out_after steps later
+pub spends_few : (prepared : Prepared) (before after : FolderState) (out out_after : SinkState) (result steps later : ℕ) → EndsWriting prepared before after out out_after result → later ≤ steps + (prepared.modules + prepared.requests) → result ≡ 0 → SpendsFew out out_after steps later
 spends_few prepared before after out out_after result steps later wrote few zero = record {
   modules = prepared.modules;
   requests = prepared.requests;
@@ -322,9 +323,6 @@ config_stop_end words command is before after out out_after result stop (stops_c
 
 -- ---- a command that is stopped before its write
 
-pub command_for : (words : List (List ℕ)) (command : Command) (config : Config) → IsConfigFor words command config → IsCommandOf words command
-command_for words command config is = record { asked = is.asked; asks = is.asks; is = is.is; settings = is.settings; sets = is.sets }
-
 module _ (words : List (List ℕ)) (command : Command) (config : Config) (before after : FolderState) (out out_after : SinkState) (result : ℕ) (is_config : IsConfigAt words command config before) where
   pub stop_end : (stop : Stop) → EndsBefore command config before after stop → TellsStop stop out out_after result → out.faults ≤ out_after.faults → EndsAs words before after out out_after result
   stop_end (stops.Refused why) is told more =
@@ -335,7 +333,7 @@ module _ (words : List (List ℕ)) (command : Command) (config : Config) (before
 
 -- ---- files that are written
 
-module _ (words : List (List ℕ)) (command : Command) (config : Config) (before middle after : FolderState) (out out_after : SinkState) (result : ℕ) (prepared : Prepared) (generating : IsGenerating command) (is_config : IsConfigAt words command config before) (is : IsReady command config before middle prepared) (wrote : Finishes prepared middle after out out_after result) where
+module _ (words : List (List ℕ)) (command : Command) (config : Config) (before middle after : FolderState) (out out_after : SinkState) (result : ℕ) (prepared : Prepared) (generating : IsGenerating command) (is_config : IsConfigAt words command config before) (is : IsReady command config before middle prepared) (wrote : EndsWriting prepared middle after out out_after result) where
   abbrev new_here : List NewFile
   new_here = shown_files prepared
 
@@ -349,7 +347,7 @@ module _ (words : List (List ℕ)) (command : Command) (config : Config) (before
   looks = wrote.looks ∙ quiet
 
   counted : IsCounted words done_here
-  counted = record { command = command; is_command = command_for words command config is_config.can; generating = generating; modules = prepared.modules; requests = prepared.requests; mappings = prepared.mappings; says = refl }
+  counted = record { command = command; config = config; is_config = is_config.can; generating = generating; modules = prepared.modules; requests = prepared.requests; mappings = prepared.mappings; says = refl }
 
   generated_of : (tree : Tree) → IsConfigOf words tree command config → (ready : IsPrepared command config tree prepared) → IsGenerated words tree (map_text (with_digests config ready.all ready.layout)) done_here
   generated_of tree of ready = record {

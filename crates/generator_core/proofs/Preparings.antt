@@ -33,7 +33,7 @@ use Rattle.generator_spec.specs.Commands.{IsOfPage, IsRefusalOf as kind, Writes,
 use Rattle.generation.specs.declared.generated.Generated.{Generated}
 use Rattle.generation.specs.declared.stop.Stop.{Stop}
 use Rattle.generation.specs.declared.stop.Stop.TheVariants.{Refused, ReadFault, Memory}
-use Rattle.generation.specs.Generating.{Generating, IsGenerated, AsksNoPathTwice, AsksFootprint}
+use Rattle.generation.specs.Generating.{Generating, IsMapOfTree, AsksNoPathTwice, AsksFootprint}
 use Rattle.generator_core.specs.declared.prepared.Prepared.{Prepared}
 use Rattle.generator_core.specs.Preparing.{KeepsProject as keeps_project}
 use Rattle.generator_core.specs.Preparing.{own_file, AsksOwn, AsksFew, EndsBefore, IsPageFound, FindsPage, HasCounts, KeepsProject, AreMapFiles, IsPageFile, IsPrepared, IsReady, Prepares, map_files, shown_files}
@@ -113,7 +113,7 @@ module _ (config : Config) (before after : FolderState) where
   pub lacks : (command : Command) (generated : Generated) → Generating config before (Ok generated) after → Prepares command config before (Err Memory) after
   lacks command generated is = record { ready = tt; asked = asks_few config before.holds (own_file command config) before.asked after is.asked is.footprint; stopped = lacks_memory command (generated_looks generated is) }
 
-  prepared_of : (command : Command) (tree : Tree) (generated : Generated) (prepared : Prepared) → HasCounts generated prepared → Writes tree config generated.map.items command (shown_files prepared) → IsGenerated tree config generated → IsPrepared command config tree prepared
+  prepared_of : (command : Command) (tree : Tree) (generated : Generated) (prepared : Prepared) → HasCounts generated prepared → Writes tree config generated.map.items command (shown_files prepared) → IsMapOfTree tree config generated → IsPrepared command config tree prepared
   prepared_of command tree generated prepared counts wrote is = record {
     all = is.all;
     is_traced = is.is_traced;

@@ -21,7 +21,7 @@ use Rattle.generator_spec.specs.Lines.{counts_line, memory_line, write_fault_lin
 use Rattle.generator_core.specs.Configuring.{AsksInOrder, AsksInOrder as asks_in_order, IsConfigAt}
 use Rattle.generator_core.specs.declared.prepared.Prepared.{Prepared}
 use Rattle.generator_core.specs.Preparing.{AsksOwn, AsksFew, own_file, shown_files}
-use Rattle.generator_core.specs.Writing.{AreSome, Finishes, IsWriting, SaysWrite, SaysWrite as says_write, TellsNoMeaning, TellsNoMeaning as tells_text, TellsWords, WritesFiles, WritesFiles as writes_files}
+use Rattle.generator_core.specs.Writing.{AreSome, EndsWriting, IsWriting, SaysWrite, SaysWrite as says_write, TellsNoMeaning, TellsNoMeaning as tells_text, TellsWords, WritesFiles, WritesFiles as writes_files}
 use Rattle.generator_core.proofs.Endings.{status_done, refusal_not_done, some_same}
 
 -- ---- words
@@ -117,18 +117,18 @@ module _ (file : NewFile) (files : List NewFile) (before middle after : FolderSt
 -- ---- what is said of the writes
 
 module _ (prepared : Prepared) (before after : FolderState) (out out_after : SinkState) (result : ℕ) (more : out.faults ≤ out_after.faults) where
-  finishes : (status : ℕ) (line : List ℕ) → SaysWrite before after (shown_files prepared) (counts_line prepared.modules prepared.requests prepared.mappings) status line → Ends status line out out_after result → IsWriting before after → Finishes prepared before after out out_after result
+  finishes : (status : ℕ) (line : List ℕ) → SaysWrite before after (shown_files prepared) (counts_line prepared.modules prepared.requests prepared.mappings) status line → Ends status line out out_after result → IsWriting before after → EndsWriting prepared before after out out_after result
   finishes status line says ends others = record { status = status; line = line; says = says; ends = ends; untold = others.untold; asked = others.asked; looks = others.looks; writes = others.later; output = more }
 
-  pub done_finishes : (line : List ℕ) → line ≡ counts_line prepared.modules prepared.requests prepared.mappings → (files : List NewFile) → files ≡ shown_files prepared → WritesFiles files before true after → Ends 0 line out out_after result → Finishes prepared before after out out_after result
+  pub done_finishes : (line : List ℕ) → line ≡ counts_line prepared.modules prepared.requests prepared.mappings → (files : List NewFile) → files ≡ shown_files prepared → WritesFiles files before true after → Ends 0 line out out_after result → EndsWriting prepared before after out out_after result
   done_finishes line same files are (writes_files.all is told quiet others) ends = finishes 0 line (says_write.written refl same (subst (λ fs. IfSome before.holds (λ tree. AreWritten tree fs after.holds)) are told) quiet) ends others
   done_finishes line same files are (writes_files.some is told rose others) ends = absurd (cc)
 
-  pub failed_finishes : (line : List ℕ) → line ≡ write_fault_line → (files : List NewFile) → files ≡ shown_files prepared → WritesFiles files before false after → Ends 5 line out out_after result → Finishes prepared before after out out_after result
+  pub failed_finishes : (line : List ℕ) → line ≡ write_fault_line → (files : List NewFile) → files ≡ shown_files prepared → WritesFiles files before false after → Ends 5 line out out_after result → EndsWriting prepared before after out out_after result
   failed_finishes line same files are (writes_files.all is told quiet others) ends = absurd (cc)
   failed_finishes line same files are (writes_files.some is told rose others) ends = finishes 5 line (says_write.write_fault refl same (subst (λ fs. IfSome before.holds (λ tree. AreSome fs tree after.holds)) are told) rose) ends others
 
-pub memory_finishes : (prepared : Prepared) (state : FolderState) (out out_after : SinkState) (result : ℕ) (line : List ℕ) → out.faults ≤ out_after.faults → line ≡ memory_line → Ends 8 line out out_after result → Finishes prepared state state out out_after result
+pub memory_finishes : (prepared : Prepared) (state : FolderState) (out out_after : SinkState) (result : ℕ) (line : List ℕ) → out.faults ≤ out_after.faults → line ≡ memory_line → Ends 8 line out out_after result → EndsWriting prepared state state out out_after result
 memory_finishes prepared state out out_after result line more same ends = record {
   status = 8;
   line = line;

@@ -59,7 +59,7 @@ pub record IsReport (map : ParsedMap) (all : Gathered) (report : Report) : Type 
   pub text : report.text.items ≡ concat (check_lines (length all.needs) (difference_lines map all))
 
 -- what a told tree has to do with it
-pub record IsChecked (config : Config) (tree : Tree) (map : ParsedMap) (all : Gathered) : Type 0 where
+pub record IsHeldAndTraced (config : Config) (tree : Tree) (map : ParsedMap) (all : Gathered) : Type 0 where
   pub holds : HoldsMap tree config map
   pub is_traced : traced (get tree) config ≡ Ok all
 
@@ -67,7 +67,7 @@ pub record IsReported (config : Config) (before after : FolderState) (report : R
   pub map : ParsedMap
   pub all : Gathered
   pub is_report : IsReport map all report
-  pub told : IfSome before.holds (λ tree. IsChecked config tree map all)
+  pub told : IfSome before.holds (λ tree. IsHeldAndTraced config tree map all)
   pub looks : OnlyLooks before after ⊥
 
 -- the page has no URL, so it is refused, or memory is wanting

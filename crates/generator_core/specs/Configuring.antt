@@ -5,7 +5,7 @@
 --                                                have it
 --     StopsConfig words before after stop      why there is no config
 --     AsksInOrder words before old after      what the folder is asked for in the whole run
---     Configures words command before result after      the command has its config, or it is told why not
+--     FindsConfig words command before result after      the command has its config, or it is told why not
 use Rattle.std.specs.Prelude.{◌≡◌, ◌⊎◌, ◌≤◌, ◌++◌, [], ◌∷◌, ℕ, List, length, Option, Some, Result, Ok, Err}
 use Rattle.std.specs.Prelude.{IfOk, IfErr, IfSome}
 use Rattle.tree_spec.specs.States.{FolderState, OnlyLooks}
@@ -68,7 +68,7 @@ pub record IsConfigured (words : List (List ℕ)) (command : Command) (before af
   pub is : IsConfigAt words command config before
   pub looks : OnlyLooks before after ⊥
 
-pub record Configures (words : List (List ℕ)) (command : Command) (before : FolderState)
+pub record FindsConfig (words : List (List ℕ)) (command : Command) (before : FolderState)
     (result : Result Config Stop) (after : FolderState) : Type 0 where
   pub found : IfOk result (IsConfigured words command before after)
   pub asked : IfSome before.asked (λ old. AsksOwn (project_path ∷ []) old after)

@@ -5,7 +5,7 @@
 --     TellsStop stop out out_after result      it is told why nothing is written
 --     SpendsFew out out_after before after      the line of a map went out, with so many modules and requests that they
 --                                               are no fewer than the steps
---     Finishes prepared before after out out_after result      the file is written or not, and what is said went out
+--     EndsWriting prepared before after out out_after result      the file is written or not, and what is said went out
 use Rattle.std.specs.Prelude.{◌≡◌, ◌≤◌, ◌<◌, ◌+◌, ◌++◌, ℕ, Bool, true, false, List, length, take, Option, None, IfSome}
 use Rattle.std.specs.Prelude.{option_map}
 use Rattle.tree_spec.specs.Trees.{Tree}
@@ -75,7 +75,7 @@ TellsStop (Refused why) out out_after result = TellsRefusal why out out_after re
 TellsStop ReadFault out out_after result = Ends read_fault_status read_fault_line out out_after result
 TellsStop Memory out out_after result = Ends memory_status memory_line out out_after result
 
-pub record Finishes (prepared : Prepared) (before after : FolderState) (out out_after : SinkState)
+pub record EndsWriting (prepared : Prepared) (before after : FolderState) (out out_after : SinkState)
     (result : ℕ) : Type 0 where
   pub status : ℕ
   pub line : List ℕ

@@ -3,7 +3,7 @@
 ghost use Rattle.std.specs.Prelude.{◌≡◌, ℕ, List, Result, Ok, Err};
 ghost use Rattle.command_words.specs.Orders.{IsOrder, command_ordered};
 ghost use Rattle.config_spec.specs.Projects as spec;
-ghost use Rattle.generator_core.specs.Configuring.{FindsProject, Configures};
+ghost use Rattle.generator_core.specs.Configuring.{FindsProject, FindsConfig};
 
 use crate::paths::project_path;
 use command_words::Order;
@@ -24,7 +24,7 @@ pub fn configured<F: Folder>(
     order: Order<'_>,
 ) -> Result<Config, Stop>
     ensures { (words : List (List ℕ)) → IsOrder words order.entry
-        → Configures words (command_ordered order.entry) (F.state folder.old) result (F.state folder.new) }
+        → FindsConfig words (command_ordered order.entry) (F.state folder.old) result (F.state folder.new) }
 {
     match project_in(alloc, folder) {
         Err(stop) => Err(stop),

@@ -10,7 +10,7 @@ ghost use Rattle.generator_spec.specs.Ending.{Ends, EndsAs, TellsRefusal};
 ghost use Rattle.command_words.specs.Orders.{IsOrder, command_ordered};
 ghost use Rattle.generator_core.specs.Configuring.{IsConfigAt, AsksInOrder};
 ghost use Rattle.generator_core.specs.Preparing.{AsksFew, KeepsProject, own_file, shown_file};
-ghost use Rattle.generator_core.specs.Writing.{TellsStop, TellsWords, Finishes, SpendsFew, WritesFiles};
+ghost use Rattle.generator_core.specs.Writing.{TellsStop, TellsWords, EndsWriting, SpendsFew, WritesFiles};
 
 use crate::checking::checked;
 use crate::prepared::{Fresh, Prepared, prepare_map, prepare_page};
@@ -187,7 +187,7 @@ fn check<F: Folder, O: Sink, L: Ledger>(
 
 // Writes the files, and says so.
 fn finish<F: Folder, O: Sink>(alloc: Global, folder: &mut F, prepared: &Prepared, out: &mut O) -> u8
-    ensures { Finishes prepared.now (F.state folder.old) (F.state folder.new) (O.state out.old)
+    ensures { EndsWriting prepared.now (F.state folder.old) (F.state folder.new) (O.state out.old)
         (O.state out.new) result }
 {
     let Ok(line) = done_line(

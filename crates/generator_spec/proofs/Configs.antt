@@ -1,5 +1,5 @@
 -- What words and a tree give a run: one config, or one refusal.
-use Rattle.std.proofs.Common.{◌≡◌, ◌≢◌, ◌⊎◌, ℕ, List, codes, Result, Ok, Err, refl, sym, ap, ◌∙◌, subst, inl, inr}
+use Rattle.std.proofs.Common.{◌≡◌, ◌⊎◌, ℕ, List, Result, Ok, Err, inl, inr}
 use Rattle.tree_spec.specs.Paths.{IsPath}
 use Rattle.tree_spec.specs.Trees.{Tree}
 use Rattle.trace_spec.specs.Modules.{Config}
@@ -26,6 +26,10 @@ as_refused fault = Err fault
 
 pub command_is : (words : List (List ℕ)) (tree : Tree) (command : Command) (outcome : Result Config ConfigFault) → Configures words tree command outcome → IsCommandOf words command
 command_is words tree command outcome is = record { asked = is.asked; asks = is.asks; is = is.is; settings = is.settings; sets = is.sets }
+
+-- words that can have a config ask for its command
+pub command_for : (words : List (List ℕ)) (command : Command) (config : Config) → IsConfigFor words command config → IsCommandOf words command
+command_for words command config is = record { asked = is.asked; asks = is.asks; is = is.is; settings = is.settings; sets = is.sets }
 
 pub command_is_plain : (words : List (List ℕ)) (command : Command) → IsCommandOf words command → IsPlain words
 command_is_plain words command is = record { asked = is.asked; asks = is.asks }

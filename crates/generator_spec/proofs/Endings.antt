@@ -1,5 +1,5 @@
 -- What the status of an end says of the folder and of the faults.
-use Rattle.std.proofs.Common.{◌≡◌, ◌≢◌, ◌<◌, ◌++◌, ◌⊎◌, ℕ, zero, suc, List, [], ◌∷◌, length, take, Option, Some, None, IfSome, inl, inr, ⊎_elim, refl, sym, ap, ◌∙◌, subst, arith}
+use Rattle.std.proofs.Common.{◌≡◌, ◌≢◌, ◌⊎◌, ℕ, List, [], ◌∷◌, Option, Some, None, IfSome, inl, inr, ⊎_elim, refl, sym, ap, ◌∙◌, subst, arith}
 use Rattle.std.specs.List.{concat}
 use Rattle.std.proofs.lemmas.List.{append-nil}
 use Rattle.tree_spec.specs.Counts.{Rose}
@@ -28,14 +28,14 @@ use Rattle.generator_spec.specs.declared.MapFileFault.TheVariants as map_file
 use Rattle.generator_spec.specs.declared.PageFault.{PageFault}
 use Rattle.generator_spec.specs.declared.PageFault.TheVariants.{Absent, TooLarge, KeepsMapsOut}
 use Rattle.generator_spec.specs.Commands.{IsOfPage, IsRefusalOf, IsRefusalOf as kind, NewFile}
-use Rattle.generator_spec.specs.Checking.{check_status, check_lines}
+use Rattle.generator_spec.specs.Checking.{check_status}
 use Rattle.generator_spec.specs.Lines.{config_status, config_line, page_status, map_file_status, trace_status, status_of, line_of, memory_line}
 use Rattle.generator_spec.specs.Statuses.{LeavesTree}
 use Rattle.generator_spec.specs.Outcome.{ComesTo, ComesTo as comes, FilesPlaced, Outcome}
-use Rattle.generator_spec.specs.Ending.{CanRefuse, CanRefuse as can, IsDone, IsChecked, StopsWriting, Shaped, Says, Ends}
+use Rattle.generator_spec.specs.Ending.{CanRefuse, CanRefuse as can, IsDone, StopsWriting, Shaped, Says, Ends}
 use Rattle.generator_spec.specs.Ending.{Shaped as shaped, Says as says, Ends as ends}
 use Rattle.generator_spec.specs.Promises.{AreWrong, HasStopped, Untouched, Shows}
-use Rattle.generator_spec.proofs.Configs.{command_is_plain, one_words_fault, refused_is_plain, refused_or_command}
+use Rattle.generator_spec.proofs.Configs.{command_for, command_is_plain, one_words_fault, refused_is_plain, refused_or_command}
 
 -- ---- statuses
 
@@ -64,7 +64,7 @@ asked_refusing asked fault (bad_project _ _ (above which is)) = three refl
 asked_refusing asked fault (no_project _ other) = seven refl
 asked_refusing asked fault (no_base options entries none) = two refl
 asked_refusing asked fault (too_many_entries options entries) = three refl
-asked_refusing asked fault (not_linked entries entry c) = one refl
+asked_refusing asked fault (not_linked entries front entry rest parts distinct) = one refl
 
 trace_refusing : (config : Config) (why : TraceFault) → IsOfTrace config why → IsRefusing (trace_status why)
 trace_refusing config (fault.Unservable path url) kind = one refl
@@ -247,7 +247,7 @@ module _ (words : List (List ℕ)) (before after : FolderState) (status : ℕ) (
   can_be : (fault : ConfigFault) → RefusesWords words fault → (why : Refusal) → CanRefuse words why → why ≡ Configured fault
   can_be fault refuses why (can.by_words other is) = ap Configured (one_words_fault words other fault is refuses)
   can_be fault refuses why (can.by_project other is) = absurd (refused_or_command words fault is.command refuses (record { asked = is.asked; asks = is.asks; is = is.is; settings = is.settings; sets = is.sets }))
-  can_be fault refuses why (can.by_tree command config reason is of) = absurd (refused_or_command words fault command refuses (record { asked = is.asked; asks = is.asks; is = is.is; settings = is.settings; sets = is.sets }))
+  can_be fault refuses why (can.by_tree command config reason is of) = absurd (refused_or_command words fault command refuses (command_for words command config is))
 
   refused_shape :
       (fault : ConfigFault) → RefusesWords words fault → Shaped words status lines
@@ -257,9 +257,9 @@ module _ (words : List (List ℕ)) (before after : FolderState) (status : ℕ) (
       let same = can_be fault refuses why is in
       (s ∙ ap status_of same, l ∙ ap (λ r. line_of r ∷ []) same)
   refused_shape fault refuses (shaped.done line s l counted) =
-      absurd (refused_or_command words fault counted.command refuses counted.is_command)
+      absurd (refused_or_command words fault counted.command refuses (command_for words counted.command counted.config counted.is_config))
   refused_shape fault refuses (shaped.checked is) =
-      absurd (refused_or_command words fault Check refuses is.is_command)
+      absurd (refused_or_command words fault Check refuses (command_for words Check is.config is.is_config))
 
   refused_says :
       (untold : before.holds ≡ None → after.holds ≡ None) (fault : ConfigFault) → RefusesWords words fault
@@ -276,7 +276,7 @@ module _ (words : List (List ℕ)) (before after : FolderState) (status : ℕ) (
   refused_says untold fault refuses (says.read_fault command is_command s t k rose w) =
       absurd (refused_or_command words fault command refuses is_command)
   refused_says untold fault refuses (says.write_fault line counted stops s t l rose) =
-      absurd (refused_or_command words fault counted.command refuses counted.is_command)
+      absurd (refused_or_command words fault counted.command refuses (command_for words counted.command counted.config counted.is_config))
 
   -- ---- words without a meaning
 
@@ -288,8 +288,8 @@ module _ (words : List (List ℕ)) (before after : FolderState) (status : ℕ) (
   no_meaning_shape : (IsPlain words → ⊥) → Shaped words status lines → status ≡ 2
   no_meaning_shape none (shaped.not_plain text too s l) = s
   no_meaning_shape none (shaped.refused why is s l) = absurd (none (can_is_plain why is))
-  no_meaning_shape none (shaped.done line s l counted) = absurd (none (command_is_plain words counted.command counted.is_command))
-  no_meaning_shape none (shaped.checked is) = absurd (none (command_is_plain words Check is.is_command))
+  no_meaning_shape none (shaped.done line s l counted) = absurd (none (command_is_plain words counted.command (command_for words counted.command counted.config counted.is_config)))
+  no_meaning_shape none (shaped.checked is) = absurd (none (command_is_plain words Check (command_for words Check is.config is.is_config)))
 
   no_meaning_says :
       (untold : before.holds ≡ None → after.holds ≡ None) → (IsPlain words → ⊥) → Says words before after status lines
@@ -300,7 +300,7 @@ module _ (words : List (List ℕ)) (before after : FolderState) (status : ℕ) (
       (record { told = kept; looks = l; writes = w }, inl two)
   no_meaning_says untold none (says.memory s t k l w) = (record { told = k; looks = l; writes = w }, inr s)
   no_meaning_says untold none (says.read_fault command is_command s t k rose w) = absurd (none (command_is_plain words command is_command))
-  no_meaning_says untold none (says.write_fault line counted stops s t l rose) = absurd (none (command_is_plain words counted.command counted.is_command))
+  no_meaning_says untold none (says.write_fault line counted stops s t l rose) = absurd (none (command_is_plain words counted.command (command_for words counted.command counted.config counted.is_config)))
 
   -- ---- counts
 

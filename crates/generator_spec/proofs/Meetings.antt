@@ -8,7 +8,7 @@ use Rattle.generator_spec.specs.Lines.{memory_line}
 use Rattle.config_spec.specs.declared.Command.TheVariants.{Check}
 use Rattle.generator_spec.specs.Outcome.{ComesTo, ComesTo as comes, Outcome}
 use Rattle.generator_spec.specs.Commands.{IsGenerating, NewFile}
-use Rattle.generator_spec.specs.Ending.{IsGenerated, StopsWriting, Says, Ends, Says as says, Ends as ends}
+use Rattle.generator_spec.specs.Ending.{StopsWriting, Says, Ends, Says as says, Ends as ends}
 use Rattle.generator_spec.specs.Laws.{SameOutcome}
 use Rattle.generator_spec.specs.Promises.{Quiet, Stands, Finishes, Completes, Meets, Finishes as finish, Completes as complete}
 use Rattle.config_spec.specs.Words.{IsPlain}

@@ -1,5 +1,5 @@
 -- A command over a tree has one outcome.
-use Rattle.std.proofs.Common.{◌≡◌, ◌⊎◌, ℕ, List, [], ◌∷◌, length, Option, Some, Result, Ok, Err, codes, refl, sym, ap, ◌∙◌, subst, inl, inr, arith}
+use Rattle.std.proofs.Common.{◌≡◌, ◌⊎◌, ℕ, List, [], ◌∷◌, length, Some, Result, Ok, Err, codes, refl, sym, ap, ◌∙◌, subst, inl, inr, arith}
 use Rattle.std.specs.Prelude.{All}
 use Rattle.std.proofs.lemmas.List.Elements.{All-nil, All-cons, All-head, All-tail}
 use Rattle.std.specs.FinMap.{get, insert}
@@ -7,7 +7,7 @@ use Rattle.tree_spec.specs.declared.Entry.{Entry}
 use Rattle.tree_spec.specs.declared.Entry.TheVariants.{Stored, Directory}
 use Rattle.tree_spec.specs.declared.LimitName.TheVariants.{Map}
 use Rattle.tree_spec.specs.Paths.{IsPath, IsParent, IsAbove, parent_of, further}
-use Rattle.tree_spec.specs.Trees.{Tree, IsTree, Places}
+use Rattle.tree_spec.specs.Trees.{Tree, IsTree}
 use Rattle.tree_spec.proofs.Insertion.{get_other}
 use Rattle.tree_spec.proofs.PathsAbove.{above_by_parent, nothing_above_root}
 use Rattle.tree_spec.proofs.Placings.{one_placing, inserted_places, folders_above}
@@ -30,7 +30,7 @@ use Rattle.config_spec.specs.Projects.{IsConfigOf, project_path}
 use Rattle.generator_spec.specs.Lines.{status_of, line_of, done_line}
 use Rattle.generator_spec.specs.Outcome.{ComesTo, FilesPlaced, Outcome, RefusesRun, RefusesRun as runs}
 use Rattle.generator_spec.specs.Outcome.ComesTo.{not_plain, refused, written, checked}
-use Rattle.generator_spec.specs.Laws.{SameOutcome, OneOutcome, HasOutcome, SomeOutcome}
+use Rattle.generator_spec.specs.Laws.{OneOutcome, HasOutcome, SomeOutcome}
 use Rattle.generator_spec.proofs.Configs.{SameConfig, one_config, one_words_fault, one_config_fault, refused_or_config}
 use Rattle.generator_spec.proofs.Configs.{words_refused_or_config, words_refused_or_refused, page_is_path, plain_or_not}
 use Rattle.generator_spec.proofs.Configs.{command_is, command_is_plain, refused_is_plain}

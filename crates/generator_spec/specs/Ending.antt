@@ -6,14 +6,14 @@
 --     Says words before after status lines      why a command ends with this status and these lines
 --     Ends status text out out_after result     the text went out and the status is answered, or the output failed
 --     TellsRefusal why out out_after result     the same of a refusal, or of want of memory in its place
-use Rattle.std.specs.Prelude.{◌≡◌, ◌≤◌, ◌<◌, ◌⊎◌, ◌++◌, ℕ, List, [], ◌∷◌, length, All, Contains}
+use Rattle.std.specs.Prelude.{◌≡◌, ◌≢◌, ◌≤◌, ◌<◌, ◌⊎◌, ◌++◌, ℕ, List, [], ◌∷◌, length, All, Contains}
 use Rattle.std.specs.Prelude.{Option, Some, None, IfSome}
 use Rattle.std.specs.Prelude.{option_map, take}
 use Rattle.std.specs.List.{concat}
 use Rattle.tree_spec.specs.Counts.{Rose}
 use Rattle.tree_spec.specs.States.{FolderState, SinkState}
 use Rattle.tree_spec.specs.Trees.{Tree}
-use Rattle.import_map_spec.specs.Resolving.{Resolution}
+use Rattle.import_map_spec.specs.Resolving.{Resolution, Resolved}
 use Rattle.page_spec.specs.ImportMaps.{IsOneMap}
 use Rattle.trace_spec.specs.Modules.{Config}
 use Rattle.config_spec.specs.declared.Command.{Command}
@@ -88,10 +88,12 @@ pub data IsDone (words : List (List ℕ)) (tree : Tree) (told : Option Tree) : T
 
 -- ---- what is said
 
--- own: the words ask for a command that generates, and the line is that of a map that is written, with some counts
+-- own: the words can have this config of a command that generates, and the line is that of a map that is written, with
+-- some counts
 pub record IsCounted (words : List (List ℕ)) (line : List ℕ) : Type 0 where
   pub command : Command
-  pub is_command : IsCommandOf words command
+  pub config : Config
+  pub is_config : IsConfigFor words command config
   pub generating : IsGenerating command
   pub modules : ℕ
   pub requests : ℕ
@@ -104,13 +106,17 @@ pub record IsDifference (line : List ℕ) : Type 0 where
   pub specifier : List ℕ
   pub wants : List ℕ
   pub gets : Resolution
+  pub differs : gets ≢ Resolved wants
   pub says : line ≡ differs_line referrer specifier wants gets
 
--- own: the words ask for a check, and the lines are those of one with some differences
+-- own: the words can have this config of a check, and the lines are those of one with some differences, of which there
+-- are no more than needs
 pub record IsChecked (words : List (List ℕ)) (status : ℕ) (lines : List (List ℕ)) : Type 0 where
-  pub is_command : IsCommandOf words Check
+  pub config : Config
+  pub is_config : IsConfigFor words Check config
   pub needs : ℕ
   pub differing : List (List ℕ)
+  pub few : length differing ≤ needs
   pub are_differences : All IsDifference differing
   pub ends : status ≡ check_status differing
   pub says : lines ≡ check_lines needs differing

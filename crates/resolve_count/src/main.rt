@@ -1,6 +1,6 @@
-//! Resolves the pairs of a file, a path and a specifier a line, over the current folder, round by round, and counts the
-//! answers of the last round: it shows how long Node's resolution takes. Its words are the file's name and the number of
-//! rounds; what was looked at in one round is known in the next ones.
+//! Resolves the pairs of a file, in each line the path of the file that asks, a space and a specifier, over the current
+//! folder, round by round, and counts the answers of the last round: it shows how long Node's resolution takes. Its
+//! words are the file's name and the number of rounds; what was looked at in one round is known in the next ones.
 #![tactic(auto)]
 
 ghost use Rattle.std.specs.Prelude.{◌≡◌, ◌<◌};
@@ -47,7 +47,7 @@ impl Counts {
     }
 }
 
-/// The counts with the answer to one pair; where no path stands for the file, they stay as they are.
+/// The counts with the answer to one pair; where what asks isn't a path, they stay as they are.
 fn with_pair<F: Folder, L: Ledger>(
     alloc: Global,
     known: &mut Known,

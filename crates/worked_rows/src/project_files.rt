@@ -232,18 +232,19 @@ fn texts_with_other_values(rt: HostRuntime) -> Result<(), Fail> {
     Ok(())
 }
 
-/// How many spaces a project's file has, and how `refresh` ends.
-static FULL: [(usize, u8, &str); 2] = [
-    (16_777_216, 7, "bad file: project at 16777216\n"),
-    (16_777_217, 3, "limit: file above 16777216\n"),
+/// The byte of which a project's file is full, how often it stands there, and how `refresh` ends.
+static FULL: [(u8, usize, u8, &str); 3] = [
+    (b' ', 16_777_216, 7, "bad file: project at 16777216\n"),
+    (b' ', 16_777_217, 3, "limit: file above 16777216\n"),
+    (255, 1, 7, "bad file: project at 0\n"),
 ];
 
 #[test]
 fn files_at_their_limit(rt: HostRuntime) -> Result<(), Fail> {
     let alloc = rt.alloc();
-    for (count, status, line) in &FULL {
+    for (byte, count, status, line) in &FULL {
         let mut folder = folder_of(alloc, &[], &NONE)?;
-        let bytes = vec![in alloc; b' '; *count]?;
+        let bytes = vec![in alloc; *byte; *count]?;
         put(alloc, &mut folder, PROJECT_PATH, bytes.as_slice())?;
         let outcome = ended(alloc, "refresh", folder, &[])?;
         assert!(rt; ends(&outcome, *status, line), "{line}");
@@ -252,10 +253,11 @@ fn files_at_their_limit(rt: HostRuntime) -> Result<(), Fail> {
     Ok(())
 }
 
-// A project's file with so many entries.
-fn with_entries(alloc: Global, count: usize) -> Result<String, Memory> {
-    let front = "{\"base\":\"https://app.test/\",\"page\":\"/i\",\"conditions\":[],\"entries\":[";
-    let mut text = String::from_str(alloc, front)?;
+// A project's file with this page and so many entries.
+fn with_entries(alloc: Global, page: &str, count: usize) -> Result<String, Memory> {
+    let mut text = String::from_str(alloc, "{\"base\":\"https://app.test/\",\"page\":\"")?;
+    text.push_str(page)?;
+    text.push_str("\",\"conditions\":[],\"entries\":[")?;
     let mut mark = "";
     for number in 0..count {
         let entry = format!(in alloc; "{mark}\"./m.mjs?{number}\"")?;
@@ -266,35 +268,67 @@ fn with_entries(alloc: Global, count: usize) -> Result<String, Memory> {
     Ok(text)
 }
 
-/// Words over a project, how many entries it has, and how they end.
-static COUNTS: [(&str, usize, u8, &str); 5] = [
+/// Words over a project, its page, how many entries it has, and how they end. More entries than there may be are told
+/// of a file that has no other fault.
+static COUNTS: [(&str, &str, usize, u8, &str); 6] = [
     (
         "refresh",
+        "/i",
         1_024,
         0,
         "ok: 1024 modules, 1024 requests, 0 mappings\n",
     ),
     (
         "link ./m.mjs?7",
+        "/i",
         1_024,
         0,
         "ok: 1024 modules, 1024 requests, 0 mappings\n",
     ),
-    ("link ./m.mjs", 1_024, 3, "limit: entries above 1024\n"),
-    ("refresh", 1_025, 3, "limit: entries above 1024\n"),
-    ("unlink ./m.mjs?7", 1_025, 3, "limit: entries above 1024\n"),
+    (
+        "link ./m.mjs",
+        "/i",
+        1_024,
+        3,
+        "limit: entries above 1024\n",
+    ),
+    ("refresh", "/i", 1_025, 3, "limit: entries above 1024\n"),
+    (
+        "unlink ./m.mjs?7",
+        "/i",
+        1_025,
+        3,
+        "limit: entries above 1024\n",
+    ),
+    ("check", "/", 1_025, 7, "bad file: project at 0\n"),
 ];
+
+// Whether a run over such a project ends so, and writes nothing where it isn't done.
+fn entries_say(
+    alloc: Global,
+    words: &str,
+    project: &str,
+    status: u8,
+    line: &str,
+) -> Result<bool, PathFault> {
+    let mut folder = folder_of(alloc, &[("/m.mjs", "")], &NONE)?;
+    put(alloc, &mut folder, PROJECT_PATH, project.as_bytes())?;
+    let outcome = ended(alloc, words, folder, &[])?;
+    Ok(
+        ends(&outcome, status, line)
+            && (status == 0
+                || stands(alloc, &outcome.folder, MAP_PATH, None)?
+                    && stands(alloc, &outcome.folder, PROJECT_PATH, Some(project))?),
+    )
+}
 
 #[test]
 fn entries_at_their_limit(rt: HostRuntime) -> Result<(), Fail> {
     let alloc = rt.alloc();
-    for (words, count, status, line) in &COUNTS {
-        let mut folder = folder_of(alloc, &[("/m.mjs", "")], &NONE)?;
-        let text = with_entries(alloc, *count)?;
-        put(alloc, &mut folder, PROJECT_PATH, text.as_bytes())?;
-        let outcome = ended(alloc, words, folder, &[])?;
+    for (words, page, count, status, line) in &COUNTS {
+        let project = with_entries(alloc, page, *count)?;
         assert!(rt;
-            ends(&outcome, *status, line),
+            entries_say(alloc, words, project.as_str(), *status, line)?,
             "{words} over {count} entries must end with {line}"
         );
     }

@@ -50,7 +50,7 @@ static NOTHING_MORE: [&str; 11] = [
 
 /// Words that `clap` takes, though they aren't plain.
 static NOT_PLAIN: [&str; 11] = [
-    "link ./app.mjs --base https://app.test/",
+    "link ./a.mjs --base https://app.test/",
     "link --base https://app.test/ ./app.mjs --page /a.html ./b.mjs",
     "link --base https://app.test/  ./app.mjs",
     "link --base= ./app.mjs",
