@@ -23,7 +23,7 @@ check() {
 example() {
     program=$PWD/build/salimgub
     cp -R examples/site "$kept/site" &&
-        rm -f "$kept/site/importmap.json" &&
+        rm -f "$kept/site/importmap.json" "$kept/site/importmap.project.json" &&
         (cd "$kept/site" && "$program" link --base https://app.test/ ./app.mjs >"$kept/out") &&
         echo 'ok: 5 modules, 8 requests, 1 mappings' | diff - "$kept/out" &&
         diff examples/expected-importmap.json "$kept/site/importmap.json"
@@ -33,7 +33,7 @@ example() {
 packages() {
     program=$PWD/build/salimgub
     cp -R examples/packages "$kept/packages" &&
-        rm -f "$kept/packages/importmap.json" &&
+        rm -f "$kept/packages/importmap.json" "$kept/packages/importmap.project.json" &&
         (cd "$kept/packages" && "$program" link --base https://app.test/ ./app.js >"$kept/out") &&
         echo 'ok: 9 modules, 11 requests, 8 mappings' | diff - "$kept/out" &&
         diff examples/expected-packages.json "$kept/packages/importmap.json"
@@ -65,36 +65,68 @@ injected() {
     cp -R examples/page "$kept/page" || return 1
     before=$(cd "$kept/page" && find . | sort)
     for _ in 1 2; do
-        (cd "$kept/page" && "$program" inject --base http://localhost:8000/page/ ./app.mjs >"$kept/out") &&
+        (cd "$kept/page" && "$program" inject >"$kept/out") &&
             echo 'ok: 3 modules, 3 requests, 1 mappings' | diff - "$kept/out" &&
             diff examples/expected-index.html "$kept/page/index.html" || return 1
     done
     [ "$before" = "$(cd "$kept/page" && find . | sort)" ]
 }
 
-# The map that was written by hand has the two differences that were typed by hand; the map that `link` writes in its
-# place has none, and a check writes nothing.
+# The map that was written by hand has the two differences that were typed by hand; the map that `refresh` writes in its
+# place has none, and neither a check nor `refresh` changes the project.
 checked() {
     program=$PWD/build/salimgub
     cp -R examples/checked "$kept/checked" || return 1
-    (cd "$kept/checked" && "$program" check --base https://app.test/ ./app.mjs >"$kept/out")
+    (cd "$kept/checked" && "$program" check >"$kept/out")
     [ $? = 6 ] && diff examples/expected-check.txt "$kept/out" &&
         diff -r examples/checked "$kept/checked" &&
-        (cd "$kept/checked" && "$program" link --base https://app.test/ ./app.mjs >"$kept/out") &&
+        (cd "$kept/checked" && "$program" refresh >"$kept/out") &&
         echo 'ok: 4 modules, 4 requests, 3 mappings' | diff - "$kept/out" &&
-        (cd "$kept/checked" && "$program" check --base https://app.test/ ./app.mjs >"$kept/out") &&
-        echo 'ok: 4 needs served' | diff - "$kept/out"
+        (cd "$kept/checked" && "$program" check >"$kept/out") &&
+        echo 'ok: 4 needs served' | diff - "$kept/out" &&
+        diff examples/checked/importmap.project.json "$kept/checked/importmap.project.json"
 }
 
-# The page of the example with packages gets the same map with another base, in a copy.
+# The page of the example with packages gets the same map with another base, in the copy that was linked.
 injected_packages() {
     program=$PWD/build/salimgub
-    rm -rf "$kept/packages" &&
-        cp -R examples/packages "$kept/packages" &&
-        (cd "$kept/packages" &&
-            "$program" inject --base http://localhost:8000/packages/ ./app.js >"$kept/out") &&
-        echo 'ok: 9 modules, 11 requests, 8 mappings' | diff - "$kept/out" &&
+    (cd "$kept/packages" &&
+        "$program" link --base http://localhost:8000/packages/ >"$kept/out" &&
+        "$program" inject >>"$kept/out") &&
+        printf '%s\n' 'ok: 9 modules, 11 requests, 8 mappings' 'ok: 9 modules, 11 requests, 8 mappings' |
+        diff - "$kept/out" &&
         diff examples/expected-packages.html "$kept/packages/index.html"
+}
+
+# Runs a command in the copy of the cycle: cycle_step STATUS MAP PROJECT WORDS.., and what it must say on the standard
+# input. Afterwards map and project are these files of examples/expected-cycle, and nothing else is written.
+cycle_step() {
+    wanted=$1 map=$2 project=$3
+    shift 3
+    (cd "$kept/cycle" && "$program" "$@" >"$kept/out" </dev/null)
+    [ $? = "$wanted" ] && diff - "$kept/out" &&
+        diff "examples/expected-cycle/$map.json" "$kept/cycle/importmap.json" &&
+        diff "examples/expected-cycle/$project.json" "$kept/cycle/importmap.project.json" &&
+        [ "$(cd "$kept/cycle" && find . | sort)" = "$cycle_files" ]
+}
+
+# A site from its first map on, in a copy: two entries, of which one is a package's; a check; a module that asks for
+# one thing more, which a check finds and `refresh` mends; and an entry that is taken out.
+cycle() {
+    program=$PWD/build/salimgub
+    cp -R examples/cycle "$kept/cycle" || return 1
+    rm -f "$kept/cycle/importmap.json" "$kept/cycle/importmap.project.json"
+    cycle_files=$(cd "$kept/cycle" && { find .; echo ./importmap.json; echo ./importmap.project.json; } | sort)
+    echo 'ok: 3 modules, 4 requests, 2 mappings' |
+        cycle_step 0 linked linked-project link --base https://app.test/ ./app.mjs hello/loud &&
+        echo 'ok: 4 needs served' | cycle_step 0 linked linked-project check || return 1
+    echo 'import "hello/quiet";' >>"$kept/cycle/app.mjs"
+    cycle_step 6 linked linked-project check <examples/expected-cycle/differs.txt &&
+        echo 'ok: 4 modules, 5 requests, 3 mappings' | cycle_step 0 refreshed linked-project refresh &&
+        echo 'ok: 5 needs served' | cycle_step 0 refreshed linked-project check &&
+        echo 'refused: NotLinked "hello"' | cycle_step 1 refreshed linked-project unlink hello/loud hello &&
+        echo 'ok: 3 modules, 3 requests, 2 mappings' | cycle_step 0 unlinked unlinked-project unlink hello/loud &&
+        echo 'ok: 3 needs served' | cycle_step 0 unlinked unlinked-project check
 }
 
 check "build.sh" ./build.sh
@@ -104,9 +136,11 @@ check "digests by other programs" digests
 check "the page of the examples" injected
 check "the page of packages" injected_packages
 check "the example with a map written by hand" checked
+check "a site from link to unlink" cycle
 check "rows on disk" .ci/rows.sh
 check "a program that must not compile" .ci/must_not_compile.sh
 check "values that are dropped once" .ci/drops.sh
 check "the benchmark on small trees" bench/run.sh smoke
+check "specifiers of small trees" python3 -B bench/resolve.py smoke
 echo "$passed passed, $failed failed"
 [ "$failed" = 0 ]

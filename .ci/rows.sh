@@ -6,8 +6,36 @@ kept=$(mktemp -d) || exit 1
 trap 'rm -rf "$kept"' EXIT
 failed=0
 
-# Links ENTRY in the folder $kept/NAME: row NAME ENTRY STATUS LINE [TOLD], and the map on the standard input. No other file
-# may be written, and without a map none. TOLD is what is said on standard error, which is nothing without it.
+# The text of the project's file with one entry: project ENTRY.
+project() {
+    cat <<PROJECT
+{
+  "base": "https://app.test/",
+  "page": "/index.html",
+  "conditions": [
+    "browser",
+    "import"
+  ],
+  "entries": [
+    "$1"
+  ]
+}
+PROJECT
+}
+
+# Whether the folder $kept/NAME has a map and the project's file with one entry, where the status is 0, and neither where
+# it isn't: is_kept NAME ENTRY STATUS.
+is_kept() {
+    if [ "$3" = 0 ]; then
+        [ -e "$kept/$1/importmap.json" ] && project "$2" | diff - "$kept/$1/importmap.project.json"
+    else
+        [ ! -e "$kept/$1/importmap.json" ] && [ ! -e "$kept/$1/importmap.project.json" ]
+    fi
+}
+
+# Links ENTRY in the folder $kept/NAME: row NAME ENTRY STATUS LINE [TOLD], and the map on the standard input. But for map
+# and project no file may be written, and without a map none. TOLD is what is said on standard error, which is nothing
+# without it.
 row() {
     cat >"$kept/map"
     before=$(cd "$kept/$1" && find . | sort)
@@ -15,8 +43,9 @@ row() {
     status=$?
     written=/dev/null
     [ ! -e "$kept/$1/importmap.json" ] || written=$kept/$1/importmap.json
-    after=$(cd "$kept/$1" && find . ! -path ./importmap.json | sort)
+    after=$(cd "$kept/$1" && find . ! -path ./importmap.json ! -path ./importmap.project.json | sort)
     if [ "$status" = "$3" ] && echo "$4" | diff - "$kept/out" && diff "$kept/map" "$written" &&
+        is_kept "$1" "$2" "$3" &&
         [ "$before" = "$after" ] && printf '%s' "${5:+$5
 }" | diff - "$kept/told"; then
         return
@@ -109,7 +138,7 @@ row ui ./src/main.js 0 'ok: 5 modules, 6 requests, 3 mappings' <<'MAP'
 MAP
 
 # The first condition of the object that applies, in the order of the object.
-cp -R "$kept/ui" "$kept/order" && rm -f "$kept/order/importmap.json"
+cp -R "$kept/ui" "$kept/order" && rm -f "$kept/order/importmap.json" "$kept/order/importmap.project.json"
 file order/node_modules/ui/package.json '{"name":"ui","type":"module","exports":{".":{"types":"./i.d.ts","default":"./n.js","browser":"./b.js"},"./x/*":"./x/*.js"}}'
 row order ./src/main.js 0 'ok: 5 modules, 5 requests, 3 mappings' <<'MAP'
 {
@@ -212,7 +241,7 @@ row unread ./app.mjs 1 'refused: NotModule "/app.mjs" Unreadable at 7' </dev/nul
 # Links ENTRIES, a space between each two, in the folder $kept/NAME: at NAME ENTRIES STATUS LINE. What the map says isn't
 # told; it is written exactly where the status is 0.
 at() {
-    rm -f "$kept/$1/importmap.json"
+    rm -f "$kept/$1/importmap.json" "$kept/$1/importmap.project.json"
     (cd "$kept/$1" && "$program" link --base https://app.test/ $2 >"$kept/out")
     status=$?
     written=1
@@ -271,10 +300,12 @@ deep=.$(printf '/a%.0s' $(seq 47))
 at looks "$deep/m0.mjs $deep/m1.mjs" 0 'ok: 8001 modules, 8001 requests, 7999 mappings'
 at looks "$deep/m0.mjs $deep/m1.mjs ./more.mjs" 3 'limit: looks above 400000'
 
-# Injects into the folder $kept/NAME: page NAME STATUS LINE, and the page as it is afterwards on the standard input.
+# Injects into the folder $kept/NAME, with a project of the entry ./app.mjs: page NAME STATUS LINE, and the page as it is
+# afterwards on the standard input.
 page() {
     cat >"$kept/wanted"
-    (cd "$kept/$1" && "$program" inject --base https://app.test/ ./app.mjs >"$kept/out")
+    project ./app.mjs >"$kept/$1/importmap.project.json"
+    (cd "$kept/$1" && "$program" inject >"$kept/out")
     status=$?
     left=/dev/null
     [ ! -f "$kept/$1/index.html" ] || left=$kept/$1/index.html
@@ -306,11 +337,13 @@ page folder 7 'bad file: page absent' </dev/null
 mkdir "$kept/cut" && printf '<head' >"$kept/cut/index.html" && : >"$kept/cut/app.mjs"
 page cut 1 'refused: PageUnclear at 0' <"$kept/cut/index.html"
 
-# Checks the map of the folder $kept/NAME: checked NAME STATUS, and the lines on the standard input. Nothing may be written.
+# Checks the map of the folder $kept/NAME, with a project of the entry ./app.mjs: checked NAME STATUS, and the lines on the
+# standard input. Nothing may be written.
 checked() {
     cat >"$kept/wanted"
+    project ./app.mjs >"$kept/$1/importmap.project.json"
     before=$(cd "$kept/$1" && find . | sort)
-    (cd "$kept/$1" && "$program" check --base https://app.test/ ./app.mjs >"$kept/out")
+    (cd "$kept/$1" && "$program" check >"$kept/out")
     status=$?
     after=$(cd "$kept/$1" && find . | sort)
     if [ "$status" = "$2" ] && diff "$kept/wanted" "$kept/out" && [ "$before" = "$after" ]; then
@@ -351,5 +384,90 @@ row linked ./app.mjs 4 'fault: read' 'salimgub: ./b.mjs: symbolic link' </dev/nu
 
 mkdir "$kept/special" && echo 'import "./b.mjs";' >"$kept/special/app.mjs" && mkfifo "$kept/special/b.mjs"
 row special ./app.mjs 4 'fault: read' 'salimgub: ./b.mjs: special file' </dev/null
+
+# Runs a command in the folder $kept/NAME: says NAME STATUS LINE TOLD WORDS... No file may be written or changed.
+says() {
+    name=$1 wanted=$2 line=$3 told=$4
+    shift 4
+    rm -rf "$kept/before" && cp -R "$kept/$name" "$kept/before"
+    (cd "$kept/$name" && "$program" "$@" >"$kept/out" 2>"$kept/told" </dev/null)
+    status=$?
+    if [ "$status" = "$wanted" ] && echo "$line" | diff - "$kept/out" && diff -r "$kept/before" "$kept/$name" &&
+        printf '%s' "${told:+$told
+}" | diff - "$kept/told"; then
+        return
+    fi
+    echo "$name: $*: status $status"
+    failed=1
+}
+
+# Words and projects that are refused.
+file plain/app.mjs ''
+says plain 2 'words: no base' '' link ./app.mjs
+says plain 2 'words: BadBase "ftp://h/"' '' link --base ftp://h/ x
+says plain 2 'words: BadPath "/"' '' link --page / --base https://app.test/ x
+says plain 2 'words: BadConditions "a,a"' '' link --conditions=a,a x
+says plain 2 'words: not plain' '' link ./app.mjs --base https://app.test/
+says plain 9 'not built: words' '' list
+for command in refresh check inject 'unlink x'; do
+    says plain 7 'bad file: project absent' '' $command
+done
+
+file cut/importmap.project.json '{"base":"https://app.test/"'
+says cut 7 'bad file: project at 27' '' refresh
+file wide/importmap.project.json '{"base":"https://app.test/","page":"/index.html","conditions":[],"entries":[],"x":0}'
+says wide 7 'bad file: project at 0' '' check
+
+# A project's file that can't be read, and one that can't be written: then the map alone is.
+file linkedproject/app.mjs '' && ln -s app.mjs "$kept/linkedproject/importmap.project.json"
+says linkedproject 4 'fault: read' 'salimgub: ./importmap.project.json: symbolic link' refresh
+
+mkdir -p "$kept/heldproject/importmap.project.json" && file heldproject/app.mjs ''
+(cd "$kept/heldproject" && "$program" link --base https://app.test/ ./app.mjs >"$kept/out" 2>"$kept/told")
+if [ $? != 5 ] || ! echo 'fault: write' | diff - "$kept/out" || [ ! -f "$kept/heldproject/importmap.json" ] ||
+    [ "$(wc -l <"$kept/told")" != 1 ]; then
+    echo "heldproject"
+    failed=1
+fi
+
+# The page and the conditions of a project.
+file start/index.html '<head'
+file start/p/app.mjs 'import "c";' && echo '<head></head>' >"$kept/start/p/start.html"
+file start/node_modules/c/package.json '{"exports":{"browser":"./b.mjs","node":"./n.mjs"}}'
+file start/node_modules/c/b.mjs ''
+file start/node_modules/c/n.mjs ''
+(cd "$kept/start" &&
+    "$program" link --base https://app.test/ --page /p/start.html --conditions=node,import ./app.mjs &&
+    "$program" inject) >"$kept/out"
+if [ $? != 0 ] ||
+    ! printf '%s\n' 'ok: 2 modules, 2 requests, 1 mappings' 'ok: 2 modules, 2 requests, 1 mappings' | diff - "$kept/out" ||
+    ! diff "$kept/start/importmap.project.json" - <<'PROJECT' || ! diff "$kept/start/p/start.html" - <<'PAGE'; then
+{
+  "base": "https://app.test/",
+  "page": "/p/start.html",
+  "conditions": [
+    "node",
+    "import"
+  ],
+  "entries": [
+    "./app.mjs"
+  ]
+}
+PROJECT
+<head><script type="importmap">{
+  "imports": {
+    "c": "https://app.test/node_modules/c/n.mjs"
+  },
+  "integrity": {
+    "https://app.test/node_modules/c/n.mjs": "sha384-OLBgp1GsljhM2TJ+sbHjaiH9txEUvgdDTAzHv2P24donTt6/529l+9Ua0vFImLlb",
+    "https://app.test/p/app.mjs": "sha384-qruC7+aG5XKl6IkvoF88DVnWrFP02u8KOmb9+fpRn/TPxBSChNrBB11UHLDvQ7SZ"
+  }
+}
+</script>
+</head>
+PAGE
+    echo "start"
+    failed=1
+fi
 
 exit "$failed"

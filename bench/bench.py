@@ -1,5 +1,6 @@
 """Measures build/salimgub, and says PASS or FAIL to each target."""
 
+import json
 import os
 import shutil
 import sys
@@ -11,9 +12,8 @@ import trees
 
 HERE = os.path.dirname(os.path.abspath(__file__))
 PROGRAM = os.path.join(HERE, "..", "build", "salimgub")
-BASE = ["--base", maps.BASE]
 ENTRY = "./app.mjs"
-WORDS = ["link"] + BASE + [ENTRY]
+WORDS = ["link", "--base", maps.BASE, ENTRY]
 MIB = 1024 * 1024
 # Below this a time says more about the machine than about the program.
 NOISE = 0.05
@@ -63,18 +63,30 @@ def say(passed, text):
     print(f"{'PASS' if passed else 'FAIL'}  {text}", flush=True)
 
 
-def link(tree, tries):
-    """The fastest of a few links of a tree, where each is right."""
-    run = best([PROGRAM] + WORDS, tree.folder, tries)
+def judged(tree, run):
+    """The run over a tree, which has to say what is in the tree."""
     wanted = f"ok: {len(tree.paths)} modules, {tree.requests} requests, {tree.mappings} mappings\n"
     if run.status != 0 or run.out != wanted:
         say(False, f"{os.path.basename(tree.folder)}: status {run.status}, out {run.out!r}, wanted {wanted!r}")
     return run
 
 
+def link(tree, tries):
+    """The fastest of a few links of a tree, where each is right. From the first one on a project is there."""
+    return judged(tree, best([PROGRAM] + WORDS, tree.folder, tries))
+
+
+def put_project(folder, entries):
+    """Writes the project's file of a folder."""
+    project = {"base": maps.BASE, "page": "/index.html", "conditions": ["browser", "import"], "entries": entries}
+    with open(os.path.join(folder, "importmap.project.json"), "w", encoding="utf-8") as file:
+        json.dump(project, file)
+
+
 def check(folder, entries, needs, tries, label):
-    """The fastest of a few checks of a folder's map, where each serves so many needs."""
-    run = best([PROGRAM, "check"] + BASE + entries, folder, tries)
+    """The fastest of a few checks of a folder's map for these entries, where each serves so many needs."""
+    put_project(folder, entries)
+    run = best([PROGRAM, "check"], folder, tries)
     wanted = f"ok: {needs} needs served\n"
     if run.status != 0 or run.out != wanted:
         say(False, f"{label}: status {run.status}, out {run.out[:200]!r}, wanted {wanted!r}")
@@ -193,6 +205,23 @@ def measure_layout(work, modules, slack, tries):
         say(ratio <= 2.5, f"{label}: {ratio:.2f} times as long as for half of them, {once.seconds:.3f} s, at most 2.5")
 
 
+def measure_refresh(work, count, slack, tries):
+    """Measures `refresh` beside `link` over packages that stay as they are, by turns. It reads and generates the same,
+    and makes one write less."""
+    label = f"refresh of {count} packages"
+    tree = trees.packages(os.path.join(work, f"refreshed-{count}"), count)
+    link(tree, 1)
+    linked, refreshed = [], []
+    for _ in range(3 * tries):
+        linked.append(link(tree, 1))
+        refreshed.append(judged(tree, Run([PROGRAM, "refresh"], tree.folder)))
+    by_link, run = (min(runs, key=lambda run: run.seconds) for runs in (linked, refreshed))
+    # What two times of the same work differ by.
+    say(run.seconds <= slack * by_link.seconds + NOISE / 10,
+        f"{label}: {run.times()}, {run.seconds / by_link.seconds:.2f} times as long as link, {by_link.times()}, "
+        f"at most {slack:g} and {NOISE / 10:g} s")
+
+
 def measure_check(work, count, slack, tries):
     """Measures a check of packages by the map that `link` writes there."""
     label = f"check of {count} packages"
@@ -263,6 +292,7 @@ def main():
             measure_packages(work, 200, 10, 2, False)
             measure_names(work, 2000, 10, 2)
             measure_layout(work, 2000, 10, 2)
+            measure_refresh(work, 200, 10, 2)
             measure_check(work, 200, 10, 2)
             measure_maps(work, MIB, 10, 2)
             measure_needs(work, 2000, 10000, 10, 2)
@@ -270,6 +300,7 @@ def main():
             measure_packages(work, 2000, 1, 3, True)
             measure_names(work, 18000, 1, 2)
             measure_layout(work, 19000, 1, 3)
+            measure_refresh(work, 2000, 1, 3)
             measure_check(work, 2000, 1, 3)
             measure_maps(work, 64 * MIB, 1, 2)
             measure_needs(work, 20000, 100000, 1, 3)

@@ -4,6 +4,7 @@ import os
 import resource
 import subprocess
 import sys
+import time
 
 HERE = os.path.dirname(os.path.abspath(__file__))
 MIB = 1024 * 1024
@@ -40,13 +41,21 @@ def finish():
     sys.exit(1 if failures else 0)
 
 
-def run(command):
-    """The processor seconds of one run, and the line that it printed."""
+def timed(command):
+    """The processor seconds of one run, its seconds by the wall clock, and the line that it printed."""
     before = resource.getrusage(resource.RUSAGE_CHILDREN)
+    started = time.perf_counter()
     done = subprocess.run(command, capture_output=True, text=True, check=False)
+    clock = time.perf_counter() - started
     after = resource.getrusage(resource.RUSAGE_CHILDREN)
     seconds = after.ru_utime + after.ru_stime - before.ru_utime - before.ru_stime
-    return seconds, done.stdout.rstrip("\n")
+    return seconds, clock, done.stdout.rstrip("\n")
+
+
+def run(command):
+    """The processor seconds of one run, and the line that it printed."""
+    seconds, _, line = timed(command)
+    return seconds, line
 
 
 def right(name, command, wanted):

@@ -3,7 +3,7 @@
 
 To believe: lines of `specs/` of the crates whose names end in `_spec`, without comments, blank lines and `use` lines: definitions,
 the statements of laws and of worked examples, and what else stands there. Words: the same of the other crates, whose contracts
-alone use them. Proofs: lines of `proofs/`. Code and tests: lines of `src/`. Edits: files of `must-fail/`.
+use them almost alone. Proofs: lines of `proofs/`. Code and tests: lines of `src/`. Edits: files of `must-fail/`.
 """
 import pathlib
 import re

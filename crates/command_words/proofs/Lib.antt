@@ -1,3 +1,2 @@
-mod LinkConditions
-mod LinkWords
-mod Refusing
+mod Orders
+mod Refusals

@@ -1,1 +1,3 @@
-pub mod Splitting
+pub mod Settings
+pub mod Orders
+pub mod Faults

@@ -1,9 +1,12 @@
-//! The words of a command line: what they want, or why they are refused.
+//! The words of a command line: the command that they ask for with its options and entries, or why there is none.
+//!
+//! `order_of` stands on plain words alone: all other words are refused before anything is looked at.
 #![tactic(auto)]
 
-mod config;
-#[cfg(test)]
-mod tests;
-mod words;
+mod fault;
+mod order;
+mod settings;
 
-pub use config::{PAGE_PATH, WordsFault, config_of};
+pub use fault::WordsFault;
+pub use order::{Order, order_of};
+pub use settings::Settings;

@@ -1,9 +1,11 @@
 -- What is kept of the tokens so far: of the last one, and of each open bracket.
 use Rattle.std.specs.Prelude.{◌-◌, Bool, true, false, not, ◌||◌, List, [], ◌∷◌, ◌++◌, Option, Some, None, length, take}
 use Rattle.module_spec.specs.declared.token.Mark.{Mark}
-use Rattle.module_spec.specs.declared.token.Mark.TheVariants.{OpenRound, OpenSquare, OpenCurly, CloseRound, CloseSquare, CloseCurly, Dot, Step, Stop, Operator}
+use Rattle.module_spec.specs.declared.token.Mark.TheVariants.{OpenRound, OpenSquare, OpenCurly, CloseRound}
+use Rattle.module_spec.specs.declared.token.Mark.TheVariants.{CloseSquare, CloseCurly, Dot, Step, Stop, Operator}
 use Rattle.module_spec.specs.declared.token.Sort.{Sort}
-use Rattle.module_spec.specs.declared.token.Sort.TheVariants.{Name, Private, Number, Text, TemplateWhole, TemplateHead, TemplateMiddle, TemplateTail, Regex, Punctuator}
+use Rattle.module_spec.specs.declared.token.Sort.TheVariants.{Name, Private, Number, Text, TemplateWhole, TemplateHead}
+use Rattle.module_spec.specs.declared.token.Sort.TheVariants.{TemplateMiddle, TemplateTail, Regex, Punctuator}
 use Rattle.module_spec.specs.declared.token.Bracket as brackets
 use Rattle.module_spec.specs.declared.token.Bracket.TheVariants as bracket
 use Rattle.module_spec.specs.declared.token.Word.{Word}

@@ -2,7 +2,8 @@
 use Rattle.std.specs.Prelude.{◌≡◌, ℕ, ◌≤◌, List, [], ◌∷◌, ◌++◌, Some, length}
 use Rattle.std.specs.Str.{IsUtf8}
 use Rattle.module_spec.specs.Sorts.{opens}
-use Rattle.module_spec.specs.Tokens.{Lexeme, Balanced, Outside, Slash, Reaches, depth, plain_word, is_property, after_for, after_control, before_value, most_brackets}
+use Rattle.module_spec.specs.Tokens.{Lexeme, Balanced, Outside, Slash, Reaches, depth, plain_word}
+use Rattle.module_spec.specs.Tokens.{is_property, after_for, after_control, before_value, most_brackets}
 use Rattle.es_lexer.specs.declared.state.Open.{Open}
 use Rattle.es_lexer.specs.declared.state.Open.TheVariants.{Round, Square, Curly, Template}
 use Rattle.es_lexer.specs.declared.state.Last.{Last}

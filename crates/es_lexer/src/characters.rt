@@ -1,5 +1,6 @@
 ghost use Rattle.std.specs.Prelude.{◌≡◌, ◌<◌, slice_index, drop};
-ghost use Rattle.module_spec.specs.Characters.{character_size, code_point, is_space_separator, is_ascii_space, is_wide_line_end, is_wide_space, begins_line_end, space_size};
+ghost use Rattle.module_spec.specs.Characters.{character_size, code_point, is_space_separator, is_ascii_space};
+ghost use Rattle.module_spec.specs.Characters.{is_wide_line_end, is_wide_space, begins_line_end, space_size};
 
 use unicode::properties::GeneralCategory;
 

@@ -1,5 +1,7 @@
 ghost use Rattle.std.specs.Prelude.{◌≡◌, ◌==◌, ◌+◌, ◌<◌, slice_index, ◌≤◌, length, MatchOption};
-ghost use Rattle.module_spec.specs.Characters.{is_digit, is_hex_digit, hex_digits, braced_size, unicode_size, escape_size, is_name_byte, name_size, begins_digit, begins_name, name_rest};
+ghost use Rattle.module_spec.specs.Characters.{is_digit, is_hex_digit, hex_digits, braced_size};
+ghost use Rattle.module_spec.specs.Characters.{unicode_size, escape_size, is_name_byte};
+ghost use Rattle.module_spec.specs.Characters.{name_size, begins_digit, begins_name, name_rest};
 
 use crate::characters::{begins_wide_space, behind, character_size};
 

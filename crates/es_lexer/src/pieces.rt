@@ -1,6 +1,7 @@
 ghost use Rattle.std.specs.Prelude.{◌≡◌, ◌∷◌, false, None, Some, MatchOption};
 ghost use Rattle.module_spec.specs.Spellings.{punctuator, text_rest, template_rest, regex_body_rest};
-ghost use Rattle.module_spec.specs.Tokens.{piece, as_piece, slash_piece, private_piece, punctuator_piece, regex_piece, first_part, later_part};
+ghost use Rattle.module_spec.specs.Tokens.{piece, as_piece, slash_piece, private_piece};
+ghost use Rattle.module_spec.specs.Tokens.{punctuator_piece, regex_piece, first_part, later_part};
 
 use crate::characters::behind;
 use crate::names::{begins_name, name_rest};

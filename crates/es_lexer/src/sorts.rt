@@ -1,5 +1,8 @@
 ghost use Rattle.std.specs.Prelude.{◌≡◌};
-ghost use Rattle.module_spec.specs.Sorts.{kind_of, opens, closes, same_bracket, is_condition_word, is_value_word, is_statement_word, word, is_dot, sort_before_value, word_before_value, mark_before_value, mark_opens, mark_closes, is_dot_mark, is_condition, is_for, is_await};
+ghost use Rattle.module_spec.specs.Sorts.{kind_of, opens, closes, same_bracket, is_condition_word};
+ghost use Rattle.module_spec.specs.Sorts.{is_value_word, is_statement_word, word, is_dot, sort_before_value};
+ghost use Rattle.module_spec.specs.Sorts.{word_before_value, mark_before_value, mark_opens, mark_closes};
+ghost use Rattle.module_spec.specs.Sorts.{is_dot_mark, is_condition, is_for, is_await};
 ghost use Rattle.module_spec.specs.Tokens.{name_word};
 
 use module_spec::{Bracket, Kind, Mark, Sort, Word};

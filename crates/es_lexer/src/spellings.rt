@@ -1,5 +1,8 @@
 ghost use Rattle.std.specs.Prelude.{◌≡◌, ◌<◌, ◌==◌, ◌||◌, false, [], ◌∷◌, None, Some, length, MatchOption};
-ghost use Rattle.module_spec.specs.Spellings.{begins, line_rest, comment_rest, slash_rest, blank_rest, hashbang_rest, has_base_letter, begins_sign, number_size, number_rest, begins_number, text_size, closed_rest, text_rest, begins_substitution, template_size, part_rest, template_rest, regex_body_rest};
+ghost use Rattle.module_spec.specs.Spellings.{begins, line_rest, comment_rest, slash_rest, blank_rest};
+ghost use Rattle.module_spec.specs.Spellings.{hashbang_rest, has_base_letter, begins_sign, number_size, number_rest};
+ghost use Rattle.module_spec.specs.Spellings.{begins_number, text_size, closed_rest, text_rest, begins_substitution};
+ghost use Rattle.module_spec.specs.Spellings.{template_size, part_rest, template_rest, regex_body_rest};
 ghost use Rattle.module_spec.specs.Characters.{passed};
 ghost use Rattle.module_spec.specs.Tokens.{Skips};
 

@@ -1,7 +1,9 @@
-ghost use Rattle.std.specs.Prelude.{◌≡◌, ◌≢◌, ◌<◌, ◌≤◌, ◌⊎◌, ◌||◌, ◌&&◌, true, false, None, length, if◌then◌else◌, option_map, vec_len, vec_capacity};
+ghost use Rattle.std.specs.Prelude.{◌≡◌, ◌≢◌, ◌<◌, ◌≤◌, ◌⊎◌, ◌||◌, ◌&&◌, true, false, None};
+ghost use Rattle.std.specs.Prelude.{length, if◌then◌else◌, option_map, vec_len, vec_capacity};
 ghost use Rattle.module_spec.specs.Sorts.{opens, closes, is_dot, sort_before_value, is_for, is_await};
 ghost use Rattle.module_spec.specs.Tokens.{name_word};
-ghost use Rattle.es_lexer.specs.Open.{bracket_of, top_of, opened, changed, is_control, is_block, is_for_head, slash_behind_word, slash_behind_mark, slash_behind};
+ghost use Rattle.es_lexer.specs.Open.{bracket_of, top_of, opened, changed, is_control, is_block};
+ghost use Rattle.es_lexer.specs.Open.{is_for_head, slash_behind_word, slash_behind_mark, slash_behind};
 
 use crate::sorts::{
     closes, is_await, is_condition, is_dot, is_for, name_word, opens, sort_before_value,

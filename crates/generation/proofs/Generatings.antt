@@ -1,34 +1,46 @@
 -- What comes of a trace for which nothing was known.
-use Rattle.std.proofs.Common.{◌∙◌, ◌≡◌, ◌≢◌, ◌≤◌, ℕ, List, length, Option, Some, None, IfSome, Result, Ok, Err, refl, sym, ap, subst}
+use Rattle.std.proofs.Common.{◌∙◌, ◌≡◌, ◌≢◌, ℕ, List, [], Bool, true, false, arith, append-nil, Option, Some, None, IfSome, Result, Ok, Err, refl, sym, ap, subst}
 use Rattle.std.specs.FinMap.{get}
-use Rattle.std.specs.Prelude.{◌++◌, All, Contains}
+use Rattle.std.specs.List.{IsDistinct, ends_with}
+use Rattle.std.specs.Prelude.{◌++◌, ⊤, All, Contains, MatchOption, bytes_eq, nat_eq, codes}
+use Rattle.std.proofs.lemmas.Bool.{cond-false}
+use Rattle.std.proofs.lemmas.Option.{same_Some}
 use Rattle.std.proofs.lemmas.List.{append_cancel_left}
-use Rattle.std.proofs.lemmas.List.Elements.{All-weaker}
+use Rattle.std.proofs.lemmas.List.Elements.{All-weaker, All-nil}
 use Rattle.std.specs.Option.{option_or}
 use Rattle.tree_spec.specs.LookAskings.{Sights, footprint}
 use Rattle.tree_spec.specs.States.{FolderState, OnlyLooks}
 use Rattle.tree_spec.specs.Trees.{Tree}
 use Rattle.tree_spec.specs.declared.LimitName.TheVariants.{Map}
-use Rattle.tree_spec.specs.Limits.{limit_number}
 use Rattle.package_lookup.specs.declared.known.Known.{Known}
-use Rattle.package_lookup.specs.Answered.{AsksOnce}
-use Rattle.package_lookup.specs.Looked.{kept_at, laid_at, known_at, look_or, Sees}
+use Rattle.package_lookup.specs.Looked.{kept_at, laid_at, look_or, Sees}
 use Rattle.trace_spec.specs.declared.TraceFault.{TraceFault}
 use Rattle.trace_spec.specs.declared.TraceFault.TheVariants as fault
 use Rattle.trace_spec.specs.Checks.{Gathered}
 use Rattle.trace_spec.specs.Kinds.{IsOfTrace}
-use Rattle.trace_spec.specs.Modules.{Config}
+use Rattle.trace_spec.specs.Modules.{Config, served_at, served_name, shown, web_name}
+use Rattle.trace_spec.specs.Walking.{the_page}
+use Rattle.url_spec.proofs.PathTestLemmas.{served_by_test}
+use Rattle.url_spec.specs.PathTests.{is_served}
+use Rattle.url_spec.specs.ServedPaths.{IsServed}
+use Rattle.url_spec.specs.Specifiers.{ends_in_slash}
+use Rattle.url_spec.specs.WebNames.{web}
+use Rattle.web_url.specs.Serving.{IsUnservable}
+use Rattle.web_url.specs.declared.names.WebFault.TheVariants as web_fault
+use Rattle.generator_spec.proofs.Nameless.{unserved_is_refused}
+use Rattle.generator_spec.specs.Generation.{PageIsFile}
 use Rattle.trace_spec.specs.Traces.{traced, generation}
 use Rattle.trace_walk.specs.Kinds.{IsOfWalk}
 use Rattle.trace_walk.specs.Meeting.{IsTold}
-use Rattle.request_trace.specs.Tracing.{IsOfFootprint, Traces, known_of}
+use Rattle.request_trace.specs.Tracing.{IsOfFootprint, Traces}
 use Rattle.generator_spec.specs.Commands.{Refuses as refuses, IsRefusalOf as kind}
 use Rattle.generation.specs.declared.generated.Generated.{Generated}
 use Rattle.generation.specs.declared.stop.Stop.{Stop}
 use Rattle.generation.specs.declared.stop.Stop.TheVariants.{Refused, ReadFault, Memory}
-use Rattle.generation.specs.Generating.{StopsAs, IsMapOf, HasLargeMap, IsGenerated, AsksNoPathTwice, AsksFootprint, Tracing, Generating}
+use Rattle.generation.specs.Generating.{StopsAs, IsMapOf, HasLargeMap, AsksNoPathTwice, AsksFootprint, Tracing, Generating}
 use Rattle.generation.specs.Generating.StopsAs.{failed_look, memory, refused}
-use Rattle.generator_spec.specs.declared.Refusal.TheVariants.{Limit}
+use Rattle.generation.specs.Paging.{IsUnserved, IsUnserved as unserved_page, IsUnservedAt, IsUnservedAt as unserved_there}
+use Rattle.generator_spec.specs.declared.Refusal.TheVariants.{Limit, Trace}
 
 pub if_some : {A : Type 0} {P Q : A → Type 0} (told : Option A) → ((x : A) → P x → Q x) → IfSome told P → IfSome told Q
 if_some None f h = h
@@ -160,3 +172,85 @@ module _ (config : Config) (before after : FolderState) where
 
     pub lacks : Generating config before (Err Memory) after
     lacks = record { generated = tt; refused = tt; kind = tt; asked = is.asked; footprint = is.footprint; looks = looks_as before after (λ e. absurd (cc)) (λ e. absurd (cc)) is.looks }
+
+-- ---- a page that isn't served
+
+none_twice : IsDistinct bytes_eq []
+unfolding IsDistinct
+none_twice = tt
+
+page_shown : (config : Config) → shown config the_page ≡ config.page
+page_shown config = append-nil config.page
+
+unserved_kind : (config : Config) → served_at config the_page ≡ None → IsOfTrace config (fault.Unservable config.page (web_name config the_page))
+unserved_kind config lost = record { which = the_page; path_is = sym (page_shown config); url_is = refl; lost = lost }
+
+unserved_traced : (tree : Tree) (config : Config) → served_at config the_page ≡ None → traced (get tree) config ≡ Err (fault.Unservable config.page (web_name config the_page))
+unserved_traced tree config lost = unserved_is_refused (get tree) config lost ∙ ap (λ path. Err (fault.Unservable path (web_name config the_page))) (page_shown config)
+
+same_after : (old more : List (List ℕ)) → Some old ≡ Some (old ++ more) → more ≡ []
+same_after old more e = append_cancel_left old more [] (let f : old ≡ old ++ more = cc in sym f ∙ sym (append-nil old))
+
+module _ (config : Config) (state : FolderState) where
+  nothing_looked : {P : Type 0} → (P → ⊥) → OnlyLooks state state P
+  nothing_looked none = record { tree = refl; writes = refl; later = omega arith; cause = λ p. absurd (none p); quiet = λ quiet. refl }
+
+  nothing_asked : (told : Option (List (List ℕ))) → state.asked ≡ told → IfSome told (λ old. AsksNoPathTwice old state)
+  nothing_asked None e = tt
+  nothing_asked (Some old) e = record { more = []; asked = e ∙ ap Some (sym (append-nil old)); once = none_twice }
+
+  of_nothing : (told : Option (List (List ℕ))) → state.asked ≡ told → IfSome told (λ old. AsksFootprint config state.holds old state)
+  of_nothing None e = tt
+  of_nothing (Some old) e = λ more asked. subst (λ paths. IfSome state.holds (λ tree. All (Contains (footprint (get tree) (generation config))) paths)) (sym (same_after old more (sym e ∙ asked))) (none_of state.holds)
+    where
+      none_of : (holds : Option Tree) → IfSome holds (λ tree. All (Contains (footprint (get tree) (generation config))) [])
+      none_of None = tt
+      none_of (Some tree) = All-nil (Contains (footprint (get tree) (generation config)))
+
+  pub unserved : (stop : Stop) → IsUnserved config stop → Generating config state (Err stop) state
+  unserved stop (unserved_page.refused lost same) =
+      subst (λ s. Generating config state (Err s) state) (sym same)
+      (record {
+        generated = tt;
+        refused = if_told state.holds (λ tree command generating opened. refuses.trace command (fault.Unservable config.page (web_name config the_page)) opened (unserved_traced tree config lost));
+        kind = λ command generating. kind.trace command (fault.Unservable config.page (web_name config the_page)) (unserved_kind config lost);
+        asked = nothing_asked state.asked refl;
+        footprint = of_nothing state.asked refl;
+        looks = nothing_looked (λ e. absurd (cc));
+      })
+    where
+      if_told : {P : Tree → Type 0} (holds : Option Tree) → ((tree : Tree) → P tree) → IfSome holds P
+      if_told None f = tt
+      if_told (Some tree) f = f tree
+  unserved stop (unserved_page.memory same) =
+      subst (λ s. Generating config state (Err s) state) (sym same)
+      (record { generated = tt; refused = tt; kind = tt; asked = nothing_asked state.asked refl; footprint = of_nothing state.asked refl; looks = nothing_looked (λ e. absurd (cc)) })
+
+-- the page's web name, where it is served at it
+pub page_is_file : (config : Config) (url : List ℕ) → web config.base config.page [] ≡ Some url → ends_with nat_eq url (codes "/") ≡ false → PageIsFile config
+page_is_file config url named no_slash = λ name is. subst (λ n. ends_in_slash n ≡ false) (same_Some url name (sym named ∙ is)) no_slash
+
+-- how the page isn't served
+pub unserved_at : (config : Config) (url : Option (List ℕ)) (stop : Stop) → url ≡ web config.base config.page [] → MatchOption url ⊤ (λ name. IsServed config.base name config.page → ⊥) → IsUnservedAt config url stop → IsUnserved config stop
+unserved_at config url stop named lost (unserved_there.memory same) = unserved_page.memory same
+unserved_at config url stop named lost (unserved_there.refused same) =
+    unserved_page.refused
+    (ap (served_name config.base config.page) (sym named) ∙ not_served url lost)
+    (same ∙ ap (λ found. Refused (Trace (fault.Unservable config.page found))) named)
+  where
+    not_served : (found : Option (List ℕ)) → MatchOption found ⊤ (λ name. IsServed config.base name config.page → ⊥) → served_name config.base config.page found ≡ None
+    not_served None none = refl
+    not_served (Some name) none = cond-false _ _ _ (by (is_served config.base name config.page) refl)
+      where
+        by : (test : Bool) → is_served config.base name config.page ≡ test → is_served config.base name config.page ≡ false
+        by false e = e
+        by true e = absurd (none (served_by_test config.base name config.page e))
+
+-- the same, by what was said of a base, a path and a suffix that are these
+pub unserved_by :
+    (config : Config) (base path suffix : List ℕ) (url : Option (List ℕ)) (stop : Stop) → base ≡ config.base → path ≡ config.page → suffix ≡ [] → IsUnservable base path suffix (web_fault.Unservable url) → IsUnservedAt config url stop
+    → IsUnserved config stop
+unserved_by config base path suffix url stop b p s is at =
+    unserved_at config url stop
+    (is.0 ∙ (ap (λ x. web x path suffix) b ∙ (ap (λ x. web config.base x suffix) p ∙ ap (web config.base config.page) s)))
+    (subst (λ x. MatchOption url ⊤ (λ name. IsServed x name config.page → ⊥)) b (subst (λ x. MatchOption url ⊤ (λ name. IsServed base name x → ⊥)) p is.1)) at

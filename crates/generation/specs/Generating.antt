@@ -61,7 +61,7 @@ pub record HasLargeMap (config : Config) (all : Gathered) : Type 0 where
   pub large : limit_number Map < length (map_text (with_digests config all layout))
 
 -- own: the map of the tree's trace
-pub record IsGenerated (tree : Tree) (config : Config) (generated : Generated) : Type 0 where
+pub record IsMapOfTree (tree : Tree) (config : Config) (generated : Generated) : Type 0 where
   pub all : Gathered
   pub is_traced : traced (get tree) config ≡ Ok all
   pub is_map : IsMapOf config all generated
@@ -95,7 +95,7 @@ pub record Tracing (config : Config) (before : FolderState) (result : Result Gat
 -- rest as for a trace
 pub record Generating (config : Config) (before : FolderState) (result : Result Generated Stop)
     (after : FolderState) : Type 0 where
-  pub generated : IfOk result (λ found. IfSome before.holds (λ tree. IsGenerated tree config found))
+  pub generated : IfOk result (λ found. IfSome before.holds (λ tree. IsMapOfTree tree config found))
   pub refused :
       IfErr result (IfRefused (λ why. IfSome before.holds (λ tree. (command : Command) → IsGenerating command
       → Opens tree config command → Refuses tree config command why)))

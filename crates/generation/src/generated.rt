@@ -1,9 +1,11 @@
 ghost use Rattle.std.specs.Prelude.{◌≡◌, ◌≤◌, ◌+◌, Err, IfOk};
 ghost use Rattle.tree_spec.specs.declared.LimitName.TheVariants.{Modules, Requests};
 ghost use Rattle.tree_spec.specs.Limits.{limit_number};
+ghost use Rattle.generator_spec.specs.Generation.{PageIsFile};
 ghost use Rattle.generation.specs.Generating.{Generating, IsMapOf, HasLargeMap};
 
 use crate::digests::digests;
+use crate::page::page_is_served;
 use crate::stop::{Stop, too_large};
 use crate::tracing::traced;
 use map_flatten::{agreed, mappings};
@@ -27,6 +29,24 @@ pub struct Generated {
 /// The map of what stands in the folder, for the config. Nothing is written, and no path is looked at twice. A map
 /// takes at most one step for each module and for each request.
 pub fn generate<F: Folder, L: Ledger>(
+    alloc: Global,
+    folder: &mut F,
+    config: &Config,
+    steps: &mut Steps<L>,
+) -> Result<Generated, Stop>
+    ensures generates { Generating config.now (F.state folder.old) result (F.state folder.new) }
+    ensures page { IfOk result (λ found. PageIsFile config.now) }
+    ensures steps { IfOk result (λ found. steps.new ≤ steps.old + (found.modules + found.requests)) }
+    ensures bounded { steps.new ≤ steps.old + (limit_number Modules + limit_number Requests) }
+{
+    match page_is_served(alloc, config) {
+        Err(stop) => Err(stop),
+        Ok(()) => generated_from(alloc, folder, config, steps),
+    }
+}
+
+// The same, where the page is served.
+fn generated_from<F: Folder, L: Ledger>(
     alloc: Global,
     folder: &mut F,
     config: &Config,

@@ -4,6 +4,7 @@
 
 mod digests;
 mod generated;
+mod page;
 mod stop;
 mod tracing;
 

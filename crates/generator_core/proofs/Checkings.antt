@@ -1,46 +1,47 @@
 -- How a check comes to its report, step by step.
-use Rattle.std.proofs.Common.{◌≡◌, ◌≢◌, ◌≤◌, ◌++◌, ℕ, Bool, true, false, List, [], ◌∷◌, length, Option, Some, None, Ok, Err, IfSome, Result, refl, sym, ap, ◌∙◌, subst, inl, inr, arith}
+use Rattle.std.proofs.Common.{◌≡◌, ◌≢◌, ◌≤◌, ℕ, suc, Bool, true, false, List, [], ◌∷◌, length, Option, Some, None, Ok, Err, IfSome, Result, refl, sym, ap, ◌∙◌, subst, inl, arith}
 use Rattle.std.specs.FinMap.{get}
-use Rattle.std.specs.Prelude.{map as each, All}
-use Rattle.std.specs.List.{concat}
+use Rattle.std.specs.Prelude.{map as each, All, Contains, unwrap_or, if◌then◌else◌}
 use Rattle.std.proofs.lemmas.List.Elements.{All-nil, All-cons}
-use Rattle.std.proofs.lemmas.List.{append-nil}
-use Rattle.std.proofs.lemmas.List.Folds.{concat-append}
+use Rattle.std.proofs.lemmas.List.{append-nil, length-map}
 use Rattle.tree_spec.specs.declared.Look.{Look}
 use Rattle.tree_spec.specs.declared.Look.TheVariants as look
 use Rattle.tree_spec.specs.declared.LookFault.TheVariants as look_fault
-use Rattle.tree_spec.specs.Counts.{Rose}
 use Rattle.tree_spec.specs.States.{FolderState, SinkState, OnlyLooks, IsLooked}
 use Rattle.tree_spec.specs.Trees.{Tree}
 use Rattle.import_map_spec.specs.ParsedMap.{ParsedMap, MapFault}
 use Rattle.import_map_spec.specs.Parsing.{ParsesMap}
-use Rattle.check_spec.specs.Differences.{Difference, differences}
+use Rattle.import_map_spec.specs.Resolving.{Resolved}
+use Rattle.check_spec.proofs.DifferenceLemmas.{differences_are_exact}
+use Rattle.check_spec.specs.Differences.{Difference, gets, is_url, differences, differences_from}
+use Rattle.layout_spec.proofs.Contained.{contains_here, contains_there}
+use Rattle.layout_spec.specs.declared.Need.{Need}
 use Rattle.trace_spec.specs.declared.TraceFault.TheVariants.{Unservable}
 use Rattle.trace_spec.specs.Checks.{Gathered}
 use Rattle.trace_spec.specs.Kinds.{IsOfTrace}
 use Rattle.trace_spec.specs.Modules.{Config, path_of, shown, served_name, web_name}
-use Rattle.trace_spec.specs.Traces.{traced}
 use Rattle.trace_spec.specs.Walking.{the_page}
 use Rattle.generator_spec.proofs.Nameless.{nameless_is_refused}
-use Rattle.generator_spec.specs.declared.Command.TheVariants.{Check}
+use Rattle.config_spec.specs.declared.Command.TheVariants.{Check}
 use Rattle.generator_spec.specs.declared.MapFileFault.{MapFileFault}
 use Rattle.generator_spec.specs.declared.MapFileFault.TheVariants as map_fault
-use Rattle.generator_spec.specs.declared.Refusal.TheVariants.{MapFile, Trace}
-use Rattle.generator_spec.specs.Checking.{need_at, spelling_at, difference_line, difference_lines, check_status, check_lines}
+use Rattle.generator_spec.specs.declared.Refusal.TheVariants.{MapFile}
+use Rattle.generator_spec.specs.Checking.{no_need, need_at, spelling_at, difference_line, difference_lines, check_lines}
 use Rattle.generator_spec.specs.Commands.{map_path, map_file_limit, map_file_fault, IsMapText, ReadsMap, HoldsMap, RefusesMapFile, RefusesMapFile as refuses_map}
-use Rattle.generator_spec.specs.Commands.{Opens, Opens as opens, Refuses, Refuses as refuses, IsRefusalOf as kind}
-use Rattle.generator_spec.specs.Words.{IsConfigOf}
+use Rattle.generator_spec.specs.Commands.{Opens as opens, Refuses as refuses, IsRefusalOf as kind}
+use Rattle.config_spec.specs.Projects.{IsConfigOf}
 use Rattle.generator_spec.specs.Outcome.{ComesTo as comes, Outcome}
-use Rattle.generator_spec.specs.Ending.{IsDifference, Says, Ends, EndsAs, Shaped as shaped, Says as says}
+use Rattle.generator_spec.specs.Ending.{IsDifference, IsDone, IsDone as done, Says, Ends, EndsAs, Shaped as shaped, Says as says}
+use Rattle.generator_core.specs.Configuring.{IsConfigAt}
 use Rattle.generation.specs.declared.stop.Stop.{Stop}
 use Rattle.generation.specs.declared.stop.Stop.TheVariants.{Refused, ReadFault, Memory}
-use Rattle.generation.specs.Generating.{Tracing, AsksNoPathTwice}
+use Rattle.generation.specs.Generating.{Tracing}
 use Rattle.generator_core.specs.declared.checking.Report.{Report}
 use Rattle.generator_core.specs.Preparing.{EndsBefore, AsksOwn}
-use Rattle.generator_core.specs.Checking.{IsMapTextFound, FindsMapText, IsMapStop, FindsMap, IsNameless, IsReport, IsChecked, IsReported, ChecksBy, Checks}
-use Rattle.generator_core.specs.Checking.{IsMapStop as map_stop, IsNameless as nameless}
-use Rattle.generator_core.proofs.Preparings.{if_some, if_two, if_all, looks_as, then_looks, earlier_end, own_asked, own_alone, own_then}
-use Rattle.generator_core.proofs.Endings.{ends_as}
+use Rattle.generator_core.specs.Checking.{IsMapTextFound, FindsMapText, IsMapStop, FindsMap, IsReport, IsHeldAndTraced, IsReported, ChecksBy, Checks}
+use Rattle.generator_core.specs.Checking.{IsMapStop as map_stop}
+use Rattle.generator_core.proofs.Preparings.{if_some, if_two, looks_as, then_looks, earlier_end, own_asked, own_alone, own_then}
+use Rattle.generator_core.proofs.Endings.{ends_as, serves_where_done}
 
 -- ---- the look at the map's file
 
@@ -165,7 +166,7 @@ module _ (config : Config) (before middle after : FolderState) where
     map = is.map;
     all = is.all;
     is_report = is.is_report;
-    told = subst (λ held. IfSome held (λ tree. IsChecked config tree is.map is.all)) looks.tree is.told;
+    told = subst (λ held. IfSome held (λ tree. IsHeldAndTraced config tree is.map is.all)) looks.tree is.told;
     looks = then_looks before middle after looks is.looks;
   }
 
@@ -224,35 +225,60 @@ module _ (config : Config) (before after : FolderState) where
 
 -- ---- the end
 
-all_differ : (all : Gathered) (ds : List Difference) → All IsDifference (each (difference_line all) ds)
-all_differ all [] = All-nil IsDifference
-all_differ all (d ∷ more) =
+-- a difference is of a need that isn't led to its target
+differs_from : (map : ParsedMap) (all : Gathered) (d : Difference) → Contains (differences map all.needs) d → d.got ≢ Resolved (need_at all d.need).target
+differs_from map all d held =
+    let is = (differences_are_exact map all.needs d).0 held in
+    subst (λ need. d.got ≢ Resolved need.target) (sym (ap (λ found. unwrap_or found no_need) is.stands)) is.differs
+
+all_differ : (all : Gathered) (ds : List Difference) → ((d : Difference) → Contains ds d → d.got ≢ Resolved (need_at all d.need).target) → All IsDifference (each (difference_line all) ds)
+all_differ all [] differ = All-nil IsDifference
+all_differ all (d ∷ more) differ =
     All-cons IsDifference (difference_line all d) (each (difference_line all) more)
     (record {
       referrer = (spelling_at all d.need).referrer;
       specifier = (spelling_at all d.need).specifier;
       wants = (need_at all d.need).target;
       gets = d.got;
+      differs = differ d (contains_here d more);
       says = refl;
-    }) (all_differ all more)
+    }) (all_differ all more (λ other held. differ other (contains_there other d more held)))
 
-module _ (words : List (List ℕ)) (config : Config) (is_config : IsConfigOf words Check config) (before after : FolderState) (out out_after : SinkState) (result : ℕ) (report : Report) (is : IsReported config before after report) where
+-- there are no more differences than needs
+few_from : (map : ParsedMap) (number : ℕ) (needs : List Need) → length (differences_from map number needs) ≤ length needs
+few_from map number [] = omega arith
+few_from map number (need ∷ more) = by (is_url (gets map need) need.target) (few_from map (suc number) more)
+  where
+    by : (served : Bool) → length (differences_from map (suc number) more) ≤ length more
+        → length (if served then differences_from map (suc number) more else record { need = number; got = gets map need } ∷ differences_from map (suc number) more) ≤ length (need ∷ more)
+    by true few = omega (arith, few)
+    by false few = omega (arith, few)
+
+few_differ : (map : ParsedMap) (all : Gathered) → length (difference_lines map all) ≤ length all.needs
+few_differ map all = subst (λ n. n ≤ length all.needs) (sym (length-map (differences map all.needs) (difference_line all))) (few_from map 0 all.needs)
+
+module _ (words : List (List ℕ)) (config : Config) (before after : FolderState) (out out_after : SinkState) (result : ℕ) (report : Report) (is_config : IsConfigAt words Check config before) (is : IsReported config before after report) where
   abbrev lines : List (List ℕ)
   lines = check_lines (length is.all.needs) (difference_lines is.map is.all)
 
-  outcome_told : (held told : Option Tree) → told ≡ held → IfSome held (λ tree. IsChecked config tree is.map is.all)
+  outcome_told : (held told : Option Tree) → told ≡ held → IfSome held (λ tree. IsConfigOf words tree Check config) → IfSome held (λ tree. IsHeldAndTraced config tree is.map is.all)
       → IfSome held (λ tree. (later : Tree) × Outcome words tree report.status lines later × (told ≡ Some later))
-  outcome_told None told same checked = tt
-  outcome_told (Some tree) told same checked =
-      (tree, record { files = []; comes = comes.checked config is.map is.all is_config checked.holds checked.is_traced is.is_report.status refl refl; placed = refl }, same)
+  outcome_told None told same of checked = tt
+  outcome_told (Some tree) told same of checked =
+      (tree, record { files = []; comes = comes.checked config is.map is.all of checked.holds checked.is_traced is.is_report.status refl refl; placed = refl }, same)
 
   report_says : Says words before after report.status lines
   report_says =
       says.outcome
-      (shaped.checked (record { config = config; is_config = is_config; needs = length is.all.needs; differing = difference_lines is.map is.all; are_differences = all_differ is.all (differences is.map is.all.needs); ends = is.is_report.status; says = refl }))
-      (outcome_told before.holds after.holds is.looks.tree is.told) (is.looks.quiet (λ e. e)) is.looks.writes
+      (shaped.checked (record { config = config; is_config = is_config.can; needs = length is.all.needs; differing = difference_lines is.map is.all; few = few_differ is.map is.all; are_differences = all_differ is.all (differences is.map is.all.needs) (differs_from is.map is.all); ends = is.is_report.status; says = refl }))
+      (outcome_told before.holds after.holds is.looks.tree is_config.told is.told) (is.looks.quiet (λ e. e)) is.looks.writes
+
+  served_told : (held told : Option Tree) → told ≡ held → IfSome held (λ tree. IsConfigOf words tree Check config) → IfSome held (λ tree. IsHeldAndTraced config tree is.map is.all) → report.status ≡ 0 → IfSome held (λ tree. IsDone words tree told)
+  served_told None told same of checked zero = tt
+  served_told (Some tree) told same of checked zero =
+      done.served (serves_where_done words tree config is.map is.all of checked.holds checked.is_traced (sym is.is_report.status ∙ zero)) same
 
   pub check_ends : Ends report.status report.text.items out out_after result → out.faults ≤ out_after.faults → EndsAs words before after out out_after result
   check_ends told more =
-      ends_as words before after out out_after result report.status lines (λ none. is.looks.tree ∙ none) report_says
+      ends_as words before after out out_after result report.status lines (λ none. is.looks.tree ∙ none) (served_told before.holds after.holds is.looks.tree is_config.told is.told) report_says
       (subst (λ text. Ends report.status text out out_after result) is.is_report.text told) is.looks.later (let w = is.looks.writes in omega (arith, w)) more

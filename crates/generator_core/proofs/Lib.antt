@@ -2,3 +2,5 @@ pub mod Preparings
 pub mod Endings
 pub mod Checkings
 pub mod ReportLemmas
+pub mod Configurings
+pub mod Runs

@@ -1,5 +1,5 @@
 -- How a command comes to its file, step by step.
-use Rattle.std.proofs.Common.{◌≡◌, ◌≤◌, ◌⊎◌, ℕ, Bool, true, false, List, [], ◌∷◌, ◌++◌, length, Option, Some, None, Ok, Err, IfSome, Result, refl, sym, ap, ◌∙◌, subst, inl, inr, arith, append_assoc}
+use Rattle.std.proofs.Common.{◌≡◌, ◌≤◌, ℕ, Bool, true, false, List, [], ◌∷◌, ◌++◌, length, Option, Some, None, Ok, Err, IfSome, Result, refl, sym, ap, ◌∙◌, subst, inl, inr, arith, append_assoc}
 use Rattle.std.proofs.lemmas.List.{append-nil}
 use Rattle.std.specs.FinMap.{get}
 use Rattle.std.specs.List.{IsDistinct}
@@ -22,21 +22,21 @@ use Rattle.page_spec.specs.Injection.{TakesMaps}
 use Rattle.page_spec.proofs.KeptOut.{takes_or_keeps_out}
 use Rattle.trace_spec.specs.Modules.{Config}
 use Rattle.trace_spec.specs.Traces.{generation}
-use Rattle.generator_spec.specs.declared.Command.{Command}
-use Rattle.generator_spec.specs.declared.Command.TheVariants.{Link, Inject}
+use Rattle.config_spec.specs.declared.Command.{Command}
+use Rattle.config_spec.specs.declared.Command.TheVariants.{Inject}
 use Rattle.generator_spec.specs.declared.PageFault.{PageFault}
 use Rattle.generator_spec.specs.declared.PageFault.TheVariants.{Absent, TooLarge, KeepsMapsOut}
 use Rattle.generator_spec.specs.declared.Refusal.TheVariants.{Page}
-use Rattle.generator_spec.proofs.Configs.{one_config}
-use Rattle.generator_spec.specs.Words.{IsConfigOf}
-use Rattle.generator_spec.specs.Commands.{IsGenerating, IsPage, RefusesPage, RefusesPage as refuses_page, Opens, Opens as opens, Refuses, Refuses as refuses}
-use Rattle.generator_spec.specs.Commands.{IsOfPage, IsRefusalOf as kind, map_path, NewFile, new_file, Writes, Writes as writes}
+use Rattle.generator_spec.specs.Generation.{PageIsFile}
+use Rattle.generator_spec.specs.Commands.{IsGenerating, IsMapping, IsMapping as mapping, IsPage, RefusesPage, RefusesPage as refuses_page, Opens, Opens as opens, Refuses, Refuses as refuses}
+use Rattle.generator_spec.specs.Commands.{IsOfPage, IsRefusalOf as kind, Writes, Writes as writes}
 use Rattle.generation.specs.declared.generated.Generated.{Generated}
 use Rattle.generation.specs.declared.stop.Stop.{Stop}
 use Rattle.generation.specs.declared.stop.Stop.TheVariants.{Refused, ReadFault, Memory}
-use Rattle.generation.specs.Generating.{Generating, IsGenerated, AsksNoPathTwice, AsksFootprint}
+use Rattle.generation.specs.Generating.{Generating, IsMapOfTree, AsksNoPathTwice, AsksFootprint}
 use Rattle.generator_core.specs.declared.prepared.Prepared.{Prepared}
-use Rattle.generator_core.specs.Preparing.{own_file, AsksOwn, AsksFew, EndsBefore, IsPageFound, FindsPage, HasCounts, IsMapFile, IsPageFile, IsPrepared, IsReady, Prepares}
+use Rattle.generator_core.specs.Preparing.{KeepsProject as keeps_project}
+use Rattle.generator_core.specs.Preparing.{own_file, AsksOwn, AsksFew, EndsBefore, IsPageFound, FindsPage, HasCounts, KeepsProject, AreMapFiles, IsPageFile, IsPrepared, IsReady, Prepares, map_files, shown_files}
 
 pub if_some : {A : Type 0} {P Q : A → Type 0} (told : Option A) → ((x : A) → P x → Q x) → IfSome told P → IfSome told Q
 if_some None f h = h
@@ -121,14 +121,11 @@ asks_nothing config holds own state = by state.asked refl
     by None e = tt
     by (Some old) e = record { first = []; is_own = inl refl; more = []; asked = e ∙ ap Some (sym (append-nil old)); once = none_twice; of_footprint = no_more config holds }
 
--- what the command asks for, by the words that give it
-pub asked_by : (words : List (List ℕ)) (command : Command) (config : Config) → IsConfigOf words command config → (exact : Command) → command ≡ exact → (holds : Option Tree) (told : Option (List (List ℕ))) (after : FolderState) → IfSome told (λ old. AsksFew config holds (own_file exact config) old after)
-    → (other : Command) (second : Config) → IsConfigOf words other second → IfSome told (λ old. AsksFew second holds (own_file other second) old after)
-asked_by words command config is exact e holds told after asks other second is_too =
-    let same = one_config words command other config second is is_too in
-    let commands : exact ≡ other = sym e ∙ same.one_command in
-    subst (λ (c : Config). IfSome told (λ old. AsksFew c holds (own_file other c) old after)) same.one_config
-    (subst (λ c. IfSome told (λ old. AsksFew config holds (own_file c config) old after)) commands asks)
+-- a command that writes the map's file generates a map
+pub generates : {command : Command} (keeps : Bool) → KeepsProject command keeps → IsGenerating command
+generates _ keeps_project.link = tt
+generates _ keeps_project.unlink = tt
+generates _ keeps_project.refresh = tt
 
 -- ---- generation
 
@@ -155,7 +152,7 @@ module _ (config : Config) (before after : FolderState) where
   pub lacks : (command : Command) (generated : Generated) → Generating config before (Ok generated) after → Prepares command config before (Err Memory) after
   lacks command generated is = record { ready = tt; asked = asks_few config before.holds (own_file command config) before.asked after is.asked is.footprint; stopped = lacks_memory command (generated_looks generated is) }
 
-  prepared_of : (command : Command) (tree : Tree) (generated : Generated) (prepared : Prepared) → HasCounts generated prepared → Writes tree config generated.map.items command (new_file prepared.path prepared.file.items ∷ []) → IsGenerated tree config generated → IsPrepared command config tree prepared
+  prepared_of : (command : Command) (tree : Tree) (generated : Generated) (prepared : Prepared) → HasCounts generated prepared → Writes tree config generated.map.items command (shown_files prepared) → IsMapOfTree tree config generated → IsPrepared command config tree prepared
   prepared_of command tree generated prepared counts wrote is = record {
     all = is.all;
     is_traced = is.is_traced;
@@ -165,29 +162,43 @@ module _ (config : Config) (before after : FolderState) where
     modules = counts.modules ∙ is.is_map.modules;
     requests = counts.requests ∙ is.is_map.requests;
     mappings = counts.mappings ∙ is.is_map.mappings;
-    writes = subst (λ map. Writes tree config map command (new_file prepared.path prepared.file.items ∷ [])) is.is_map.map wrote;
+    writes = subst (λ map. Writes tree config map command (shown_files prepared)) is.is_map.map wrote;
   }
 
-  pub ready : (command : Command) (generated : Generated) (prepared : Prepared) → Generating config before (Ok generated) after → HasCounts generated prepared → IfSome before.holds (λ tree. Writes tree config generated.map.items command (new_file prepared.path prepared.file.items ∷ [])) → Prepares command config before (Ok prepared) after
-  ready command generated prepared is counts wrote = record {
+  pub ready : (command : Command) (generated : Generated) (prepared : Prepared) → PageIsFile config → Generating config before (Ok generated) after → HasCounts generated prepared → IfSome before.holds (λ tree. Writes tree config generated.map.items command (shown_files prepared)) → Prepares command config before (Ok prepared) after
+  ready command generated prepared is_file is counts wrote = record {
     ready = record {
       is_prepared = if_two before.holds (λ tree writes_so is_generated. prepared_of command tree generated prepared counts writes_so is_generated) wrote is.generated;
+      page_is_file = is_file;
       looks = generated_looks generated is;
     };
     asked = asks_few config before.holds (own_file command config) before.asked after is.asked is.footprint;
     stopped = tt;
   }
 
-  -- ---- the map alone
+  -- ---- the map, and the project beside it
 
-  pub link_opens : IfSome before.holds (λ tree. Opens tree config Link)
-  link_opens = if_all before.holds (λ tree. opens.nothing)
+  is_mapping : {command : Command} (keeps : Bool) → KeepsProject command keeps → IsMapping command
+  is_mapping _ keeps_project.link = mapping.link
+  is_mapping _ keeps_project.unlink = mapping.unlink
+  is_mapping _ keeps_project.refresh = mapping.refresh
 
-  map_writes : (tree : Tree) (map path file : List ℕ) → path ≡ map_path → file ≡ map → Writes tree config map Link (new_file path file ∷ [])
-  map_writes tree map path file p f = subst (λ files. Writes tree config map Link files) (λ i. new_file (sym p i) (sym f i) ∷ []) writes.map_alone
+  map_writes : {command : Command} (keeps : Bool) → KeepsProject command keeps → (tree : Tree) (map : List ℕ) → Writes tree config map command (map_files config map keeps)
+  map_writes _ keeps_project.link tree map = writes.linked
+  map_writes _ keeps_project.unlink tree map = writes.unlinked
+  map_writes _ keeps_project.refresh tree map = writes.refreshed
 
-  pub map_ready : (generated : Generated) (prepared : Prepared) → Generating config before (Ok generated) after → IsMapFile generated prepared → Prepares Link config before (Ok prepared) after
-  map_ready generated prepared is file = ready Link generated prepared is file.counts (if_all before.holds (λ tree. map_writes tree generated.map.items prepared.path prepared.file.items file.path file.file))
+  module _ (command : Command) (keeps : Bool) (is_kept : KeepsProject command keeps) where
+    map_opens : IfSome before.holds (λ tree. Opens tree config command)
+    map_opens = if_all before.holds (λ tree. opens.nothing command (is_mapping keeps is_kept))
+
+    pub map_stopped : (stop : Stop) → Generating config before (Err stop) after → Prepares command config before (Err stop) after
+    map_stopped stop is = stopped command (generates keeps is_kept) map_opens stop is
+
+    pub map_ready : (generated : Generated) (prepared : Prepared) → PageIsFile config → Generating config before (Ok generated) after → AreMapFiles config keeps generated prepared → Prepares command config before (Ok prepared) after
+    map_ready generated prepared is_file is files =
+        ready command generated prepared is_file is files.counts
+        (if_all before.holds (λ tree. subst (λ some. Writes tree config generated.map.items command some) (sym files.files) (map_writes keeps is_kept tree generated.map.items)))
 
   -- ---- the page with the map
 
@@ -195,15 +206,15 @@ module _ (config : Config) (before after : FolderState) where
     page_opens : IfSome before.holds (λ tree. Opens tree config Inject)
     page_opens = if_some before.holds (λ tree is. opens.page page is takes) stands
 
-    page_writes : (generated : Generated) (prepared : Prepared) → IsPageFile config page generated prepared → IfSome before.holds (λ tree. Writes tree config generated.map.items Inject (new_file prepared.path prepared.file.items ∷ []))
+    page_writes : (generated : Generated) (prepared : Prepared) → IsPageFile config page generated prepared → IfSome before.holds (λ tree. Writes tree config generated.map.items Inject (shown_files prepared))
     page_writes generated prepared file =
-        if_some before.holds (λ tree is. subst (λ p. Writes tree config generated.map.items Inject (new_file p prepared.file.items ∷ [])) (sym file.path) (writes.in_page page prepared.file.items is file.injected)) stands
+        if_some before.holds (λ tree is. subst (λ files. Writes tree config generated.map.items Inject files) (sym file.files) (writes.in_page page file.new is file.injected)) stands
 
     pub page_stopped : (stop : Stop) → Generating config before (Err stop) after → Prepares Inject config before (Err stop) after
     page_stopped stop is = stopped Inject tt page_opens stop is
 
-    pub page_ready : (generated : Generated) (prepared : Prepared) → Generating config before (Ok generated) after → IsPageFile config page generated prepared → Prepares Inject config before (Ok prepared) after
-    page_ready generated prepared is file = ready Inject generated prepared is file.counts (page_writes generated prepared file)
+    pub page_ready : (generated : Generated) (prepared : Prepared) → PageIsFile config → Generating config before (Ok generated) after → IsPageFile config page generated prepared → Prepares Inject config before (Ok prepared) after
+    page_ready generated prepared is_file is file = ready Inject generated prepared is_file is file.counts (page_writes generated prepared file)
 
 -- ---- behind the look at the page
 
@@ -214,7 +225,7 @@ module _ (config : Config) (before middle after : FolderState) where
   earlier_end command Memory looks is = record { refused = tt; kind = tt; looks = then_looks before middle after looks is.looks }
 
   earlier_ready : (command : Command) (prepared : Prepared) → OnlyLooks before middle ⊥ → IsReady command config middle after prepared → IsReady command config before after prepared
-  earlier_ready command prepared looks is = record { is_prepared = subst (λ held. IfSome held (λ tree. IsPrepared command config tree prepared)) looks.tree is.is_prepared; looks = then_looks before middle after looks is.looks }
+  earlier_ready command prepared looks is = record { is_prepared = subst (λ held. IfSome held (λ tree. IsPrepared command config tree prepared)) looks.tree is.is_prepared; page_is_file = is.page_is_file; looks = then_looks before middle after looks is.looks }
 
   module _ (command : Command) (looks : OnlyLooks before middle ⊥) (asked : IfSome before.asked (λ old. AsksOwn (own_file command config) old middle)) (later : IfSome middle.asked (λ old. AsksNoPathTwice old after)) (at : IfSome middle.asked (λ old. AsksFootprint config middle.holds old after)) where
     earlier : (result : Result Prepared Stop) → Prepares command config middle result after → Prepares command config before result after

@@ -1,11 +1,10 @@
 -- What a check says, line by line.
-use Rattle.std.proofs.Common.{◌≡◌, ℕ, zero, suc, ◌+◌, List, [], ◌∷◌, ◌++◌, length, Some, Result, Ok, Err, refl, sym, ap, ◌∙◌, subst, append_assoc, arith}
+use Rattle.std.proofs.Common.{◌≡◌, ℕ, zero, suc, ◌+◌, List, [], ◌∷◌, ◌++◌, length, Some, Result, Ok, Err, refl, sym, ap, ◌∙◌, append_assoc, arith}
 use Rattle.std.specs.Prelude.{map as each, drop, slice_get, IfOk}
 use Rattle.std.specs.List.{concat}
 use Rattle.std.proofs.lemmas.List.{append-nil}
 use Rattle.std.proofs.lemmas.List.Folds.{concat-append}
 use Rattle.import_map_spec.specs.ParsedMap.{ParsedMap}
-use Rattle.check_spec.specs.Differences as definition
 use Rattle.check_spec.specs.Differences.{differences}
 use Rattle.trace_spec.specs.Checks.{Gathered}
 use Rattle.generator_spec.proofs.Endings.{one_line_text}

@@ -4,7 +4,7 @@
 --     IsReport map all report          what is said of the map, where the trace has come to these tables
 --     ChecksBy config before result after    the same as the next one, behind the look at the map's file
 --     Checks config before result after      the check has its report, or it is told why not
-use Rattle.std.specs.Prelude.{◌≡◌, [], ◌∷◌, ℕ, List, length, Some, None, Result, Ok, Err, IfOk, IfErr, IfSome}
+use Rattle.std.specs.Prelude.{◌≡◌, [], ◌∷◌, ℕ, List, length, None, Result, Ok, Err, IfOk, IfErr, IfSome}
 use Rattle.std.specs.FinMap.{get}
 use Rattle.std.specs.List.{concat}
 use Rattle.tree_spec.specs.States.{FolderState, OnlyLooks}
@@ -15,7 +15,7 @@ use Rattle.trace_spec.specs.Checks.{Gathered}
 use Rattle.trace_spec.specs.Modules.{Config, shown, web_name}
 use Rattle.trace_spec.specs.Traces.{traced}
 use Rattle.trace_spec.specs.Walking.{the_page}
-use Rattle.generator_spec.specs.declared.Command.TheVariants.{Check}
+use Rattle.config_spec.specs.declared.Command.TheVariants.{Check}
 use Rattle.generator_spec.specs.declared.Refusal.TheVariants.{MapFile, Trace}
 use Rattle.generator_spec.specs.Checking.{difference_lines, check_status, check_lines}
 use Rattle.generator_spec.specs.Commands.{map_path, IsMapText, ReadsMap, HoldsMap, map_file_fault}
@@ -59,7 +59,7 @@ pub record IsReport (map : ParsedMap) (all : Gathered) (report : Report) : Type 
   pub text : report.text.items ≡ concat (check_lines (length all.needs) (difference_lines map all))
 
 -- what a told tree has to do with it
-pub record IsChecked (config : Config) (tree : Tree) (map : ParsedMap) (all : Gathered) : Type 0 where
+pub record IsHeldAndTraced (config : Config) (tree : Tree) (map : ParsedMap) (all : Gathered) : Type 0 where
   pub holds : HoldsMap tree config map
   pub is_traced : traced (get tree) config ≡ Ok all
 
@@ -67,7 +67,7 @@ pub record IsReported (config : Config) (before after : FolderState) (report : R
   pub map : ParsedMap
   pub all : Gathered
   pub is_report : IsReport map all report
-  pub told : IfSome before.holds (λ tree. IsChecked config tree map all)
+  pub told : IfSome before.holds (λ tree. IsHeldAndTraced config tree map all)
   pub looks : OnlyLooks before after ⊥
 
 -- the page has no URL, so it is refused, or memory is wanting

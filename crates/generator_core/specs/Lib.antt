@@ -1,3 +1,4 @@
 pub mod Preparing
 pub mod Writing
 pub mod Checking
+pub mod Configuring

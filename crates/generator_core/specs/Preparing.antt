@@ -4,10 +4,13 @@
 --     AsksFew config holds own old after      and then for further paths, for none of them twice, which in a told tree
 --                              are of the generation's footprint
 --     FindsPage config before result after      the page is read, or it is told why not
---     IsMapFile generated prepared      the file is the map that was generated
+--     shown_files prepared      the files that are to be written
+--     KeepsProject command keeps      whether the command writes the project beside the map
+--     AreMapFiles config keeps generated prepared      the files are the map that was generated, and the project
 --     IsPageFile config page generated prepared      the file is the page with that map
 --     Prepares command config before result after      the command has its file, or it is told why not
-use Rattle.std.specs.Prelude.{◌≡◌, ◌≤◌, ◌⊎◌, ◌++◌, [], ◌∷◌, ℕ, List, length, bytes_eq, All, Contains}
+use Rattle.std.specs.Prelude.{◌≡◌, ◌≤◌, ◌⊎◌, ◌++◌, [], ◌∷◌, ℕ, Bool, true, false, List, length, map, bytes_eq}
+use Rattle.std.specs.Prelude.{All, Contains}
 use Rattle.std.specs.Prelude.{Option, Some, Result, Ok, IfOk, IfErr, IfSome}
 use Rattle.std.specs.FinMap.{get}
 use Rattle.std.specs.List.{IsDistinct}
@@ -24,20 +27,25 @@ use Rattle.layout_spec.specs.PrintedMap.{map_text}
 use Rattle.trace_spec.specs.Checks.{Gathered}
 use Rattle.trace_spec.specs.Modules.{Config}
 use Rattle.trace_spec.specs.Traces.{traced, generation}
-use Rattle.generator_spec.specs.declared.Command.{Command}
-use Rattle.generator_spec.specs.declared.Command.TheVariants.{Link, Inject, Check}
-use Rattle.generator_spec.specs.Commands.{IsPage, Refuses, IsRefusalOf, map_path, new_file, Writes}
+use Rattle.config_spec.specs.declared.Command.{Command}
+use Rattle.config_spec.specs.declared.Command.TheVariants.{Link, Unlink, Refresh, Inject, Check}
+use Rattle.generator_spec.specs.Commands.{IsPage, Refuses, IsRefusalOf, map_path, NewFile, new_file}
+use Rattle.generator_spec.specs.Commands.{map_and_project, Writes}
+use Rattle.generator_spec.specs.Generation.{PageIsFile}
 use Rattle.generator_spec.specs.Digests.{with_digests}
 use Rattle.generation.specs.declared.generated.Generated.{Generated}
 use Rattle.generation.specs.declared.stop.Stop.{Stop}
 use Rattle.generation.specs.declared.stop.Stop.TheVariants.{ReadFault}
 use Rattle.generation.specs.Generating.{IfRefused}
+use Rattle.generator_core.specs.declared.prepared.Fresh.{Fresh}
 use Rattle.generator_core.specs.declared.prepared.Prepared.{Prepared}
 
 -- ---- what is asked of the folder
 
 abbrev pub own_file : Command → Config → List (List ℕ)
 own_file Link config = []
+own_file Unlink config = []
+own_file Refresh config = []
 own_file Inject config = config.page ∷ []
 own_file Check config = map_path ∷ []
 
@@ -83,14 +91,31 @@ pub record HasCounts (generated : Generated) (prepared : Prepared) : Type 0 wher
   pub requests : prepared.requests ≡ generated.requests
   pub mappings : prepared.mappings ≡ generated.mappings
 
-pub record IsMapFile (generated : Generated) (prepared : Prepared) : Type 0 where
-  pub path : prepared.path ≡ map_path
-  pub file : prepared.file.items ≡ generated.map.items
+-- a file in memory, as what is written
+abbrev pub shown_file : Fresh → NewFile
+shown_file file = new_file file.path file.bytes.items
+
+abbrev pub shown_files : Prepared → List NewFile
+shown_files prepared = map shown_file prepared.files.items
+
+-- whether a command writes the project beside the map
+pub data KeepsProject : Command → Bool → Type 0 where
+  link : KeepsProject Link true
+  unlink : KeepsProject Unlink true
+  refresh : KeepsProject Refresh false
+
+abbrev pub map_files : Config → List ℕ → Bool → List NewFile
+map_files config map true = map_and_project config map
+map_files config map false = new_file map_path map ∷ []
+
+pub record AreMapFiles (config : Config) (keeps : Bool) (generated : Generated) (prepared : Prepared) : Type 0 where
+  pub files : shown_files prepared ≡ map_files config generated.map.items keeps
   pub counts : HasCounts generated prepared
 
 pub record IsPageFile (config : Config) (page : List ℕ) (generated : Generated) (prepared : Prepared) : Type 0 where
-  pub path : prepared.path ≡ config.page
-  pub injected : Injection generated.map.items page (Ok prepared.file.items)
+  pub new : List ℕ
+  pub files : shown_files prepared ≡ new_file config.page new ∷ []
+  pub injected : Injection generated.map.items page (Ok new)
   pub counts : HasCounts generated prepared
 
 -- the counts are those of the tree's trace and of its map, and the file carries the map
@@ -104,12 +129,12 @@ pub record IsPrepared (command : Command) (config : Config) (tree : Tree) (prepa
   pub requests : prepared.requests ≡ all.requests
   pub mappings : prepared.mappings ≡ mapping_count layout
   pub writes :
-      Writes tree config (map_text (with_digests config all layout)) command
-      (new_file prepared.path prepared.file.items ∷ [])
+      Writes tree config (map_text (with_digests config all layout)) command (shown_files prepared)
 
 pub record IsReady (command : Command) (config : Config) (before after : FolderState)
     (prepared : Prepared) : Type 0 where
   pub is_prepared : IfSome before.holds (λ tree. IsPrepared command config tree prepared)
+  pub page_is_file : PageIsFile config
   pub looks : OnlyLooks before after ⊥
 
 pub record Prepares (command : Command) (config : Config) (before : FolderState) (result : Result Prepared Stop)

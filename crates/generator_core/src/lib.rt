@@ -1,10 +1,13 @@
 //! The whole program as one call: the words of the command line, a folder and an output are handed to `run`, which
-//! does what the words say, tells of it, and answers the exit status.
+//! does what the words say, tells of it, and answers the exit status. A project's file is read and printed by the calls
+//! that are handed on.
 #![tactic(auto)]
 
 mod checking;
 mod paths;
 mod prepared;
+mod project;
 mod running;
 
+pub use project_file::{ProjectFault, print_project, read_project};
 pub use running::run;

@@ -4,65 +4,89 @@ ghost use Rattle.std.specs.Prelude.{◌≡◌, ◌≤◌, ◌+◌, IfOk, IfSome}
 ghost use Rattle.tree_spec.specs.declared.LimitName.TheVariants.{Modules, Requests};
 ghost use Rattle.tree_spec.specs.Limits.{limit_number};
 ghost use Rattle.page_spec.specs.Injection.{TakesMaps};
-ghost use Rattle.generator_spec.specs.declared.Command.TheVariants.{Link, Inject};
+ghost use Rattle.config_spec.specs.declared.Command.TheVariants.{Inject};
 ghost use Rattle.generator_spec.specs.Commands.{IsPage};
 ghost use Rattle.generation.specs.Generating.{AsksFootprint, AsksNoPathTwice};
-ghost use Rattle.generator_core.specs.Preparing.{FindsPage, IsMapFile, IsPageFile, Prepares};
+ghost use Rattle.config_spec.specs.declared.Command.{Command};
+ghost use Rattle.generator_core.specs.Preparing.{AreMapFiles, FindsPage, IsPageFile, KeepsProject, Prepares};
 
-use crate::paths::map_path;
+use crate::paths::{map_path, project_path};
 use generation::{Generated, Stop, generate};
 use generator_spec::{PageFault, Refusal};
 use html_inject::{PageSite, inject_at, site_of};
 use primitives::{Bytes, Memory, Steps};
+use project_file::print_project;
 use request_trace::Config;
 use std::alloc::Global;
 use std::sync::ledger::Ledger;
 use tree_model::{Folder, Look, LookFault, Path};
 use tree_spec::MOST_FILE_BYTES;
 
-/// A file with the map, where it is to be written, and the counts that are told of the map.
+/// A file that is to be written, and where.
+#[derive(Drop)]
+pub struct Fresh {
+    pub path: Path,
+    pub bytes: Vec<u8>,
+}
+
+/// Files of which one carries the map, in the order of their writes, and the counts that are told of the map.
 #[derive(Drop)]
 pub struct Prepared {
-    pub path: Path,
-    pub file: Vec<u8>,
+    pub files: Vec<Fresh>,
     pub modules: usize,
     pub requests: usize,
     pub mappings: usize,
 }
 
-/// `link` writes the map alone.
+/// The map, and where it is to be kept the project behind it.
 pub fn prepare_map<F: Folder, L: Ledger>(
     alloc: Global,
     folder: &mut F,
     config: &Config,
+    keeps: bool,
     steps: &mut Steps<L>,
 ) -> Result<Prepared, Stop>
-    ensures prepares { Prepares Link config.now (F.state folder.old) result (F.state folder.new) }
+    ensures prepares { (command : Command) → KeepsProject command keeps
+        → Prepares command config.now (F.state folder.old) result (F.state folder.new) }
     ensures steps { IfOk result (λ prepared. steps.new ≤ steps.old + (prepared.modules + prepared.requests)) }
     ensures bounded { steps.new ≤ steps.old + (limit_number Modules + limit_number Requests) }
 {
     match generate(alloc, folder, config, steps) {
         Err(stop) => Err(stop),
-        Ok(generated) => match map_file(alloc, generated) {
+        Ok(generated) => match map_files(alloc, config, keeps, generated) {
             Err(_) => Err(Stop::Memory),
             Ok(prepared) => Ok(prepared),
         },
     }
 }
 
-fn map_file(alloc: Global, generated: Generated) -> Result<Prepared, Memory>
-    ensures { IfOk result (IsMapFile generated) }
+fn map_files(
+    alloc: Global,
+    config: &Config,
+    keeps: bool,
+    generated: Generated,
+) -> Result<Prepared, Memory>
+    ensures { IfOk result (AreMapFiles config.now keeps generated) }
 {
-    let path = map_path(alloc)?;
     let Generated {
         map,
         modules,
         requests,
         mappings,
     } = generated;
+    let mut files = Vec::new(alloc);
+    files.push(Fresh {
+        path: map_path(alloc)?,
+        bytes: map,
+    })?;
+    if keeps {
+        files.push(Fresh {
+            path: project_path(alloc)?,
+            bytes: print_project(alloc, config)?,
+        })?;
+    }
     Ok(Prepared {
-        path,
-        file: map,
+        files,
         modules,
         requests,
         mappings,
@@ -145,11 +169,13 @@ fn page_file(
 ) -> Result<Prepared, Memory>
     ensures { IfOk result (IsPageFile config.now site.now generated.now) }
 {
-    let path = config.page().copy(alloc)?;
-    let file = inject_at(alloc, site, generated.map.as_slice())?;
+    let mut files = Vec::new(alloc);
+    files.push(Fresh {
+        path: config.page().copy(alloc)?,
+        bytes: inject_at(alloc, site, generated.map.as_slice())?,
+    })?;
     Ok(Prepared {
-        path,
-        file,
+        files,
         modules: generated.modules,
         requests: generated.requests,
         mappings: generated.mappings,

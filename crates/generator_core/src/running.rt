@@ -1,35 +1,35 @@
-ghost use Rattle.std.specs.Prelude.{◌≡◌, ◌≤◌, ◌+◌, List, ℕ, IfSome};
+ghost use Rattle.std.specs.Prelude.{◌≡◌, ◌≤◌, ◌+◌, List, ℕ, map, string_bytes, IfSome};
 ghost use Rattle.tree_spec.specs.declared.LimitName.TheVariants.{Modules, Requests};
 ghost use Rattle.tree_spec.specs.Limits.{limit_number};
-ghost use Rattle.generator_spec.specs.declared.Command.{Command as Commanded};
-ghost use Rattle.generator_spec.specs.declared.Command.TheVariants.{Link, Inject, Check};
-ghost use Rattle.generator_spec.specs.declared.Refusal.{Refusal};
+ghost use Rattle.config_spec.specs.declared.Command.{Command as Commanded};
+ghost use Rattle.config_spec.specs.declared.Command.TheVariants.{Inject, Check};
+ghost use Rattle.config_spec.specs.Words.{IsCommandOf};
 ghost use Rattle.generator_spec.specs.Statuses.{done_status};
 ghost use Rattle.generator_spec.specs.Commands.{IsGenerating};
-ghost use Rattle.generator_spec.specs.Words.{IsConfigOf, RefusesWords};
-ghost use Rattle.trace_spec.specs.Modules.{Config as Configured};
 ghost use Rattle.generator_spec.specs.Ending.{Ends, EndsAs, TellsRefusal};
-ghost use Rattle.command_words.specs.Splitting.{texts};
-ghost use Rattle.generator_core.specs.Preparing.{AsksFew, own_file};
-ghost use Rattle.generator_core.specs.Writing.{TellsStop, Finishes, SpendsFew};
+ghost use Rattle.command_words.specs.Orders.{IsOrder, command_ordered};
+ghost use Rattle.generator_core.specs.Configuring.{IsConfigAt, AsksInOrder};
+ghost use Rattle.generator_core.specs.Preparing.{AsksFew, KeepsProject, own_file, shown_file};
+ghost use Rattle.generator_core.specs.Writing.{TellsStop, TellsWords, EndsWriting, SpendsFew, WritesFiles};
 
 use crate::checking::checked;
-use crate::prepared::{Prepared, prepare_map, prepare_page};
-use command_words::{WordsFault, config_of};
+use crate::prepared::{Fresh, Prepared, prepare_map, prepare_page};
+use crate::project::configured;
+use command_words::{Order, WordsFault, order_of};
 use generation::Stop;
 use generator_spec::{Command, Refusal};
 use primitives::Steps;
 use request_trace::Config;
 use run_texts::{
-    DONE, MEMORY, READ_FAULT, WRITE_FAULT, done_line, line_of, memory_line, read_fault_line,
-    status_of, write_fault_line,
+    BAD_WORDS, DONE, MEMORY, READ_FAULT, WRITE_FAULT, done_line, line_of, memory_line,
+    not_plain_line, read_fault_line, status_of, write_fault_line,
 };
 use std::alloc::Global;
 use std::sync::ledger::Ledger;
 use tree_model::{Folder, Sink, Source};
 
-/// Does all that the program does: reads the words, generates from the folder, writes the map or the page with it, or
-/// checks the map that is there, and says how it ended. Answers the exit status.
+/// Does all that the program does: reads the words and the project, generates from the folder, writes the map and the
+/// project or the page, or checks the map that is there, and says how it ended. Answers the exit status.
 pub fn run<F: Folder, I: Source, O: Sink, L: Ledger>(
     alloc: Global,
     words: &[String],
@@ -38,45 +38,105 @@ pub fn run<F: Folder, I: Source, O: Sink, L: Ledger>(
     out: &mut O,
     steps: &mut Steps<L>,
 ) -> u8
-    ensures end { EndsAs (texts words.now) (F.state folder.old) (F.state folder.new) (O.state out.old)
+    ensures end { EndsAs (map string_bytes words.now) (F.state folder.old) (F.state folder.new) (O.state out.old)
         (O.state out.new) result }
-    ensures words { (why : Refusal) → RefusesWords (texts words.now) why → folder.new ≡ folder.old }
+    ensures idle { ((command : Commanded) → IsCommandOf (map string_bytes words.now) command → ⊥)
+        → folder.new ≡ folder.old }
     ensures input { _input.new ≡ _input.old }
-    ensures asked { (command : Commanded) (config : Configured) → IsConfigOf (texts words.now) command config
-        → IfSome (F.state folder.old).asked (λ old. AsksFew config (F.state folder.old).holds (own_file command config)
-        old (F.state folder.new)) }
-    ensures steps { (command : Commanded) (config : Configured) → IsConfigOf (texts words.now) command config
-        → IsGenerating command → result ≡ done_status
-        → SpendsFew (O.state out.old) (O.state out.new) steps.old steps.new }
+    ensures asked { IfSome (F.state folder.old).asked
+        (λ old. AsksInOrder (map string_bytes words.now) (F.state folder.old) old (F.state folder.new)) }
+    ensures steps { (command : Commanded) → IsCommandOf (map string_bytes words.now) command → IsGenerating command
+        → result ≡ done_status → SpendsFew (O.state out.old) (O.state out.new) steps.old steps.new }
     ensures bounded { steps.new ≤ steps.old + (limit_number Modules + limit_number Requests) }
-    ensures unspent { (why : Refusal) → RefusesWords (texts words.now) why → steps.new ≡ steps.old }
+    ensures unspent { ((command : Commanded) → IsCommandOf (map string_bytes words.now) command → ⊥)
+        → steps.new ≡ steps.old }
 {
-    match config_of(alloc, words) {
-        Ok((Command::Link, config)) => link(alloc, folder, &config, out, steps),
-        Ok((Command::Inject, config)) => inject(alloc, folder, &config, out, steps),
-        Ok((Command::Check, config)) => check(alloc, folder, &config, out, steps),
-        Err(WordsFault::Refused { why }) => refuse(alloc, &why, out),
-        Err(WordsFault::Memory) => tell(out, memory_line(), MEMORY),
+    match order_of(alloc, words) {
+        Ok(order) => ordered(alloc, folder, order, out, steps),
+        Err(fault) => misworded(alloc, fault, out),
     }
 }
 
-// `link`: generates, writes the map and says so.
-fn link<F: Folder, O: Sink, L: Ledger>(
+// Says why the words are refused.
+fn misworded<O: Sink>(alloc: Global, fault: WordsFault, out: &mut O) -> u8
+    ensures tells { TellsWords fault (O.state out.old) (O.state out.new) result }
+    ensures later { (O.state out.old).faults ≤ (O.state out.new).faults }
+{
+    match fault {
+        WordsFault::Told(text) => tell(out, text.as_bytes(), BAD_WORDS),
+        WordsFault::NotPlain => tell(out, not_plain_line(), BAD_WORDS),
+        WordsFault::Refused { fault } => refuse(alloc, &Refusal::Config { fault }, out),
+        WordsFault::Memory => tell(out, memory_line(), MEMORY),
+    }
+}
+
+// Looks for the project, and does what is asked for with it.
+fn ordered<F: Folder, O: Sink, L: Ledger>(
     alloc: Global,
     folder: &mut F,
+    order: Order<'_>,
+    out: &mut O,
+    steps: &mut Steps<L>,
+) -> u8
+    ensures end { (words : List (List ℕ)) → IsOrder words order.entry
+        → EndsAs words (F.state folder.old) (F.state folder.new) (O.state out.old) (O.state out.new) result }
+    ensures asked { IfSome (F.state folder.old).asked (λ old. (words : List (List ℕ)) → IsOrder words order.entry
+        → AsksInOrder words (F.state folder.old) old (F.state folder.new)) }
+    ensures steps { IsGenerating (command_ordered order.entry) → result ≡ done_status
+        → SpendsFew (O.state out.old) (O.state out.new) steps.old steps.new }
+    ensures bounded { steps.new ≤ steps.old + (limit_number Modules + limit_number Requests) }
+{
+    let command = order.command();
+    match configured(alloc, folder, order) {
+        Ok(config) => commanded(alloc, folder, command, &config, out, steps),
+        Err(stop) => close(alloc, stop, out),
+    }
+}
+
+// Does what the command does.
+fn commanded<F: Folder, O: Sink, L: Ledger>(
+    alloc: Global,
+    folder: &mut F,
+    command: Command,
     config: &Config,
     out: &mut O,
     steps: &mut Steps<L>,
 ) -> u8
-    ensures end { (words : List (List ℕ)) → IsConfigOf words Link config.now
+    ensures end { (words : List (List ℕ)) → IsConfigAt words command config.now (F.state folder.old)
         → EndsAs words (F.state folder.old) (F.state folder.new) (O.state out.old) (O.state out.new) result }
-    ensures asked { IfSome (F.state folder.old).asked
-        (λ old. AsksFew config.now (F.state folder.old).holds (own_file Link config.now) old
-        (F.state folder.new)) }
+    ensures asked { IfSome (F.state folder.old).asked (λ old. AsksFew config.now (F.state folder.old).holds
+        (own_file command config.now) old (F.state folder.new)) }
+    ensures steps { IsGenerating command → result ≡ done_status
+        → SpendsFew (O.state out.old) (O.state out.new) steps.old steps.new }
+    ensures bounded { steps.new ≤ steps.old + (limit_number Modules + limit_number Requests) }
+{
+    match command {
+        Command::Link => write_map(alloc, folder, config, true, out, steps),
+        Command::Unlink => write_map(alloc, folder, config, true, out, steps),
+        Command::Refresh => write_map(alloc, folder, config, false, out, steps),
+        Command::Inject => inject(alloc, folder, config, out, steps),
+        Command::Check => check(alloc, folder, config, out, steps),
+    }
+}
+
+// `link`, `unlink`, `refresh`: generates, writes the map, and the project where it is kept, and says so.
+fn write_map<F: Folder, O: Sink, L: Ledger>(
+    alloc: Global,
+    folder: &mut F,
+    config: &Config,
+    keeps: bool,
+    out: &mut O,
+    steps: &mut Steps<L>,
+) -> u8
+    ensures end { (words : List (List ℕ)) (command : Commanded) → KeepsProject command keeps
+        → IsConfigAt words command config.now (F.state folder.old)
+        → EndsAs words (F.state folder.old) (F.state folder.new) (O.state out.old) (O.state out.new) result }
+    ensures asked { IfSome (F.state folder.old).asked (λ old. (command : Commanded) → KeepsProject command keeps
+        → AsksFew config.now (F.state folder.old).holds (own_file command config.now) old (F.state folder.new)) }
     ensures steps { result ≡ done_status → SpendsFew (O.state out.old) (O.state out.new) steps.old steps.new }
     ensures bounded { steps.new ≤ steps.old + (limit_number Modules + limit_number Requests) }
 {
-    match prepare_map(alloc, folder, config, steps) {
+    match prepare_map(alloc, folder, config, keeps, steps) {
         Ok(prepared) => finish(alloc, folder, &prepared, out),
         Err(stop) => close(alloc, stop, out),
     }
@@ -90,7 +150,7 @@ fn inject<F: Folder, O: Sink, L: Ledger>(
     out: &mut O,
     steps: &mut Steps<L>,
 ) -> u8
-    ensures end { (words : List (List ℕ)) → IsConfigOf words Inject config.now
+    ensures end { (words : List (List ℕ)) → IsConfigAt words Inject config.now (F.state folder.old)
         → EndsAs words (F.state folder.old) (F.state folder.new) (O.state out.old) (O.state out.new) result }
     ensures asked { IfSome (F.state folder.old).asked
         (λ old. AsksFew config.now (F.state folder.old).holds (own_file Inject config.now) old
@@ -112,7 +172,7 @@ fn check<F: Folder, O: Sink, L: Ledger>(
     out: &mut O,
     steps: &mut Steps<L>,
 ) -> u8
-    ensures end { (words : List (List ℕ)) → IsConfigOf words Check config.now
+    ensures end { (words : List (List ℕ)) → IsConfigAt words Check config.now (F.state folder.old)
         → EndsAs words (F.state folder.old) (F.state folder.new) (O.state out.old) (O.state out.new) result }
     ensures asked { IfSome (F.state folder.old).asked
         (λ old. AsksFew config.now (F.state folder.old).holds (own_file Check config.now) old
@@ -125,9 +185,9 @@ fn check<F: Folder, O: Sink, L: Ledger>(
     }
 }
 
-// Writes the file, and says so.
+// Writes the files, and says so.
 fn finish<F: Folder, O: Sink>(alloc: Global, folder: &mut F, prepared: &Prepared, out: &mut O) -> u8
-    ensures { Finishes prepared.now (F.state folder.old) (F.state folder.new) (O.state out.old)
+    ensures { EndsWriting prepared.now (F.state folder.old) (F.state folder.new) (O.state out.old)
         (O.state out.new) result }
 {
     let Ok(line) = done_line(
@@ -138,9 +198,23 @@ fn finish<F: Folder, O: Sink>(alloc: Global, folder: &mut F, prepared: &Prepared
     ) else {
         return tell(out, memory_line(), MEMORY);
     };
-    match folder.write(&prepared.path, prepared.file.as_slice()) {
-        Ok(()) => tell(out, line.as_slice(), DONE),
-        Err(_) => tell(out, write_fault_line(), WRITE_FAULT),
+    if write_files(folder, prepared.files.as_slice()) {
+        tell(out, line.as_slice(), DONE)
+    } else {
+        tell(out, write_fault_line(), WRITE_FAULT)
+    }
+}
+
+// Whether all files could be written, in their order. None is tried behind one that couldn't.
+fn write_files<F: Folder>(folder: &mut F, files: &[Fresh]) -> bool
+    ensures { WritesFiles (map shown_file files.now) (F.state folder.old) result (F.state folder.new) }
+{
+    match files.split_first() {
+        None => true,
+        Some((first, rest)) => match folder.write(&first.path, first.bytes.as_slice()) {
+            Ok(()) => write_files(folder, rest),
+            Err(_) => false,
+        },
     }
 }
 

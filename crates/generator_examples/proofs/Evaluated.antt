@@ -14,7 +14,7 @@ use Rattle.trace_spec.specs.declared.TraceFault.TheVariants.{Refused, Clash}
 use Rattle.trace_spec.specs.Modules.{Config}
 use Rattle.trace_spec.specs.Traces.{traced}
 use Rattle.generator_examples.specs.Sites.{Files, based, tree_of, spelling, spelling_all, levels, levels_all, site, site_all}
-use Rattle.generator_examples.specs.Sites.{paged, missing, clashing}
+use Rattle.generator_examples.specs.Sites.{kept, paged, missing, clashing}
 use Rattle.generator_examples.specs.Packages.{packages, packages_all}
 use Rattle.generator_examples.specs.Examples.{IsTraced}
 
@@ -37,6 +37,10 @@ levels_traced = by_list levels (based "https://app.test/" ("./app.mjs" ∷ [])) 
 pub spelling_traced : IsTraced spelling (based "https://app.test/" ("./app.mjs" ∷ [])) spelling_all
 unfolding trace_on_literals
 spelling_traced = by_list spelling (based "https://app.test/" ("./app.mjs" ∷ [])) ∙ refl
+
+pub kept_traced : IsTraced kept (based "https://app.test/" ("./app.mjs" ∷ [])) spelling_all
+unfolding trace_on_literals
+kept_traced = by_list kept (based "https://app.test/" ("./app.mjs" ∷ [])) ∙ refl
 
 pub paged_traced : IsTraced paged (based "https://app.test/" ("./app.mjs" ∷ [])) spelling_all
 unfolding trace_on_literals

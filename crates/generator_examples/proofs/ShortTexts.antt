@@ -1,9 +1,7 @@
 -- A text with digests in it is short, whatever the digests are.
 use Prim.Native.String.{String}
-use Rattle.std.proofs.Common.{◌≡◌, ◌≤◌, ◌+◌, ◌*◌, ℕ, List, [], ◌∷◌, ◌++◌, length, length-append, arith, lit≤}
-use Rattle.std.proofs.lemmas.Bool.{cases_Bool, cond-true, cond-false}
-use Rattle.std.specs.Prelude.{◌==◌, ◌||◌, Bool, true, false, codes, nat_lt, flat_map, if◌then◌else◌}
-use mathlib.Core.Logic.{inl, inr}
+use Rattle.std.proofs.Common.{◌≤◌, ◌+◌, ◌*◌, ℕ, List, [], ◌∷◌, ◌++◌, length, length-append, arith, lit≤}
+use Rattle.std.specs.Prelude.{◌==◌, ◌||◌, Bool, true, false, codes, nat_lt, if◌then◌else◌}
 use Rattle.json_spec.specs.PrintedString.{escaped_byte, escaped, quoted, unicode_escape}
 use Rattle.integrity_spec.proofs.DigestTexts.{texts_have_71_bytes}
 use Rattle.integrity_spec.specs.DigestTexts.{digest_text}

@@ -1,36 +1,109 @@
--- The config that words give, where they are written out.
-use Rattle.std.proofs.Common.{◌≡◌, ◌≤◌, refl}
-use Rattle.tree_spec.specs.declared.LimitName.TheVariants.{Entries}
-use Rattle.tree_spec.specs.Limits.{limit_number}
-use Rattle.std.specs.Prelude.{◌==◌, not, ℕ, Bool, true, false, List, [], ◌∷◌, All, codes, length, Some}
+-- The config that words give over files, where both are written out.
+use Rattle.std.proofs.Common.{◌≡◌, ◌≤◌, refl, ap, ◌∙◌, Ok}
+use Rattle.std.specs.Prelude.{ℕ, List, codes, length, Result, Some, None}
 use Prim.Native.String.{String}
-use Rattle.std.specs.List.{list_all}
-use Rattle.std.proofs.lemmas.Bool.{and_parts, eqb-false, not-true}
-use Rattle.std.proofs.lemmas.List.Elements.{All-nil, All-cons}
+use Rattle.tree_spec.specs.declared.Entry.TheVariants.{Stored}
+use Rattle.tree_spec.specs.declared.LimitName.TheVariants.{File}
+use Rattle.tree_spec.specs.Limits.{limit_number}
+use Rattle.tree_spec.specs.LookAskings.{Sights}
+use Rattle.import_map_spec.proofs.examples.WrittenMaps.{looked, get_map_of}
+use Rattle.project_spec.specs.ProjectFiles.{ReadsProject}
+use Rattle.trace_spec.specs.Modules.{Config}
 use Rattle.url_spec.specs.Bases.{base_of}
-use Rattle.generator_spec.specs.declared.Command.{Command}
-use Rattle.generator_spec.specs.Words.{word_of, IsEntry, IsCall, once_onto, IsConfigOf}
-use Rattle.generator_examples.specs.Sites.{texts, based}
+use Rattle.words_spec.proofs.ReadIsPlain.{read_is_plain}
+use Rattle.words_spec.specs.PlainWords.{Asked, Asks, LinkOptions, no_options, linking, injecting, refreshing}
+use Rattle.words_spec.specs.PlainWords.Asks.{inject, refresh}
+use Rattle.words_spec.specs.Reading.{reading_of}
+use Rattle.config_spec.specs.Projects.{config_by, HoldsProject, IsConfigOf, RefusesConfig, project_path}
+use Rattle.config_spec.specs.Projects.HoldsProject.{absent, reads}
+use Rattle.config_spec.specs.Words.{Settings, Sets}
+use Rattle.config_spec.specs.Words.SetsBase.{none as no_base, given as some_base}
+use Rattle.config_spec.specs.Words.SetsConditions.{none as no_names}
+use Rattle.config_spec.specs.Words.SetsPage.{none as no_page}
+use Rattle.config_spec.specs.declared.Command.TheVariants.{Link, Inject, Refresh}
+use Rattle.config_spec.specs.declared.ConfigFault.{ConfigFault}
+use Rattle.config_spec.specs.declared.ConfigFault.TheVariants.{Project}
+use Rattle.config_spec.specs.declared.ProjectFault.TheVariants.{Absent}
+use Rattle.generator_examples.specs.Sites.{Files, tree_of, based, links, injects, refreshes, texts}
 
-abbrev is_entry : List ℕ → Bool
-is_entry [] = false
-is_entry (b ∷ text) = not (b == 45)
+abbrev based_options : String → LinkOptions
+based_options base = record { base = Some (codes base); page = None; conditions = None }
 
-entry_by_test : (text : List ℕ) → is_entry text ≡ true → IsEntry text
-entry_by_test [] e = absurd (cc)
-entry_by_test (b ∷ text) e = record { nonempty = λ same. cc; no_option = λ rest same. eqb-false b 45 (not-true _ e) (cc) }
+abbrev based_settings : String → Settings
+based_settings base = record { base = Some (codes base); page = None; conditions = None }
 
-abbrev pub are_entries : List (List ℕ) → Bool
-are_entries entries = list_all is_entry entries
+abbrev nothing : Settings
+nothing = record { base = None; page = None; conditions = None }
 
-entries_by_test : (entries : List (List ℕ)) → are_entries entries ≡ true → All IsEntry entries
-entries_by_test [] e = All-nil IsEntry
-entries_by_test (text ∷ entries) e =
-    let parts = and_parts (is_entry text) (list_all is_entry entries) e in
-    All-cons IsEntry text entries (entry_by_test text parts.0) (entries_by_test entries parts.1)
+nothing_set : Sets no_options nothing
+nothing_set = record { base = no_base; page = no_page; conditions = no_names }
 
-pub is_call : (command : Command) (words : List (List ℕ)) (base : String) (asked : List String) → words ≡ word_of command ∷ codes "--base" ∷ codes base ∷ texts asked → are_entries (texts asked) ≡ true → IsCall words command (codes base) (texts asked)
-is_call command words base asked split e = record { split = split; are_entries = entries_by_test (texts asked) e }
+abbrev pub is_linking : String → List String → Asked
+is_linking base asked = linking (based_options base) (texts asked)
 
-pub gives : (command : Command) (words : List (List ℕ)) (base : String) (asked : List String) → words ≡ word_of command ∷ codes "--base" ∷ codes base ∷ texts asked → are_entries (texts asked) ≡ true → base_of (codes base) ≡ Some (codes base) → texts asked ≡ once_onto [] (texts asked) → length (texts asked) ≤ limit_number Entries → IsConfigOf words command (based base asked)
-gives command words base asked split e is_base distinct few = record { base = codes base; entries = texts asked; call = is_call command words base asked split e; is_base = is_base; page = refl; conditions = refl; distinct = distinct; few = few }
+pub links_ask : (base : String) (asked : List String) → reading_of (links base asked) ≡ Some (is_linking base asked) → Asks (links base asked) (is_linking base asked)
+links_ask base asked read = read_is_plain (links base asked) (is_linking base asked) read
+
+-- nothing stands at the project's path
+no_project_in : (files : Files) → looked files project_path ≡ None → HoldsProject (tree_of files) (Ok None)
+no_project_in files none = absent (ap (λ (f : Sights). f project_path) (get_map_of files) ∙ none)
+
+abbrev outcome : Config → Result Config ConfigFault
+outcome config = Ok config
+
+pub link_gives : (files : Files) (base : String) (asked : List String) → reading_of (links base asked) ≡ Some (is_linking base asked) → base_of (codes base) ≡ Some (codes base) → looked files project_path ≡ None → outcome (based base asked) ≡ config_by (is_linking base asked) (based_settings base) (Ok None)
+    → IsConfigOf (links base asked) (tree_of files) Link (based base asked)
+link_gives files base asked read is none comes = record {
+  asked = is_linking base asked;
+  asks = links_ask base asked read;
+  is = refl;
+  settings = based_settings base;
+  sets = record { base = some_base (codes base) (codes base) is; page = no_page; conditions = no_names };
+  found = Ok None;
+  holds = no_project_in files none;
+  comes = comes;
+}
+
+-- a text stands at the project's path, and is read as a project
+project_in : (files : Files) (config : Config) (text : List ℕ) → looked files project_path ≡ Some (Stored text) → length text ≤ limit_number File → ReadsProject text (Ok config) → HoldsProject (tree_of files) (Ok (Some config))
+project_in files config text there small read = reads text (Ok config) (ap (λ (f : Sights). f project_path) (get_map_of files) ∙ there) small read
+
+pub inject_gives : (files : Files) (config : Config) (text : List ℕ) → looked files project_path ≡ Some (Stored text) → length text ≤ limit_number File → ReadsProject text (Ok config) → IsConfigOf injects (tree_of files) Inject config
+inject_gives files config text there small read = record {
+  asked = injecting;
+  asks = inject;
+  is = refl;
+  settings = nothing;
+  sets = nothing_set;
+  found = Ok (Some config);
+  holds = project_in files config text there small read;
+  comes = refl;
+}
+
+pub refresh_gives : (files : Files) (config : Config) (text : List ℕ) → looked files project_path ≡ Some (Stored text) → length text ≤ limit_number File → ReadsProject text (Ok config) → IsConfigOf refreshes (tree_of files) Refresh config
+refresh_gives files config text there small read = record {
+  asked = refreshing;
+  asks = refresh;
+  is = refl;
+  settings = nothing;
+  sets = nothing_set;
+  found = Ok (Some config);
+  holds = project_in files config text there small read;
+  comes = refl;
+}
+
+pub refresh_lacks : (files : Files) → looked files project_path ≡ None → RefusesConfig refreshes (tree_of files) (Project Absent)
+refresh_lacks files none = record {
+  command = Refresh;
+  configures =
+      record {
+        asked = refreshing;
+        asks = refresh;
+        is = refl;
+        settings = nothing;
+        sets = nothing_set;
+        found = Ok None;
+        holds = no_project_in files none;
+        comes = refl;
+      };
+}

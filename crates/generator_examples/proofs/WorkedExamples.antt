@@ -1,6 +1,7 @@
 -- The worked examples.
 use Rattle.std.proofs.Common.{◌≡◌, ◌≢◌, ◌⊎◌, inl, inr, refl, sym, ap, ◌∙◌, lit≤, ◌++◌, Ok, subst, append_assoc}
-use Rattle.std.specs.Prelude.{◌≤◌, ℕ, List, [], ◌∷◌, length, drop, codes, Some, None}
+use Prim.Native.String.{String}
+use Rattle.std.specs.Prelude.{◌≤◌, ℕ, true, false, List, [], ◌∷◌, length, drop, codes, Option, Some, None, IsUtf8}
 use Rattle.std.specs.Fmt.{digits}
 use Rattle.url.proofs.OnLiterals.{url_on_literals}
 use Rattle.tree_spec.specs.declared.Entry.TheVariants.{Stored}
@@ -13,11 +14,12 @@ use Rattle.tree_spec.proofs.ByteLists.{text_same_or_not}
 use Rattle.tree_spec.proofs.Insertion.{same_tree, get_here, get_other}
 use Rattle.tree_spec.proofs.Placings.{in_root}
 use Rattle.std.specs.FinMap.{get, insert}
-use Rattle.import_map_spec.proofs.examples.WrittenMaps.{get_map_of}
+use Rattle.import_map_spec.proofs.examples.WrittenMaps.{looked, get_map_of}
 use Rattle.import_map_spec.specs.ParsedMap.{ParsedMap, Texts}
 use Rattle.import_map_spec.specs.WrittenMaps.{Lists, map_of, map_of_lists}
 use Rattle.url_spec.specs.Bases.{base_of}
 use Rattle.url_spec.specs.Parsing.{text_of, parse_alone}
+use Rattle.url_spec.specs.Specifiers.{ends_in_slash}
 use Rattle.url_spec.specs.WebNames.{escaped, web}
 use Rattle.integrity_spec.specs.DigestTexts.{digest_text}
 use Rattle.layout_spec.proofs.examples.LaidLists.{listed_layout, layout_listed}
@@ -28,24 +30,36 @@ use Rattle.layout_spec.specs.declared.Need.{Need}
 use Rattle.layout_spec.proofs.SomeAgreed.{is_among, disagrees, agreed, agreed_above, stands_at}
 use Rattle.trace_spec.specs.Modules.{Config}
 use Rattle.trace_spec.specs.Checks.{Gathered}
-use Rattle.generator_spec.specs.declared.Command.{Command}
-use Rattle.generator_spec.specs.declared.Command.TheVariants.{Link, Inject}
+use Rattle.config_spec.proofs.ConfigsFit.{configs_are_projects}
+use Rattle.config_spec.specs.Projects.{IsConfigOf, page_path, project_path}
+use Rattle.config_spec.specs.Words.RefusesOptions.{bad_base}
+use Rattle.config_spec.specs.Words.RefusesWords.{bad_option}
+use Rattle.config_spec.specs.declared.Command.TheVariants.{Link, Inject, Refresh}
+use Rattle.config_spec.specs.declared.ConfigFault.TheVariants.{BadBase, Project}
+use Rattle.config_spec.specs.declared.ProjectFault.TheVariants as project_fault
+use Rattle.project_spec.proofs.ReadBack.{projects_read_back}
+use Rattle.project_spec.specs.ProjectFiles.{ReadsProject, project_value, project_text}
+use Rattle.std.proofs.lemmas.List.Elements.{All-nil, All-cons}
+use Rattle.std.proofs.lemmas.Str.{IsUtf8-from_is_utf8}
+use Rattle.tree_spec.specs.Paths.{IsParent}
+use Rattle.tree_spec.proofs.Placings.{placed_tree}
+use Rattle.url_spec.proofs.PathDecisions.{segment_by_test, path_by_test}
 use Rattle.generator_spec.specs.declared.PageFault.TheVariants.{Absent}
-use Rattle.generator_spec.specs.declared.Refusal.TheVariants.{BadBase, Page, Trace}
-use Rattle.generator_spec.proofs.MapPaths.{map_in_root, page_in_root}
-use Rattle.generator_spec.proofs.PageNames.{page_of_words_is_file}
+use Rattle.generator_spec.specs.declared.Refusal.TheVariants.{Config as Configured, Page, Trace}
+use Rattle.generator_spec.proofs.MapPaths.{map_is_path, map_in_root, project_in_root}
 use Rattle.generator_spec.specs.Digests.{digests}
-use Rattle.generator_spec.specs.Generation.{Generates}
-use Rattle.generator_spec.specs.Lines.{counts_line}
+use Rattle.generator_spec.specs.Generation.{Generates, PageIsFile}
+use Rattle.generator_spec.specs.Lines.{counts_line, done_line}
 use Rattle.generator_spec.specs.Commands.{IsPage, map_path}
 use Rattle.generator_spec.specs.Commands.Opens.{nothing}
 use Rattle.generator_spec.specs.Commands.Refuses.{page, trace}
 use Rattle.generator_spec.specs.Commands.RefusesPage.{absent}
-use Rattle.generator_spec.specs.Commands.Writes.{map_alone, in_page}
-use Rattle.generator_spec.specs.Commands.{NewFile, new_file}
-use Rattle.generator_spec.specs.Outcome.{ComesTo, FilesPlaced, Outcome}
-use Rattle.generator_spec.specs.Outcome.ComesTo.{words_refused, refused, written}
-use Rattle.generator_spec.specs.Words.{IsConfigOf, page_path}
+use Rattle.generator_spec.specs.Commands.IsMapping.{link}
+use Rattle.generator_spec.specs.Commands.Writes.{linked, refreshed, in_page}
+use Rattle.generator_spec.specs.Commands.{new_file, map_and_project}
+use Rattle.generator_spec.specs.Outcome.{FilesPlaced, Outcome}
+use Rattle.generator_spec.specs.Outcome.ComesTo.{refused, written}
+use Rattle.generator_spec.specs.Outcome.RefusesRun.{by_words, by_project, by_tree}
 use Rattle.page_spec.specs.Attributes.{attribute}
 use Rattle.page_spec.specs.ImportMaps.{is_map_start}
 use Rattle.page_spec.specs.Injection.{Injection}
@@ -54,27 +68,28 @@ use Rattle.page_spec.specs.declared.kinds.PieceKind.TheVariants.{Start, End, Tex
 use Rattle.page_spec.specs.Pieces.{first_piece, Part, part, Pieces}
 use Rattle.page_spec.specs.Pieces.Pieces.{none, piece}
 use Rattle.std.specs.Str.{is_utf8, chars}
-use Rattle.generator_spec.specs.Words.RefusesWords.{bad_base}
 use Rattle.soundness.proofs.Sound.{sound, modules_are_known}
-use Rattle.generator_examples.specs.Sites.{Files, tree_of, based, links, injects, levels, spelling, spelling_all, spelling_map, site, site_all, site_map, paged, paged_after, missing, clashing}
+use Rattle.generator_examples.specs.Sites.{Files, tree_of, based, links, injects, refreshes, levels, spelling, spelling_all, spelling_map, site, site_all, site_map, kept, paged, paged_after, missing, kept_missing, clashing, app_project, two_project}
 use Rattle.generator_examples.specs.Sites.{spelling_imports, site_imports, spelled_text, site_app_text, greet_text, id_text, home_text}
 use Rattle.generator_examples.specs.Packages.{app_text, b_text, menu_text, packages, packages_all, packages_imports, packages_map}
 use Rattle.generator_examples.proofs.ShortTexts.{behind, short_end, short_line}
-use Rattle.generator_examples.specs.Examples.{IsTraced, IsMapped, with_map, Trees, TraceExamples, MapExamples, EndExamples, WorkedExamples}
+use Rattle.generator_examples.specs.Examples.{IsTraced, IsMapped, with_map, linked_files, Trees, TraceExamples, MapExamples, EndExamples, WorkedExamples}
 use Rattle.generator_examples.proofs.TracedExamples.{traced_examples}
 use Rattle.generator_examples.proofs.Growing.{grown}
-use Rattle.generator_examples.proofs.Words.{is_call, gives}
+use Rattle.generator_examples.proofs.Words.{is_linking, links_ask, link_gives, inject_gives, refresh_gives, refresh_lacks}
 use Rattle.generator_examples.proofs.Counting.{counts}
-use Rattle.generator_examples.proofs.Evaluated.{levels_traced, spelling_traced, site_traced, paged_traced, packages_traced, missing_traced, clashing_traced}
+use Rattle.generator_examples.proofs.Evaluated.{levels_traced, spelling_traced, site_traced, kept_traced, paged_traced, packages_traced, missing_traced, clashing_traced}
 
 trees : Trees
 trees = record {
   of_levels = grown (drop 1 levels) refl;
   of_spelling = grown (drop 1 spelling) refl;
   of_site = grown (drop 1 site) refl;
+  of_kept = grown (drop 1 kept) refl;
   of_paged = grown (drop 1 paged) refl;
   of_packages = grown (drop 1 packages) refl;
   of_missing = grown (drop 1 missing) refl;
+  of_kept_missing = grown (drop 1 kept_missing) refl;
   of_clashing = grown (drop 1 clashing) refl;
 }
 
@@ -83,25 +98,73 @@ trace_examples = record { by_levels = levels_traced; two_spellings = spelling_tr
 
 -- ---- configs
 
-app_gives : IsConfigOf (links "https://app.test/" ("./app.mjs" ∷ [])) Link (based "https://app.test/" ("./app.mjs" ∷ []))
+app_base : base_of (codes "https://app.test/") ≡ Some (codes "https://app.test/")
 unfolding base_of parse_alone text_of url_on_literals
-app_gives = gives Link _ "https://app.test/" ("./app.mjs" ∷ []) refl refl refl refl (lit≤ tt)
+app_base = refl
 
-paged_gives : IsConfigOf (injects "https://app.test/" ("./app.mjs" ∷ [])) Inject (based "https://app.test/" ("./app.mjs" ∷ []))
+below_app_base : base_of (codes "https://app.test/app/") ≡ Some (codes "https://app.test/app/")
 unfolding base_of parse_alone text_of url_on_literals
-paged_gives = gives Inject _ "https://app.test/" ("./app.mjs" ∷ []) refl refl refl refl (lit≤ tt)
+below_app_base = refl
 
-no_page_gives : IsConfigOf (injects "https://app.test/" ("./a.mjs" ∷ "./b.mjs" ∷ [])) Inject (based "https://app.test/" ("./a.mjs" ∷ "./b.mjs" ∷ []))
-unfolding base_of parse_alone text_of url_on_literals
-no_page_gives = gives Inject _ "https://app.test/" ("./a.mjs" ∷ "./b.mjs" ∷ []) refl refl refl refl (lit≤ tt)
+app_gives : IsConfigOf (links "https://app.test/" ("./app.mjs" ∷ [])) (tree_of spelling) Link (based "https://app.test/" ("./app.mjs" ∷ []))
+app_gives = link_gives spelling "https://app.test/" ("./app.mjs" ∷ []) refl app_base refl refl
 
-missing_gives : IsConfigOf (links "https://app.test/" ("./a.mjs" ∷ "./b.mjs" ∷ [])) Link (based "https://app.test/" ("./a.mjs" ∷ "./b.mjs" ∷ []))
-unfolding base_of parse_alone text_of url_on_literals
-missing_gives = gives Link _ "https://app.test/" ("./a.mjs" ∷ "./b.mjs" ∷ []) refl refl refl refl (lit≤ tt)
+site_gives : IsConfigOf (links "https://app.test/" ("./app.mjs" ∷ [])) (tree_of site) Link (based "https://app.test/" ("./app.mjs" ∷ []))
+site_gives = link_gives site "https://app.test/" ("./app.mjs" ∷ []) refl app_base refl refl
 
-clashing_gives : IsConfigOf (links "https://app.test/app/" ("./m.mjs" ∷ [])) Link (based "https://app.test/app/" ("./m.mjs" ∷ []))
-unfolding base_of parse_alone text_of url_on_literals
-clashing_gives = gives Link _ "https://app.test/app/" ("./m.mjs" ∷ []) refl refl refl refl (lit≤ tt)
+missing_gives : IsConfigOf (links "https://app.test/" ("./a.mjs" ∷ "./b.mjs" ∷ [])) (tree_of missing) Link (based "https://app.test/" ("./a.mjs" ∷ "./b.mjs" ∷ []))
+missing_gives = link_gives missing "https://app.test/" ("./a.mjs" ∷ "./b.mjs" ∷ []) refl app_base refl refl
+
+clashing_gives : IsConfigOf (links "https://app.test/app/" ("./m.mjs" ∷ [])) (tree_of clashing) Link (based "https://app.test/app/" ("./m.mjs" ∷ []))
+clashing_gives = link_gives clashing "https://app.test/app/" ("./m.mjs" ∷ []) refl below_app_base refl refl
+
+-- ---- projects
+
+page_is_utf8 : is_utf8 page_path ≡ true
+unfolding is_utf8 chars lib.Utf8.encode
+page_is_utf8 = refl
+
+app_is_utf8 : is_utf8 (codes "./app.mjs") ≡ true
+unfolding is_utf8 chars lib.Utf8.encode
+app_is_utf8 = refl
+
+a_is_utf8 : is_utf8 (codes "./a.mjs") ≡ true
+unfolding is_utf8 chars lib.Utf8.encode
+a_is_utf8 = refl
+
+b_is_utf8 : is_utf8 (codes "./b.mjs") ≡ true
+unfolding is_utf8 chars lib.Utf8.encode
+b_is_utf8 = refl
+
+app_printed : project_text (based "https://app.test/" ("./app.mjs" ∷ [])) ≡ app_project
+unfolding project_text project_value
+app_printed = refl
+
+two_printed : project_text (based "https://app.test/" ("./a.mjs" ∷ "./b.mjs" ∷ [])) ≡ two_project
+unfolding project_text project_value
+two_printed = refl
+
+app_read : ReadsProject app_project (Ok (based "https://app.test/" ("./app.mjs" ∷ [])))
+app_read =
+    subst (λ text. ReadsProject text (Ok (based "https://app.test/" ("./app.mjs" ∷ [])))) app_printed
+    (projects_read_back _ (configs_are_projects _ _ _ _ app_gives).is_project (lit≤ tt) (IsUtf8-from_is_utf8 page_path page_is_utf8)
+    (All-cons IsUtf8 (codes "./app.mjs") [] (IsUtf8-from_is_utf8 (codes "./app.mjs") app_is_utf8) (All-nil IsUtf8)))
+
+two_read : ReadsProject two_project (Ok (based "https://app.test/" ("./a.mjs" ∷ "./b.mjs" ∷ [])))
+two_read =
+    subst (λ text. ReadsProject text (Ok (based "https://app.test/" ("./a.mjs" ∷ "./b.mjs" ∷ [])))) two_printed
+    (projects_read_back _ (configs_are_projects _ _ _ _ missing_gives).is_project (lit≤ tt) (IsUtf8-from_is_utf8 page_path page_is_utf8)
+    (All-cons IsUtf8 (codes "./a.mjs") (codes "./b.mjs" ∷ []) (IsUtf8-from_is_utf8 (codes "./a.mjs") a_is_utf8)
+    (All-cons IsUtf8 (codes "./b.mjs") [] (IsUtf8-from_is_utf8 (codes "./b.mjs") b_is_utf8) (All-nil IsUtf8))))
+
+paged_gives : IsConfigOf injects (tree_of paged) Inject (based "https://app.test/" ("./app.mjs" ∷ []))
+paged_gives = inject_gives paged _ app_project refl (lit≤ tt) app_read
+
+kept_gives : IsConfigOf refreshes (tree_of kept) Refresh (based "https://app.test/" ("./app.mjs" ∷ []))
+kept_gives = refresh_gives kept _ app_project refl (lit≤ tt) app_read
+
+no_page_gives : IsConfigOf injects (tree_of kept_missing) Inject (based "https://app.test/" ("./a.mjs" ∷ "./b.mjs" ∷ []))
+no_page_gives = inject_gives kept_missing _ two_project refl (lit≤ tt) two_read
 
 ftp_is_none : base_of (codes "ftp://h/") ≡ None
 unfolding base_of parse_alone text_of url_on_literals
@@ -119,9 +182,8 @@ digested needs pairs = with_pairs (listed_layout needs) pairs
 abbrev with_integrity : ParsedMap → Texts (List ℕ) → ParsedMap
 with_integrity layout digests = record { imports = layout.imports; scopes = layout.scopes; integrity = digests }
 
-abbrev generated : (words : List (List ℕ)) (command : Command) (files : Files) (config : Config) (all : Gathered) (pairs : List (List ℕ × List ℕ)) (text : List ℕ) → IsConfigOf words command config → IsTraced files config all → digests config all.modules all.sources ≡ map_of pairs → listed_text (digested all.needs pairs) ≡ text → length text ≤ limit_number Map → Generates (tree_of files) config text
-generated words command files config all pairs text is is_traced are e small = record {
-  page_is_file = page_of_words_is_file words command config is;
+abbrev generated : (files : Files) (config : Config) (all : Gathered) (pairs : List (List ℕ × List ℕ)) (text : List ℕ) → IsTraced files config all → digests config all.modules all.sources ≡ map_of pairs → listed_text (digested all.needs pairs) ≡ text → length text ≤ limit_number Map → Generates (tree_of files) config text
+generated files config all pairs text is_traced are e small = record {
   all = all;
   is_traced = is_traced;
   layout = map_of_lists (listed_layout all.needs);
@@ -195,27 +257,45 @@ packages_short =
     (short_line "    \"https://app.test/app.js\": " app_text ",\n" (short_line "    \"https://app.test/node_modules/ui/b.js\": " b_text ",\n" (short_line "    \"https://app.test/node_modules/ui/node_modules/@ui/core/lib/index.mjs\": " (codes "export const h = 1;") ",\n" (short_line "    \"https://app.test/node_modules/ui/x/menu.js\": " menu_text ",\n" (short_line "    \"https://app.test/own.js\": " (codes "export const own = 0;") "\n" short_end (lit≤ tt) (lit≤ tt)) (lit≤ tt) (lit≤ tt)) (lit≤ tt) (lit≤ tt)) (lit≤ tt) (lit≤ tt)) (lit≤ tt) (lit≤ tt))
     (lit≤ tt) (lit≤ tt)
 
-mapped : (files : Files) (config : Config) (text : List ℕ) → Generates (tree_of files) config text → IsMapped files config text
-mapped files config text is = record { generates = is; serves = sound (tree_of files) config text is; knows = modules_are_known (tree_of files) config text is }
+abbrev some_text : List ℕ → Option (List ℕ)
+some_text text = Some text
+
+-- the page's URL is no folder's, whatever the entries
+home_is_file : (asked : List String) → PageIsFile (based "https://app.test/" asked)
+unfolding web escaped parse_alone text_of url_on_literals
+home_is_file asked name is =
+    let named : some_text (codes "https://app.test/index.html") ≡ Some name = is in
+    let same : codes "https://app.test/index.html" ≡ name = cc in
+    subst (λ text. ends_in_slash text ≡ false) same refl
+
+mapped : (files : Files) (asked : List String) (text : List ℕ) → Generates (tree_of files) (based "https://app.test/" asked) text → IsMapped files (based "https://app.test/" asked) text
+mapped files asked text is = record {
+  generates = is;
+  serves = sound (tree_of files) (based "https://app.test/" asked) text (home_is_file asked) is;
+  knows = modules_are_known (tree_of files) (based "https://app.test/" asked) text is;
+}
 
 abbrev spelling_generates : Generates (tree_of spelling) (based "https://app.test/" ("./app.mjs" ∷ [])) spelling_map
-spelling_generates = generated _ Link spelling _ spelling_all spelling_pairs spelling_map app_gives spelling_traced spelling_digests spelling_text spelling_short
+spelling_generates = generated spelling _ spelling_all spelling_pairs spelling_map spelling_traced spelling_digests spelling_text spelling_short
 
 abbrev site_generates : Generates (tree_of site) (based "https://app.test/" ("./app.mjs" ∷ [])) site_map
-site_generates = generated _ Link site _ site_all site_pairs site_map app_gives site_traced site_digests site_text site_short
+site_generates = generated site _ site_all site_pairs site_map site_traced site_digests site_text site_short
 
 abbrev paged_generates : Generates (tree_of paged) (based "https://app.test/" ("./app.mjs" ∷ [])) spelling_map
-paged_generates = generated _ Inject paged _ spelling_all spelling_pairs spelling_map paged_gives paged_traced spelling_digests spelling_text spelling_short
+paged_generates = generated paged _ spelling_all spelling_pairs spelling_map paged_traced spelling_digests spelling_text spelling_short
 
-packages_give : IsConfigOf (links "https://app.test/" ("./app.js" ∷ [])) Link (based "https://app.test/" ("./app.js" ∷ []))
-unfolding base_of parse_alone text_of url_on_literals
-packages_give = gives Link _ "https://app.test/" ("./app.js" ∷ []) refl refl refl refl (lit≤ tt)
+abbrev kept_generates : Generates (tree_of kept) (based "https://app.test/" ("./app.mjs" ∷ [])) spelling_map
+kept_generates = generated kept _ spelling_all spelling_pairs spelling_map kept_traced spelling_digests spelling_text spelling_short
 
 abbrev packages_generate : Generates (tree_of packages) (based "https://app.test/" ("./app.js" ∷ [])) packages_map
-packages_generate = generated _ Link packages _ packages_all packages_pairs packages_map packages_give packages_traced packages_digests packages_text packages_short
+packages_generate = generated packages _ packages_all packages_pairs packages_map packages_traced packages_digests packages_text packages_short
 
 map_examples : MapExamples
-map_examples = record { two_spellings = mapped spelling _ spelling_map spelling_generates; of_site = mapped site _ site_map site_generates; of_packages = mapped packages _ packages_map packages_generate }
+map_examples = record {
+  two_spellings = mapped spelling ("./app.mjs" ∷ []) spelling_map spelling_generates;
+  of_site = mapped site ("./app.mjs" ∷ []) site_map site_generates;
+  of_packages = mapped packages ("./app.js" ∷ []) packages_map packages_generate;
+}
 
 -- ---- ends
 
@@ -231,6 +311,40 @@ site_mappings = counts (listed_layout site_all.needs) ∙ refl
 -- the map stands in the root
 placed : (files : Files) (text : List ℕ) → IsTree (tree_of files) → insert (tree_of files) (codes "/importmap.json") (Stored text) ≡ tree_of (with_map files text) → Places (tree_of files) (codes "/importmap.json") (Stored text) (tree_of (with_map files text))
 placed files text is same = (in_root (tree_of files) (codes "/importmap.json") (Stored text) (tree_of (with_map files text)) is map_in_root).1 (sym same)
+
+-- what a list of files has at a path
+looked_at : (files : Files) (path : List ℕ) → get (tree_of files) path ≡ looked files path
+looked_at files path = ap (λ (f : Sights). f path) (get_map_of files)
+
+-- the map stands in the root, and then the project
+placed_two : (files : Files) (text project : List ℕ) → IsTree (tree_of files) → looked files map_path ≡ None → insert (tree_of files) map_path (Stored text) ≡ tree_of (with_map files text)
+    → insert (tree_of (with_map files text)) project_path (Stored project) ≡ tree_of (linked_files files text project)
+    → FilesPlaced (tree_of files) (new_file map_path text ∷ new_file project_path project ∷ []) (tree_of (linked_files files text project))
+placed_two files text project is free first second =
+    let middle = tree_of (with_map files text) in
+    let places = placed files text is first in
+    let none : get (tree_of files) map_path ≡ None = looked_at files map_path ∙ free in (
+      middle,
+      places,
+      (
+        tree_of (linked_files files text project),
+        (in_root middle project_path (Stored project) (tree_of (linked_files files text project))
+            (placed_tree (tree_of files) map_path (Stored text) middle is map_is_path (λ e. absurd (cc)) places) project_in_root).1 (sym second),
+        refl,
+      ),
+    )
+
+-- the project's text is the one that was typed
+linked_outcome : (files : Files) (base : String) (asked : List String) (map project : List ℕ) (line : List ℕ) → project_text (based base asked) ≡ project → IsConfigOf (links base asked) (tree_of files) Link (based base asked) → (generates : Generates (tree_of files) (based base asked) map)
+    → line ∷ [] ≡ done_line generates.all generates.layout ∷ []
+    → FilesPlaced (tree_of files) (new_file map_path map ∷ new_file project_path (project_text (based base asked)) ∷ []) (tree_of (linked_files files map (project_text (based base asked))))
+    → Outcome (links base asked) (tree_of files) 0 (line ∷ []) (tree_of (linked_files files map project))
+linked_outcome files base asked map project line printed gives generates says placed =
+    subst (λ text. Outcome (links base asked) (tree_of files) 0 (line ∷ []) (tree_of (linked_files files map text))) printed
+    (record { files = map_and_project (based base asked) map; comes = written Link _ map gives generates linked refl says; placed = placed })
+
+page_parent : IsParent (codes "/") page_path
+page_parent = record { name = codes "index.html"; segment = segment_by_test (codes "index.html") refl; is_path = path_by_test (codes "/") refl; text = refl }
 
 -- the page takes the map
 abbrev page_after : List ℕ
@@ -266,7 +380,7 @@ page_takes : Injection spelling_map page_text (Ok page_after)
 page_takes = subst (λ new. Injection spelling_map page_text (Ok new)) page_is_after page_injected
 
 page_stands : IsPage (tree_of paged) (based "https://app.test/" ("./app.mjs" ∷ [])) page_text
-page_stands = record { stands = get_here (tree_of spelling) page_path (Stored page_text); small = lit≤ tt }
+page_stands = record { stands = get_here (tree_of kept) page_path (Stored page_text); small = lit≤ tt }
 
 -- what is placed again is placed once
 twice : (tree : Tree) (path : List ℕ) (old new : Entry) → insert (insert tree path old) path new ≡ insert tree path new
@@ -277,21 +391,23 @@ twice tree path old new = same_tree _ _ (λ other. by other (text_same_or_not ot
     by other (inr n) = get_other (insert tree path old) path new other n ∙ (get_other tree path old other n ∙ sym (get_other tree path new other n))
 
 page_placed : Places (tree_of paged) page_path (Stored page_after) (tree_of paged_after)
-page_placed = (in_root (tree_of paged) page_path (Stored page_after) (tree_of paged_after) trees.of_paged page_in_root).1 (sym (twice (tree_of spelling) page_path (Stored page_text) (Stored page_after)))
+page_placed = (in_root (tree_of paged) page_path (Stored page_after) (tree_of paged_after) trees.of_paged page_parent).1 (sym (twice (tree_of kept) page_path (Stored page_text) (Stored page_after)))
 
-no_page : get (tree_of missing) page_path ≡ None
-no_page = ap (λ (f : Sights). f page_path) (get_map_of missing) ∙ refl
+no_page : get (tree_of kept_missing) page_path ≡ None
+no_page = looked_at kept_missing page_path ∙ refl
 
 end_examples : EndExamples
 unfolding digits
 end_examples = record {
-  two_spellings = record { files = new_file map_path spelling_map ∷ []; comes = written Link _ spelling_map app_gives spelling_generates map_alone refl (sym (ap (λ n. counts_line 2 2 n ∷ []) spelling_mappings)); placed = (_, placed spelling spelling_map trees.of_spelling refl, refl) };
-  of_site = record { files = new_file map_path site_map ∷ []; comes = written Link _ site_map app_gives site_generates map_alone refl (sym (ap (λ n. counts_line 5 8 n ∷ []) site_mappings)); placed = (_, placed site site_map trees.of_site refl, refl) };
+  two_spellings = linked_outcome spelling "https://app.test/" ("./app.mjs" ∷ []) spelling_map app_project _ app_printed app_gives spelling_generates (sym (ap (λ n. counts_line 2 2 n ∷ []) spelling_mappings)) (placed_two spelling spelling_map _ trees.of_spelling refl refl refl);
+  of_site = linked_outcome site "https://app.test/" ("./app.mjs" ∷ []) site_map app_project _ app_printed site_gives site_generates (sym (ap (λ n. counts_line 5 8 n ∷ []) site_mappings)) (placed_two site site_map _ trees.of_site refl refl refl);
+  refreshed = record { files = new_file map_path spelling_map ∷ []; comes = written Refresh _ spelling_map kept_gives kept_generates refreshed refl (sym (ap (λ n. counts_line 2 2 n ∷ []) spelling_mappings)); placed = (_, placed kept spelling_map trees.of_kept refl, refl) };
   in_page = record { files = new_file page_path page_after ∷ []; comes = written Inject _ spelling_map paged_gives paged_generates (in_page page_text page_after page_stands page_takes) refl (sym (ap (λ n. counts_line 2 2 n ∷ []) spelling_mappings)); placed = (_, page_placed, refl) };
-  no_page = record { files = []; comes = refused Inject _ (Page Absent) no_page_gives (page Absent (absent no_page)) refl refl refl; placed = refl };
-  second_entry = record { files = []; comes = refused Link _ (Trace _) missing_gives (trace Link _ nothing missing_traced) refl refl refl; placed = refl };
-  two_targets = record { files = []; comes = refused Link _ (Trace _) clashing_gives (trace Link _ nothing clashing_traced) refl refl refl; placed = refl };
-  no_base = λ tree. record { files = []; comes = words_refused (BadBase (codes "ftp://h/")) (bad_base Link (codes "ftp://h/") _ (is_call Link _ "ftp://h/" ("./app.mjs" ∷ []) refl refl) ftp_is_none) refl refl refl; placed = refl };
+  no_page = record { files = []; comes = refused (Page Absent) (by_tree Inject _ (Page Absent) no_page_gives (page Absent (absent no_page))) refl refl refl; placed = refl };
+  no_project = record { files = []; comes = refused (Configured (Project project_fault.Absent)) (by_project (Project project_fault.Absent) (refresh_lacks spelling refl)) refl refl refl; placed = refl };
+  second_entry = record { files = []; comes = refused (Trace _) (by_tree Link _ (Trace _) missing_gives (trace Link _ (nothing Link link) missing_traced)) refl refl refl; placed = refl };
+  two_targets = record { files = []; comes = refused (Trace _) (by_tree Link _ (Trace _) clashing_gives (trace Link _ (nothing Link link) clashing_traced)) refl refl refl; placed = refl };
+  no_base = λ tree. record { files = []; comes = refused (Configured (BadBase (codes "ftp://h/"))) (by_words (BadBase (codes "ftp://h/")) (bad_option (is_linking "ftp://h/" ("./app.mjs" ∷ [])) Link (BadBase (codes "ftp://h/")) (links_ask "ftp://h/" ("./app.mjs" ∷ []) refl) refl (bad_base (codes "ftp://h/") refl ftp_is_none))) refl refl refl; placed = refl };
 }
 
 pub worked_examples : WorkedExamples

@@ -3,6 +3,7 @@
 --     IsMapped files config text      the files have a map with this text, which serves and knows the modules
 --     Ends files words status line after      how a command ends: its status, its line, the files that it leaves
 --     with_map files text             the files, with the map beside them
+--     linked_files files text project      the same, and the project behind it
 --     Trees, TraceExamples, MapExamples      that the sites are trees; their traces; their maps
 --     EndExamples                     how commands end
 use Rattle.std.specs.Prelude.{◌≡◌, ℕ, List, [], ◌∷◌, ◌++◌, codes, Ok}
@@ -15,9 +16,9 @@ use Rattle.trace_spec.specs.Traces.{traced}
 use Rattle.generator_spec.specs.Generation.{Generates}
 use Rattle.generator_spec.specs.Serves.{KnowsModules, Serves}
 use Rattle.generator_spec.specs.Outcome.{Outcome}
-use Rattle.generator_examples.specs.Sites.{Files, tree_of, file, based, links, injects, levels, levels_all, spelling}
-use Rattle.generator_examples.specs.Sites.{spelling_all, spelling_map, site, site_all, site_map}
-use Rattle.generator_examples.specs.Sites.{paged, paged_after, missing, clashing}
+use Rattle.generator_examples.specs.Sites.{Files, tree_of, file, based, links, injects, refreshes, levels, levels_all}
+use Rattle.generator_examples.specs.Sites.{spelling, spelling_all, spelling_map, site, site_all, site_map}
+use Rattle.generator_examples.specs.Sites.{app_project, kept, paged, paged_after, missing, kept_missing, clashing}
 use Rattle.generator_examples.specs.Traced.{TracedExamples}
 use Rattle.generator_examples.specs.Packages.{packages, packages_all, packages_map}
 
@@ -40,9 +41,11 @@ pub record Trees : Type 0 where
   pub of_levels : IsTree (tree_of levels)
   pub of_spelling : IsTree (tree_of spelling)
   pub of_site : IsTree (tree_of site)
+  pub of_kept : IsTree (tree_of kept)
   pub of_paged : IsTree (tree_of paged)
   pub of_packages : IsTree (tree_of packages)
   pub of_missing : IsTree (tree_of missing)
+  pub of_kept_missing : IsTree (tree_of kept_missing)
   pub of_clashing : IsTree (tree_of clashing)
 
 pub record TraceExamples : Type 0 where
@@ -60,18 +63,22 @@ pub record MapExamples : Type 0 where
 abbrev pub with_map : Files → List ℕ → Files
 with_map files text = files ++ file "/importmap.json" text ∷ []
 
+-- the files, with the map and the project beside them
+abbrev pub linked_files : Files → List ℕ → List ℕ → Files
+linked_files files text project = with_map files text ++ file "/importmap.project.json" project ∷ []
+
 pub record EndExamples : Type 0 where
   pub two_spellings :
       Ends spelling (links "https://app.test/" ("./app.mjs" ∷ [])) 0 "ok: 2 modules, 2 requests, 1 mappings\n"
-      (with_map spelling spelling_map)
+      (linked_files spelling spelling_map app_project)
   pub of_site :
       Ends site (links "https://app.test/" ("./app.mjs" ∷ [])) 0 "ok: 5 modules, 8 requests, 1 mappings\n"
-      (with_map site site_map)
-  pub in_page :
-      Ends paged (injects "https://app.test/" ("./app.mjs" ∷ [])) 0 "ok: 2 modules, 2 requests, 1 mappings\n"
-      paged_after
-  pub no_page :
-      Ends missing (injects "https://app.test/" ("./a.mjs" ∷ "./b.mjs" ∷ [])) 7 "bad file: page absent\n" missing
+      (linked_files site site_map app_project)
+  -- the map alone, for the project that is there
+  pub refreshed : Ends kept refreshes 0 "ok: 2 modules, 2 requests, 1 mappings\n" (with_map kept spelling_map)
+  pub in_page : Ends paged injects 0 "ok: 2 modules, 2 requests, 1 mappings\n" paged_after
+  pub no_page : Ends kept_missing injects 7 "bad file: page absent\n" kept_missing
+  pub no_project : Ends spelling refreshes 7 "bad file: project absent\n" spelling
   pub second_entry :
       Ends missing (links "https://app.test/" ("./a.mjs" ∷ "./b.mjs" ∷ [])) 1
       "refused: NotFound from \"/b.mjs\" for \"./q.mjs\"\n" missing

@@ -3,9 +3,9 @@
 --     packages_all              the tables of its trace
 --     packages_map              the text of its map, which begins with packages_imports
 use Rattle.std.specs.Prelude.{ℕ, List, [], ◌∷◌, ◌++◌, codes}
-use Rattle.layout_spec.specs.WorkedExamples.{need}
+use Rattle.layout_spec.specs.WorkedExamples.{need, lines}
 use Rattle.trace_spec.specs.Checks.{Gathered}
-use Rattle.generator_examples.specs.Sites.{Files, folder, file, lines, digest_line, map_end, module_at, spelled, source}
+use Rattle.generator_examples.specs.Sites.{Files, folder, file, digest_line, map_end, module_at, spelled, source}
 
 abbrev pub own_record : List ℕ
 own_record =

@@ -1,14 +1,15 @@
 -- Small sites that are written out, with what must come of them, typed by hand.
 --     Files, tree_of files      paths with what stands there, and the tree of them
 --     folder path, file path bytes      one of them
---     lines written, texts written      a text of these lines; these texts
+--     texts written             these texts
 --     digest_line front bytes back rest      a line with the digest of these bytes between two texts, and the rest
 --     based base asked          the config with this base and these entries, and the page `/index.html`
---     links base asked, injects base asked      the words of a command with this base and these entries
+--     links base asked, injects, refreshes      the words of a command, of `link` with this base and these entries
+--     project entries           the project's file of `https://app.test/` with these lines of entries
 --     module_at path            the module of a file
 --     spelled referrer specifier path      a need's spelling by what is shown so, which leads to the module of a file
 --     source bytes asked        the source with these bytes, which asks for these specifiers
---     levels, spelling, site, paged, missing, clashing      the sites
+--     levels, spelling, site, kept, paged, missing, kept_missing, clashing      the sites
 --     levels_all, spelling_all, site_all      the tables of their traces
 --     spelling_map, site_map    the texts of their maps, which begin with spelling_imports, site_imports
 --     paged_after               the files of a site whose page has its map
@@ -20,11 +21,11 @@ use Rattle.tree_spec.specs.Trees.{Tree}
 use Rattle.json_spec.specs.PrintedString.{quoted}
 use Rattle.import_map_spec.specs.WrittenMaps.{map_of}
 use Rattle.integrity_spec.specs.DigestTexts.{digest_text}
-use Rattle.layout_spec.specs.WorkedExamples.{need}
+use Rattle.layout_spec.specs.WorkedExamples.{need, lines}
 use Rattle.trace_spec.specs.Modules.{Config, Module}
 use Rattle.trace_spec.specs.Questions.{Source}
 use Rattle.trace_spec.specs.Checks.{Gathered, Spelling}
-use Rattle.generator_spec.specs.Words.{link_conditions}
+use Rattle.config_spec.specs.Projects.{link_conditions}
 
 -- own: the list of a tree's entries
 abbrev pub Files : Type 0
@@ -38,10 +39,6 @@ folder path = (codes path, Directory)
 
 abbrev pub file : String → List ℕ → List ℕ × Entry
 file path bytes = (codes path, Stored bytes)
-
-abbrev pub lines : List String → List ℕ
-lines [] = []
-lines (line ∷ more) = codes line ++ (10 ∷ lines more)
 
 -- a line of a map's integrity, with the digest of a file's bytes, and what follows it; and what stands behind the last
 abbrev pub digest_line : String → List ℕ → String → List ℕ → List ℕ
@@ -64,8 +61,32 @@ based base asked = record {
 abbrev pub links : String → List String → List (List ℕ)
 links base asked = texts ("link" ∷ "--base" ∷ base ∷ asked)
 
-abbrev pub injects : String → List String → List (List ℕ)
-injects base asked = texts ("inject" ∷ "--base" ∷ base ∷ asked)
+abbrev pub injects : List (List ℕ)
+injects = texts ("inject" ∷ [])
+
+abbrev pub refreshes : List (List ℕ)
+refreshes = texts ("refresh" ∷ [])
+
+-- what `link` writes where there is no project
+abbrev pub project : List String → List ℕ
+project entries =
+    lines
+    ("{"
+    ∷ "  \"base\": \"https://app.test/\","
+    ∷ "  \"page\": \"/index.html\","
+    ∷ "  \"conditions\": ["
+    ∷ "    \"browser\","
+    ∷ "    \"import\""
+    ∷ "  ],"
+    ∷ "  \"entries\": ["
+    ∷ [])
+    ++ (lines entries ++ lines ("  ]" ∷ "}" ∷ []))
+
+abbrev pub app_project : List ℕ
+app_project = project ("    \"./app.mjs\"" ∷ [])
+
+abbrev pub two_project : List ℕ
+two_project = project ("    \"./a.mjs\"," ∷ "    \"./b.mjs\"" ∷ [])
 
 abbrev pub module_at : String → Module
 module_at path = record { path = codes path; suffix = [] }
@@ -151,10 +172,13 @@ spelling_map =
     ++ digest_line "    \"https://app.test/ab.mjs\": " [] ",\n"
     (digest_line "    \"https://app.test/app.mjs\": " spelled_text "\n" map_end)
 
--- ---- the same with a page, without its map and with it
+-- ---- the same with its project, and with a page, without its map and with it
+
+abbrev pub kept : Files
+kept = spelling ++ file "/importmap.project.json" app_project ∷ []
 
 abbrev pub paged_with : List ℕ → Files
-paged_with page = spelling ++ file "/index.html" page ∷ []
+paged_with page = kept ++ file "/index.html" page ∷ []
 
 abbrev pub paged : Files
 paged = paged_with (lines ("<head></head>" ∷ []))
@@ -278,6 +302,10 @@ missing =
     ∷ file "/b.mjs" (codes "import \"./q.mjs\";")
     ∷ file "/c.mjs" (codes "import x")
     ∷ []
+
+-- the same with a project of both entries
+abbrev pub kept_missing : Files
+kept_missing = missing ++ file "/importmap.project.json" two_project ∷ []
 
 -- under the base `https://app.test/app/` both specifiers have the URL `https://app.test/app/x.mjs`, and Node leads them
 -- to two files

@@ -17,7 +17,7 @@ use Rattle.trace_spec.specs.Modules.{Config}
 use Rattle.trace_spec.specs.Checks.{Gathered}
 use Rattle.trace_spec.specs.Traces.{traced}
 use Rattle.generator_spec.specs.Lines.{trace_line}
-use Rattle.generator_spec.specs.Words.{page_path, link_conditions}
+use Rattle.config_spec.specs.Projects.{page_path, link_conditions}
 use Rattle.generator_examples.specs.Sites.{Files, tree_of, folder, file, based}
 
 abbrev pub says : Result Gathered TraceFault → List ℕ

@@ -1,5 +1,5 @@
 -- What the status of an end says of the folder and of the faults.
-use Rattle.std.proofs.Common.{◌≡◌, ◌≢◌, ◌<◌, ◌++◌, ◌⊎◌, ℕ, zero, suc, List, [], ◌∷◌, length, take, Option, Some, None, IfSome, inl, inr, ⊎_elim, refl, sym, ap, ◌∙◌, subst, arith}
+use Rattle.std.proofs.Common.{◌≡◌, ◌≢◌, ◌⊎◌, ℕ, List, [], ◌∷◌, Option, Some, None, IfSome, inl, inr, ⊎_elim, refl, sym, ap, ◌∙◌, subst, arith}
 use Rattle.std.specs.List.{concat}
 use Rattle.std.proofs.lemmas.List.{append-nil}
 use Rattle.tree_spec.specs.Counts.{Rose}
@@ -12,23 +12,30 @@ use Rattle.trace_spec.specs.declared.TraceFault.TheVariants as fault
 use Rattle.trace_spec.specs.Kinds.{IsOfTrace}
 use Rattle.trace_spec.specs.Modules.{Config}
 use Rattle.generator_spec.specs.declared.Refusal.{Refusal}
-use Rattle.generator_spec.specs.declared.Refusal.TheVariants as refusal
-use Rattle.generator_spec.specs.Words.{RefusesWords}
-use Rattle.generator_spec.specs.declared.Command.{Command}
-use Rattle.generator_spec.specs.declared.Command.TheVariants.{Check}
+use Rattle.generator_spec.specs.declared.Refusal.TheVariants.{Config as Configured}
+use Rattle.words_spec.specs.PlainWords.{Asked, LinkOptions}
+use Rattle.config_spec.specs.declared.ConfigFault.{ConfigFault}
+use Rattle.config_spec.specs.Words.{IsPlain, options_of, RefusesOptions, RefusesWords}
+use Rattle.config_spec.specs.Words.RefusesOptions.{bad_base, bad_path, bad_conditions}
+use Rattle.config_spec.specs.Words.RefusesWords.{not_built, bad_option}
+use Rattle.config_spec.specs.Projects.{RefusesAsked}
+use Rattle.config_spec.specs.Projects.IsReadFault.{too_large, not_project, above}
+use Rattle.config_spec.specs.Projects.RefusesAsked.{bad_project, no_project, no_base, too_many_entries, not_linked}
+use Rattle.config_spec.specs.declared.Command.{Command}
+use Rattle.config_spec.specs.declared.Command.TheVariants.{Check}
 use Rattle.generator_spec.specs.declared.MapFileFault.{MapFileFault}
 use Rattle.generator_spec.specs.declared.MapFileFault.TheVariants as map_file
 use Rattle.generator_spec.specs.declared.PageFault.{PageFault}
 use Rattle.generator_spec.specs.declared.PageFault.TheVariants.{Absent, TooLarge, KeepsMapsOut}
-use Rattle.generator_spec.specs.Commands.{IsOfPage, IsRefusalOf, IsRefusalOf as kind, NewFile, Writes, Writes as writes}
-use Rattle.generator_spec.specs.Checking.{check_status, check_lines}
-use Rattle.generator_spec.specs.Words.RefusesWords.{no_call, bad_base, too_many_entries}
-use Rattle.generator_spec.specs.Lines.{page_status, map_file_status, trace_status, status_of, line_of, memory_line}
+use Rattle.generator_spec.specs.Commands.{IsOfPage, IsRefusalOf, IsRefusalOf as kind, NewFile}
+use Rattle.generator_spec.specs.Checking.{check_status}
+use Rattle.generator_spec.specs.Lines.{config_status, config_line, page_status, map_file_status, trace_status, status_of, line_of, memory_line}
 use Rattle.generator_spec.specs.Statuses.{LeavesTree}
 use Rattle.generator_spec.specs.Outcome.{ComesTo, ComesTo as comes, FilesPlaced, Outcome}
-use Rattle.generator_spec.specs.Ending.{IsDone, IsChecked, StopsWriting, Shaped, Says, Ends, Shaped as shaped, Says as says, Ends as ends}
-use Rattle.generator_spec.specs.Promises.{Untouched, Shows}
-use Rattle.generator_spec.proofs.Configs.{one_words_refusal, refused_or_config}
+use Rattle.generator_spec.specs.Ending.{CanRefuse, CanRefuse as can, IsDone, StopsWriting, Shaped, Says, Ends}
+use Rattle.generator_spec.specs.Ending.{Shaped as shaped, Says as says, Ends as ends}
+use Rattle.generator_spec.specs.Promises.{AreWrong, HasStopped, Untouched, Shows}
+use Rattle.generator_spec.proofs.Configs.{command_for, command_is_plain, one_words_fault, refused_is_plain, refused_or_command}
 
 -- ---- statuses
 
@@ -41,10 +48,23 @@ data IsRefusing (status : ℕ) : Type 0 where
   seven : status ≡ 7 → IsRefusing status
   nine : status ≡ 9 → IsRefusing status
 
-words_refusing : (words : List (List ℕ)) (why : Refusal) → RefusesWords words why → IsRefusing (status_of why)
-words_refusing words why (no_call none) = nine refl
-words_refusing words why (bad_base command base entries call none) = two refl
-words_refusing words why (too_many_entries command base url entries call is many) = three refl
+options_refusing : (options : LinkOptions) (fault : ConfigFault) → RefusesOptions options fault → IsRefusing (config_status fault)
+options_refusing options fault (bad_base text given none) = two refl
+options_refusing options fault (bad_path base text sets given none) = two refl
+options_refusing options fault (bad_conditions base page text sets sets_page given none) = two refl
+
+words_refusing : (words : List (List ℕ)) (fault : ConfigFault) → RefusesWords words fault → IsRefusing (config_status fault)
+words_refusing words fault (not_built asked asks none) = nine refl
+words_refusing words fault (bad_option asked command why asks is refuses) = options_refusing (options_of asked) fault refuses
+
+asked_refusing : (asked : Asked) (fault : ConfigFault) → RefusesAsked asked fault → IsRefusing (config_status fault)
+asked_refusing asked fault (bad_project _ _ too_large) = three refl
+asked_refusing asked fault (bad_project _ _ (not_project at)) = seven refl
+asked_refusing asked fault (bad_project _ _ (above which is)) = three refl
+asked_refusing asked fault (no_project _ other) = seven refl
+asked_refusing asked fault (no_base options entries none) = two refl
+asked_refusing asked fault (too_many_entries options entries) = three refl
+asked_refusing asked fault (not_linked entries front entry rest parts distinct) = one refl
 
 trace_refusing : (config : Config) (why : TraceFault) → IsOfTrace config why → IsRefusing (trace_status why)
 trace_refusing config (fault.Unservable path url) kind = one refl
@@ -76,6 +96,11 @@ refusing config command why (kind.trace same fault is) = trace_refusing config f
 refusing config command why (kind.map_file fault) = map_file_refusing fault
 refusing config command why (kind.large_map same generating) = three refl
 
+can_refusing : (words : List (List ℕ)) (why : Refusal) → CanRefuse words why → IsRefusing (status_of why)
+can_refusing words why (can.by_words fault is) = words_refusing words fault is
+can_refusing words why (can.by_project fault is) = asked_refusing is.asked fault is.refuses
+can_refusing words why (can.by_tree command config reason is of) = refusing config command reason of
+
 check_refusing : (differing : List (List ℕ)) → (check_status differing ≡ 0) ⊎ IsRefusing (check_status differing)
 check_refusing [] = inl refl
 check_refusing (line ∷ more) = inr (six refl)
@@ -83,10 +108,8 @@ check_refusing (line ∷ more) = inr (six refl)
 shaped_status :
     (words : List (List ℕ)) (status : ℕ) (lines : List (List ℕ)) → Shaped words status lines
     → (status ≡ 0) ⊎ IsRefusing status
-shaped_status words status lines (shaped.words_refused why refuses s l) =
-    inr (subst IsRefusing (sym s) (words_refusing words why refuses))
-shaped_status words status lines (shaped.refused command config why is of s l) =
-    inr (subst IsRefusing (sym s) (refusing config command why of))
+shaped_status words status lines (shaped.not_plain text none s l) = inr (two s)
+shaped_status words status lines (shaped.refused why is s l) = inr (subst IsRefusing (sym s) (can_refusing words why is))
 shaped_status words status lines (shaped.done line s l counted) = inl s
 shaped_status words status lines (shaped.checked is) =
     subst (λ n. (n ≡ 0) ⊎ IsRefusing n) (sym is.ends) (check_refusing is.differing)
@@ -107,47 +130,9 @@ no_refusing status (six e) = (λ f. omega arith, λ f. omega arith, λ f. omega 
 no_refusing status (seven e) = (λ f. omega arith, λ f. omega arith, λ f. omega arith)
 no_refusing status (nine e) = (λ f. omega arith, λ f. omega arith, λ f. omega arith)
 
-page_not_two : (why : PageFault) → page_status why ≢ 2
-page_not_two Absent e = omega (arith, e)
-page_not_two TooLarge e = omega (arith, e)
-page_not_two (KeepsMapsOut (PageUnclear at)) e = omega (arith, e)
-page_not_two (KeepsMapsOut (TwoMaps at)) e = omega (arith, e)
-page_not_two (KeepsMapsOut NoPlace) e = omega (arith, e)
-page_not_two (KeepsMapsOut page.Memory) e = omega (arith, e)
-
-trace_not_two : (why : TraceFault) → trace_status why ≢ 2
-trace_not_two (fault.Unservable path url) e = omega (arith, e)
-trace_not_two (fault.Refused referrer specifier cause) e = omega (arith, e)
-trace_not_two (fault.Clash referrer first first_to second second_to) e = omega (arith, e)
-trace_not_two (fault.NotModule path reason) e = omega (arith, e)
-trace_not_two (fault.Limit which) e = omega (arith, e)
-trace_not_two fault.ReadFault e = omega (arith, e)
-trace_not_two fault.Memory e = omega (arith, e)
-
-map_file_not_two : (why : MapFileFault) → map_file_status why ≢ 2
-map_file_not_two map_file.Absent e = omega (arith, e)
-map_file_not_two map_file.TooLarge e = omega (arith, e)
-map_file_not_two (map_file.NotJson at) e = omega (arith, e)
-map_file_not_two map_file.TooDeep e = omega (arith, e)
-map_file_not_two (map_file.NotObject which) e = omega (arith, e)
-
 check_not_two : (differing : List (List ℕ)) → check_status differing ≢ 2
 check_not_two [] e = omega (arith, e)
 check_not_two (line ∷ more) e = omega (arith, e)
-
-refusal_not_two : (config : Config) (command : Command) (why : Refusal) → IsRefusalOf config command why → status_of why ≢ 2
-refusal_not_two config command why (kind.page fault is) = page_not_two fault
-refusal_not_two config command why (kind.trace same fault is) = trace_not_two fault
-refusal_not_two config command why (kind.map_file fault) = map_file_not_two fault
-refusal_not_two config command why (kind.large_map same generating) = λ e. omega (arith, e)
-
--- status 2 is that of a bad base
-bad_base_of :
-    (words : List (List ℕ)) (why : Refusal) → RefusesWords words why → status_of why ≡ 2
-    → (base : List ℕ) × RefusesWords words (refusal.BadBase base)
-bad_base_of words why (no_call none) is_two = absurd (omega arith)
-bad_base_of words why (bad_base command base entries call none) is_two = (base, bad_base command base entries call none)
-bad_base_of words why (too_many_entries command base url entries call is many) is_two = absurd (omega (arith, is_two))
 
 abbrev IsStatus : ℕ → Type 0
 IsStatus status = (status ≡ 0) ⊎ (status ≡ 5) ⊎ LeavesTree status
@@ -171,8 +156,8 @@ nothing_placed files tree later none placed = subst (λ some. FilesPlaced tree s
 unmoved :
     (words : List (List ℕ)) (tree : Tree) (status : ℕ) (lines : List (List ℕ)) (files : List NewFile) (later : Tree)
     → ComesTo words tree status lines files → FilesPlaced tree files later → status ≢ 0 → later ≡ tree
-unmoved words tree status lines files later (comes.words_refused why refused s l f) placed other = nothing_placed files tree later f placed
-unmoved words tree status lines files later (comes.refused command config why is refused s l f) placed other = nothing_placed files tree later f placed
+unmoved words tree status lines files later (comes.not_plain text none s l f) placed other = nothing_placed files tree later f placed
+unmoved words tree status lines files later (comes.refused why is s l f) placed other = nothing_placed files tree later f placed
 unmoved words tree status lines files later (comes.written command config map is generates wrote s l) placed other = absurd (other s)
 unmoved words tree status lines files later (comes.checked config map all is holds traces s l f) placed other = nothing_placed files tree later f placed
 
@@ -185,20 +170,9 @@ kept_where_refused words status lines (Some tree) told untold other here =
 
 -- ---- a write that failed
 
--- a command writes one file, so before the one that fails nothing was written
-first_of_one : (tree : Tree) (config : Config) (map : List ℕ) (command : Command) (files : List NewFile) (count : ℕ) → Writes tree config map command files → count < length files → take count files ≡ []
-first_of_one tree config map command files zero wrote fewer = refl
-first_of_one tree config map command files (suc count) writes.map_alone fewer = absurd (omega (arith, fewer))
-first_of_one tree config map command files (suc count) (writes.in_page page new is i) fewer = absurd (omega (arith, fewer))
-
-kept_where_stopped :
-    (words : List (List ℕ)) (line : List ℕ) (held told : Option Tree) → (held ≡ None → told ≡ None)
-    → IfSome held (λ tree. StopsWriting words tree line told) → told ≡ held
-kept_where_stopped words line None told untold stops = untold refl
-kept_where_stopped words line (Some tree) told untold stops =
-    stops.written.is_told
-    ∙ ap Some (nothing_placed (take stops.count stops.files) tree stops.written.after
-    (first_of_one tree stops.generated.config stops.map stops.generated.command stops.files stops.count stops.writes stops.fewer) stops.written.placed)
+if_stopped : (words : List (List ℕ)) (held told : Option Tree) (line : List ℕ) → IfSome held (λ tree. StopsWriting words tree line told) → IfSome held (λ tree. HasStopped words tree told)
+if_stopped words None told line stops = tt
+if_stopped words (Some tree) told line stops = record { line = line; stops = stops }
 
 -- ---- one line
 
@@ -211,7 +185,7 @@ module _ (words : List (List ℕ)) (before after : FolderState) (status : ℕ) (
   said_status : Says words before after status lines → IsStatus status
   said_status (says.outcome shape o l w) = shaped_is_status status (shaped_status words status lines shape)
   said_status (says.memory s t k l w) = inr (inr (inr (inr (inr (inr (inr (inr (inl s))))))))
-  said_status (says.read_fault command config is_config s t k rose w) = inr (inr (inr (inr (inr (inl s)))))
+  said_status (says.read_fault command is_command s t k rose w) = inr (inr (inr (inr (inr (inl s)))))
   said_status (says.write_fault line counted stops s t l rose) = inr (inl s)
 
   said_kept :
@@ -221,8 +195,8 @@ module _ (words : List (List ℕ)) (before after : FolderState) (status : ℕ) (
       kept_where_refused words status lines before.holds after.holds untold
       (λ zero. no_refusal_status status (inl zero) refused) o
   said_kept untold (says.memory s t k l w) refused = k
-  said_kept untold (says.read_fault command config is_config s t k rose w) refused = k
-  said_kept untold (says.write_fault line counted stops s t l rose) refused = kept_where_stopped words line before.holds after.holds untold stops
+  said_kept untold (says.read_fault command is_command s t k rose w) refused = k
+  said_kept untold (says.write_fault line counted stops s t l rose) refused = absurd (no_refusal_status status (inr s) refused)
 
   outcome_not : (n : ℕ) → (n ≡ 4) ⊎ (n ≡ 5) → (status ≡ 0) ⊎ IsRefusing status → status ≢ n
   outcome_not n fault (inl none) e = grind (arith, fault, none, e)
@@ -233,93 +207,119 @@ module _ (words : List (List ℕ)) (before after : FolderState) (status : ℕ) (
   said_read (says.outcome shape o l w) four =
       absurd (outcome_not 4 (inl refl) (shaped_status words status lines shape) four)
   said_read (says.memory s t k l w) four = absurd (omega arith)
-  said_read (says.read_fault command config is_config s t k rose w) four = rose
+  said_read (says.read_fault command is_command s t k rose w) four = rose
   said_read (says.write_fault line counted stops s t l rose) four = absurd (omega arith)
 
   said_write : Says words before after status lines → status ≡ 5 → Rose before.write_faults after.write_faults
   said_write (says.outcome shape o l w) five =
       absurd (outcome_not 5 (inr refl) (shaped_status words status lines shape) five)
   said_write (says.memory s t k l w) five = absurd (omega arith)
-  said_write (says.read_fault command config is_config s t k rose w) five = absurd (omega arith)
+  said_write (says.read_fault command is_command s t k rose w) five = absurd (omega arith)
   said_write (says.write_fault line counted stops s t l rose) five = rose
 
-  -- ---- the base
+  -- ---- wrong words
 
-  shaped_two : Shaped words status lines → status ≡ 2 → (base : List ℕ) × RefusesWords words (refusal.BadBase base)
-  shaped_two (shaped.words_refused why refuses s l) is_two = bad_base_of words why refuses (sym s ∙ is_two)
-  shaped_two (shaped.refused command config why is of s l) is_two =
-      absurd (refusal_not_two config command why of (sym s ∙ is_two))
+  shaped_two : Shaped words status lines → status ≡ 2 → AreWrong words
+  shaped_two (shaped.not_plain text none s l) is_two = inl none
+  shaped_two (shaped.refused why is s l) is_two = inr (why, is, sym s ∙ is_two)
   shaped_two (shaped.done line s l counted) is_two = absurd (omega arith)
   shaped_two (shaped.checked is) is_two = absurd (check_not_two is.differing (sym is.ends ∙ is_two))
 
-  said_two :
-      Says words before after status lines → status ≡ 2 → (base : List ℕ) × RefusesWords words (refusal.BadBase base)
+  said_two : Says words before after status lines → status ≡ 2 → AreWrong words
   said_two (says.outcome shape o l w) is_two = shaped_two shape is_two
   said_two (says.memory s t k l w) is_two = absurd (omega arith)
-  said_two (says.read_fault command config is_config s t k rose w) is_two = absurd (omega arith)
+  said_two (says.read_fault command is_command s t k rose w) is_two = absurd (omega arith)
   said_two (says.write_fault line counted stops s t l rose) is_two = absurd (omega arith)
 
-  -- the tree is as it was, or the command was done
+  -- the tree is as it was, or the command was done, or it stopped between its writes
   kept_or_done :
       (before.holds ≡ None → after.holds ≡ None) → Says words before after status lines
-      → (after.holds ≡ before.holds) ⊎ (status ≡ 0)
+      → (after.holds ≡ before.holds) ⊎ ((status ≡ 0) ⊎ IfSome before.holds (λ tree. HasStopped words tree after.holds))
   kept_or_done untold (says.outcome shape o l w) =
       let kept = λ (other : status ≢ 0). kept_where_refused words status lines before.holds after.holds untold other o in
-      ⊎_elim inr (λ refusing. inl (kept (no_refusing status refusing).0)) (shaped_status words status lines shape)
+      ⊎_elim (λ zero. inr (inl zero)) (λ refusing. inl (kept (no_refusing status refusing).0)) (shaped_status words status lines shape)
   kept_or_done untold (says.memory s t k l w) = inl k
-  kept_or_done untold (says.read_fault command config is_config s t k rose w) = inl k
-  kept_or_done untold (says.write_fault line counted stops s t l rose) = inl (kept_where_stopped words line before.holds after.holds untold stops)
+  kept_or_done untold (says.read_fault command is_command s t k rose w) = inl k
+  kept_or_done untold (says.write_fault line counted stops s t l rose) = inr (inr (if_stopped words before.holds after.holds line stops))
 
   -- ---- words that are refused
 
+  can_be : (fault : ConfigFault) → RefusesWords words fault → (why : Refusal) → CanRefuse words why → why ≡ Configured fault
+  can_be fault refuses why (can.by_words other is) = ap Configured (one_words_fault words other fault is refuses)
+  can_be fault refuses why (can.by_project other is) = absurd (refused_or_command words fault is.command refuses (record { asked = is.asked; asks = is.asks; is = is.is; settings = is.settings; sets = is.sets }))
+  can_be fault refuses why (can.by_tree command config reason is of) = absurd (refused_or_command words fault command refuses (command_for words command config is))
+
   refused_shape :
-      (why : Refusal) → RefusesWords words why → Shaped words status lines
-      → (status ≡ status_of why) × (lines ≡ line_of why ∷ [])
-  refused_shape why refuses (shaped.words_refused because too s l) =
-      let same = one_words_refusal words because why too refuses in
+      (fault : ConfigFault) → RefusesWords words fault → Shaped words status lines
+      → (status ≡ config_status fault) × (lines ≡ config_line fault ∷ [])
+  refused_shape fault refuses (shaped.not_plain text none s l) = absurd (none (refused_is_plain words fault refuses))
+  refused_shape fault refuses (shaped.refused why is s l) =
+      let same = can_be fault refuses why is in
       (s ∙ ap status_of same, l ∙ ap (λ r. line_of r ∷ []) same)
-  refused_shape why refuses (shaped.refused command config fault is of s l) =
-      absurd (refused_or_config words why command config refuses is)
-  refused_shape why refuses (shaped.done line s l counted) =
-      absurd (refused_or_config words why counted.command counted.config refuses counted.is_config)
-  refused_shape why refuses (shaped.checked is) =
-      absurd (refused_or_config words why Check is.config refuses is.is_config)
+  refused_shape fault refuses (shaped.done line s l counted) =
+      absurd (refused_or_command words fault counted.command refuses (command_for words counted.command counted.config counted.is_config))
+  refused_shape fault refuses (shaped.checked is) =
+      absurd (refused_or_command words fault Check refuses (command_for words Check is.config is.is_config))
 
   refused_says :
-      (untold : before.holds ≡ None → after.holds ≡ None) (why : Refusal) → RefusesWords words why
+      (untold : before.holds ≡ None → after.holds ≡ None) (fault : ConfigFault) → RefusesWords words fault
       → Says words before after status lines
       → Untouched before after
-      × (((status ≡ status_of why) × (lines ≡ line_of why ∷ [])) ⊎ ((status ≡ 8) × (lines ≡ memory_line ∷ [])))
-  refused_says untold why refuses (says.outcome shape o l w) =
-      let same = refused_shape why refuses shape in
+      × (((status ≡ config_status fault) × (lines ≡ config_line fault ∷ [])) ⊎ ((status ≡ 8) × (lines ≡ memory_line ∷ [])))
+  refused_says untold fault refuses (says.outcome shape o l w) =
+      let same = refused_shape fault refuses shape in
       let not_zero =
-      λ (zero : status ≡ 0). (no_refusing _ (words_refusing words why refuses)).0 (sym same.0 ∙ zero) in
+      λ (zero : status ≡ 0). (no_refusing _ (words_refusing words fault refuses)).0 (sym same.0 ∙ zero) in
       let kept = kept_where_refused words status lines before.holds after.holds untold not_zero o in
       (record { told = kept; looks = l; writes = w }, inl same)
-  refused_says untold why refuses (says.memory s t k l w) = (record { told = k; looks = l; writes = w }, inr (s, t))
-  refused_says untold why refuses (says.read_fault command config is_config s t k rose w) =
-      absurd (refused_or_config words why command config refuses is_config)
-  refused_says untold why refuses (says.write_fault line counted stops s t l rose) =
-      absurd (refused_or_config words why counted.command counted.config refuses counted.is_config)
+  refused_says untold fault refuses (says.memory s t k l w) = (record { told = k; looks = l; writes = w }, inr (s, t))
+  refused_says untold fault refuses (says.read_fault command is_command s t k rose w) =
+      absurd (refused_or_command words fault command refuses is_command)
+  refused_says untold fault refuses (says.write_fault line counted stops s t l rose) =
+      absurd (refused_or_command words fault counted.command refuses (command_for words counted.command counted.config counted.is_config))
+
+  -- ---- words without a meaning
+
+  can_is_plain : (why : Refusal) → CanRefuse words why → IsPlain words
+  can_is_plain why (can.by_words fault is) = refused_is_plain words fault is
+  can_is_plain why (can.by_project fault is) = record { asked = is.asked; asks = is.asks }
+  can_is_plain why (can.by_tree command config reason is of) = record { asked = is.asked; asks = is.asks }
+
+  no_meaning_shape : (IsPlain words → ⊥) → Shaped words status lines → status ≡ 2
+  no_meaning_shape none (shaped.not_plain text too s l) = s
+  no_meaning_shape none (shaped.refused why is s l) = absurd (none (can_is_plain why is))
+  no_meaning_shape none (shaped.done line s l counted) = absurd (none (command_is_plain words counted.command (command_for words counted.command counted.config counted.is_config)))
+  no_meaning_shape none (shaped.checked is) = absurd (none (command_is_plain words Check (command_for words Check is.config is.is_config)))
+
+  no_meaning_says :
+      (untold : before.holds ≡ None → after.holds ≡ None) → (IsPlain words → ⊥) → Says words before after status lines
+      → Untouched before after × ((status ≡ 2) ⊎ (status ≡ 8))
+  no_meaning_says untold none (says.outcome shape o l w) =
+      let two = no_meaning_shape none shape in
+      let kept = kept_where_refused words status lines before.holds after.holds untold (λ zero. omega (arith, two, zero)) o in
+      (record { told = kept; looks = l; writes = w }, inl two)
+  no_meaning_says untold none (says.memory s t k l w) = (record { told = k; looks = l; writes = w }, inr s)
+  no_meaning_says untold none (says.read_fault command is_command s t k rose w) = absurd (none (command_is_plain words command is_command))
+  no_meaning_says untold none (says.write_fault line counted stops s t l rose) = absurd (none (command_is_plain words counted.command (command_for words counted.command counted.config counted.is_config)))
 
   -- ---- counts
 
   said_looks : Says words before after status lines → after.look_faults ≢ before.look_faults → status ≡ 4
   said_looks (says.outcome shape o l w) changed = absurd (changed l)
   said_looks (says.memory s t k l w) changed = absurd (changed l)
-  said_looks (says.read_fault command config is_config s t k rose w) changed = s
+  said_looks (says.read_fault command is_command s t k rose w) changed = s
   said_looks (says.write_fault line counted stops s t l rose) changed = absurd (changed l)
 
   said_writes : Says words before after status lines → after.write_faults ≢ before.write_faults → status ≡ 5
   said_writes (says.outcome shape o l w) changed = absurd (changed w)
   said_writes (says.memory s t k l w) changed = absurd (changed w)
-  said_writes (says.read_fault command config is_config s t k rose w) changed = absurd (changed w)
+  said_writes (says.read_fault command is_command s t k rose w) changed = absurd (changed w)
   said_writes (says.write_fault line counted stops s t l rose) changed = s
 
   writes_unless : Says words before after status lines → status ≢ 5 → after.write_faults ≡ before.write_faults
   writes_unless (says.outcome shape o l w) other = w
   writes_unless (says.memory s t k l w) other = w
-  writes_unless (says.read_fault command config is_config s t k rose w) other = w
+  writes_unless (says.read_fault command is_command s t k rose w) other = w
   writes_unless (says.write_fault line counted stops s t l rose) other = absurd (other s)
 
 -- ---- what the answer says
@@ -347,17 +347,18 @@ module _ (words : List (List ℕ)) (before after : FolderState) (out out_after :
   end_write (ends.said is given quiet) five = inl (said_write words before after status lines s (sym is ∙ five))
   end_write (ends.output_fault is gives rose) five = inr rose
 
-  pub end_two :
-      Ends status (concat lines) out out_after result → result ≡ 2 → (base : List ℕ) × RefusesWords words (refusal.BadBase base)
+  pub end_two : Ends status (concat lines) out out_after result → result ≡ 2 → AreWrong words
   end_two (ends.said is given quiet) is_two = said_two words before after status lines s (sym is ∙ is_two)
   end_two (ends.output_fault is gives rose) is_two = absurd (omega arith)
 
   pub end_kept_or_done :
       (before.holds ≡ None → after.holds ≡ None)
       → (status ≡ 0 → IfSome before.holds (λ tree. IsDone words tree after.holds))
-      → (after.holds ≡ before.holds) ⊎ IfSome before.holds (λ tree. IsDone words tree after.holds)
+      → (after.holds ≡ before.holds)
+      ⊎ (IfSome before.holds (λ tree. IsDone words tree after.holds)
+      ⊎ IfSome before.holds (λ tree. HasStopped words tree after.holds))
   end_kept_or_done untold done =
-      ⊎_elim inl (λ zero. inr (done zero)) (kept_or_done words before after status lines untold s)
+      ⊎_elim inl (λ more. inr (⊎_elim (λ zero. inl (done zero)) inr more)) (kept_or_done words before after status lines untold s)
 
   moved :
       (other : ℕ) (text : List ℕ) → (status ≡ other) × (lines ≡ text ∷ []) → Ends status (concat lines) out out_after result
@@ -367,16 +368,25 @@ module _ (words : List (List ℕ)) (before after : FolderState) (out out_after :
       (subst (λ t. Ends status t out out_after result) (ap concat same.1 ∙ one_line_text text) e)
 
   pub end_refused_words :
-      (before.holds ≡ None → after.holds ≡ None) → Ends status (concat lines) out out_after result → (why : Refusal)
-      → RefusesWords words why
+      (before.holds ≡ None → after.holds ≡ None) → Ends status (concat lines) out out_after result → (fault : ConfigFault)
+      → RefusesWords words fault
       → Untouched before after
-      × (Ends (status_of why) (line_of why) out out_after result ⊎ Ends 8 memory_line out out_after result)
-  end_refused_words untold e why refuses =
-      let found = refused_says words before after status lines untold why refuses s in
+      × (Ends (config_status fault) (config_line fault) out out_after result ⊎ Ends 8 memory_line out out_after result)
+  end_refused_words untold e fault refuses =
+      let found = refused_says words before after status lines untold fault refuses s in
       let ended =
-      ⊎_elim (λ same. inl (moved (status_of why) (line_of why) same e)) (λ same. inr (moved 8 memory_line same e))
+      ⊎_elim (λ same. inl (moved (config_status fault) (config_line fault) same e)) (λ same. inr (moved 8 memory_line same e))
       found.1 in
       (found.0, ended)
+
+  pub end_not_plain :
+      (before.holds ≡ None → after.holds ≡ None) → Ends status (concat lines) out out_after result → (IsPlain words → ⊥)
+      → Untouched before after × ((result ≡ 2) ⊎ ((result ≡ 8) ⊎ (result ≡ 5)))
+  end_not_plain untold (ends.said is given quiet) none =
+      let found = no_meaning_says words before after status lines untold none s in
+      (found.0, ⊎_elim (λ two. inl (is ∙ two)) (λ eight. inr (inl (is ∙ eight))) found.1)
+  end_not_plain untold (ends.output_fault is gives rose) none =
+      ((no_meaning_says words before after status lines untold none s).0, inr (inr is))
 
   looks_show :
       Ends status (concat lines) out out_after result → after.look_faults ≢ before.look_faults → (result ≡ 4) ⊎ (result ≡ 5)

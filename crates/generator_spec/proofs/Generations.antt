@@ -16,7 +16,7 @@ use Rattle.trace_spec.specs.Modules.{Config}
 use Rattle.trace_spec.specs.Checks.{Gathered}
 use Rattle.trace_spec.specs.Traces.{traced}
 use Rattle.generator_spec.specs.Digests.{with_digests}
-use Rattle.generator_spec.specs.Generation.{PageIsFile, Generates, IsTooLarge}
+use Rattle.generator_spec.specs.Generation.{Generates, IsTooLarge}
 use Rattle.generator_spec.specs.Laws.{IsTextOf, OneGeneration, SomeGeneration, NothingRefused}
 
 same_trace : (found : Result Gathered TraceFault) (all other : Gathered) → found ≡ Ok all → found ≡ Ok other → all ≡ other
@@ -53,12 +53,12 @@ one_text tree config second bytes others same a b =
 pub one_generation : OneGeneration
 one_generation tree config some other a b = one_text tree config config some other refl a b
 
-module _ (tree : Tree) (config : Config) (all : Gathered) (page : PageIsFile config) (traces : traced (get tree) config ≡ Ok all) (layout : ParsedMap) (agreed : IsAgreedLayout all.needs layout) where
+module _ (tree : Tree) (config : Config) (all : Gathered) (traces : traced (get tree) config ≡ Ok all) (layout : ParsedMap) (agreed : IsAgreedLayout all.needs layout) where
   abbrev text : List ℕ
   text = map_text (with_digests config all layout)
 
   generated : length text ≤ limit_number Map → Generates tree config text
-  generated small = record { page_is_file = page; all = all; is_traced = traces; layout = layout; agreed = agreed; text = refl; within = small }
+  generated small = record { all = all; is_traced = traces; layout = layout; agreed = agreed; text = refl; within = small }
 
   too_large : limit_number Map < length text → IsTooLarge tree config
   too_large large = record { all = all; is_traced = traces; layout = layout; agreed = agreed; large = large }
@@ -71,11 +71,11 @@ module _ (tree : Tree) (config : Config) (all : Gathered) (page : PageIsFile con
       ]
 
 pub some_generation : SomeGeneration
-some_generation tree config all page traces =
+some_generation tree config all traces =
     let found = some_agreed_layout all.needs in
     let text = map_text (with_digests config all found.0) in
     let is_text : IsTextOf config all text = record { layout = found.0; agreed = found.1; text = refl } in
-    (text, is_text, generated_or_too_large tree config all page traces found.0 found.1)
+    (text, is_text, generated_or_too_large tree config all traces found.0 found.1)
 
 module _ (tree : Tree) (config : Config) (bytes : List ℕ) (generates : Generates tree config bytes) where
   no_refusal : (fault : TraceFault) → traced (get tree) config ≡ Err fault → ⊥

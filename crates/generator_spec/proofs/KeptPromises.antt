@@ -1,6 +1,6 @@
 -- A run that ends as it must keeps all promises.
 use Rattle.generator_spec.specs.Laws.{EndsKeepPromises}
-use Rattle.generator_spec.proofs.Endings.{end_statuses, end_kept, end_kept_or_done, end_refused_words, end_read, end_write, end_two, end_shows}
+use Rattle.generator_spec.proofs.Endings.{end_statuses, end_kept, end_kept_or_done, end_refused_words, end_not_plain, end_read, end_write, end_two, end_shows}
 use Rattle.generator_spec.proofs.ToldLines.{end_tells}
 use Rattle.generator_spec.proofs.Meetings.{end_meets}
 
@@ -21,5 +21,6 @@ ends_keep_promises words before after out out_after result e = record {
   output_later = e.output_later;
   untold = e.untold;
   refused_words = end_refused_words words before after out out_after result e.status e.lines e.says e.untold e.ends;
-  bad_base = end_two words before after out out_after result e.status e.lines e.says e.ends;
+  not_plain = end_not_plain words before after out out_after result e.status e.lines e.says e.untold e.ends;
+  wrong_words = end_two words before after out out_after result e.status e.lines e.says e.ends;
 }

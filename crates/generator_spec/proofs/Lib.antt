@@ -1,8 +1,6 @@
 pub mod Configs
 pub mod Generations
 pub mod Nameless
-pub mod LastBytes
-pub mod PageNames
 pub mod MapPaths
 pub mod Refusals
 pub mod Outcomes

@@ -5,7 +5,7 @@ use Rattle.std.proofs.lemmas.Bool.{or_parts, eqb-false}
 use Rattle.std.proofs.lemmas.List.Elements.{All-nil, All-cons}
 use Rattle.tree_spec.specs.Paths.{IsSegment, IsPath, IsParent, root, child}
 use Rattle.generator_spec.specs.Commands.{map_path}
-use Rattle.generator_spec.specs.Words.{page_path}
+use Rattle.config_spec.specs.Projects.{project_path}
 
 lacks : (byte : ℕ) (bytes : List ℕ) → list_any (λ b. b == byte) bytes ≡ false → All (λ b. b ≢ byte) bytes
 lacks byte [] e = All-nil (λ b. b ≢ byte)
@@ -36,8 +36,8 @@ root_file name text no_slash no_nul long short is = record {
   short = short;
 }
 
-pub page_is_path : IsPath page_path
-page_is_path = root_file (codes "index.html") page_path refl refl (lit≤ tt) (lit≤ tt) refl
+pub project_is_path : IsPath project_path
+project_is_path = root_file (codes "importmap.project.json") project_path refl refl (lit≤ tt) (lit≤ tt) refl
 
 pub map_is_path : IsPath map_path
 map_is_path = root_file (codes "importmap.json") map_path refl refl (lit≤ tt) (lit≤ tt) refl
@@ -53,5 +53,5 @@ in_root name is = record {
 pub map_in_root : IsParent (codes "/") map_path
 map_in_root = in_root (codes "importmap.json") (long_segment (codes "importmap.json") refl refl (lit≤ tt))
 
-pub page_in_root : IsParent (codes "/") page_path
-page_in_root = in_root (codes "index.html") (long_segment (codes "index.html") refl refl (lit≤ tt))
+pub project_in_root : IsParent (codes "/") project_path
+project_in_root = in_root (codes "importmap.project.json") (long_segment (codes "importmap.project.json") refl refl (lit≤ tt))

@@ -1,18 +1,19 @@
 -- What an end has to do with the outcome that is defined.
-use Rattle.std.proofs.Common.{◌≡◌, ◌≢◌, ◌⊎◌, ◌++◌, ℕ, List, Option, Some, None, IfSome, inl, inr, refl, sym, ap, ◌∙◌, subst}
+use Rattle.std.proofs.Common.{◌≡◌, ◌≢◌, ◌⊎◌, ◌++◌, ℕ, List, Option, Some, None, Ok, IfSome, inl, inr, refl, sym, ap, ◌∙◌, subst}
 use Rattle.std.specs.Prelude.{option_map, [], ◌∷◌}
 use Rattle.std.specs.List.{concat}
 use Rattle.tree_spec.specs.States.{FolderState, SinkState}
 use Rattle.tree_spec.specs.Trees.{Tree}
 use Rattle.generator_spec.specs.Lines.{memory_line}
-use Rattle.generator_spec.specs.declared.Command.TheVariants.{Check}
+use Rattle.config_spec.specs.declared.Command.TheVariants.{Check}
 use Rattle.generator_spec.specs.Outcome.{ComesTo, ComesTo as comes, Outcome}
 use Rattle.generator_spec.specs.Commands.{IsGenerating, NewFile}
-use Rattle.generator_spec.specs.Ending.{IsGenerated, StopsWriting, Says, Ends, Says as says, Ends as ends}
+use Rattle.generator_spec.specs.Ending.{StopsWriting, Says, Ends, Says as says, Ends as ends}
 use Rattle.generator_spec.specs.Laws.{SameOutcome}
 use Rattle.generator_spec.specs.Promises.{Quiet, Stands, Finishes, Completes, Meets, Finishes as finish, Completes as complete}
-use Rattle.generator_spec.proofs.Configs.{one_config, refused_or_config}
-use Rattle.generator_spec.proofs.Outcomes.{one_outcome, refused_or_generated, writes_generate}
+use Rattle.config_spec.specs.Words.{IsPlain}
+use Rattle.generator_spec.proofs.Configs.{command_is, command_is_plain, one_config}
+use Rattle.generator_spec.proofs.Outcomes.{one_outcome, one_status, refused_or_written, writes_generate}
 use Rattle.generator_spec.proofs.Endings.{HasOutcomeIn, one_line_text}
 
 told_there : (P : Tree → Type 0) (held : Option Tree) (tree : Tree) → held ≡ Some tree → IfSome held P → P tree
@@ -27,17 +28,17 @@ if_told (Some tree) f = f tree refl
 no_map :
     (words : List (List ℕ)) (tree : Tree) (line : List ℕ) (told : Option Tree) (expected : ℕ) (texts : List (List ℕ))
     (files : List NewFile) → StopsWriting words tree line told → ComesTo words tree expected texts files → expected ≢ 0 → ⊥
-no_map words tree line told expected texts files stops (comes.words_refused why refused s l f) other =
-    refused_or_config words why stops.generated.command stops.generated.config refused stops.generated.is_config
-no_map words tree line told expected texts files stops (comes.refused command config why is refused s l f) other =
-    refused_or_generated tree stops.map why
-    (one_config words command stops.generated.command config stops.generated.config is stops.generated.is_config) refused
-    stops.generated.opens stops.generated.generates
+no_map words tree line told expected texts files stops (comes.not_plain text none s l f) other =
+    none (command_is_plain words stops.generated.command
+    (command_is words tree stops.generated.command (Ok stops.generated.config) stops.generated.is_config))
+no_map words tree line told expected texts files stops (comes.refused why refused s l f) other =
+    refused_or_written words tree why stops.generated.command stops.generated.config stops.map refused
+    stops.generated.is_config stops.generated.opens stops.generated.generates
 no_map words tree line told expected texts files stops (comes.written command config map is generates wrote s l) other =
     other s
 no_map words tree line told expected texts files stops (comes.checked config map all is holds traces s l f) other =
     subst IsGenerating
-    (one_config words stops.generated.command Check stops.generated.config config stops.generated.is_config is).one_command
+    (one_config words tree stops.generated.command Check stops.generated.config config stops.generated.is_config is).one_command
     (writes_generate tree stops.generated.config stops.map stops.generated.command stops.files stops.writes)
 
 module _ (words : List (List ℕ)) (tree : Tree) (before after : FolderState) (out out_after : SinkState)
@@ -60,20 +61,22 @@ module _ (words : List (List ℕ)) (tree : Tree) (before after : FolderState) (o
       let here = told_outcome o in
       finish.finished status lines here.0 here.1 (record { answered = is; given = given; told = here.2 })
   finishes none (says.memory s t k l w) (ends.said is given quiet) = finish.memory (with_memory is given s t k)
-  finishes none (says.read_fault command config is_config s t k rose w) ended = absurd (none.looks rose)
+  finishes none (says.read_fault command is_command s t k rose w) ended = absurd (none.looks rose)
   finishes none (says.write_fault line counted stops s t l rose) ended = absurd (none.writes rose)
   finishes none (says.outcome shape o l w) (ends.output_fault is gives rose) = absurd (none.output rose)
   finishes none (says.memory s t k l w) (ends.output_fault is gives rose) = absurd (none.output rose)
 
   module _ (expected : ℕ) (texts : List (List ℕ)) (later : Tree) (result_is : Outcome words tree expected texts later) where
     same_outcome :
-        (here : HasOutcomeIn words status lines after.holds tree) → SameOutcome status expected lines texts here.0 later
-    same_outcome here = one_outcome words tree status expected lines texts here.0 later here.1 result_is
+        (here : HasOutcomeIn words status lines after.holds tree) → IsPlain words
+        → SameOutcome status expected lines texts here.0 later
+    same_outcome here plain = one_outcome words tree status expected lines texts here.0 later plain here.1 result_is
 
     status_is : Says words before after status lines → (status ≡ expected) ⊎ (status ≡ 8) ⊎ (status ≡ 4) ⊎ (status ≡ 5)
-    status_is (says.outcome shape o l w) = inl (same_outcome (told_outcome o)).one_status
+    status_is (says.outcome shape o l w) =
+        inl (one_status words tree status expected lines texts (told_outcome o).0 later (told_outcome o).1 result_is)
     status_is (says.memory s t k l w) = inr (inl s)
-    status_is (says.read_fault command config is_config s t k rose w) = inr (inr (inl s))
+    status_is (says.read_fault command is_command s t k rose w) = inr (inr (inl s))
     status_is (says.write_fault line counted stops s t l rose) = inr (inr (inr s))
 
     exactly :
@@ -84,26 +87,27 @@ module _ (words : List (List ℕ)) (tree : Tree) (before after : FolderState) (o
     exactly s (ends.output_fault is gives rose) = inr (inr (inr is))
 
     completes :
-        Quiet before after out out_after → Says words before after status lines → Ends status (concat lines) out out_after result
+        IsPlain words → Quiet before after out out_after → Says words before after status lines
+        → Ends status (concat lines) out out_after result
         → Completes expected texts later before after out out_after result
-    completes none (says.outcome shape o l w) (ends.said is given quiet) =
+    completes plain none (says.outcome shape o l w) (ends.said is given quiet) =
         let here = told_outcome o in
-        let same = same_outcome here in
+        let same = same_outcome here plain in
         complete.complete (record {
           answered = is ∙ same.one_status;
           given = given ∙ ap (λ t. option_map (λ front. front ++ concat t) out.got) same.same_lines;
           told = here.2 ∙ ap Some same.one_tree;
         })
-    completes none (says.memory s t k l w) (ends.said is given quiet) = complete.memory (with_memory is given s t k)
-    completes none (says.read_fault command config is_config s t k rose w) ended = absurd (none.looks rose)
-    completes none (says.write_fault line counted stops s t l rose) ended = absurd (none.writes rose)
-    completes none (says.outcome shape o l w) (ends.output_fault is gives rose) = absurd (none.output rose)
-    completes none (says.memory s t k l w) (ends.output_fault is gives rose) = absurd (none.output rose)
+    completes plain none (says.memory s t k l w) (ends.said is given quiet) = complete.memory (with_memory is given s t k)
+    completes plain none (says.read_fault command is_command s t k rose w) ended = absurd (none.looks rose)
+    completes plain none (says.write_fault line counted stops s t l rose) ended = absurd (none.writes rose)
+    completes plain none (says.outcome shape o l w) (ends.output_fault is gives rose) = absurd (none.output rose)
+    completes plain none (says.memory s t k l w) (ends.output_fault is gives rose) = absurd (none.output rose)
 
     unwritten : expected ≢ 0 → Says words before after status lines → after.write_faults ≡ before.write_faults
     unwritten other (says.outcome shape o l w) = w
     unwritten other (says.memory s t k l w) = w
-    unwritten other (says.read_fault command config is_config s t k rose w) = w
+    unwritten other (says.read_fault command is_command s t k rose w) = w
     unwritten other (says.write_fault line counted stops s t l rose) =
         let here = told_there (λ t. StopsWriting words t line after.holds) before.holds tree told stops in
         absurd (no_map words tree line after.holds expected texts result_is.files here result_is.comes other)
@@ -114,7 +118,7 @@ module _ (words : List (List ℕ)) (tree : Tree) (before after : FolderState) (o
   meets s e = record {
     ended = λ none. finishes none s e;
     exactly = λ expected texts later result_is. exactly expected texts later result_is s e;
-    complete = λ expected texts later result_is none. completes expected texts later result_is none s e;
+    complete = λ plain expected texts later result_is none. completes expected texts later result_is plain none s e;
     unwritten = λ expected texts later result_is other. unwritten expected texts later result_is other s;
   }
 

@@ -9,7 +9,7 @@ use Rattle.tree_spec.specs.declared.LimitName.TheVariants.{Modules}
 use Rattle.trace_spec.specs.declared.TraceFault.{TraceFault}
 use Rattle.trace_spec.specs.declared.TraceFault.TheVariants.{Unservable}
 use Rattle.trace_spec.specs.Checks.{Gathered, page_opened, nothing_gathered, rules}
-use Rattle.trace_spec.specs.Modules.{Config, shown, web_name, served_name, path_of}
+use Rattle.trace_spec.specs.Modules.{Config, shown, web_name, served_at, served_name, path_of}
 use Rattle.trace_spec.specs.Questions.{answers}
 use Rattle.trace_spec.specs.Traces.{result_of, traced}
 use Rattle.trace_spec.specs.Walking.{the_page, Opened, followed, walked}
@@ -20,6 +20,10 @@ traced_by sights config name =
     result_of (evaluated (answers sights) no_trail (and_ok
     (and_ok (answered (page_opened config nothing_gathered name)) (λ (opened : Opened Gathered). followed (rules config) opened.after the_page opened.specifiers))
     (λ after. walked (rules config) (suc (limit_number Modules)) after 0)))
+
+-- a page that isn't served at its web name has no trace
+pub unserved_is_refused : (sights : Sights) (config : Config) → served_at config the_page ≡ None → traced sights config ≡ Err (Unservable (shown config the_page) (web_name config the_page))
+unserved_is_refused sights config lost = ap (traced_by sights config) lost
 
 pub nameless_is_refused : (sights : Sights) (config : Config) → web_name config the_page ≡ None → traced sights config ≡ Err (Unservable (shown config the_page) None)
 nameless_is_refused sights config nameless =

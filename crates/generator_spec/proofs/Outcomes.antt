@@ -1,35 +1,42 @@
 -- A command over a tree has one outcome.
-use Rattle.std.proofs.Common.{◌≡◌, ◌⊎◌, ℕ, List, [], ◌∷◌, length, Result, Ok, Err, codes, refl, sym, ap, ◌∙◌, subst, inl, inr}
+use Rattle.std.proofs.Common.{◌≡◌, ◌⊎◌, ℕ, List, [], ◌∷◌, length, Some, Result, Ok, Err, codes, refl, sym, ap, ◌∙◌, subst, inl, inr, arith}
 use Rattle.std.specs.Prelude.{All}
 use Rattle.std.proofs.lemmas.List.Elements.{All-nil, All-cons, All-head, All-tail}
 use Rattle.std.specs.FinMap.{get, insert}
-use Rattle.tree_spec.specs.declared.Entry.TheVariants.{Stored}
+use Rattle.tree_spec.specs.declared.Entry.{Entry}
+use Rattle.tree_spec.specs.declared.Entry.TheVariants.{Stored, Directory}
 use Rattle.tree_spec.specs.declared.LimitName.TheVariants.{Map}
-use Rattle.tree_spec.specs.Paths.{IsPath, IsParent}
-use Rattle.tree_spec.specs.Trees.{Tree, IsTree, Places}
-use Rattle.tree_spec.proofs.Placings.{one_placing, in_root}
+use Rattle.tree_spec.specs.Paths.{IsPath, IsParent, IsAbove, parent_of, further}
+use Rattle.tree_spec.specs.Trees.{Tree, IsTree}
+use Rattle.tree_spec.proofs.Insertion.{get_other}
+use Rattle.tree_spec.proofs.PathsAbove.{above_by_parent, nothing_above_root}
+use Rattle.tree_spec.proofs.Placings.{one_placing, inserted_places, folders_above}
 use Rattle.import_map_spec.specs.ParsedMap.{ParsedMap}
 use Rattle.trace_spec.specs.declared.TraceFault.{TraceFault}
 use Rattle.trace_spec.specs.Modules.{Config}
 use Rattle.trace_spec.specs.Checks.{Gathered}
 use Rattle.trace_spec.specs.Traces.{traced}
-use Rattle.generator_spec.specs.declared.Command.{Command}
-use Rattle.generator_spec.specs.declared.Command.TheVariants.{Check}
+use Rattle.config_spec.specs.declared.Command.{Command}
+use Rattle.config_spec.specs.declared.Command.TheVariants.{Link, Unlink, Refresh, Check}
 use Rattle.generator_spec.specs.declared.Refusal.{Refusal}
-use Rattle.generator_spec.specs.declared.Refusal.TheVariants.{Trace, Limit}
+use Rattle.generator_spec.specs.declared.Refusal.TheVariants.{Trace, Limit, Config as Configured}
 use Rattle.generator_spec.specs.Checking.{difference_lines, check_status, check_lines}
-use Rattle.generator_spec.specs.Commands.{IsGenerating, map_path, HoldsMap, Opens, Opens as opens, Refuses, Refuses as refuses}
-use Rattle.generator_spec.specs.Commands.{NewFile, new_file, Writes, Writes as writes}
+use Rattle.generator_spec.specs.Commands.{IsGenerating, map_path, HoldsMap, Opens, IsMapping as mapping, Opens as opens, Refuses, Refuses as refuses}
+use Rattle.generator_spec.specs.Commands.{NewFile, new_file, map_and_project, Writes, Writes as writes}
 use Rattle.generator_spec.specs.Generation.{Generates, IsTooLarge}
-use Rattle.generator_spec.specs.Words.{IsConfigOf}
+use Rattle.project_spec.specs.ProjectFiles.{project_text}
+use Rattle.config_spec.specs.Words.{IsPlain}
+use Rattle.config_spec.specs.Projects.{IsConfigOf, project_path}
 use Rattle.generator_spec.specs.Lines.{status_of, line_of, done_line}
-use Rattle.generator_spec.specs.Outcome.{ComesTo, FilesPlaced, Outcome}
-use Rattle.generator_spec.specs.Outcome.ComesTo.{words_refused, refused, written, checked}
-use Rattle.generator_spec.specs.Laws.{SameConfig, SameOutcome, OneOutcome, HasOutcome, AreRefused, SomeOutcome}
-use Rattle.generator_spec.proofs.Configs.{one_config, one_words_refusal, refused_or_config, some_config}
+use Rattle.generator_spec.specs.Outcome.{ComesTo, FilesPlaced, Outcome, RefusesRun, RefusesRun as runs}
+use Rattle.generator_spec.specs.Outcome.ComesTo.{not_plain, refused, written, checked}
+use Rattle.generator_spec.specs.Laws.{OneOutcome, HasOutcome, SomeOutcome}
+use Rattle.generator_spec.proofs.Configs.{SameConfig, one_config, one_words_fault, one_config_fault, refused_or_config}
+use Rattle.generator_spec.proofs.Configs.{words_refused_or_config, words_refused_or_refused, page_is_path, plain_or_not}
+use Rattle.generator_spec.proofs.Configs.{command_is, command_is_plain, refused_is_plain}
+use Rattle.generator_spec.proofs.Configs.{Judged, Judged as judgement, judged}
 use Rattle.generator_spec.proofs.Generations.{one_trace, one_layout, one_text, some_generation}
-use Rattle.generator_spec.proofs.MapPaths.{map_is_path, page_is_path, map_in_root, page_in_root}
-use Rattle.generator_spec.proofs.PageNames.{page_of_words_is_file}
+use Rattle.generator_spec.proofs.MapPaths.{map_is_path, project_is_path, map_in_root, project_in_root}
 use Rattle.generator_spec.proofs.Nameless.{traced_is_named}
 use Rattle.generator_spec.proofs.Refusals.{one_refusal, refused_or_opened_and_generated, refused_or_checked, written_is_opened}
 use Rattle.generator_spec.proofs.Refusals.{Refused, opened_or_refused, one_held, one_write}
@@ -52,7 +59,9 @@ same_writes {some} {other} {config} {second} tree map files same is =
     subst (λ c. Writes tree c map some files) (sym same.one_config) (subst (λ c. Writes tree second map c files) (sym same.one_command) is)
 
 pub writes_generate : (tree : Tree) (config : Config) (map : List ℕ) (command : Command) (files : List NewFile) → Writes tree config map command files → IsGenerating command
-writes_generate tree config map command files writes.map_alone = tt
+writes_generate tree config map command files writes.linked = tt
+writes_generate tree config map command files writes.unlinked = tt
+writes_generate tree config map command files writes.refreshed = tt
 writes_generate tree config map command files (writes.in_page page new is i) = tt
 
 -- what is refused isn't generated
@@ -75,18 +84,28 @@ one_placed (file ∷ files) tree after last paths placed too =
     one_placed files placed.0 after last (All-tail (λ (f : NewFile). IsPath f.path) file files paths) placed.2
     (subst (λ t. FilesPlaced t files last) (sym same) too.2)
 
--- a command writes files in the root
-paths_written : (words : List (List ℕ)) (tree : Tree) (command : Command) (config : Config) (map : List ℕ) (files : List NewFile) → IsConfigOf words command config → Writes tree config map command files → ArePaths files
-paths_written words tree command config map files is writes.map_alone = All-cons (λ (f : NewFile). IsPath f.path) (new_file map_path map) [] map_is_path (All-nil (λ (f : NewFile). IsPath f.path))
-paths_written words tree command config map files is (writes.in_page page new stands i) =
-    All-cons (λ (f : NewFile). IsPath f.path) (new_file config.page new) [] (subst (λ p. IsPath p) (sym is.page) page_is_path) (All-nil (λ (f : NewFile). IsPath f.path))
+abbrev is_at : NewFile → Type 0
+is_at file = IsPath file.path
+
+one_path : (path bytes : List ℕ) → IsPath path → ArePaths (new_file path bytes ∷ [])
+one_path path bytes is = All-cons is_at (new_file path bytes) [] is (All-nil is_at)
+
+two_paths : (config : Config) (map : List ℕ) → ArePaths (map_and_project config map)
+two_paths config map = All-cons is_at (new_file map_path map) (new_file project_path (project_text config) ∷ []) map_is_path (one_path project_path (project_text config) project_is_path)
+
+-- a command writes files at paths
+paths_written : (words : List (List ℕ)) (tree : Tree) (command : Command) (config : Config) (map : List ℕ) (files : List NewFile) → IsConfigOf words tree command config → Writes tree config map command files → ArePaths files
+paths_written words tree command config map files is writes.linked = two_paths config map
+paths_written words tree command config map files is writes.unlinked = two_paths config map
+paths_written words tree command config map files is writes.refreshed = one_path map_path map map_is_path
+paths_written words tree command config map files is (writes.in_page page new stands i) = one_path config.page new (page_is_path words tree command config is)
 
 no_paths : (files : List NewFile) → files ≡ [] → ArePaths files
-no_paths files none = subst ArePaths (sym none) (All-nil (λ (f : NewFile). IsPath f.path))
+no_paths files none = subst ArePaths (sym none) (All-nil is_at)
 
 paths_of : (words : List (List ℕ)) (tree : Tree) (status : ℕ) (lines : List (List ℕ)) (files : List NewFile) → ComesTo words tree status lines files → ArePaths files
-paths_of words tree status lines files (words_refused why is s l f) = no_paths files f
-paths_of words tree status lines files (refused command config why is_config is s l f) = no_paths files f
+paths_of words tree status lines files (not_plain text other s l f) = no_paths files f
+paths_of words tree status lines files (refused why is s l f) = no_paths files f
 paths_of words tree status lines files (written command config map is generates wrote s l) = paths_written words tree command config map files is wrote
 paths_of words tree status lines files (checked config map all is holds traces s l f) = no_paths files f
 
@@ -110,13 +129,13 @@ module _ (words : List (List ℕ)) (tree : Tree) (status other : ℕ) (lines oth
 
   both_written :
       (command command_too : Command) (config second : Config) (map map_too : List ℕ)
-      → IsConfigOf words command config → (generates : Generates tree config map)
+      → IsConfigOf words tree command config → (generates : Generates tree config map)
       → Writes tree config map command files → status ≡ 0 → lines ≡ done_line generates.all generates.layout ∷ []
-      → IsConfigOf words command_too second → (too : Generates tree second map_too)
+      → IsConfigOf words tree command_too second → (too : Generates tree second map_too)
       → Writes tree second map_too command_too more → other ≡ 0 → others ≡ done_line too.all too.layout ∷ []
       → SameEnd status other lines others files more
   both_written command command_too config second map map_too is generates wrote s l is_too too wrote_too t m =
-      let same = one_config words command command_too config second is is_too in
+      let same = one_config words tree command command_too config second is is_too in
       let traces = one_trace tree config second map map_too same.one_config generates too in
       let layouts = one_layout tree config second map map_too same.one_config generates too in
       let texts = one_text tree config second map map_too same.one_config generates too in
@@ -132,16 +151,16 @@ module _ (words : List (List ℕ)) (tree : Tree) (status other : ℕ) (lines oth
   as_trace all = Ok all
 
   both_checked :
-      (config second : Config) (map map_too : ParsedMap) (all all_too : Gathered) → IsConfigOf words Check config
+      (config second : Config) (map map_too : ParsedMap) (all all_too : Gathered) → IsConfigOf words tree Check config
       → HoldsMap tree config map → traced (get tree) config ≡ Ok all
       → status ≡ check_status (difference_lines map all)
       → lines ≡ check_lines (length all.needs) (difference_lines map all) → files ≡ []
-      → IsConfigOf words Check second → HoldsMap tree second map_too → traced (get tree) second ≡ Ok all_too
+      → IsConfigOf words tree Check second → HoldsMap tree second map_too → traced (get tree) second ≡ Ok all_too
       → other ≡ check_status (difference_lines map_too all_too)
       → others ≡ check_lines (length all_too.needs) (difference_lines map_too all_too) → more ≡ []
       → SameEnd status other lines others files more
   both_checked config second map map_too all all_too is holds traces s l f is_too holds_too traces_too t m g =
-      let configs = (one_config words Check Check config second is is_too).one_config in
+      let configs = (one_config words tree Check Check config second is is_too).one_config in
       let maps = one_held tree config map map_too holds (subst (λ c. HoldsMap tree c map_too) (sym configs) holds_too) in
       let both : as_trace all ≡ as_trace all_too = sym traces ∙ (ap (traced (get tree)) configs ∙ traces_too) in
       let alls : all ≡ all_too = cc in
@@ -151,66 +170,84 @@ module _ (words : List (List ℕ)) (tree : Tree) (status other : ℕ) (lines oth
         same_files = f ∙ sym g;
       }
 
-  -- what is checked isn't refused, and nothing is written
-  refused_and_checked :
-      (command : Command) (config second : Config) (why : Refusal) (map : ParsedMap) (all : Gathered)
-      → IsConfigOf words command config → Refuses tree config command why → IsConfigOf words Check second
-      → HoldsMap tree second map → traced (get tree) second ≡ Ok all → ⊥
-  refused_and_checked command config second why map all is refused_so is_too holds traces =
-      let same = one_config words Check command second config is_too is in
-      refused_or_checked tree second why map all (same_refusals tree why same refused_so) holds traces
-
+  -- what is checked isn't written
   written_and_checked :
-      (command : Command) (config second : Config) (map : List ℕ) (new : List NewFile) → IsConfigOf words command config
-      → Writes tree config map command new → IsConfigOf words Check second → ⊥
+      (command : Command) (config second : Config) (map : List ℕ) (new : List NewFile) → IsConfigOf words tree command config
+      → Writes tree config map command new → IsConfigOf words tree Check second → ⊥
   written_and_checked command config second map new is wrote is_too =
-      subst IsGenerating (one_config words command Check config second is is_too).one_command
+      subst IsGenerating (one_config words tree command Check config second is is_too).one_command
       (writes_generate tree config map command new wrote)
 
-module _ (words : List (List ℕ)) (tree : Tree) (status other : ℕ) (lines others : List (List ℕ)) (files more : List NewFile) where
+-- a run is refused for one reason
+pub one_run_refusal : (words : List (List ℕ)) (tree : Tree) (why because : Refusal) → RefusesRun words tree why → RefusesRun words tree because → why ≡ because
+one_run_refusal words tree why because (runs.by_words fault is) (runs.by_words other too) = ap Configured (one_words_fault words fault other is too)
+one_run_refusal words tree why because (runs.by_words fault is) (runs.by_project other too) = absurd (words_refused_or_refused words tree fault other is too)
+one_run_refusal words tree why because (runs.by_words fault is) (runs.by_tree command config reason is_config too) = absurd (words_refused_or_config words tree fault command config is is_config)
+one_run_refusal words tree why because (runs.by_project fault is) (runs.by_words other too) = absurd (words_refused_or_refused words tree other fault too is)
+one_run_refusal words tree why because (runs.by_project fault is) (runs.by_project other too) = ap Configured (one_config_fault words tree fault other is too)
+one_run_refusal words tree why because (runs.by_project fault is) (runs.by_tree command config reason is_config too) = absurd (refused_or_config words tree fault command config is is_config)
+one_run_refusal words tree why because (runs.by_tree command config reason is_config is) (runs.by_words other too) = absurd (words_refused_or_config words tree other command config too is_config)
+one_run_refusal words tree why because (runs.by_tree command config reason is_config is) (runs.by_project other too) = absurd (refused_or_config words tree other command config too is_config)
+one_run_refusal words tree why because (runs.by_tree command config reason is_config is) (runs.by_tree command_too second other is_too too) =
+    let same = one_config words tree command command_too config second is_config is_too in
+    one_refusal tree config command why because is (same_refusals tree because same too)
+
+config_is_plain : (words : List (List ℕ)) (tree : Tree) (command : Command) (config : Config) → IsConfigOf words tree command config → IsPlain words
+config_is_plain words tree command config is = command_is_plain words command (command_is words tree command (Ok config) is)
+
+run_is_plain : (words : List (List ℕ)) (tree : Tree) (why : Refusal) → RefusesRun words tree why → IsPlain words
+run_is_plain words tree why (runs.by_words fault is) = refused_is_plain words fault is
+run_is_plain words tree why (runs.by_project fault is) = command_is_plain words is.command (command_is words tree is.command (Err fault) is.configures)
+run_is_plain words tree why (runs.by_tree command config reason is_config is) = config_is_plain words tree command config is_config
+
+-- what is refused isn't written
+pub refused_or_written :
+    (words : List (List ℕ)) (tree : Tree) (why : Refusal) (command : Command) (config : Config) (map : List ℕ)
+    → RefusesRun words tree why → IsConfigOf words tree command config → Opens tree config command
+    → Generates tree config map → ⊥
+refused_or_written words tree why command config map (runs.by_words fault is) is_config opened generates = words_refused_or_config words tree fault command config is is_config
+refused_or_written words tree why command config map (runs.by_project fault is) is_config opened generates = refused_or_config words tree fault command config is is_config
+refused_or_written words tree why command config map (runs.by_tree other second reason is_too is) is_config opened generates =
+    refused_or_generated tree map why (one_config words tree other command second config is_too is_config) is opened generates
+
+refused_or_checked_too :
+    (words : List (List ℕ)) (tree : Tree) (why : Refusal) (config : Config) (map : ParsedMap) (all : Gathered)
+    → RefusesRun words tree why → IsConfigOf words tree Check config → HoldsMap tree config map
+    → traced (get tree) config ≡ Ok all → ⊥
+refused_or_checked_too words tree why config map all (runs.by_words fault is) is_config holds traces = words_refused_or_config words tree fault Check config is is_config
+refused_or_checked_too words tree why config map all (runs.by_project fault is) is_config holds traces = refused_or_config words tree fault Check config is is_config
+refused_or_checked_too words tree why config map all (runs.by_tree other second reason is_too is) is_config holds traces =
+    let same = one_config words tree Check other config second is_config is_too in
+    refused_or_checked tree config why map all (same_refusals tree why same is) holds traces
+
+module _ (words : List (List ℕ)) (tree : Tree) (status other : ℕ) (lines others : List (List ℕ)) (files more : List NewFile) (plain : IsPlain words) where
   both :
       ComesTo words tree status lines files → ComesTo words tree other others more
       → SameEnd status other lines others files more
-  both (words_refused why is s l f) (words_refused because too t m g) =
-      same_refusal words tree status other lines others files more why because (one_words_refusal words why because is too) s l f t m g
-  both (words_refused why is s l f) (refused command config because is_config too t m g) =
-      absurd (refused_or_config words why command config is is_config)
-  both (words_refused why is s l f) (written command config map is_config generates wrote t m) =
-      absurd (refused_or_config words why command config is is_config)
-  both (words_refused why is s l f) (checked config map all is_config holds traces t m g) =
-      absurd (refused_or_config words why Check config is is_config)
-  both (refused command config why is_config is s l f) (words_refused because too t m g) =
-      absurd (refused_or_config words because command config too is_config)
-  both (refused command config why is_config is s l f) (refused command_too second because is_too too t m g) =
-      let same = one_config words command command_too config second is_config is_too in
-      let reasons = one_refusal tree config command why because is (same_refusals tree because same too) in
-      same_refusal words tree status other lines others files more why because reasons s l f t m g
-  both (refused command config why is_config is s l f) (written command_too second map is_too generates wrote t m) =
-      let same = one_config words command command_too config second is_config is_too in
-      absurd (refused_or_generated tree map why same is (written_is_opened tree second map more command_too wrote) generates)
-  both (refused command config why is_config is s l f) (checked second map all is_too holds traces t m g) =
-      absurd (refused_and_checked words tree status other lines others files more command config second why map all is_config is is_too holds traces)
-  both (written command config map is_config generates wrote s l) (words_refused because too t m g) =
-      absurd (refused_or_config words because command config too is_config)
-  both (written command config map is_config generates wrote s l) (refused command_too second because is_too too t m g) =
-      let same = one_config words command_too command second config is_too is_config in
-      absurd (refused_or_generated tree map because same too (written_is_opened tree config map files command wrote) generates)
+  both (not_plain text none s l f) end = absurd (none plain)
+  both end (not_plain text none s l f) = absurd (none plain)
+  both (refused why is s l f) (refused because too t m g) =
+      same_refusal words tree status other lines others files more why because (one_run_refusal words tree why because is too) s l f t m g
+  both (refused why is s l f) (written command config map is_config generates wrote t m) =
+      absurd (refused_or_written words tree why command config map is is_config (written_is_opened tree config map more command wrote) generates)
+  both (refused why is s l f) (checked config map all is_config holds traces t m g) =
+      absurd (refused_or_checked_too words tree why config map all is is_config holds traces)
+  both (written command config map is_config generates wrote s l) (refused because too t m g) =
+      absurd (refused_or_written words tree because command config map too is_config (written_is_opened tree config map files command wrote) generates)
   both (written command config map is_config generates wrote s l) (written command_too second map_too is_too too wrote_too t m) =
       both_written words tree status other lines others files more command command_too config second map map_too is_config generates wrote s l is_too too wrote_too t m
   both (written command config map is_config generates wrote s l) (checked second map_too all is_too holds traces t m g) =
       absurd (written_and_checked words tree status other lines others files more command config second map files is_config wrote is_too)
-  both (checked config map all is_config holds traces s l f) (words_refused because too t m g) =
-      absurd (refused_or_config words because Check config too is_config)
-  both (checked config map all is_config holds traces s l f) (refused command second because is_too too t m g) =
-      absurd (refused_and_checked words tree status other lines others files more command second config because map all is_too too is_config holds traces)
+  both (checked config map all is_config holds traces s l f) (refused because too t m g) =
+      absurd (refused_or_checked_too words tree because config map all too is_config holds traces)
   both (checked config map all is_config holds traces s l f) (written command second map_too is_too generates wrote t m) =
       absurd (written_and_checked words tree status other lines others files more command second config map_too more is_too wrote is_config)
   both (checked config map all is holds traces s l f) (checked second map_too all_too is_too holds_too traces_too t m g) =
       both_checked words tree status other lines others files more config second map map_too all all_too is holds traces s l f is_too holds_too traces_too t m g
 
 pub one_outcome : OneOutcome
-one_outcome words tree status other lines others after last one two =
-    let same = both words tree status other lines others one.files two.files one.comes two.comes in
+one_outcome words tree status other lines others after last plain one two =
+    let same = both words tree status other lines others one.files two.files plain one.comes two.comes in
     record {
       one_status = same.one_status;
       same_lines = same.same_lines;
@@ -218,6 +255,20 @@ one_outcome words tree status other lines others after last one two =
           one_placed one.files tree after last (paths_of words tree status lines one.files one.comes) one.placed
           (subst (λ files. FilesPlaced tree files last) (sym same.same_files) two.placed);
     }
+
+-- words without a meaning have one status, whatever is said of them
+no_meaning_status : (words : List (List ℕ)) (tree : Tree) (status : ℕ) (lines : List (List ℕ)) (files : List NewFile) → (IsPlain words → ⊥) → ComesTo words tree status lines files → status ≡ 2
+no_meaning_status words tree status lines files none (not_plain text too s l f) = s
+no_meaning_status words tree status lines files none (refused why is s l f) = absurd (none (run_is_plain words tree why is))
+no_meaning_status words tree status lines files none (written command config map is generates wrote s l) = absurd (none (config_is_plain words tree command config is))
+no_meaning_status words tree status lines files none (checked config map all is holds traces s l f) = absurd (none (config_is_plain words tree Check config is))
+
+pub one_status : (words : List (List ℕ)) (tree : Tree) (status other : ℕ) (lines others : List (List ℕ)) (after last : Tree) → Outcome words tree status lines after → Outcome words tree other others last → status ≡ other
+one_status words tree status other lines others after last one two =
+    elim (plain_or_not words) [
+      | inl plain ↦ (one_outcome words tree status other lines others after last plain one two).one_status
+      | inr none ↦ no_meaning_status words tree status lines one.files none one.comes ∙ sym (no_meaning_status words tree other others two.files none two.comes)
+    ]
 
 -- ---- some outcome
 
@@ -228,25 +279,57 @@ record CanWrite (tree : Tree) (command : Command) (config : Config) (map : List 
   placed : FilesPlaced tree files after
 
 module _ (words : List (List ℕ)) (tree : Tree) (is_tree : IsTree tree) where
-  one_file : (path bytes : List ℕ) → IsParent (codes "/") path → FilesPlaced tree (new_file path bytes ∷ []) (insert tree path (Stored bytes))
-  one_file path bytes parent = (insert tree path (Stored bytes), (in_root tree path (Stored bytes) _ is_tree parent).1 refl, refl)
+  -- above a path at which something stands are folders
+  above_stands : (path folder : List ℕ) (entry : Entry) → get tree path ≡ Some entry → IsAbove folder path → get tree folder ≡ Some Directory
+  above_stands _ _ entry is (parent_of above path p) = is_tree.parents above path entry is p
+  above_stands _ _ entry is (further above parent path a p) = folders_above tree parent above is_tree (is_tree.parents parent path entry is p) a
 
-  refused_words : AreRefused words → HasOutcome words tree
-  refused_words is = record {
-    status = status_of is.why;
-    lines = line_of is.why ∷ [];
+  in_root_above : (path folder : List ℕ) → IsParent (codes "/") path → IsAbove folder path → folder ≡ codes "/"
+  in_root_above path folder parent above =
+      elim (above_by_parent folder (codes "/") path parent above) [
+        | inl same ↦ same
+        | inr higher ↦ absurd (nothing_above_root folder (codes "/") refl higher)
+      ]
+
+  after_map : (map : List ℕ) (folder : List ℕ) → folder ≡ codes "/" → get (insert tree map_path (Stored map)) folder ≡ Some Directory
+  after_map map folder same = ap (get (insert tree map_path (Stored map))) same ∙ (get_other tree map_path (Stored map) (codes "/") (λ e. let n : length (codes "/") ≡ length map_path = ap length e in absurd (omega (arith, n))) ∙ is_tree.root)
+
+  one_file : (path bytes : List ℕ) → ((folder : List ℕ) → IsAbove folder path → get tree folder ≡ Some Directory) → FilesPlaced tree (new_file path bytes ∷ []) (insert tree path (Stored bytes))
+  one_file path bytes folders = (insert tree path (Stored bytes), inserted_places tree path (Stored bytes) folders, refl)
+
+  above_map : (folder : List ℕ) → IsAbove folder map_path → get tree folder ≡ Some Directory
+  above_map folder above = ap (get tree) (in_root_above map_path folder map_in_root above) ∙ is_tree.root
+
+  two_files : (config : Config) (map : List ℕ) → FilesPlaced tree (map_and_project config map) (insert (insert tree map_path (Stored map)) project_path (Stored (project_text config)))
+  two_files config map = (
+    insert tree map_path (Stored map),
+    inserted_places tree map_path (Stored map) above_map,
+    (
+      insert (insert tree map_path (Stored map)) project_path (Stored (project_text config)),
+      inserted_places (insert tree map_path (Stored map)) project_path (Stored (project_text config)) (λ folder above. after_map map folder (in_root_above project_path folder project_in_root above)),
+      refl,
+    ),
+  )
+
+  by_why : (why : Refusal) → RefusesRun words tree why → HasOutcome words tree
+  by_why why is = record {
+    status = status_of why;
+    lines = line_of why ∷ [];
     after = tree;
-    outcome = record { files = []; comes = words_refused is.why is.refuses refl refl refl; placed = refl };
+    outcome = record { files = []; comes = refused why is refl refl refl; placed = refl };
   }
 
-  module _ (command : Command) (config : Config) (is : IsConfigOf words command config) where
+  no_meaning : (IsPlain words → ⊥) → HasOutcome words tree
+  no_meaning none = record {
+    status = 2;
+    lines = [] ∷ [];
+    after = tree;
+    outcome = record { files = []; comes = not_plain [] none refl refl refl; placed = refl };
+  }
+
+  module _ (command : Command) (config : Config) (is : IsConfigOf words tree command config) where
     by_refusal : (why : Refusal) → Refuses tree config command why → HasOutcome words tree
-    by_refusal why refused_so = record {
-      status = status_of why;
-      lines = line_of why ∷ [];
-      after = tree;
-      outcome = record { files = []; comes = refused command config why is refused_so refl refl refl; placed = refl };
-    }
+    by_refusal why refused_so = by_why why (runs.by_tree command config why is refused_so)
 
     by_files : (map : List ℕ) → Generates tree config map → CanWrite tree command config map → HasOutcome words tree
     by_files map generates can = record {
@@ -262,10 +345,10 @@ module _ (words : List (List ℕ)) (tree : Tree) (is_tree : IsTree tree) where
 
     by_generation : IsGenerating command → Opens tree config command → ((map : List ℕ) → CanWrite tree command config map) → (all : Gathered) → traced (get tree) config ≡ Ok all → HasOutcome words tree
     by_generation generating opened can all e =
-        let found = some_generation tree config all (page_of_words_is_file words command config is) e in
+        let found = some_generation tree config all e in
         by_map generating opened can found.0 found.2
 
-  by_check : (config : Config) → IsConfigOf words Check config → (map : ParsedMap) → HoldsMap tree config map → (all : Gathered) → traced (get tree) config ≡ Ok all → HasOutcome words tree
+  by_check : (config : Config) → IsConfigOf words tree Check config → (map : ParsedMap) → HoldsMap tree config map → (all : Gathered) → traced (get tree) config ≡ Ok all → HasOutcome words tree
   by_check config is map holds all e = record {
     status = check_status (difference_lines map all);
     lines = check_lines (length all.needs) (difference_lines map all);
@@ -273,32 +356,40 @@ module _ (words : List (List ℕ)) (tree : Tree) (is_tree : IsTree tree) where
     outcome = record { files = []; comes = checked config map all is holds e refl refl refl; placed = refl };
   }
 
-  by_trace : (command : Command) (config : Config) → IsConfigOf words command config → (opened : Opens tree config command) → (all : Gathered) → traced (get tree) config ≡ Ok all → HasOutcome words tree
-  by_trace command config is opens.nothing all e =
-      by_generation command config is tt opens.nothing
-      (λ map. record { files = _; after = _; writes = writes.map_alone; placed = one_file map_path map map_in_root }) all e
+  by_trace : (command : Command) (config : Config) → IsConfigOf words tree command config → (opened : Opens tree config command) → (all : Gathered) → traced (get tree) config ≡ Ok all → HasOutcome words tree
+  by_trace command config is (opens.nothing _ mapping.link) all e =
+      by_generation command config is tt (opens.nothing Link mapping.link)
+      (λ map. record { files = _; after = _; writes = writes.linked; placed = two_files config map }) all e
+  by_trace command config is (opens.nothing _ mapping.unlink) all e =
+      by_generation command config is tt (opens.nothing Unlink mapping.unlink)
+      (λ map. record { files = _; after = _; writes = writes.unlinked; placed = two_files config map }) all e
+  by_trace command config is (opens.nothing _ mapping.refresh) all e =
+      by_generation command config is tt (opens.nothing Refresh mapping.refresh)
+      (λ map. record { files = _; after = _; writes = writes.refreshed; placed = one_file map_path map above_map }) all e
   by_trace command config is (opens.page page stands takes) all e =
       by_generation command config is tt (opens.page page stands takes)
       (λ map. record {
         files = _;
         after = _;
         writes = writes.in_page page (takes map).new stands (takes map).injection;
-        placed = one_file config.page (takes map).new (subst (IsParent (codes "/")) (sym is.page) page_in_root);
+        placed = one_file config.page (takes map).new (λ folder above. above_stands config.page folder (Stored page) stands.stands above);
       }) all e
   by_trace command config is (opens.has_map map holds) all e = by_check config is map holds all e
   by_trace command config is (opens.no_base text stands nameless) all e = absurd (traced_is_named (get tree) config all nameless e)
 
-  by_result : (command : Command) (config : Config) → IsConfigOf words command config → Opens tree config command → (found : Result Gathered TraceFault) → traced (get tree) config ≡ found → HasOutcome words tree
+  by_result : (command : Command) (config : Config) → IsConfigOf words tree command config → Opens tree config command → (found : Result Gathered TraceFault) → traced (get tree) config ≡ found → HasOutcome words tree
   by_result command config is opened (Err fault) e = by_refusal command config is (Trace fault) (refuses.trace command fault opened e)
   by_result command config is opened (Ok all) e = by_trace command config is opened all e
 
-  by_opening : (command : Command) (config : Config) → IsConfigOf words command config → Opens tree config command ⊎ Refused tree config command → HasOutcome words tree
+  by_opening : (command : Command) (config : Config) → IsConfigOf words tree command config → Opens tree config command ⊎ Refused tree config command → HasOutcome words tree
   by_opening command config is (inl opened) = by_result command config is opened (traced (get tree) config) refl
   by_opening command config is (inr none) = by_refusal command config is none.why none.refuses
 
+  by_judgement : Judged words tree → HasOutcome words tree
+  by_judgement (judgement.not_plain none) = no_meaning none
+  by_judgement (judgement.words_refused fault is) = by_why (Configured fault) (runs.by_words fault is)
+  by_judgement (judgement.config_refused fault is) = by_why (Configured fault) (runs.by_project fault is)
+  by_judgement (judgement.configured command config is) = by_opening command config is (opened_or_refused tree config command)
+
 pub some_outcome : SomeOutcome
-some_outcome words tree is_tree =
-    elim (some_config words) [
-      | inr none ↦ refused_words words tree is_tree none
-      | inl has ↦ by_opening words tree is_tree has.command has.config has.is (opened_or_refused tree has.config has.command)
-    ]
+some_outcome words tree is_tree = by_judgement words tree is_tree (judged words tree)

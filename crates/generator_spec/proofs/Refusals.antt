@@ -21,8 +21,8 @@ use Rattle.trace_spec.specs.Modules.{Config, web_name}
 use Rattle.trace_spec.specs.Walking.{the_page}
 use Rattle.trace_spec.specs.Checks.{Gathered}
 use Rattle.trace_spec.specs.Traces.{traced}
-use Rattle.generator_spec.specs.declared.Command.{Command}
-use Rattle.generator_spec.specs.declared.Command.TheVariants.{Link, Inject, Check}
+use Rattle.config_spec.specs.declared.Command.{Command}
+use Rattle.config_spec.specs.declared.Command.TheVariants.{Link, Unlink, Refresh, Inject, Check}
 use Rattle.generator_spec.specs.declared.MapFileFault.{MapFileFault}
 use Rattle.generator_spec.specs.declared.MapFileFault.TheVariants as map_file
 use Rattle.generator_spec.specs.declared.PageFault.{PageFault}
@@ -31,6 +31,7 @@ use Rattle.generator_spec.specs.declared.Refusal.{Refusal}
 use Rattle.generator_spec.specs.declared.Refusal.TheVariants.{Page, MapFile}
 use Rattle.generator_spec.specs.Commands.{IsPage, RefusesPage, map_path, map_file_limit, IsMapText, ReadsMap, HoldsMap, map_file_fault}
 use Rattle.generator_spec.specs.Commands.{RefusesMapFile, RefusesMapFile as refuses_map, Opens, Refuses, NewFile, new_file, Writes}
+use Rattle.generator_spec.specs.Commands.{IsMapping as mapping}
 use Rattle.generator_spec.specs.Commands.{RefusesPage as refuses_page, Opens as opens, Refuses as refuses, Writes as writes}
 use Rattle.generator_spec.specs.Generation.{Generates, IsTooLarge}
 use Rattle.generator_spec.proofs.Generations.{nothing_refused}
@@ -103,6 +104,7 @@ module _ (tree : Tree) (config : Config) where
       no_way_in text other page new reason (same_stored found other page is_too.stands is.stands) keeps i
 
   refused_or_opened : (fault : PageFault) → RefusesPage tree config fault → Opens tree config Inject → ⊥
+  refused_or_opened fault refused (opens.nothing _ is) = elim is [ ]
   refused_or_opened fault refused (opens.page page is takes) = let put = takes [] in refused_takes_none fault [] page put.new refused is put.injection
 
   -- ---- the map's file
@@ -166,6 +168,7 @@ module _ (tree : Tree) (config : Config) where
       absurd (cc)
 
   map_refused_or_opened : (fault : MapFileFault) → RefusesMapFile tree config fault → Opens tree config Check → ⊥
+  map_refused_or_opened fault refused (opens.nothing _ is) = elim is [ ]
   map_refused_or_opened fault refused (opens.has_map map holds) = no_map_text fault holds.text map refused holds.stands holds.reads
   map_refused_or_opened fault refused (opens.no_base text is nameless) = no_base_text fault text refused is nameless
 
@@ -215,7 +218,9 @@ module _ (tree : Tree) (config : Config) where
 
   -- a command that writes was opened
   pub written_is_opened : (map : List ℕ) (files : List NewFile) (command : Command) → Writes tree config map command files → Opens tree config command
-  written_is_opened map files command writes.map_alone = opens.nothing
+  written_is_opened map files command writes.linked = opens.nothing Link mapping.link
+  written_is_opened map files command writes.unlinked = opens.nothing Unlink mapping.unlink
+  written_is_opened map files command writes.refreshed = opens.nothing Refresh mapping.refresh
   written_is_opened map files command (writes.in_page page new is i) = opens.page page is (by (takes_or_keeps_out.either page))
     where
       by : TakesMaps page ⊎ AreKeptOut page → TakesMaps page
@@ -266,7 +271,9 @@ module _ (tree : Tree) (config : Config) where
       ]
 
   pub opened_or_refused : (command : Command) → Opens tree config command ⊎ Refused command
-  opened_or_refused Link = inl opens.nothing
+  opened_or_refused Link = inl (opens.nothing Link mapping.link)
+  opened_or_refused Unlink = inl (opens.nothing Unlink mapping.unlink)
+  opened_or_refused Refresh = inl (opens.nothing Refresh mapping.refresh)
   opened_or_refused Inject = by_entry found refl
   opened_or_refused Check = by_map_entry map_found refl
 
@@ -281,7 +288,9 @@ one_page map page other new another same i j =
     cc
 
 pub one_write : (tree : Tree) (config : Config) (map : List ℕ) (command : Command) (files others : List NewFile) → Writes tree config map command files → Writes tree config map command others → files ≡ others
-one_write tree config map command files others writes.map_alone writes.map_alone = refl
+one_write tree config map command files others writes.linked writes.linked = refl
+one_write tree config map command files others writes.unlinked writes.unlinked = refl
+one_write tree config map command files others writes.refreshed writes.refreshed = refl
 one_write tree config map command files others (writes.in_page page new is i) (writes.in_page page_too new_too is_too j) =
     ap (λ bytes. new_file config.page bytes ∷ [])
     (one_page map page page_too new new_too (same_stored (get tree config.page) page page_too is.stands is_too.stands) i j)

@@ -10,13 +10,18 @@ use Rattle.page_spec.specs.declared.kinds.InjectFault.TheVariants.{PageUnclear, 
 use Rattle.page_spec.specs.declared.kinds.InjectFault.TheVariants as page
 use Rattle.trace_spec.specs.declared.TraceFault.{TraceFault}
 use Rattle.trace_spec.specs.declared.TraceFault.TheVariants as fault
+use Rattle.config_spec.specs.declared.ConfigFault.{ConfigFault}
+use Rattle.config_spec.specs.declared.ConfigFault.TheVariants as config
+use Rattle.config_spec.specs.declared.ProjectFault.{ProjectFault}
+use Rattle.config_spec.specs.declared.ProjectFault.TheVariants as project
+use Rattle.config_spec.specs.Words.{IsPlain}
 use Rattle.generator_spec.specs.declared.MapFileFault.{MapFileFault}
 use Rattle.generator_spec.specs.declared.MapFileFault.TheVariants as map_file
 use Rattle.generator_spec.specs.declared.PageFault.{PageFault}
 use Rattle.generator_spec.specs.declared.PageFault.TheVariants.{Absent, TooLarge, KeepsMapsOut}
 use Rattle.generator_spec.specs.declared.Refusal.{Refusal}
 use Rattle.generator_spec.specs.declared.Refusal.TheVariants as refusal
-use Rattle.generator_spec.specs.Lines.{page_line, map_file_line, trace_line, line_of, counts_line, served_line, differences_line}
+use Rattle.generator_spec.specs.Lines.{project_line, config_line, page_line, map_file_line, trace_line, line_of, counts_line, served_line, differences_line}
 use Rattle.generator_spec.specs.Lines.{memory_line, read_fault_line, write_fault_line}
 use Rattle.generator_spec.specs.Ending.{IsDone, IsDifference, IsChecked, Gives, Shaped, Says, Ends, Shaped as shaped, Says as says, Ends as ends}
 use Rattle.generator_spec.specs.Checking.{check_status, check_lines}
@@ -67,9 +72,24 @@ map_file_is_another map_file.TooDeep = other_line 108 (map_file_line map_file.To
 map_file_is_another (map_file.NotObject which) =
     other_line 98 (map_file_line (map_file.NotObject which)) refl (λ e. omega arith)
 
+project_is_another : (why : ProjectFault) → IsAnother (project_line why)
+project_is_another project.Absent = other_line 98 (project_line project.Absent) refl (λ e. omega arith)
+project_is_another project.TooLarge = other_line 108 (project_line project.TooLarge) refl (λ e. omega arith)
+project_is_another (project.NotProject at) = other_line 98 (project_line (project.NotProject at)) refl (λ e. omega arith)
+project_is_another (project.Above which) = other_line 108 (project_line (project.Above which)) refl (λ e. omega arith)
+
+config_is_another : (why : ConfigFault) → IsAnother (config_line why)
+config_is_another config.NotBuilt = other_line 110 (config_line config.NotBuilt) refl (λ e. omega arith)
+config_is_another (config.BadBase text) = other_line 119 (config_line (config.BadBase text)) refl (λ e. omega arith)
+config_is_another (config.BadPath text) = other_line 119 (config_line (config.BadPath text)) refl (λ e. omega arith)
+config_is_another (config.BadConditions text) = other_line 119 (config_line (config.BadConditions text)) refl (λ e. omega arith)
+config_is_another (config.Project why) = project_is_another why
+config_is_another config.NoBase = other_line 119 (config_line config.NoBase) refl (λ e. omega arith)
+config_is_another (config.NotLinked entry) = other_line 114 (config_line (config.NotLinked entry)) refl (λ e. omega arith)
+config_is_another config.TooManyEntries = other_line 108 (config_line config.TooManyEntries) refl (λ e. omega arith)
+
 refusal_is_another : (why : Refusal) → IsAnother (line_of why)
-refusal_is_another refusal.Words = other_line 110 (line_of refusal.Words) refl (λ e. omega arith)
-refusal_is_another (refusal.BadBase text) = other_line 119 (line_of (refusal.BadBase text)) refl (λ e. omega arith)
+refusal_is_another (refusal.Config fault) = config_is_another fault
 refusal_is_another (refusal.Limit which) =
     other_line 108 (line_of (refusal.Limit which)) refl (λ e. omega arith)
 refusal_is_another (refusal.Page why) = page_is_another why
@@ -148,32 +168,32 @@ module _ (words : List (List ℕ)) (before after : FolderState) (status : ℕ) (
       ⊎_elim (λ zero. inr (done (is.ends ∙ zero))) (λ another. inl (subst (λ all. IsAnother (concat all)) (sym is.says) another))
       (checked_text is.differing is.needs is.are_differences)
 
-  shaped_line : Shaped words status lines → IsAnother (concat lines) ⊎ WasDone
-  shaped_line (shaped.words_refused why refuses s l) = inl (other_text (line_of why) lines l (refusal_is_another why))
-  shaped_line (shaped.refused command config why is of s l) = inl (other_text (line_of why) lines l (refusal_is_another why))
-  shaped_line (shaped.done line s l counted) = inr (done s)
-  shaped_line (shaped.checked is) = checked_line is
+  shaped_line : IsPlain words → Shaped words status lines → IsAnother (concat lines) ⊎ WasDone
+  shaped_line plain (shaped.not_plain text none s l) = absurd (none plain)
+  shaped_line plain (shaped.refused why is s l) = inl (other_text (line_of why) lines l (refusal_is_another why))
+  shaped_line plain (shaped.done line s l counted) = inr (done s)
+  shaped_line plain (shaped.checked is) = checked_line is
 
-  said_line : Says words before after status lines → IsAnother (concat lines) ⊎ WasDone
-  said_line (says.outcome shape o l w) = shaped_line shape
-  said_line (says.memory s t k l w) = inl (other_text memory_line lines t (other_line 109 memory_line refl (λ e. omega arith)))
-  said_line (says.read_fault command config is_config s t k rose w) =
+  said_line : IsPlain words → Says words before after status lines → IsAnother (concat lines) ⊎ WasDone
+  said_line plain (says.outcome shape o l w) = shaped_line plain shape
+  said_line plain (says.memory s t k l w) = inl (other_text memory_line lines t (other_line 109 memory_line refl (λ e. omega arith)))
+  said_line plain (says.read_fault command is_command s t k rose w) =
       inl (other_text read_fault_line lines t (other_line 102 read_fault_line refl (λ e. omega arith)))
-  said_line (says.write_fault line counted stops s t l rose) =
+  said_line plain (says.write_fault line counted stops s t l rose) =
       inl (other_text write_fault_line lines t (other_line 102 write_fault_line refl (λ e. omega arith)))
 
   pub end_tells :
       (out out_after : SinkState) (result : ℕ) → Says words before after status lines
-      → Ends status (concat lines) out out_after result → Tells out.got out_after.got WasDone
+      → Ends status (concat lines) out out_after result → Tells (IsPlain words) out.got out_after.got WasDone
   end_tells out out_after result s ended =
       let gives = gives_of status (concat lines) out out_after result ended in
-      let only = λ (text front : List ℕ) (count : ℕ) (told : out.got ≡ Some front) (first : first_byte (take count text) ≡ 111) (given : out_after.got ≡ Some (front ++ take count text)).
-      ⊎_elim (λ another. absurd (no_byte (concat lines) text out.got out_after.got front count another gives told first given)) (λ written. written) (said_line s) in
+      let only = λ (plain : IsPlain words) (text front : List ℕ) (count : ℕ) (told : out.got ≡ Some front) (first : first_byte (take count text) ≡ 111) (given : out_after.got ≡ Some (front ++ take count text)).
+      ⊎_elim (λ another. absurd (no_byte (concat lines) text out.got out_after.got front count another gives told first given)) (λ written. written) (said_line plain s) in
       record {
         text = concat lines;
         gives = gives;
-        only_where_done = λ front modules requests mappings count told some given.
-            only (counts_line modules requests mappings) front count told (first_of_counts modules requests mappings count some) given;
-        only_where_served = λ front needs count told some given.
-            only (served_line needs) front count told (first_of_served needs count some) given;
+        only_where_done = λ plain front modules requests mappings count told some given.
+            only plain (counts_line modules requests mappings) front count told (first_of_counts modules requests mappings count some) given;
+        only_where_served = λ plain front needs count told some given.
+            only plain (served_line needs) front count told (first_of_served needs count some) given;
       }

@@ -7,11 +7,13 @@
 --     ReadsMap config text outcome        what the text is read as, against the page's URL
 --     HoldsMap tree config map            the map's file is read as this map
 --     RefusesMapFile tree config fault    there is no map to check
+--     IsMapping command                   the command writes the map's file
 --     Opens tree config command           what the command needs before its trace is there
 --     Refuses tree config command why     the command is refused: before its trace, by the first refusal of that, or
 --                                         for the size of its map
 --     IsRefusalOf config command why      it can be refused so, whatever the tree holds
 --     NewFile                             a file that is written: its path and its bytes
+--     map_and_project config map          the map's file, and then the project's
 --     Writes tree config map command files      with the map the command writes these files, in this order
 use Rattle.std.specs.Prelude.{◌≡◌, ◌≤◌, ◌<◌, ⊤, ℕ, List, [], ◌∷◌, length, Some, None, Result, Ok, Err, codes}
 use Rattle.std.specs.FinMap.{get}
@@ -32,8 +34,8 @@ use Rattle.trace_spec.specs.Kinds.{IsOfTrace}
 use Rattle.trace_spec.specs.Modules.{Config, web_name}
 use Rattle.trace_spec.specs.Traces.{traced}
 use Rattle.trace_spec.specs.Walking.{the_page}
-use Rattle.generator_spec.specs.declared.Command.{Command}
-use Rattle.generator_spec.specs.declared.Command.TheVariants.{Link, Inject, Check}
+use Rattle.config_spec.specs.declared.Command.{Command}
+use Rattle.config_spec.specs.declared.Command.TheVariants.{Link, Unlink, Refresh, Inject, Check}
 use Rattle.generator_spec.specs.declared.MapFileFault.{MapFileFault}
 use Rattle.generator_spec.specs.declared.MapFileFault.TheVariants as map_fault
 use Rattle.generator_spec.specs.declared.PageFault.{PageFault}
@@ -41,10 +43,14 @@ use Rattle.generator_spec.specs.declared.PageFault.TheVariants.{Absent, TooLarge
 use Rattle.generator_spec.specs.declared.Refusal.{Refusal}
 use Rattle.generator_spec.specs.declared.Refusal.TheVariants.{Page, MapFile, Trace, Limit}
 use Rattle.generator_spec.specs.Generation.{IsTooLarge}
+use Rattle.config_spec.specs.Projects.{project_path}
+use Rattle.project_spec.specs.ProjectFiles.{project_text}
 
 -- own: `check` traces, and generates nothing
 abbrev pub IsGenerating : Command → Type 0
 IsGenerating Link = ⊤
+IsGenerating Unlink = ⊤
+IsGenerating Refresh = ⊤
 IsGenerating Inject = ⊤
 IsGenerating Check = ⊥
 
@@ -109,10 +115,16 @@ pub data RefusesMapFile (tree : Tree) (config : Config) (why : MapFileFault) : T
 
 -- ---- before the trace
 
--- own: `link` needs nothing, `inject` a page that takes maps, and `check` a map; a page without a URL gives it no map
--- base, and is refused by the trace
+-- the command writes the map's file
+pub data IsMapping : Command → Type 0 where
+  link : IsMapping Link
+  unlink : IsMapping Unlink
+  refresh : IsMapping Refresh
+
+-- own: `inject` needs a page that takes maps, `check` a map, and the others nothing; a page without a URL gives `check`
+-- no map base, and is refused by the trace
 pub data Opens (tree : Tree) (config : Config) : Command → Type 0 where
-  nothing : Opens tree config Link
+  nothing : (command : Command) → IsMapping command → Opens tree config command
   page : (page : List ℕ) → IsPage tree config page → TakesMaps page → Opens tree config Inject
   has_map : (map : ParsedMap) → HoldsMap tree config map → Opens tree config Check
   no_base : (text : List ℕ) → IsMapText tree text → web_name config the_page ≡ None → Opens tree config Check
@@ -155,9 +167,15 @@ pub record NewFile : Type 0 where
 abbrev pub new_file : List ℕ → List ℕ → NewFile
 new_file path bytes = record { path = path; bytes = bytes }
 
--- own: `link` writes the map, and `inject` the page with the map in it
+abbrev pub map_and_project : Config → List ℕ → List NewFile
+map_and_project config map = new_file map_path map ∷ new_file project_path (project_text config) ∷ []
+
+-- own: `link` and `unlink` write the map and then the project's file, `refresh` the map, and `inject` the page with the
+-- map in it
 pub data Writes (tree : Tree) (config : Config) (map : List ℕ) : Command → List NewFile → Type 0 where
-  map_alone : Writes tree config map Link (new_file map_path map ∷ [])
+  linked : Writes tree config map Link (map_and_project config map)
+  unlinked : Writes tree config map Unlink (map_and_project config map)
+  refreshed : Writes tree config map Refresh (new_file map_path map ∷ [])
   in_page :
       (page new : List ℕ) → IsPage tree config page → Injection map page (Ok new)
       → Writes tree config map Inject (new_file config.page new ∷ [])

@@ -6,25 +6,28 @@
 --     Says words before after status lines      why a command ends with this status and these lines
 --     Ends status text out out_after result     the text went out and the status is answered, or the output failed
 --     TellsRefusal why out out_after result     the same of a refusal, or of want of memory in its place
-use Rattle.std.specs.Prelude.{◌≡◌, ◌≤◌, ◌<◌, ◌⊎◌, ◌++◌, ℕ, List, [], ◌∷◌, length, All, Contains}
+use Rattle.std.specs.Prelude.{◌≡◌, ◌≢◌, ◌≤◌, ◌<◌, ◌⊎◌, ◌++◌, ℕ, List, [], ◌∷◌, length, All, Contains}
 use Rattle.std.specs.Prelude.{Option, Some, None, IfSome}
 use Rattle.std.specs.Prelude.{option_map, take}
 use Rattle.std.specs.List.{concat}
 use Rattle.tree_spec.specs.Counts.{Rose}
 use Rattle.tree_spec.specs.States.{FolderState, SinkState}
 use Rattle.tree_spec.specs.Trees.{Tree}
-use Rattle.import_map_spec.specs.Resolving.{Resolution}
+use Rattle.import_map_spec.specs.Resolving.{Resolution, Resolved}
 use Rattle.page_spec.specs.ImportMaps.{IsOneMap}
 use Rattle.trace_spec.specs.Modules.{Config}
-use Rattle.generator_spec.specs.declared.Command.{Command}
-use Rattle.generator_spec.specs.declared.Command.TheVariants.{Link, Inject, Check}
+use Rattle.config_spec.specs.declared.Command.{Command}
+use Rattle.config_spec.specs.declared.Command.TheVariants.{Link, Unlink, Refresh, Inject, Check}
+use Rattle.config_spec.specs.declared.ConfigFault.{ConfigFault}
 use Rattle.generator_spec.specs.declared.Refusal.{Refusal}
+use Rattle.generator_spec.specs.declared.Refusal.TheVariants.{Config as Configured}
 use Rattle.generator_spec.specs.Checking.{check_status, check_lines}
 use Rattle.generator_spec.specs.Commands.{IsGenerating, IsMapText, Opens, IsRefusalOf, NewFile, Writes}
 use Rattle.generator_spec.specs.Generation.{Generates}
 use Rattle.generator_spec.specs.Serves.{Serves, KnowsModules}
-use Rattle.generator_spec.specs.Statuses.{done_status, read_fault_status, write_fault_status, memory_status}
-use Rattle.generator_spec.specs.Words.{IsConfigOf, RefusesWords}
+use Rattle.generator_spec.specs.Statuses.{done_status, words_status, read_fault_status, write_fault_status, memory_status}
+use Rattle.config_spec.specs.Words.{IsCommandOf, IsPlain, RefusesWords}
+use Rattle.config_spec.specs.Projects.{IsConfigOf, IsConfigFor, CanRefuseConfig}
 use Rattle.generator_spec.specs.Lines.{status_of, line_of, counts_line, done_line, differs_line}
 use Rattle.generator_spec.specs.Lines.{memory_line, read_fault_line, write_fault_line}
 use Rattle.generator_spec.specs.Outcome.{FilesPlaced, Outcome}
@@ -40,7 +43,7 @@ pub record AreWritten (tree : Tree) (files : List NewFile) (told : Option Tree) 
 pub record IsGenerated (words : List (List ℕ)) (tree : Tree) (map line : List ℕ) : Type 0 where
   pub command : Command
   pub config : Config
-  pub is_config : IsConfigOf words command config
+  pub is_config : IsConfigOf words tree command config
   pub opens : Opens tree config command
   pub generates : Generates tree config map
   pub says : line ≡ done_line generates.all generates.layout
@@ -48,6 +51,8 @@ pub record IsGenerated (words : List (List ℕ)) (tree : Tree) (map line : List 
 -- own: where a browser finds the map: it is the file, or the raw text of the page's one import map element
 abbrev pub IsCarried : Command → List ℕ → NewFile → Type 0
 IsCarried Link map file = file.bytes ≡ map
+IsCarried Unlink map file = file.bytes ≡ map
+IsCarried Refresh map file = file.bytes ≡ map
 IsCarried Inject map file = IsOneMap map file.bytes
 IsCarried Check map file = ⊥
 
@@ -70,7 +75,7 @@ pub record Linked (words : List (List ℕ)) (tree : Tree) (told : Option Tree) :
 -- own: it is asked to check the map's file, and through that map each request is led so
 pub record MapServes (words : List (List ℕ)) (tree : Tree) : Type 0 where
   pub config : Config
-  pub is_config : IsConfigOf words Check config
+  pub is_config : IsConfigOf words tree Check config
   pub text : List ℕ
   pub stands : IsMapText tree text
   pub serves : Serves tree config text
@@ -82,12 +87,12 @@ pub data IsDone (words : List (List ℕ)) (tree : Tree) (told : Option Tree) : T
 
 -- ---- what is said
 
--- own: the words give a config of a command that generates, and the line is that of a map that is written, with some
--- counts
+-- own: the words can have this config of a command that generates, and the line is that of a map that is written, with
+-- some counts
 pub record IsCounted (words : List (List ℕ)) (line : List ℕ) : Type 0 where
   pub command : Command
   pub config : Config
-  pub is_config : IsConfigOf words command config
+  pub is_config : IsConfigFor words command config
   pub generating : IsGenerating command
   pub modules : ℕ
   pub requests : ℕ
@@ -100,27 +105,37 @@ pub record IsDifference (line : List ℕ) : Type 0 where
   pub specifier : List ℕ
   pub wants : List ℕ
   pub gets : Resolution
+  pub differs : gets ≢ Resolved wants
   pub says : line ≡ differs_line referrer specifier wants gets
 
--- own: the words ask for a check, and the lines are those of one with some differences
+-- own: the words can have this config of a check, and the lines are those of one with some differences, of which there
+-- are no more than needs
 pub record IsChecked (words : List (List ℕ)) (status : ℕ) (lines : List (List ℕ)) : Type 0 where
   pub config : Config
-  pub is_config : IsConfigOf words Check config
+  pub is_config : IsConfigFor words Check config
   pub needs : ℕ
   pub differing : List (List ℕ)
+  pub few : length differing ≤ needs
   pub are_differences : All IsDifference differing
   pub ends : status ≡ check_status differing
   pub says : lines ≡ check_lines needs differing
 
--- own: status and lines belong together, whatever the folder tells: they are those of refused words; or the words give
--- a config, and these are of a refusal of their command, of a map that is written, or of a check
+-- own: a run of these words can be refused so, whatever the folder tells
+pub data CanRefuse (words : List (List ℕ)) : Refusal → Type 0 where
+  by_words : (fault : ConfigFault) → RefusesWords words fault → CanRefuse words (Configured fault)
+  by_project : (fault : ConfigFault) → CanRefuseConfig words fault → CanRefuse words (Configured fault)
+  by_tree :
+      (command : Command) (config : Config) (why : Refusal) → IsConfigFor words command config
+      → IsRefusalOf config command why → CanRefuse words why
+
+-- own: status and lines belong together, whatever the folder tells: they are those of words without a meaning, of a
+-- refusal, of a map that is written, or of a check
 pub data Shaped (words : List (List ℕ)) (status : ℕ) (lines : List (List ℕ)) : Type 0 where
-  words_refused :
-      (why : Refusal) → RefusesWords words why → status ≡ status_of why → lines ≡ line_of why ∷ []
-      → Shaped words status lines
+  not_plain :
+      (text : List ℕ) → (IsPlain words → ⊥) → status ≡ words_status → lines ≡ text ∷ [] → Shaped words status lines
   refused :
-      (command : Command) (config : Config) (why : Refusal) → IsConfigOf words command config
-      → IsRefusalOf config command why → status ≡ status_of why → lines ≡ line_of why ∷ [] → Shaped words status lines
+      (why : Refusal) → CanRefuse words why → status ≡ status_of why → lines ≡ line_of why ∷ []
+      → Shaped words status lines
   done : (line : List ℕ) → status ≡ done_status → lines ≡ line ∷ [] → IsCounted words line → Shaped words status lines
   checked : IsChecked words status lines → Shaped words status lines
 
@@ -136,7 +151,7 @@ pub record StopsWriting (words : List (List ℕ)) (tree : Tree) (line : List ℕ
 
 -- own: the command has the outcome that is defined, and no fault was counted; or there is want of memory, or a fault
 -- that was counted. Then the tree is as it was, or where a write failed those before it were made. A look fails only
--- where the words give a config, and a write only where there is a map to write
+-- where the words ask for a command, and a write only where there is a map to write
 pub data Says (words : List (List ℕ)) (before after : FolderState) (status : ℕ) (lines : List (List ℕ)) : Type 0 where
   outcome :
       Shaped words status lines
@@ -149,7 +164,7 @@ pub data Says (words : List (List ℕ)) (before after : FolderState) (status : �
       → after.look_faults ≡ before.look_faults → after.write_faults ≡ before.write_faults
       → Says words before after status lines
   read_fault :
-      (command : Command) (config : Config) → IsConfigOf words command config → status ≡ read_fault_status
+      (command : Command) → IsCommandOf words command → status ≡ read_fault_status
       → lines ≡ read_fault_line ∷ [] → after.holds ≡ before.holds → Rose before.look_faults after.look_faults
       → after.write_faults ≡ before.write_faults → Says words before after status lines
   write_fault :

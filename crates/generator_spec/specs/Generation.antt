@@ -23,7 +23,6 @@ PageIsFile config = (name : List ℕ) → web_name config the_page ≡ Some name
 -- own: nothing is refused, and the bytes are the text of the agreed layout of the trace's needs with the digests of its
 -- modules: at most 67,108,864
 pub record Generates (tree : Tree) (config : Config) (bytes : List ℕ) : Type 0 where
-  pub page_is_file : PageIsFile config
   pub all : Gathered
   pub is_traced : traced (get tree) config ≡ Ok all
   pub layout : ParsedMap

@@ -1,4 +1,4 @@
--- The laws of words, generation, outcomes and ends. Each is the contract of a function of this crate.
+-- The laws of generation, outcomes and ends. Each is the contract of a function of this crate.
 use Rattle.std.specs.Prelude.{◌≡◌, ◌⊎◌, ℕ, List, Ok, Err}
 use Rattle.std.specs.FinMap.{get}
 use Rattle.tree_spec.specs.States.{FolderState, SinkState}
@@ -10,55 +10,12 @@ use Rattle.trace_spec.specs.declared.TraceFault.{TraceFault}
 use Rattle.trace_spec.specs.Modules.{Config}
 use Rattle.trace_spec.specs.Checks.{Gathered}
 use Rattle.trace_spec.specs.Traces.{traced}
-use Rattle.generator_spec.specs.declared.Command.{Command}
-use Rattle.generator_spec.specs.declared.Refusal.{Refusal}
-use Rattle.generator_spec.specs.Words.{IsConfigOf, RefusesWords}
+use Rattle.config_spec.specs.Words.{IsPlain}
 use Rattle.generator_spec.specs.Digests.{with_digests}
-use Rattle.generator_spec.specs.Generation.{PageIsFile, Generates, IsTooLarge}
+use Rattle.generator_spec.specs.Generation.{Generates, IsTooLarge}
 use Rattle.generator_spec.specs.Outcome.{Outcome}
 use Rattle.generator_spec.specs.Ending.{EndsAs}
 use Rattle.generator_spec.specs.Promises.{Promises}
-
--- ---- words
-
-pub record SameConfig (some other : Command) (config second : Config) : Type 0 where
-  pub one_command : some ≡ other
-  pub one_config : config ≡ second
-
--- words give one command and one config at most
-abbrev pub OneConfig : Type 0
-OneConfig =
-    (words : List (List ℕ)) (some other : Command) (config second : Config) → IsConfigOf words some config
-    → IsConfigOf words other second → SameConfig some other config second
-
--- words are refused in one way at most
-abbrev pub OneWordsRefusal : Type 0
-OneWordsRefusal =
-    (words : List (List ℕ)) (some other : Refusal) → RefusesWords words some → RefusesWords words other → some ≡ other
-
--- refused words give no config
-abbrev pub RefusedOrConfig : Type 0
-RefusedOrConfig =
-    (words : List (List ℕ)) (why : Refusal) (command : Command) (config : Config) → RefusesWords words why
-    → IsConfigOf words command config → ⊥
-
-pub record HasConfig (words : List (List ℕ)) : Type 0 where
-  pub command : Command
-  pub config : Config
-  pub is : IsConfigOf words command config
-
-pub record AreRefused (words : List (List ℕ)) : Type 0 where
-  pub why : Refusal
-  pub refuses : RefusesWords words why
-
--- words give a config or are refused
-abbrev pub SomeConfig : Type 0
-SomeConfig = (words : List (List ℕ)) → HasConfig words ⊎ AreRefused words
-
--- the page that words give has no folder's web name
-abbrev pub PageOfWordsIsFile : Type 0
-PageOfWordsIsFile =
-    (words : List (List ℕ)) (command : Command) (config : Config) → IsConfigOf words command config → PageIsFile config
 
 -- ---- generation
 
@@ -74,10 +31,10 @@ pub record IsTextOf (config : Config) (all : Gathered) (bytes : List ℕ) : Type
   pub agreed : IsAgreedLayout all.needs layout
   pub text : bytes ≡ map_text (with_digests config all layout)
 
--- where the page has no folder's web name, each trace has a text, which is generated unless it is too large
+-- each trace has a text, which is generated unless it is too large
 abbrev pub SomeGeneration : Type 0
 SomeGeneration =
-    (tree : Tree) (config : Config) (all : Gathered) → PageIsFile config → traced (get tree) config ≡ Ok all
+    (tree : Tree) (config : Config) (all : Gathered) → traced (get tree) config ≡ Ok all
     → (bytes : List ℕ) × IsTextOf config all bytes × (Generates tree config bytes ⊎ IsTooLarge tree config)
 
 -- where something is generated, nothing of the trace is refused, and its map isn't too large
@@ -93,11 +50,11 @@ pub record SameOutcome (status other : ℕ) (lines others : List (List ℕ)) (af
   pub same_lines : lines ≡ others
   pub one_tree : after ≡ last
 
--- a command over a tree has one outcome at most
+-- plain words over a tree have one outcome at most
 abbrev pub OneOutcome : Type 0
 OneOutcome =
     (words : List (List ℕ)) (tree : Tree) (status other : ℕ) (lines others : List (List ℕ)) (after last : Tree)
-    → Outcome words tree status lines after → Outcome words tree other others last
+    → IsPlain words → Outcome words tree status lines after → Outcome words tree other others last
     → SameOutcome status other lines others after last
 
 pub record HasOutcome (words : List (List ℕ)) (tree : Tree) : Type 0 where
@@ -106,7 +63,7 @@ pub record HasOutcome (words : List (List ℕ)) (tree : Tree) : Type 0 where
   pub after : Tree
   pub outcome : Outcome words tree status lines after
 
--- a command over a tree has an outcome
+-- words over a tree have an outcome
 abbrev pub SomeOutcome : Type 0
 SomeOutcome = (words : List (List ℕ)) (tree : Tree) → IsTree tree → HasOutcome words tree
 

@@ -1,5 +1,4 @@
 pub mod Statuses
-pub mod Words
 pub mod Commands
 pub mod Digests
 pub mod Generation

@@ -7,7 +7,7 @@
 use Rattle.std.specs.Prelude.{ℕ, List, [], ◌∷◌, ◌++◌, length, codes, unwrap_or}
 use Rattle.std.specs.Fmt.{decimal}
 use Rattle.tree_spec.specs.declared.LimitName.{LimitName}
-use Rattle.tree_spec.specs.declared.LimitName.TheVariants.{File, Depth}
+use Rattle.tree_spec.specs.declared.LimitName.TheVariants.{File, Depth, Entries}
 use Rattle.tree_spec.specs.Limits.{limit_number, limit_name}
 use Rattle.json_spec.specs.PrintedString.{quoted}
 use Rattle.node_spec.specs.declared.Reason.{Reason}
@@ -28,10 +28,16 @@ use Rattle.trace_spec.specs.declared.TraceFault.TheVariants.{Memory}
 use Rattle.trace_spec.specs.Checks.{Gathered}
 use Rattle.generator_spec.specs.declared.MapFileFault.{MapFileFault}
 use Rattle.generator_spec.specs.declared.MapFileFault.TheVariants as map_file
+use Rattle.config_spec.specs.declared.ConfigFault.{ConfigFault}
+use Rattle.config_spec.specs.declared.ConfigFault.TheVariants.{NotBuilt, BadBase, BadPath, BadConditions, Project}
+use Rattle.config_spec.specs.declared.ConfigFault.TheVariants.{NoBase, NotLinked, TooManyEntries}
+use Rattle.config_spec.specs.declared.ProjectFault.{ProjectFault}
+use Rattle.config_spec.specs.declared.ProjectFault.TheVariants as project
 use Rattle.generator_spec.specs.declared.PageFault.{PageFault}
 use Rattle.generator_spec.specs.declared.PageFault.TheVariants.{Absent, TooLarge, KeepsMapsOut}
 use Rattle.generator_spec.specs.declared.Refusal.{Refusal}
-use Rattle.generator_spec.specs.declared.Refusal.TheVariants.{Words, BadBase, Page, MapFile, Trace}
+use Rattle.generator_spec.specs.declared.Refusal.TheVariants.{Page, MapFile, Trace}
+use Rattle.generator_spec.specs.declared.Refusal.TheVariants.{Config as Configured}
 use Rattle.generator_spec.specs.declared.Refusal.TheVariants as refusal
 use Rattle.generator_spec.specs.Commands.{map_file_limit}
 use Rattle.generator_spec.specs.Statuses.{refused_status, words_status, limit_status, read_fault_status, file_status}
@@ -65,9 +71,24 @@ map_file_status (map_file.NotJson at) = file_status
 map_file_status map_file.TooDeep = limit_status
 map_file_status (map_file.NotObject which) = file_status
 
+abbrev pub project_status : ProjectFault → ℕ
+project_status project.Absent = file_status
+project_status project.TooLarge = limit_status
+project_status (project.NotProject at) = file_status
+project_status (project.Above which) = limit_status
+
+abbrev pub config_status : ConfigFault → ℕ
+config_status NotBuilt = not_built_status
+config_status (BadBase text) = words_status
+config_status (BadPath text) = words_status
+config_status (BadConditions text) = words_status
+config_status (Project fault) = project_status fault
+config_status NoBase = words_status
+config_status (NotLinked entry) = refused_status
+config_status TooManyEntries = limit_status
+
 abbrev pub status_of : Refusal → ℕ
-status_of Words = not_built_status
-status_of (BadBase text) = words_status
+status_of (Configured fault) = config_status fault
 status_of (refusal.Limit which) = limit_status
 status_of (Page fault) = page_status fault
 status_of (MapFile fault) = map_file_status fault
@@ -102,6 +123,9 @@ reason_text (reason.Unreadable at) = codes "Unreadable at " ++ decimal at
 -- own: two texts, each as a JSON string, behind and between these words
 abbrev pub pair_line : List ℕ → List ℕ → List ℕ → List ℕ → List ℕ
 pair_line front first between second = front ++ (quoted first ++ (between ++ (quoted second ++ end_of_line)))
+
+abbrev pub not_plain_line : List ℕ
+not_plain_line = codes "words: not plain" ++ end_of_line
 
 abbrev pub memory_line : List ℕ
 memory_line = codes "memory" ++ end_of_line
@@ -165,9 +189,28 @@ map_file_line (map_file.NotJson at) = codes "bad file: map at " ++ (decimal at +
 map_file_line map_file.TooDeep = limit_line Depth
 map_file_line (map_file.NotObject which) = codes "bad file: map " ++ (part_name which ++ end_of_line)
 
+abbrev pub project_line : ProjectFault → List ℕ
+project_line project.Absent = codes "bad file: project absent" ++ end_of_line
+project_line project.TooLarge = limit_line File
+project_line (project.NotProject at) = codes "bad file: project at " ++ (decimal at ++ end_of_line)
+project_line (project.Above which) = limit_line which
+
+-- own: a text between these words and the end of the line, as a JSON string
+abbrev pub text_line : List ℕ → List ℕ → List ℕ
+text_line front text = front ++ (quoted text ++ end_of_line)
+
+abbrev pub config_line : ConfigFault → List ℕ
+config_line NotBuilt = codes "not built: words" ++ end_of_line
+config_line (BadBase text) = text_line (codes "words: BadBase ") text
+config_line (BadPath text) = text_line (codes "words: BadPath ") text
+config_line (BadConditions text) = text_line (codes "words: BadConditions ") text
+config_line (Project fault) = project_line fault
+config_line NoBase = codes "words: no base" ++ end_of_line
+config_line (NotLinked entry) = text_line (codes "refused: NotLinked ") entry
+config_line TooManyEntries = limit_line Entries
+
 abbrev pub line_of : Refusal → List ℕ
-line_of Words = codes "not built: words" ++ end_of_line
-line_of (BadBase text) = codes "words: BadBase " ++ (quoted text ++ end_of_line)
+line_of (Configured fault) = config_line fault
 line_of (refusal.Limit which) = limit_line which
 line_of (Page fault) = page_line fault
 line_of (MapFile fault) = map_file_line fault

@@ -1,4 +1,5 @@
 -- How a command ends where no fault and no want of memory comes between.
+--     RefusesRun words tree why                  why a run is refused: the first reason in its order
 --     ComesTo words tree status lines files      the exit status, what the command says, and the files that it writes
 --     FilesPlaced tree files after               the files are written, one after another
 --     Outcome words tree status lines after      what it comes to, and the tree that it leaves
@@ -10,34 +11,46 @@ use Rattle.import_map_spec.specs.ParsedMap.{ParsedMap}
 use Rattle.trace_spec.specs.Checks.{Gathered}
 use Rattle.trace_spec.specs.Modules.{Config}
 use Rattle.trace_spec.specs.Traces.{traced}
-use Rattle.generator_spec.specs.declared.Command.{Command}
-use Rattle.generator_spec.specs.declared.Command.TheVariants.{Check}
+use Rattle.config_spec.specs.declared.Command.{Command}
+use Rattle.config_spec.specs.declared.Command.TheVariants.{Check}
+use Rattle.config_spec.specs.declared.ConfigFault.{ConfigFault}
 use Rattle.generator_spec.specs.declared.Refusal.{Refusal}
+use Rattle.generator_spec.specs.declared.Refusal.TheVariants.{Config as Configured}
 use Rattle.generator_spec.specs.Checking.{difference_lines, check_status, check_lines}
 use Rattle.generator_spec.specs.Commands.{HoldsMap, Refuses, NewFile, Writes}
 use Rattle.generator_spec.specs.Generation.{Generates}
-use Rattle.generator_spec.specs.Statuses.{done_status}
-use Rattle.generator_spec.specs.Words.{IsConfigOf, RefusesWords}
+use Rattle.generator_spec.specs.Statuses.{done_status, words_status}
+use Rattle.config_spec.specs.Words.{IsPlain, RefusesWords}
+use Rattle.config_spec.specs.Projects.{IsConfigOf, RefusesConfig}
 use Rattle.generator_spec.specs.Lines.{status_of, line_of, done_line}
 
--- own: a refusal comes of the words, or else of what the command needs, or else it is the first one of the trace, or
--- that of a map that is too large; it writes nothing. Where nothing is refused, the command's files are written, with
--- the map that is generated; or it is said which of the trace's needs the map that is there doesn't serve
+-- own: a refusal comes of the words, or else of the project, or else of what the command needs, or else it is the first
+-- one of the trace, or that of a map that is too large; it writes nothing
+pub data RefusesRun (words : List (List ℕ)) (tree : Tree) : Refusal → Type 0 where
+  by_words : (fault : ConfigFault) → RefusesWords words fault → RefusesRun words tree (Configured fault)
+  by_project : (fault : ConfigFault) → RefusesConfig words tree fault → RefusesRun words tree (Configured fault)
+  by_tree :
+      (command : Command) (config : Config) (why : Refusal) → IsConfigOf words tree command config
+      → Refuses tree config command why → RefusesRun words tree why
+
+-- own: a refusal writes nothing. Where nothing is refused, the command's files are written, with the map that is
+-- generated; or it is said which of the trace's needs the map that is there doesn't serve. Words without a meaning are
+-- answered with some text
 pub data ComesTo (words : List (List ℕ)) (tree : Tree) (status : ℕ) (lines : List (List ℕ))
     (files : List NewFile) : Type 0 where
-  words_refused :
-      (why : Refusal) → RefusesWords words why → status ≡ status_of why → lines ≡ line_of why ∷ [] → files ≡ []
+  not_plain :
+      (text : List ℕ) → (IsPlain words → ⊥) → status ≡ words_status → lines ≡ text ∷ [] → files ≡ []
       → ComesTo words tree status lines files
   refused :
-      (command : Command) (config : Config) (why : Refusal) → IsConfigOf words command config
-      → Refuses tree config command why → status ≡ status_of why → lines ≡ line_of why ∷ [] → files ≡ []
+      (why : Refusal) → RefusesRun words tree why → status ≡ status_of why → lines ≡ line_of why ∷ [] → files ≡ []
       → ComesTo words tree status lines files
   written :
-      (command : Command) (config : Config) (map : List ℕ) → IsConfigOf words command config
+      (command : Command) (config : Config) (map : List ℕ) → IsConfigOf words tree command config
       → (generates : Generates tree config map) → Writes tree config map command files → status ≡ done_status
       → lines ≡ done_line generates.all generates.layout ∷ [] → ComesTo words tree status lines files
   checked :
-      (config : Config) (map : ParsedMap) (all : Gathered) → IsConfigOf words Check config → HoldsMap tree config map
+      (config : Config) (map : ParsedMap) (all : Gathered) → IsConfigOf words tree Check config
+      → HoldsMap tree config map
       → traced (get tree) config ≡ Ok all → status ≡ check_status (difference_lines map all)
       → lines ≡ check_lines (length all.needs) (difference_lines map all) → files ≡ []
       → ComesTo words tree status lines files

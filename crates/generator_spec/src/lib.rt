@@ -2,26 +2,16 @@
 //! the contracts of functions that do nothing.
 #![tactic(auto)]
 
-ghost use Rattle.generator_spec.specs.Laws.{OneConfig, OneWordsRefusal, RefusedOrConfig, SomeConfig};
-ghost use Rattle.generator_spec.specs.Laws.{PageOfWordsIsFile, OneGeneration, SomeGeneration, NothingRefused};
+ghost use Rattle.generator_spec.specs.Laws.{OneGeneration, SomeGeneration, NothingRefused};
 ghost use Rattle.generator_spec.specs.Laws.{OneOutcome, SomeOutcome, EndsKeepPromises};
 
+pub use config_spec::Command;
+use config_spec::ConfigFault;
 use import_map_spec::MapPart;
 use page_spec::InjectFault;
 use primitives::Text;
 use trace_spec::TraceFault;
 use tree_spec::LimitName;
-
-/// What is asked for.
-#[derive(Clone, Copy, Debug, PartialEq, Eq)]
-pub enum Command {
-    /// The map, in a file of its own.
-    Link,
-    /// The page, with the map in it.
-    Inject,
-    /// Which needs the map that is there doesn't serve.
-    Check,
-}
 
 /// Why there is no page to put a map into.
 #[derive(Clone, Copy, Debug, PartialEq, Eq)]
@@ -52,11 +42,9 @@ pub enum MapFileFault {
 /// Why a command ends before its first write, with what is shown of it.
 #[derive(Debug, Drop)]
 pub enum Refusal {
-    /// Words that aren't built.
-    Words,
-    /// A text that gives no base.
-    BadBase { text: Text },
-    /// A quantity of the words, or the map, passes its limit.
+    /// There is no config.
+    Config { fault: ConfigFault },
+    /// The map passes its limit.
     Limit { which: LimitName },
     /// There is no page to put the map into.
     Page { fault: PageFault },
@@ -66,32 +54,12 @@ pub enum Refusal {
     Trace { fault: TraceFault },
 }
 
-/// Words give one command and one config at most.
-pub fn one_config()
-    ensures { OneConfig }
-{}
-
-/// Words are refused in one way at most.
-pub fn one_words_refusal()
-    ensures { OneWordsRefusal }
-{}
-
-/// Refused words give no config.
-pub fn refused_or_config()
-    ensures { RefusedOrConfig }
-{}
-
-/// Words give a config or are refused.
-pub fn some_config()
-    ensures { SomeConfig }
-{}
-
 /// A tree and a config have one text at most.
 pub fn one_generation()
     ensures { OneGeneration }
 {}
 
-/// Where the page has no folder's web name, each trace has a text, which is generated unless it is too large.
+/// Each trace has a text, which is generated unless it is too large.
 pub fn some_generation()
     ensures { SomeGeneration }
 {}
@@ -99,11 +67,6 @@ pub fn some_generation()
 /// Where something is generated, nothing of the trace is refused, and its map isn't too large.
 pub fn nothing_refused()
     ensures { NothingRefused }
-{}
-
-/// The page that words give has no folder's web name.
-pub fn page_of_words_is_file()
-    ensures { PageOfWordsIsFile }
 {}
 
 /// A command over a tree has one outcome at most.

@@ -1,7 +1,8 @@
 -- The laws of import maps. Each is the contract of a function of this crate.
 --     IsFolderFront text k      the first k bytes are a prefix that a key may be
 --     NoneAbove look text k      the look-up answers for no such prefix of more than k bytes
-use Rattle.std.specs.Prelude.{◌≡◌, ◌≢◌, ◌↔◌, ◌<◌, ◌≤◌, ℕ, true, false, List, [], take, drop, length, Option, Some, None, Result, Ok}
+use Rattle.std.specs.Prelude.{◌≡◌, ◌≢◌, ◌↔◌, ◌<◌, ◌≤◌, ℕ, true, false, List, [], take, drop, length, Option, Some, None}
+use Rattle.std.specs.Prelude.{Result, Ok}
 use Rattle.std.specs.declared.cmp.Ordering.TheVariants.{Less}
 use Rattle.std.specs.Ordering.{nat_cmp}
 use Rattle.std.specs.Cmp.Lexicographic.{slice_cmp}
@@ -11,7 +12,8 @@ use Rattle.url_spec.specs.Parsing.{parse_alone, IsUrl}
 use Rattle.url_spec.specs.Specifiers.{normalized, ends_in_slash}
 use Rattle.import_map_spec.specs.ParsedMap.{Addresses, ParsedMap, MapFault}
 use Rattle.import_map_spec.specs.Parsing.{parsed_map, ParsesMap}
-use Rattle.import_map_spec.specs.LookUps.{resolve_in, exact_match, prefix_match, Lookup, resolve_imports_match, scope_match, resolve_scopes_match}
+use Rattle.import_map_spec.specs.LookUps.{resolve_in, exact_match, prefix_match, Lookup, resolve_imports_match}
+use Rattle.import_map_spec.specs.LookUps.{scope_match, resolve_scopes_match}
 use Rattle.import_map_spec.specs.Resolving.{Resolution, takes_prefixes, KeyApplies, ScopeApplies, Resolves}
 
 -- own law: one text has one map, or one first fault

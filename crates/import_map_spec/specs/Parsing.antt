@@ -3,10 +3,12 @@
 --     ParsesMap base bytes out      the same of a text
 --     normalized_addresses, normalized_scopes, normalized_integrity      the three parts of a map
 use Rattle.std.specs.FinMap.{insert, empty}
-use Rattle.std.specs.Prelude.{ℕ, Bool, true, false, List, [], ◌∷◌, not, ◌&&◌, if◌then◌else◌, Option, Some, None, Result, Ok, Err, bytes_eq, codes, ◌≡◌}
+use Rattle.std.specs.Prelude.{ℕ, Bool, true, false, List, [], ◌∷◌, not, ◌&&◌, if◌then◌else◌, Option, Some, None, Result}
+use Rattle.std.specs.Prelude.{Ok, Err, bytes_eq, codes, ◌≡◌}
 use Rattle.json_spec.specs.Grammar.{Fault, ReadsJson}
 use Rattle.json_spec.specs.PropertyOrder.{in_property_order}
-use Rattle.json_spec.specs.Value.{Json, a_null, a_bool, a_number, a_text, a_list, an_object, Members, no_members, a_member}
+use Rattle.json_spec.specs.Value.{Json, a_null, a_bool, a_number, a_text, a_list, an_object, Members, no_members}
+use Rattle.json_spec.specs.Value.{a_member}
 use Rattle.url_spec.specs.Parsing.{parse_against}
 use Rattle.url_spec.specs.Specifiers.{ends_in_slash, as_url, normalized}
 use Rattle.import_map_spec.specs.ParsedMap.{Addresses, Texts, ParsedMap, MapFault, NotObject, NoJson}

@@ -4,7 +4,8 @@
 use Rattle.std.specs.Prelude.{ℕ, List, codes, [], ◌∷◌, Option, Some, None, ◌≡◌, Ok, Err, true}
 use Rattle.json_spec.specs.Grammar.{NotJson}
 use Rattle.json_spec.specs.PropertyOrder.{in_property_order}
-use Rattle.json_spec.specs.Value.{Json, Members, a_member, a_text, no_members, an_object, a_null, a_number, a_list, no_items, a_bool}
+use Rattle.json_spec.specs.Value.{Json, Members, a_member, a_text, no_members, an_object, a_null, a_number, a_list}
+use Rattle.json_spec.specs.Value.{no_items, a_bool}
 use Rattle.import_map_spec.specs.ParsedMap.{NoJson, NotObject}
 use Rattle.import_map_spec.specs.Parsing.{parsed_map, ParsesMap}
 use Rattle.import_map_spec.specs.Resolving.{Resolution, Resolved, Blocked, Bare, Backtrack, BadRest}
@@ -166,7 +167,9 @@ pub record ScopeExamples : Type 0 where
   -- a null address in a scope blocks what the imports have, and a prefix in a scope goes before a key in the imports
   pub over_imports :
       IsExample
-      (an_object (with "imports" (an_object (strings (("a", "/i") ∷ ("u/w", "/j") ∷ []))) (with "scopes" (an_object (with "/x/" (an_object (with "a" a_null (with "u/" (a_text (codes "/v/")) no_members))) no_members)) no_members)))
+      (an_object (with "imports" (an_object (strings (("a", "/i") ∷ ("u/w", "/j") ∷ [])))
+      (with "scopes" (an_object
+      (with "/x/" (an_object (with "a" a_null (with "u/" (a_text (codes "/v/")) no_members))) no_members)) no_members)))
       (record {
         imports = to_url "a" "https://app.test/i" ∷ to_url "u/w" "https://app.test/j" ∷ [];
         scopes = scope "https://app.test/x/" (to_null "a" ∷ to_url "u/" "https://app.test/v/" ∷ []) ∷ [];
@@ -206,12 +209,14 @@ pair key text = (codes key, codes text)
 pub record IntegrityExamples : Type 0 where
   pub dropped :
       parsed_map page
-      (an_object (with "integrity" (an_object (with "./a.mjs" (a_text (codes "sha384-x")) (with "b" (a_text (codes "y")) (with "/c" (a_bool true) no_members)))) no_members))
+      (an_object (with "integrity" (an_object (with "./a.mjs" (a_text (codes "sha384-x"))
+      (with "b" (a_text (codes "y")) (with "/c" (a_bool true) no_members)))) no_members))
       ≡ Ok
       (map_of_lists (record { imports = []; scopes = []; integrity = pair "https://app.test/a.mjs" "sha384-x" ∷ [] }))
   pub replaced :
       parsed_map page
-      (an_object (with "integrity" (an_object (with "./a.mjs" (a_text (codes "x")) (with "/a.mjs" (a_text (codes "y")) (with "https://app.test/a.mjs" a_null no_members)))) no_members))
+      (an_object (with "integrity" (an_object (with "./a.mjs" (a_text (codes "x"))
+      (with "/a.mjs" (a_text (codes "y")) (with "https://app.test/a.mjs" a_null no_members)))) no_members))
       ≡ Ok
       (map_of_lists (record {
         imports = [];

@@ -4,7 +4,8 @@
 #![tactic(auto)]
 
 ghost use Rattle.import_map_spec.specs.WorkedExamples.{WorkedExamples};
-ghost use Rattle.import_map_spec.specs.Laws.{KeyOrder, OneMap, ParsedMapsAreNormal, ResolvesByCases, SameQuestion, SomeMap};
+ghost use Rattle.import_map_spec.specs.Laws.{KeyOrder, OneMap, ParsedMapsAreNormal, ResolvesByCases, SameQuestion};
+ghost use Rattle.import_map_spec.specs.Laws.{SomeMap};
 
 /// What must be an object in the text of an import map.
 #[derive(Clone, Copy, Debug, PartialEq, Eq)]
@@ -33,8 +34,8 @@ pub fn some_map()
     ensures { SomeMap }
 {}
 
-/// In a parsed map each key of a module specifier map is normalized and isn't empty, and addresses, the keys of scopes and those of
-/// the integrity are URLs.
+/// In a parsed map each key of a module specifier map is normalized and isn't empty, and addresses, the keys of scopes
+/// and those of the integrity are URLs.
 pub fn parsed_maps_are_normal()
     ensures { ParsedMapsAreNormal }
 {}

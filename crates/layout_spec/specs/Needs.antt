@@ -7,7 +7,8 @@
 --     NamesFiles need      referrer and target are URLs, what is asked for stands for itself, and neither the referrer
 --                          nor what is asked for is a folder's
 use Rattle.std.specs.List.{list_any}
-use Rattle.std.specs.Prelude.{Bool, ◌&&◌, not, bytes_eq, ℕ, List, [], ◌∷◌, ◌++◌, if◌then◌else◌, ◌≡◌, ◌≢◌, Contains, ⊤, false}
+use Rattle.std.specs.Prelude.{Bool, ◌&&◌, not, bytes_eq, ℕ, List, [], ◌∷◌, ◌++◌, if◌then◌else◌, ◌≡◌, ◌≢◌, Contains, ⊤}
+use Rattle.std.specs.Prelude.{false}
 use Rattle.std.specs.Str.{IsUtf8}
 use Rattle.url_spec.specs.Parsing.{IsUrl}
 use Rattle.url_spec.specs.Specifiers.{normalized, ends_in_slash}

@@ -5,7 +5,8 @@
 --     is_folder text      the text is that of a URL and ends in `/`
 --     IsPlace referrer place      the same as `places`, by cases
 --     AreShrinking texts      each text is a shorter front of all that stand before it
-use Rattle.std.specs.Prelude.{◌≡◌, ◌<◌, ℕ, zero, suc, Bool, ◌&&◌, true, List, [], ◌∷◌, ◌++◌, length, take, if◌then◌else◌, Contains, ⊤, Option, Some, None}
+use Rattle.std.specs.Prelude.{◌≡◌, ◌<◌, ℕ, zero, suc, Bool, ◌&&◌, true, List, [], ◌∷◌, ◌++◌, length, take}
+use Rattle.std.specs.Prelude.{if◌then◌else◌, Contains, ⊤, Option, Some, None}
 use Rattle.url_spec.specs.Parsing.{IsUrl, is_text, parse_alone}
 use Rattle.url_spec.specs.Specifiers.{ends_in_slash}
 

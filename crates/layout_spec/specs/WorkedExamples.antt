@@ -3,7 +3,8 @@
 --     LayoutExamples, CountExamples, ClashExamples      layouts and their texts, needs counted once, needs that clash
 --     ServingExamples      maps that serve needs, and maps that capture them
 --     TextExamples      maps and their texts
-use Rattle.std.specs.Prelude.{codes, ◌≡◌, List, [], ◌∷◌, map}
+--     lines written      a text of these lines
+use Rattle.std.specs.Prelude.{codes, ◌≡◌, ◌++◌, ℕ, List, [], ◌∷◌, map}
 use Rattle.import_map_spec.specs.ParsedMap.{ParsedMap}
 use Rattle.import_map_spec.specs.WorkedExamples.{pair, to_url, to_null, scope}
 use Rattle.import_map_spec.specs.WrittenMaps.{Lists, map_of_lists}
@@ -70,40 +71,87 @@ pub record PlaceExamples : Type 0 where
 abbrev pub of_folder : String → String → Need
 of_folder referrer target = need referrer "c" target
 
--- the agreed layout of the needs has this text
-pub record PrintsAs (needs : List Need) (text : String) : Type 0 where
+-- a text of these lines, each with its end
+abbrev pub lines : List String → List ℕ
+lines [] = []
+lines (line ∷ more) = codes line ++ (10 ∷ lines more)
+
+-- the agreed layout of the needs is printed as these lines
+pub record PrintsAs (needs : List Need) (text : List String) : Type 0 where
   pub map : ParsedMap
   pub agreed : IsAgreedLayout needs map
-  pub text_is : map_text map ≡ codes text
+  pub text_is : map_text map ≡ lines text
 
 pub record LayoutExamples : Type 0 where
-  pub no_needs : PrintsAs [] "{\n  \"imports\": {}\n}\n"
+  pub no_needs :
+      PrintsAs []
+      ("{"
+      ∷ "  \"imports\": {}"
+      ∷ "}" ∷ [])
   -- a need that its target's URL itself serves
-  pub no_mapping : PrintsAs (page_app ∷ app_home ∷ []) "{\n  \"imports\": {}\n}\n"
+  pub no_mapping :
+      PrintsAs (page_app ∷ app_home ∷ [])
+      ("{"
+      ∷ "  \"imports\": {}"
+      ∷ "}" ∷ [])
   -- any other has a mapping, at the top level where no need for its specifier has another target
   pub one_mapping :
       PrintsAs (page_app ∷ app_ab ∷ [])
-      "{\n  \"imports\": {\n    \"https://app.test/a%62.mjs\": \"https://app.test/ab.mjs\"\n  }\n}\n"
+      ("{"
+      ∷ "  \"imports\": {"
+      ∷ "    \"https://app.test/a%62.mjs\": \"https://app.test/ab.mjs\""
+      ∷ "  }"
+      ∷ "}" ∷ [])
   pub two_referrers :
       PrintsAs (app_id ∷ home_id ∷ [])
-      "{\n  \"imports\": {\n    \"https://app.test/pages/[id].mjs\": \"https://app.test/pages/%5Bid%5D.mjs\"\n  }\n}\n"
+      ("{"
+      ∷ "  \"imports\": {"
+      ∷ "    \"https://app.test/pages/[id].mjs\": \"https://app.test/pages/%5Bid%5D.mjs\""
+      ∷ "  }"
+      ∷ "}" ∷ [])
   -- the keys stand in the order of their bytes, whatever the order of the needs
   pub two_mappings :
       PrintsAs (app_id ∷ app_ab ∷ [])
-      "{\n  \"imports\": {\n    \"https://app.test/a%62.mjs\": \"https://app.test/ab.mjs\",\n    \"https://app.test/pages/[id].mjs\": \"https://app.test/pages/%5Bid%5D.mjs\"\n  }\n}\n"
+      ("{"
+      ∷ "  \"imports\": {"
+      ∷ "    \"https://app.test/a%62.mjs\": \"https://app.test/ab.mjs\","
+      ∷ "    \"https://app.test/pages/[id].mjs\": \"https://app.test/pages/%5Bid%5D.mjs\""
+      ∷ "  }"
+      ∷ "}" ∷ [])
   -- a need with another target keeps it below their common places, also one that wants no mapping
   pub two_targets :
       PrintsAs (below_app ∷ neighbor ∷ [])
-      "{\n  \"imports\": {},\n  \"scopes\": {\n    \"https://app.test/app/m.mjs\": {\n      \"https://app.test/app/x.mjs\": \"https://app.test/app/app/x.mjs\"\n    }\n  }\n}\n"
+      ("{"
+      ∷ "  \"imports\": {},"
+      ∷ "  \"scopes\": {"
+      ∷ "    \"https://app.test/app/m.mjs\": {"
+      ∷ "      \"https://app.test/app/x.mjs\": \"https://app.test/app/app/x.mjs\""
+      ∷ "    }"
+      ∷ "  }"
+      ∷ "}" ∷ [])
   pub two_folders :
       PrintsAs
       (of_folder "https://app.test/b/m.mjs" "https://app.test/b/c.mjs"
       ∷ of_folder "https://app.test/a/m.mjs" "https://app.test/a/c.mjs" ∷ [])
-      "{\n  \"imports\": {},\n  \"scopes\": {\n    \"https://app.test/a/\": {\n      \"c\": \"https://app.test/a/c.mjs\"\n    },\n    \"https://app.test/b/\": {\n      \"c\": \"https://app.test/b/c.mjs\"\n    }\n  }\n}\n"
+      ("{"
+      ∷ "  \"imports\": {},"
+      ∷ "  \"scopes\": {"
+      ∷ "    \"https://app.test/a/\": {"
+      ∷ "      \"c\": \"https://app.test/a/c.mjs\""
+      ∷ "    },"
+      ∷ "    \"https://app.test/b/\": {"
+      ∷ "      \"c\": \"https://app.test/b/c.mjs\""
+      ∷ "    }"
+      ∷ "  }"
+      ∷ "}" ∷ [])
   -- of two needs with one key and one address there is one mapping
   pub same_mapping :
       PrintsAs (app_ab ∷ app_ab ∷ [])
-      "{\n  \"imports\": {\n    \"https://app.test/a%62.mjs\": \"https://app.test/ab.mjs\"\n  }\n}\n"
+      ("{"
+      ∷ "  \"imports\": {"
+      ∷ "    \"https://app.test/a%62.mjs\": \"https://app.test/ab.mjs\""
+      ∷ "  }"
+      ∷ "}" ∷ [])
 
 pub record CountExamples : Type 0 where
   pub once : counted (app_id ∷ home_id ∷ app_id ∷ app_ab ∷ home_id ∷ []) ≡ app_id ∷ home_id ∷ app_ab ∷ []
@@ -162,11 +210,27 @@ several =
 pub record TextExamples : Type 0 where
   pub no_scopes :
       map_text (map_of_lists only_integrity)
-      ≡ codes "{\n  \"imports\": {},\n  \"integrity\": {\n    \"https://app.test/app.mjs\": \"sha384-x\"\n  }\n}\n"
+      ≡ lines
+      ("{"
+      ∷ "  \"imports\": {},"
+      ∷ "  \"integrity\": {"
+      ∷ "    \"https://app.test/app.mjs\": \"sha384-x\""
+      ∷ "  }"
+      ∷ "}" ∷ [])
   pub sorted :
       map_text (map_of_lists several)
-      ≡ codes
-      "{\n  \"imports\": {\n    \"a\": null,\n    \"b\": \"https://app.test/b\"\n  },\n  \"scopes\": {\n    \"https://app.test/x/\": {\n      \"#\\u003c\": \"https://app.test/y\"\n    }\n  }\n}\n"
+      ≡ lines
+      ("{"
+      ∷ "  \"imports\": {"
+      ∷ "    \"a\": null,"
+      ∷ "    \"b\": \"https://app.test/b\""
+      ∷ "  },"
+      ∷ "  \"scopes\": {"
+      ∷ "    \"https://app.test/x/\": {"
+      ∷ "      \"#\\u003c\": \"https://app.test/y\""
+      ∷ "    }"
+      ∷ "  }"
+      ∷ "}" ∷ [])
 
 abbrev pub WorkedExamples : Type 0
 WorkedExamples =

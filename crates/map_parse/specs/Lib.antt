@@ -1,4 +1,3 @@
 pub mod TextMaps
 pub mod Parts
 pub mod Faults
-pub mod Codes

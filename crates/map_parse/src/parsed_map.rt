@@ -15,7 +15,7 @@ pub struct ParsedMap {
 
 impl Model for ParsedMap {
     ghost use Rattle.import_map_spec.specs.ParsedMap as definition;
-    ghost use Rattle.map_parse.specs.Codes.{coded_map};
+    ghost use Rattle.import_map_spec.proofs.Codes.{coded_map};
 
     ghost Value = { definition.ParsedMap };
 

@@ -2,8 +2,10 @@
 //! of its import and export declarations; and the values of their module specifiers.
 #![tactic(auto)]
 
-ghost use Rattle.module_spec.specs.Examples.{ManyExamples, OutlineExamples, TokenExamples, ReadingExamples, ValueExamples};
-ghost use Rattle.module_spec.specs.Laws.{CurlyPartners, DepthCounts, FormsAreProductions, OneOutline, OnePartner, OneReach, OneTokens, OutlineIsRead, TokensStand};
+ghost use Rattle.module_spec.specs.Examples.{ManyExamples, OutlineExamples, TokenExamples};
+ghost use Rattle.module_spec.specs.Examples.{ReadingExamples, ValueExamples};
+ghost use Rattle.module_spec.specs.Laws.{CurlyPartners, DepthCounts, FormsAreProductions, OneOutline};
+ghost use Rattle.module_spec.specs.Laws.{OnePartner, OneReach, OneTokens, OutlineIsRead, TokensStand};
 
 mod request;
 mod token;

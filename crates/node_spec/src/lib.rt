@@ -2,10 +2,17 @@
 //! in it comes to: definitions and their laws.
 #![tactic(auto)]
 
-ghost use Rattle.node_spec.specs.Laws.{AnswersDetermine, ConditionsAreASet, DecidingCallIsLast, ExportsAskNothing, KeysAreInOrder, OneAnswer, OneChoice, OneOutcome, OneRecord, OneUnder, PatternMatchIsSlice, PatternMatchStands, PlacesBeginWithDotSlash, RecordNamesAreDistinct, SomeAnswer, SomeChoice, SomeOutcome, SomeOutcomeInTurn, SomeRecord};
+ghost use Rattle.node_spec.specs.Laws.{AnswersDetermine, ConditionsAreASet, DecidingCallIsLast};
+ghost use Rattle.node_spec.specs.Laws.{ExportsAskNothing, KeysAreInOrder, OneAnswer, OneChoice, OneOutcome};
+ghost use Rattle.node_spec.specs.Laws.{OneRecord, OneUnder, PatternMatchIsSlice, PatternMatchStands};
+ghost use Rattle.node_spec.specs.Laws.{PlacesBeginWithDotSlash, RecordNamesAreDistinct, SomeAnswer};
+ghost use Rattle.node_spec.specs.Laws.{SomeChoice, SomeOutcome, SomeOutcomeInTurn, SomeRecord};
 ghost use Rattle.node_spec.specs.WorkedExamples.{WorkedExamples};
 ghost use Rattle.node_spec.specs.NodeExamples.{NodeExamples};
-ghost use Rattle.node_spec.specs.NodeLaws.{OneNode, SomeNode, GivesFile, SameNode, SameFormat, RelativeNode, OneNearest, FindsPackageScope, FindsPackageFolder, FindsRecord, OneRecordAt, RecordIsRead, FindsTarget, ExportsLookAtNothing, FindsKey, NodeConditionsAreASet, AnsweredIsBare};
+ghost use Rattle.node_spec.specs.NodeLaws.{OneNode, SomeNode, GivesFile, SameNode, SameFormat, RelativeNode};
+ghost use Rattle.node_spec.specs.NodeLaws.{OneNearest, FindsPackageScope, FindsPackageFolder, FindsRecord};
+ghost use Rattle.node_spec.specs.NodeLaws.{OneRecordAt, RecordIsRead, FindsTarget, ExportsLookAtNothing};
+ghost use Rattle.node_spec.specs.NodeLaws.{FindsKey, NodeConditionsAreASet, AnsweredIsBare};
 ghost use Rattle.node_spec.specs.PatternExamples.{PatternExamples};
 ghost use Rattle.node_spec.specs.TargetCalls.{FollowsTarget, TargetAnswered};
 ghost use Rattle.node_spec.specs.RelativeResolution.{FindsRelative};

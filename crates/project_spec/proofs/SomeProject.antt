@@ -24,7 +24,7 @@ use Rattle.project_spec.proofs.OneProject.{same_parts, same_members, same_string
 use Rattle.project_spec.specs.Laws.{SomeProject}
 use Rattle.project_spec.specs.ProjectFiles.{strings, HasParts, Describes, Fault, BadFile, PassesLimit, Gives, a_project, many_entries, no_project, no_json, deep_json, reads_project}
 
-abbrev OrNot : Type 0 → Type 0
+abbrev pub OrNot : Type 0 → Type 0
 OrNot P = P ⊎ (P → ⊥)
 
 both : {P Q : Type 0} → OrNot P → OrNot Q → OrNot (P × Q)
@@ -73,7 +73,7 @@ names_distinct_or_not [] = inl tt
 names_distinct_or_not (name ∷ names) =
     both (all_or_not (λ other. name ≢ other) (λ other. not_so (text_same_or_not name other)) names) (names_distinct_or_not names)
 
-conditions_or_not : (names : List (List ℕ)) → OrNot (AreConditions names)
+pub conditions_or_not : (names : List (List ℕ)) → OrNot (AreConditions names)
 conditions_or_not names =
     other_way
     (λ is. record { few = is.0; each = is.1.0; distinct = is.1.1 })

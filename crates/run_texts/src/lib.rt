@@ -7,7 +7,7 @@ mod statuses;
 mod tests;
 
 pub use lines::{
-    differences_line, differs_line, done_line, line_of, memory_line, read_fault_line, served_line,
-    write_fault_line,
+    differences_line, differs_line, done_line, line_of, memory_line, not_plain_line,
+    read_fault_line, served_line, write_fault_line,
 };
-pub use statuses::{DIFFERENCES, DONE, MEMORY, READ_FAULT, WRITE_FAULT, status_of};
+pub use statuses::{BAD_WORDS, DIFFERENCES, DONE, MEMORY, READ_FAULT, WRITE_FAULT, status_of};

@@ -1,11 +1,10 @@
 ghost use Rattle.std.specs.Prelude.{◌≡◌, ◌++◌, [], IfOk, OnOk};
-ghost use Rattle.json_spec.specs.PrintedString.{quoted};
 ghost use Rattle.tree_spec.specs.Limits.{limit_name, limit_number};
 ghost use Rattle.trace_spec.specs.declared.TraceFault.TheVariants as fault;
 ghost use Rattle.generator_spec.specs.Lines as spec;
-ghost use Rattle.generator_spec.specs.Lines.{end_of_line};
 ghost use Rattle.map_check.specs.Shown.{got_of};
 
+use config_spec::{ConfigFault, ProjectFault};
 use generator_spec::{MapFileFault, PageFault, Refusal};
 use import_map_spec::MapPart;
 use map_check::Got;
@@ -16,6 +15,13 @@ use primitives::{Memory, Text};
 use std::alloc::Global;
 use trace_spec::{AskCause, TraceFault};
 use tree_spec::LimitName;
+
+/// The line of words that have no meaning, though they can be parsed.
+pub fn not_plain_line() -> &'static [u8]
+    ensures { result.now ≡ spec.not_plain_line }
+{
+    b"words: not plain\n".as_slice()
+}
 
 /// The line of a command that lacks memory, also for its own line.
 pub fn memory_line() -> &'static [u8]
@@ -109,12 +115,42 @@ pub fn line_of(alloc: Global, refusal: &Refusal) -> Result<Vec<u8>, Memory>
     ensures { IfOk result (λ line. line.items ≡ spec.line_of refusal.now) }
 {
     match refusal {
-        Refusal::Words => Vec::from_slice(alloc, b"not built: words\n".as_slice()),
-        Refusal::BadBase { text } => named_line(alloc, "words: BadBase ", text.as_str()),
+        Refusal::Config { fault } => config_line(alloc, fault),
         Refusal::Limit { which } => limit_line(alloc, *which),
         Refusal::Page { fault } => page_line(alloc, *fault),
         Refusal::MapFile { fault } => map_file_line(alloc, *fault),
         Refusal::Trace { fault } => trace_line(alloc, fault),
+    }
+}
+
+fn config_line(alloc: Global, fault: &ConfigFault) -> Result<Vec<u8>, Memory>
+    ensures { IfOk result (λ line. line.items ≡ spec.config_line fault.now) }
+{
+    match fault {
+        ConfigFault::NotBuilt => Vec::from_slice(alloc, b"not built: words\n".as_slice()),
+        ConfigFault::BadBase { text } => text_line(alloc, "words: BadBase ", text.as_str()),
+        ConfigFault::BadPath { text } => text_line(alloc, "words: BadPath ", text.as_str()),
+        ConfigFault::BadConditions { text } => {
+            text_line(alloc, "words: BadConditions ", text.as_str())
+        }
+        ConfigFault::Project { fault } => project_line(alloc, *fault),
+        ConfigFault::NoBase => Vec::from_slice(alloc, b"words: no base\n".as_slice()),
+        ConfigFault::NotLinked { entry } => text_line(alloc, "refused: NotLinked ", entry.as_str()),
+        ConfigFault::TooManyEntries => limit_line(alloc, LimitName::Entries),
+    }
+}
+
+fn project_line(alloc: Global, fault: ProjectFault) -> Result<Vec<u8>, Memory>
+    ensures { IfOk result (λ line. line.items ≡ spec.project_line fault) }
+{
+    match fault {
+        ProjectFault::Absent => Vec::from_slice(alloc, b"bad file: project absent\n".as_slice()),
+        ProjectFault::TooLarge => limit_line(alloc, LimitName::File),
+        ProjectFault::NotProject { at } => {
+            let line = format!(in alloc; "bad file: project at {at}\n")?;
+            Ok(line.into_bytes())
+        }
+        ProjectFault::Above { which } => limit_line(alloc, which),
     }
 }
 
@@ -296,11 +332,11 @@ fn above_line(alloc: Global, named: LimitName, counted: LimitName) -> Result<Vec
 }
 
 // A text as a JSON string behind these words.
-fn named_line(alloc: Global, front: &str, name: &str) -> Result<Vec<u8>, Memory>
-    ensures { IfOk result (λ line. line.items ≡ front.now ++ (quoted name.now ++ end_of_line)) }
+fn text_line(alloc: Global, front: &str, text: &str) -> Result<Vec<u8>, Memory>
+    ensures { IfOk result (λ line. line.items ≡ spec.text_line front.now text.now) }
 {
     let mut line = Vec::from_slice(alloc, front.as_bytes())?;
-    print_text(&mut line, name)?;
+    print_text(&mut line, text)?;
     line.push(b'\n')?;
     Ok(line)
 }

@@ -1,12 +1,15 @@
 ghost use Rattle.std.specs.Prelude.{◌≡◌};
 ghost use Rattle.generator_spec.specs.Lines as spec;
 
+use config_spec::{ConfigFault, ProjectFault};
 use generator_spec::{MapFileFault, PageFault, Refusal};
 use page_spec::InjectFault;
 use trace_spec::TraceFault;
 
 /// The map is written, or it serves each need.
 pub const DONE: u8 = 0;
+/// The words are wrong.
+pub const BAD_WORDS: u8 = 2;
 /// A look failed.
 pub const READ_FAULT: u8 = 4;
 /// The map wasn't written, or the line didn't go out.
@@ -18,8 +21,6 @@ pub const MEMORY: u8 = 8;
 
 /// A request, a module or the page is refused.
 const REFUSED: u8 = 1;
-/// The words are wrong.
-const BAD_WORDS: u8 = 2;
 /// A limit is passed.
 const LIMIT: u8 = 3;
 /// A file that the command needs isn't there, or isn't of its form.
@@ -32,12 +33,37 @@ pub fn status_of(refusal: &Refusal) -> u8
     ensures { result ≡ spec.status_of refusal.now }
 {
     match refusal {
-        Refusal::Words => NOT_BUILT,
-        Refusal::BadBase { text: _ } => BAD_WORDS,
+        Refusal::Config { fault } => config_status(fault),
         Refusal::Limit { which: _ } => LIMIT,
         Refusal::Page { fault } => page_status(*fault),
         Refusal::MapFile { fault } => map_file_status(*fault),
         Refusal::Trace { fault } => trace_status(fault),
+    }
+}
+
+fn config_status(fault: &ConfigFault) -> u8
+    ensures { result ≡ spec.config_status fault.now }
+{
+    match fault {
+        ConfigFault::NotBuilt => NOT_BUILT,
+        ConfigFault::BadBase { text: _ } => BAD_WORDS,
+        ConfigFault::BadPath { text: _ } => BAD_WORDS,
+        ConfigFault::BadConditions { text: _ } => BAD_WORDS,
+        ConfigFault::Project { fault } => project_status(*fault),
+        ConfigFault::NoBase => BAD_WORDS,
+        ConfigFault::NotLinked { entry: _ } => REFUSED,
+        ConfigFault::TooManyEntries => LIMIT,
+    }
+}
+
+fn project_status(fault: ProjectFault) -> u8
+    ensures { result ≡ spec.project_status fault }
+{
+    match fault {
+        ProjectFault::Absent => BAD_FILE,
+        ProjectFault::TooLarge => LIMIT,
+        ProjectFault::NotProject { at: _ } => BAD_FILE,
+        ProjectFault::Above { which: _ } => LIMIT,
     }
 }
 

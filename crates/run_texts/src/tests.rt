@@ -1,7 +1,8 @@
 use crate::{
-    differences_line, differs_line, done_line, line_of, memory_line, read_fault_line, served_line,
-    status_of, write_fault_line,
+    differences_line, differs_line, done_line, line_of, memory_line, not_plain_line,
+    read_fault_line, served_line, status_of, write_fault_line,
 };
+use config_spec::{ConfigFault, ProjectFault};
 use generator_spec::{MapFileFault, PageFault, Refusal};
 use import_map_spec::MapPart;
 use map_check::Got;
@@ -278,17 +279,80 @@ fn unservables(rt: HostRuntime) -> Result<(), Fail> {
     Ok(())
 }
 
+fn config_says(alloc: Global, fault: ConfigFault, status: u8, line: &str) -> Result<bool, Memory> {
+    says(alloc, &Refusal::Config { fault }, status, line)
+}
+
 #[test]
 fn other_words(rt: HostRuntime) -> Result<(), Fail> {
-    assert!(rt; says(rt.alloc(), &Refusal::Words, 9, "not built: words\n")?);
+    assert!(rt; config_says(rt.alloc(), ConfigFault::NotBuilt, 9, "not built: words\n")?);
+    assert!(rt; config_says(rt.alloc(), ConfigFault::NoBase, 2, "words: no base\n")?);
+    assert!(rt;
+        config_says(
+            rt.alloc(),
+            ConfigFault::TooManyEntries,
+            3,
+            "limit: entries above 1024\n"
+        )?
+    );
     Ok(())
 }
 
 #[test]
-fn a_bad_base(rt: HostRuntime) -> Result<(), Fail> {
-    let text = Text::of(rt.alloc(), "ftp://h/")?;
+fn bad_options(rt: HostRuntime) -> Result<(), Fail> {
+    let alloc = rt.alloc();
+    let text = Text::of(alloc, "ftp://h/")?;
     let line = "words: BadBase \"ftp://h/\"\n";
-    assert!(rt; says(rt.alloc(), &Refusal::BadBase { text }, 2, line)?);
+    assert!(rt; config_says(alloc, ConfigFault::BadBase { text }, 2, line)?);
+    let text = Text::of(alloc, "/")?;
+    assert!(rt;
+        config_says(
+            alloc,
+            ConfigFault::BadPath { text },
+            2,
+            "words: BadPath \"/\"\n"
+        )?
+    );
+    let text = Text::of(alloc, "a,\"a\"")?;
+    let line = "words: BadConditions \"a,\\\"a\\\"\"\n";
+    assert!(rt; config_says(alloc, ConfigFault::BadConditions { text }, 2, line)?);
+    let entry = Text::of(alloc, "cards")?;
+    let line = "refused: NotLinked \"cards\"\n";
+    assert!(rt; config_says(alloc, ConfigFault::NotLinked { entry }, 1, line)?);
+    Ok(())
+}
+
+/// What is wrong with a project's file, its status and its line.
+static PROJECTS: [(ProjectFault, u8, &str); 5] = [
+    (ProjectFault::Absent, 7, "bad file: project absent\n"),
+    (ProjectFault::TooLarge, 3, "limit: file above 16777216\n"),
+    (
+        ProjectFault::NotProject { at: 11 },
+        7,
+        "bad file: project at 11\n",
+    ),
+    (
+        ProjectFault::Above {
+            which: LimitName::Entries,
+        },
+        3,
+        "limit: entries above 1024\n",
+    ),
+    (
+        ProjectFault::Above {
+            which: LimitName::Depth,
+        },
+        3,
+        "limit: depth above 128\n",
+    ),
+];
+
+#[test]
+fn projects(rt: HostRuntime) -> Result<(), Fail> {
+    for (fault, status, line) in &PROJECTS {
+        let fault = ConfigFault::Project { fault: *fault };
+        assert!(rt; config_says(rt.alloc(), fault, *status, line)?, "{line}");
+    }
     Ok(())
 }
 
@@ -356,6 +420,7 @@ fn fixed_lines_stand() -> bool {
     read_fault_line() == b"fault: read\n".as_slice()
         && write_fault_line() == b"fault: write\n".as_slice()
         && memory_line() == b"memory\n".as_slice()
+        && not_plain_line() == b"words: not plain\n".as_slice()
 }
 
 #[test]

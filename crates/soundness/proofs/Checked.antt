@@ -1,5 +1,5 @@
 -- A text that is read as a map of which no need differs serves.
-use Rattle.std.proofs.Common.{sym, ap, ◌∙◌, subst}
+use Rattle.std.proofs.Common.{sym, ◌∙◌, subst}
 use Rattle.std.proofs.lemmas.Bool.{cases_Bool, cond-true, cond-false}
 use Rattle.std.specs.Prelude.{◌≡◌, ℕ, suc, List, [], ◌∷◌, Contains}
 use mathlib.Core.Logic.{inl, inr}
@@ -28,7 +28,7 @@ all_get m number (first ∷ more) none need c =
     ]
 
 pub checked_maps_serve : CheckedMapsServe
-checked_maps_serve tree config all base bytes m traces page_is_file named parses none = record {
+checked_maps_serve tree config all base bytes m traces named parses none = record {
   map_base = base;
   named = named;
   map = m;

@@ -2,7 +2,6 @@
 use Rattle.std.proofs.Common.{refl, sym, ap, ◌∙◌, subst}
 use Rattle.std.proofs.lemmas.Bool.{cond-true}
 use Rattle.std.proofs.lemmas.Slice.Eq.{bytes_eq-Decides}
-use Rattle.std.specs.FinMap.{get}
 use Rattle.std.specs.Prelude.{◌≡◌, ℕ, suc, true, List, [], ◌∷◌, Result, Ok, Contains}
 use Rattle.url_spec.proofs.KeptUrls.{kept_urls}
 use Rattle.import_map_spec.proofs.OneMap.{one_map}
@@ -45,8 +44,8 @@ pub nothing_differs : NothingDiffers
 nothing_differs tree config all layout parsed base traces page_is_file agreed named parses =
     let files : (need : Need) → Contains all.needs need → NamesUrls need = needs_name tree config all traces in
     let m = with_digests config all layout in
-    let captures : NoCapture all.needs m = no_capture tree config all traces page_is_file layout agreed in
-    let mapped : OfNeeds all.needs m = of_needs tree config all traces page_is_file layout agreed in
+    let captures : NoCapture all.needs m = no_capture tree config all traces layout agreed page_is_file in
+    let mapped : OfNeeds all.needs m = of_needs tree config all traces layout agreed in
     let kept = map_kept base (kept_urls.2 _ _ _ _ named) all.needs m mapped files (has_digests tree config all traces layout) in
     subst (λ (map : ParsedMap). differences map all.needs ≡ [])
     (same_map m parsed (one_map base (map_text m) (Ok m) (Ok parsed) (texts_read_back base m kept) parses))

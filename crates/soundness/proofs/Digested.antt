@@ -3,7 +3,7 @@ use Rattle.std.proofs.Common.{refl, sym, ap, ◌∙◌, subst}
 use Rattle.std.proofs.lemmas.Bool.{cases_Bool, cond-true, cond-false, true≢false}
 use Rattle.std.proofs.lemmas.Option.{none-some, same_Some}
 use Rattle.std.specs.FinMap.{get}
-use Rattle.std.specs.Prelude.{◌≡◌, ℕ, true, List, [], ◌∷◌, map, cond, unwrap_or, Option, Some, None, Ok, Contains}
+use Rattle.std.specs.Prelude.{◌≡◌, ℕ, List, [], ◌∷◌, map, cond, unwrap_or, Option, Some, None, Ok, Contains}
 use Rattle.std.specs.Str.{IsUtf8}
 use mathlib.Core.Logic.{inl, inr}
 use Rattle.tree_spec.specs.declared.Entry.{Entry}

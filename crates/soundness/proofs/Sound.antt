@@ -15,7 +15,7 @@ use Rattle.layout_spec.proofs.AgreedLaws.{agreed_of_needs}
 use Rattle.layout_spec.proofs.TextBack.{texts_read_back, texts_are_plain}
 use Rattle.layout_spec.proofs.Uncaptured.{agreed_layout_captures_nothing}
 use Rattle.layout_spec.specs.AgreedLayout.{IsAgreedLayout}
-use Rattle.layout_spec.specs.PrintedMap.{map_text}
+use Rattle.layout_spec.specs.PrintedMap.{IsKept, map_text}
 use Rattle.layout_spec.specs.Serving.{NoCapture, OfNeeds}
 use Rattle.layout_spec.specs.declared.Need.{Need}
 use Rattle.page_spec.proofs.Injections.{one_map_after}
@@ -34,7 +34,7 @@ use Rattle.soundness.proofs.Asking.{asks_normal}
 use Rattle.soundness.proofs.Digested.{captures_none, has_digests, is_known, is_of_needs, only_modules}
 use Rattle.soundness.proofs.Kept.{map_kept}
 use Rattle.soundness.proofs.Leading.{need_leads}
-use Rattle.soundness.proofs.Reaching.{reached, is_named, needs_name, asked_by_file}
+use Rattle.soundness.proofs.Reaching.{IsNamed, reached, is_named, needs_name, asked_by_file}
 use Rattle.soundness.specs.Soundness.{HasDigests, NamesUrls, MapsServe, AgreedMapsServe, ModulesAreKnown, Soundness, MapsArePlain, OneMapInPage}
 
 -- through a map each need is led to its target, whatever text it is asked for by
@@ -70,44 +70,46 @@ module _ (tree : Tree) (config : Config) (all : Gathered) (is_traced : traced (g
         leads = λ specifier asked. leads referrer named.name specifier named.named (pass.pass specifier asked);
       }
 
-module _ (tree : Tree) (config : Config) (all : Gathered) (is_traced : traced (get tree) config ≡ Ok all) (m : ParsedMap) (no_capture : NoCapture all.needs m) (of_needs : OfNeeds all.needs m) where
+module _ (tree : Tree) (config : Config) (all : Gathered) (is_traced : traced (get tree) config ≡ Ok all) (m : ParsedMap) (of_needs : OfNeeds all.needs m) (digests : HasDigests m) where
   files : (need : Need) → Contains all.needs need → NamesUrls need
   files = needs_name tree config all is_traced
 
-  all_lead : (referrer : Referrer Module) → Reachable tree config referrer → AllLead tree config m referrer
-  all_lead =
-      led_requests tree config all is_traced m
-      (λ need specifier c asks. need_leads all.needs m no_capture of_needs files need specifier c asks)
+  page : IsNamed config the_page
+  page = is_named tree config all is_traced the_page page_is_reached
 
-  text_serves : HasDigests m → (bytes : List ℕ) → bytes ≡ map_text m → Serves tree config bytes
-  text_serves digests bytes text =
-      let page = is_named tree config all is_traced the_page page_is_reached in
-      let kept = map_kept page.name (kept_urls.2 _ _ _ _ page.named) all.needs m of_needs files digests in
-      record {
-        map_base = page.name;
-        named = page.named;
-        map = m;
-        parses = subst (λ written. ParsesMap page.name written (Ok m)) (sym text) (texts_read_back page.name m kept);
-        all_lead = all_lead;
-      }
+  kept : IsKept page.name m
+  kept = map_kept page.name (kept_urls.2 _ _ _ _ page.named) all.needs m of_needs files digests
 
-  text_is_plain : HasDigests m → (bytes : List ℕ) → bytes ≡ map_text m → IsPlainMap bytes
-  text_is_plain digests bytes text =
-      let page = is_named tree config all is_traced the_page page_is_reached in
-      let kept = map_kept page.name (kept_urls.2 _ _ _ _ page.named) all.needs m of_needs files digests in
+  -- the text is read as the map
+  text_parses : (bytes : List ℕ) → bytes ≡ map_text m → ParsesMap page.name bytes (Ok m)
+  text_parses bytes text = subst (λ written. ParsesMap page.name written (Ok m)) (sym text) (texts_read_back page.name m kept)
+
+  text_serves : NoCapture all.needs m → (bytes : List ℕ) → bytes ≡ map_text m → Serves tree config bytes
+  text_serves no_capture bytes text = record {
+    map_base = page.name;
+    named = page.named;
+    map = m;
+    parses = text_parses bytes text;
+    all_lead =
+        led_requests tree config all is_traced m
+        (λ need specifier c asks. need_leads all.needs m no_capture of_needs files need specifier c asks);
+  }
+
+  text_is_plain : (bytes : List ℕ) → bytes ≡ map_text m → IsPlainMap bytes
+  text_is_plain bytes text =
       let plain = texts_are_plain page.name m kept in
       subst IsPlainMap (sym text) (record { utf8 = plain.0; no_markup = plain.1 })
 
 pub maps_serve : MapsServe
 maps_serve tree config all m traces no_capture of_needs digests =
-    text_serves tree config all traces m no_capture of_needs digests (map_text m) refl
+    text_serves tree config all traces m of_needs digests no_capture (map_text m) refl
 
-module _ (tree : Tree) (config : Config) (all : Gathered) (traces : traced (get tree) config ≡ Ok all) (page_is_file : PageIsFile config) (layout : ParsedMap) (agreed : IsAgreedLayout all.needs layout) where
+module _ (tree : Tree) (config : Config) (all : Gathered) (traces : traced (get tree) config ≡ Ok all) (layout : ParsedMap) (agreed : IsAgreedLayout all.needs layout) where
   abbrev digested : ParsedMap
   digested = with_digests config all layout
 
-  pub no_capture : NoCapture all.needs digested
-  no_capture =
+  pub no_capture : PageIsFile config → NoCapture all.needs digested
+  no_capture page_is_file =
       captures_none config all layout all.needs
       (agreed_layout_captures_nothing all.needs layout (needs_are_requests (get tree) config all traces).no_clash
       (asked_by_file tree config all traces page_is_file) agreed)
@@ -115,42 +117,43 @@ module _ (tree : Tree) (config : Config) (all : Gathered) (traces : traced (get 
   pub of_needs : OfNeeds all.needs digested
   of_needs = is_of_needs config all layout all.needs (agreed_of_needs all.needs layout agreed)
 
-  agreed_text_serves : (bytes : List ℕ) → bytes ≡ map_text digested → Serves tree config bytes
-  agreed_text_serves bytes text =
-      text_serves tree config all traces digested no_capture of_needs (has_digests tree config all traces layout) bytes text
+  digests : HasDigests digested
+  digests = has_digests tree config all traces layout
+
+  agreed_text_serves : PageIsFile config → (bytes : List ℕ) → bytes ≡ map_text digested → Serves tree config bytes
+  agreed_text_serves page_is_file bytes text =
+      text_serves tree config all traces digested of_needs digests (no_capture page_is_file) bytes text
 
   agreed_text_is_plain : (bytes : List ℕ) → bytes ≡ map_text digested → IsPlainMap bytes
-  agreed_text_is_plain bytes text =
-      text_is_plain tree config all traces digested no_capture of_needs (has_digests tree config all traces layout) bytes text
+  agreed_text_is_plain bytes text = text_is_plain tree config all traces digested of_needs digests bytes text
 
   modules_known : (bytes : List ℕ) → bytes ≡ map_text digested → KnowsModules tree config bytes
   modules_known bytes text =
-      let serves = agreed_text_serves bytes text in
-      let kept = map_kept serves.map_base (kept_urls.2 _ _ _ _ serves.named) all.needs digested of_needs (needs_name tree config all traces) (has_digests tree config all traces layout) in
+      let named = page tree config all traces digested of_needs digests in
       record {
-        map_base = serves.map_base;
-        named = serves.named;
+        map_base = named.name;
+        named = named.named;
         map = digested;
-        parses = subst (λ written. ParsesMap serves.map_base written (Ok digested)) (sym text) (texts_read_back serves.map_base digested kept);
+        parses = text_parses tree config all traces digested of_needs digests bytes text;
         each = is_known tree config all traces layout;
         only = only_modules tree config all traces;
       }
 
 pub agreed_maps_serve : AgreedMapsServe
 agreed_maps_serve tree config all layout traces page_is_file agreed =
-    agreed_text_serves tree config all traces page_is_file layout agreed (map_text (with_digests config all layout)) refl
+    agreed_text_serves tree config all traces layout agreed page_is_file (map_text (with_digests config all layout)) refl
 
 pub sound : Soundness
-sound tree config bytes is =
-    agreed_text_serves tree config is.all is.is_traced is.page_is_file is.layout is.agreed bytes is.text
+sound tree config bytes page_is_file is =
+    agreed_text_serves tree config is.all is.is_traced is.layout is.agreed page_is_file bytes is.text
 
 pub modules_are_known : ModulesAreKnown
 modules_are_known tree config bytes is =
-    modules_known tree config is.all is.is_traced is.page_is_file is.layout is.agreed bytes is.text
+    modules_known tree config is.all is.is_traced is.layout is.agreed bytes is.text
 
 pub maps_are_plain : MapsArePlain
 maps_are_plain tree config map is =
-    agreed_text_is_plain tree config is.all is.is_traced is.page_is_file is.layout is.agreed map is.text
+    agreed_text_is_plain tree config is.all is.is_traced is.layout is.agreed map is.text
 
 pub one_map_in_page : OneMapInPage
 one_map_in_page tree config map page new is i = one_map_after map page new (maps_are_plain tree config map is) i

@@ -78,12 +78,14 @@ NothingDiffers =
 abbrev pub CheckedMapsServe : Type 0
 CheckedMapsServe =
     (tree : Tree) (config : Config) (all : Gathered) (base bytes : List ℕ) (m : ParsedMap)
-    → traced (get tree) config ≡ Ok all → PageIsFile config → web_name config the_page ≡ Some base
-    → ParsesMap base bytes (Ok m) → differences m all.needs ≡ [] → Serves tree config bytes
+    → traced (get tree) config ≡ Ok all → web_name config the_page ≡ Some base → ParsesMap base bytes (Ok m)
+    → differences m all.needs ≡ [] → Serves tree config bytes
 
--- own law: what is generated serves
+-- own law: what is generated for a page that is a file serves
 abbrev pub Soundness : Type 0
-Soundness = (tree : Tree) (config : Config) (bytes : List ℕ) → Generates tree config bytes → Serves tree config bytes
+Soundness =
+    (tree : Tree) (config : Config) (bytes : List ℕ) → PageIsFile config → Generates tree config bytes
+    → Serves tree config bytes
 
 -- own law: what is generated has, under the URL of each module that the page reaches, the digest of the file at the
 -- module's path, and no other digest

@@ -6,8 +6,8 @@
 ghost use Rattle.soundness.specs.Soundness.{AgreedMapsServe, CheckedMapsServe, MapsArePlain, MapsReadBack, MapsServe};
 ghost use Rattle.soundness.specs.Soundness.{ModulesAreKnown, NothingDiffers, OneMapInPage, Soundness};
 
-/// Wherever generation gives a map's text, this text serves: through it every request of the page
-/// and of each module that the page reaches leads to exactly the file that Node's resolver gives.
+/// Wherever generation gives a map's text for a page that is a file, this text serves: through it every request of the
+/// page and of each module that the page reaches leads to exactly the file that Node's resolver gives.
 pub fn map_is_sound()
     ensures { Soundness }
 {}

@@ -13,6 +13,8 @@ const BASE: &str = "https://app.test/";
 
 const MAP_PATH: &str = "/importmap.json";
 
+const PROJECT_PATH: &str = "/importmap.project.json";
+
 /// What a run left.
 #[derive(Drop)]
 pub struct Ended {
@@ -22,30 +24,32 @@ pub struct Ended {
 }
 
 impl Ended {
-    /// The status and the line, without its end; and whether a map is there that a refusal should not have written, or
-    /// none where one should be.
+    /// The status and the line, without its end; and whether map and project are there that a refusal should not have
+    /// written, or aren't where they should be.
     pub fn text(&self, alloc: Global) -> Result<String, Fail> {
         let line = match std::str::from_utf8(self.said.got()) {
             Ok(line) => line.strip_suffix('\n').unwrap_or("no line"),
             Err(_) => "no text",
         };
-        let written = self.map(alloc)?.is_some();
-        let wrong = match (written, self.status == 0) {
-            (true, false) => " and a map",
-            (false, true) => " and no map",
-            _ => "",
+        let has_map = self.file(alloc, MAP_PATH)?.is_some();
+        let has_project = self.file(alloc, PROJECT_PATH)?.is_some();
+        let wrong = match (has_map, has_project, self.status == 0) {
+            (true, true, true) => "",
+            (false, false, false) => "",
+            (_, _, true) => " and no map or no project",
+            (_, _, false) => " and a map or a project",
         };
         let status = self.status;
         Ok(format!(in alloc; "{status} {line}{wrong}")?)
     }
 
-    fn map(&self, alloc: Global) -> Result<Option<&[u8]>, Fail> {
-        Ok(self.folder.file(&Path::parse(alloc, MAP_PATH)?))
+    fn file(&self, alloc: Global, path: &str) -> Result<Option<&[u8]>, Fail> {
+        Ok(self.folder.file(&Path::parse(alloc, path)?))
     }
 
     // The text of the map.
     fn map_text(&self, alloc: Global) -> Result<String, Fail> {
-        match self.map(alloc)? {
+        match self.file(alloc, MAP_PATH)? {
             None => Err("there is no map".into()),
             Some(bytes) => match std::str::from_utf8(bytes) {
                 Ok(text) => Ok(String::from_str(alloc, text)?),

@@ -49,6 +49,25 @@ impl Config {
         }
     }
 
+    /// The base, the page, the conditions and the entries, moved out.
+    pub fn into_parts(self) -> (Base, Path, Conditions, Listed<Text>)
+        ensures base { result.0 ≡ self.base }
+        ensures page { result.1 ≡ self.page }
+        ensures conditions { result.2 ≡ self.conditions }
+        ensures entries { result.3 ≡ self.entries }
+        ensures is_file { self.page ≢ codes "/" }
+        ensures distinct { IsDistinct bytes_eq self.entries }
+        ensures few { length self.entries ≤ limit_number Entries }
+    {
+        let Config {
+            base,
+            page,
+            conditions,
+            entries,
+        } = self;
+        (base, page, conditions, entries)
+    }
+
     /// The URL of the root folder.
     pub fn base(&self) -> &Base
         ensures { result.now ≡ self.now.base }

@@ -3,7 +3,8 @@
 --     limit_name which      the name
 use Rattle.std.specs.Prelude.{ℕ, List, codes}
 use Rattle.tree_spec.specs.declared.LimitName.{LimitName}
-use Rattle.tree_spec.specs.declared.LimitName.TheVariants.{File, Bytes, Looks, Modules, ModuleRequests, Requests, Specifier, Entries, Brackets, Depth, Session, Map, Choices}
+use Rattle.tree_spec.specs.declared.LimitName.TheVariants.{File, Bytes, Looks, Modules, ModuleRequests, Requests}
+use Rattle.tree_spec.specs.declared.LimitName.TheVariants.{Specifier, Entries, Brackets, Depth, Session, Map, Choices}
 
 -- own: the number that the quantity may not pass
 abbrev pub limit_number : LimitName → ℕ

@@ -10,7 +10,8 @@
 --                                      of looks at these paths one after another, the first that passes a limit
 --     new_size sights seen paths       the bytes of the files at the paths that weren't seen
 --     Counts sights before paths after      the trail has counted looks at these paths, none of which passed a limit
-use Rattle.std.specs.Prelude.{◌≡◌, ◌+◌, ◌++◌, [], ◌∷◌, ℕ, nat_lt, List, length, Option, Some, None, Result, Ok, Err, not, if◌then◌else◌}
+use Rattle.std.specs.Prelude.{◌≡◌, ◌+◌, ◌++◌, [], ◌∷◌, ℕ, nat_lt, List, length, Option, Some, None, Result, Ok, Err}
+use Rattle.std.specs.Prelude.{not, if◌then◌else◌}
 use Rattle.asking_spec.specs.Evaluation.{Ended, ends, stopped, Answers, evaluated}
 use Rattle.tree_spec.specs.Limits.{limit_number}
 use Rattle.tree_spec.specs.LookAskings.{Sights, look_at_each, is_seen, with_seen, noted}

@@ -2,7 +2,8 @@
 --     IsLook tree path limit look      what a look at the path answers, where a file may have that many bytes
 --     asked_after answered path asked      the paths that were asked for, after a look at one more
 use Rattle.std.specs.FinMap.{get}
-use Rattle.std.specs.Prelude.{◌≡◌, ◌<◌, ◌≤◌, ℕ, List, length, Some, None, ◌++◌, [], ◌∷◌, Bool, Option, option_map, if◌then◌else◌}
+use Rattle.std.specs.Prelude.{◌≡◌, ◌<◌, ◌≤◌, ℕ, List, length, Some, None, ◌++◌, [], ◌∷◌, Bool, Option, option_map}
+use Rattle.std.specs.Prelude.{if◌then◌else◌}
 use Rattle.tree_spec.specs.Trees.{Tree}
 use Rattle.tree_spec.specs.declared.Entry.TheVariants.{Stored, Directory}
 use Rattle.tree_spec.specs.declared.Look.{Look}

@@ -5,7 +5,8 @@
 --     IsWritten before path bytes result after a write of a file
 --     IsTaken before into filled result after  what was moved from a source into a slice
 --     IsGiven before bytes result after        bytes that were given to a sink
-use Rattle.std.specs.Prelude.{◌≡◌, ◌≢◌, ◌≤◌, ◌<◌, ◌++◌, ℕ, List, [], length, take, drop, Option, Some, None, option_map, Result, Err, is_ok, IfOk, IfSome, OnOk, OnErr, IsErrOf}
+use Rattle.std.specs.Prelude.{◌≡◌, ◌≢◌, ◌≤◌, ◌<◌, ◌++◌, ℕ, List, [], length, take, drop, Option, Some, None, option_map}
+use Rattle.std.specs.Prelude.{Result, Err, is_ok, IfOk, IfSome, OnOk, OnErr, IsErrOf}
 use Rattle.tree_spec.specs.declared.Entry.TheVariants.{Stored}
 use Rattle.tree_spec.specs.declared.Look.{Look}
 use Rattle.tree_spec.specs.declared.LookFault.{LookFault}

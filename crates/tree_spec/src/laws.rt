@@ -1,6 +1,8 @@
-ghost use Rattle.tree_spec.specs.Laws.{OneLook, OneParent, OnePlacing, PlacingKeepsTree, PlacingInFolder, PlacingInRoot, RootAlone};
+ghost use Rattle.tree_spec.specs.Laws.{OneLook, OneParent, OnePlacing, PlacingKeepsTree, PlacingInFolder};
+ghost use Rattle.tree_spec.specs.Laws.{PlacingInRoot, RootAlone};
 ghost use Rattle.tree_spec.specs.LookExamples.{LookExamples};
-ghost use Rattle.tree_spec.specs.Laws.{FootprintIsSet, FootprintsJoin, SameByFootprint, SameLimited, FirstLimitStops, EndsCounted, FoldersClimb, FolderIsParent};
+ghost use Rattle.tree_spec.specs.Laws.{FootprintIsSet, FootprintsJoin, SameByFootprint, SameLimited, FirstLimitStops};
+ghost use Rattle.tree_spec.specs.Laws.{EndsCounted, FoldersClimb, FolderIsParent};
 
 /// A path has one parent.
 pub fn one_parent()

@@ -1,5 +1,6 @@
 //! Percent-escapes of paths, and URLs without their suffixes.
-ghost use Rattle.std.specs.Prelude.{◌≡◌, ◌<◌, ◌≤◌, ◌++◌, All, OnOk, IfOk, string_bytes, IsAscii, flat_map, length, take, bytes_eq};
+ghost use Rattle.std.specs.Prelude.{◌≡◌, ◌<◌, ◌≤◌, ◌++◌, All, OnOk, IfOk, string_bytes};
+ghost use Rattle.std.specs.Prelude.{IsAscii, flat_map, length, take, bytes_eq};
 ghost use Rattle.url.specs.Input.{lowercase};
 ghost use Rattle.url_spec.specs.WebNames.{escaped};
 ghost use Rattle.url_spec.specs.Suffixes.{suffix_start, before_suffix, suffix_of, is_suffix_mark};

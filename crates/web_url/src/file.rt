@@ -1,4 +1,5 @@
-ghost use Rattle.std.specs.Prelude.{◌≡◌, IfOk, OnOk, IsAscii, IsErrOf, Some, true, false, string_bytes, codes, bytes_eq, ◌&&◌, not, [], if◌then◌else◌};
+ghost use Rattle.std.specs.Prelude.{◌≡◌, IfOk, OnOk, IsAscii, IsErrOf, Some, true, false};
+ghost use Rattle.std.specs.Prelude.{string_bytes, codes, bytes_eq, ◌&&◌, not, [], if◌then◌else◌};
 ghost use Rattle.url_spec.specs.Parsing.{parse_alone, parse_against, IsUrl};
 ghost use Rattle.url_spec.specs.Specifiers.{is_relative};
 ghost use Rattle.url_spec.specs.FileUrls.{file_text, names_host, url_path, IsPlace};

@@ -1,5 +1,6 @@
 //! Web names of paths, and the paths that are served at URLs.
-ghost use Rattle.std.specs.Prelude.{◌≡◌, ◌≢◌, ◌<◌, ◌↔◌, ◌++◌, ◌∷◌, [], List, ℕ, All, nat_eq, false, drop, flat_map, codes, string_bytes, IfOk, IfErr, IsTrue, MatchOption, Some, None, IsAscii, true};
+ghost use Rattle.std.specs.Prelude.{◌≡◌, ◌≢◌, ◌<◌, ◌↔◌, ◌++◌, ◌∷◌, [], List, ℕ, All, nat_eq, false, drop, flat_map};
+ghost use Rattle.std.specs.Prelude.{codes, string_bytes, IfOk, IfErr, IsTrue, MatchOption, Some, None, IsAscii, true};
 ghost use Rattle.std.specs.List.{ends_with};
 ghost use Rattle.url_spec.specs.WebNames.{escaped, web};
 ghost use Rattle.url_spec.specs.Suffixes.{before_suffix};

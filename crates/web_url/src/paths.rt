@@ -1,5 +1,6 @@
 //! Paths from bytes, and the bytes that the path of a file URL spells.
-ghost use Rattle.std.specs.Prelude.{◌≡◌, ◌++◌, [], List, ℕ, IfOk, OnOk, MatchOption, IsUtf8, length, codes, ◌==◌, if◌then◌else◌};
+ghost use Rattle.std.specs.Prelude.{◌≡◌, ◌++◌, [], List, ℕ, IfOk, OnOk, MatchOption};
+ghost use Rattle.std.specs.Prelude.{IsUtf8, length, codes, ◌==◌, if◌then◌else◌};
 ghost use Rattle.tree_spec.specs.Paths.{IsPath};
 ghost use Rattle.url_spec.specs.ServedPaths.{read_segment};
 ghost use Rattle.url_spec.specs.FileUrls.{spelled_path, escapes_separator, NamesPath};

@@ -10,14 +10,16 @@ use tree_model::{MemFolder, MemSink, MemSource, Path, PathFault};
 
 /// One run: what it is given, and what must come of it.
 pub struct Case {
-    /// The words, a space between each two.
+    /// The words, a space between each two; none in the empty text.
     pub words: &'static str,
     /// Paths of files, with their texts.
     pub files: &'static [(&'static str, &'static str)],
     pub status: u8,
     pub line: &'static str,
-    /// The text of the map that is there afterwards; every other file is as it was.
+    /// The text of the map that is there afterwards.
     pub map: Option<&'static str>,
+    /// The text of the project's file that is there afterwards; every other file is as it was.
+    pub project: Option<&'static str>,
 }
 
 /// The numbers, from 1, of the looks, the writes and the gives to the output that fail.
@@ -49,7 +51,35 @@ pub const PAIR_MAP: &str = "{
 }
 ";
 
+/// The project's file of `LINK`.
+pub const APP_PROJECT: &str = "{
+  \"base\": \"https://app.test/\",
+  \"page\": \"/index.html\",
+  \"conditions\": [
+    \"browser\",
+    \"import\"
+  ],
+  \"entries\": [
+    \"./app.mjs\"
+  ]
+}
+";
+
+/// The same without entries.
+pub const EMPTY_PROJECT: &str = "{
+  \"base\": \"https://app.test/\",
+  \"page\": \"/index.html\",
+  \"conditions\": [
+    \"browser\",
+    \"import\"
+  ],
+  \"entries\": []
+}
+";
+
 pub const MAP_PATH: &str = "/importmap.json";
+
+pub const PROJECT_PATH: &str = "/importmap.project.json";
 
 pub const PAGE_PATH: &str = "/index.html";
 
@@ -63,6 +93,9 @@ pub struct Outcome {
 
 fn words_of(alloc: Global, text: &str) -> Result<Vec<String>, Memory> {
     let mut words = Vec::new(alloc);
+    if text.is_empty() {
+        return Ok(words);
+    }
     for word in text.split(' ') {
         words.push(String::from_str(alloc, word)?)?;
     }
@@ -148,15 +181,24 @@ pub fn stands(
     }
 }
 
-/// Whether the files are as they were put, but for the one that is written.
+fn is_among(path: &str, paths: &[&str]) -> bool {
+    for other in paths {
+        if *other == path {
+            return true;
+        }
+    }
+    false
+}
+
+/// Whether the files are as they were put, but for those that are written.
 pub fn are_kept(
     alloc: Global,
     folder: &MemFolder,
     files: &[(&str, &str)],
-    written: &str,
+    written: &[&str],
 ) -> Result<bool, PathFault> {
     for (path, text) in files {
-        if *path != written && !stands(alloc, folder, path, Some(text))? {
+        if !is_among(path, written) && !stands(alloc, folder, path, Some(text))? {
             return Ok(false);
         }
     }
@@ -174,6 +216,12 @@ pub fn fits(alloc: Global, outcome: &Outcome, case: &Case) -> Result<bool, PathF
     Ok(
         ends(outcome, case.status, case.line)
             && stands(alloc, &outcome.folder, MAP_PATH, case.map)?
-            && are_kept(alloc, &outcome.folder, case.files, MAP_PATH)?,
+            && stands(alloc, &outcome.folder, PROJECT_PATH, case.project)?
+            && are_kept(
+                alloc,
+                &outcome.folder,
+                case.files,
+                &[MAP_PATH, PROJECT_PATH],
+            )?,
     )
 }

@@ -1,11 +1,11 @@
-//! Runs of `link` that write no map, in which every call of the outside succeeds.
+//! Runs of `link` that write no map.
 
-use crate::case::{ALONE, Case, LINK};
+use crate::case::{APP_PROJECT, Case, LINK};
 
 pub const MISSING: &[(&str, &str)] = &[("/app.mjs", "import \"./q.mjs\";")];
 
-/// The rows: refusals, and words that aren't built.
-pub static CASES: [Case; 26] = [
+/// What is asked for isn't there, or is a folder.
+pub static MISSING_FILES: [Case; 10] = [
     Case {
         words: "link --base https://app.test/ ./a.mjs ./b.mjs",
         files: &[
@@ -16,6 +16,7 @@ pub static CASES: [Case; 26] = [
         status: 1,
         line: "refused: NotFound from \"/b.mjs\" for \"./q.mjs\"\n",
         map: None,
+        project: None,
     },
     Case {
         words: LINK,
@@ -23,6 +24,7 @@ pub static CASES: [Case; 26] = [
         status: 1,
         line: "refused: NotFound from \"/app.mjs\" for \"./q.mjs\"\n",
         map: None,
+        project: None,
     },
     Case {
         words: "link --base https://app.test/ ./a.cjs ./q.mjs",
@@ -30,6 +32,7 @@ pub static CASES: [Case; 26] = [
         status: 1,
         line: "refused: NotFound from \"/index.html\" for \"./q.mjs\"\n",
         map: None,
+        project: None,
     },
     Case {
         words: LINK,
@@ -37,6 +40,7 @@ pub static CASES: [Case; 26] = [
         status: 1,
         line: "refused: NotFound from \"/app.mjs\" for \"./\\u003c.mjs\"\n",
         map: None,
+        project: None,
     },
     Case {
         words: LINK,
@@ -47,6 +51,7 @@ pub static CASES: [Case; 26] = [
         status: 1,
         line: "refused: NotFound from \"/app.mjs\" for \"./q.mjs\"\n",
         map: Some("old"),
+        project: None,
     },
     Case {
         words: LINK,
@@ -54,27 +59,7 @@ pub static CASES: [Case; 26] = [
         status: 1,
         line: "refused: NotFound from \"/app.mjs\" for \"ui\"\n",
         map: None,
-    },
-    Case {
-        words: "link --base https://app.test/ ./app.mjs ./b.mjs",
-        files: &[("/app.mjs", "import x"), ("/b.mjs", "import \"./q.mjs\";")],
-        status: 1,
-        line: "refused: NotModule \"/app.mjs\" Unreadable at 0\n",
-        map: None,
-    },
-    Case {
-        words: LINK,
-        files: &[("/app.mjs", "import \"./b.mjs/\";"), ("/b.mjs", "")],
-        status: 1,
-        line: "refused: TrailingSlash from \"/app.mjs\" for \"./b.mjs/\"\n",
-        map: None,
-    },
-    Case {
-        words: "link --base ftp://h/ x",
-        files: &[],
-        status: 2,
-        line: "words: BadBase \"ftp://h/\"\n",
-        map: None,
+        project: None,
     },
     Case {
         words: "link --base https://app.test/ ui",
@@ -82,6 +67,55 @@ pub static CASES: [Case; 26] = [
         status: 1,
         line: "refused: NotFound from \"/index.html\" for \"ui\"\n",
         map: None,
+        project: None,
+    },
+    Case {
+        words: LINK,
+        files: &[("/app.mjs", "import \"./d\";"), ("/d/x.mjs", "")],
+        status: 1,
+        line: "refused: DirectoryImport from \"/app.mjs\" for \"./d\"\n",
+        map: None,
+        project: None,
+    },
+    Case {
+        words: LINK,
+        files: &[("/app.mjs", "import \"./b.mjs/?q\";"), ("/b.mjs", "")],
+        status: 1,
+        line: "refused: NotFound from \"/app.mjs\" for \"./b.mjs/?q\"\n",
+        map: None,
+        project: None,
+    },
+    Case {
+        words: LINK,
+        files: &[
+            ("/app.mjs", "import \"./q.mjs\";"),
+            ("/importmap.json", "old"),
+            ("/importmap.project.json", APP_PROJECT),
+        ],
+        status: 1,
+        line: "refused: NotFound from \"/app.mjs\" for \"./q.mjs\"\n",
+        map: Some("old"),
+        project: Some(APP_PROJECT),
+    },
+];
+
+/// What is asked for can't be a module, or is none; and a map for which there is no place.
+pub static OTHER_REFUSALS: [Case; 9] = [
+    Case {
+        words: "link --base https://app.test/ ./app.mjs ./b.mjs",
+        files: &[("/app.mjs", "import x"), ("/b.mjs", "import \"./q.mjs\";")],
+        status: 1,
+        line: "refused: NotModule \"/app.mjs\" Unreadable at 0\n",
+        map: None,
+        project: None,
+    },
+    Case {
+        words: LINK,
+        files: &[("/app.mjs", "import \"./b.mjs/\";"), ("/b.mjs", "")],
+        status: 1,
+        line: "refused: TrailingSlash from \"/app.mjs\" for \"./b.mjs/\"\n",
+        map: None,
+        project: None,
     },
     Case {
         words: "link --base https://app.test/ ./app.js",
@@ -89,6 +123,7 @@ pub static CASES: [Case; 26] = [
         status: 1,
         line: "refused: NotModule \"/app.js\" CommonJs\n",
         map: None,
+        project: None,
     },
     Case {
         words: "link --base https://app.test/ ./m.mjs?a",
@@ -96,6 +131,7 @@ pub static CASES: [Case; 26] = [
         status: 1,
         line: "refused: NotModule \"/m.mjs?a\" Unreadable at 1\n",
         map: None,
+        project: None,
     },
     Case {
         words: "link --base https://app.test/app/ ./m.mjs",
@@ -107,13 +143,7 @@ pub static CASES: [Case; 26] = [
         status: 1,
         line: "refused: Clash from \"/m.mjs\" for \"../app/x.mjs\" to \"/app/x.mjs\" and \"./x.mjs\" to \"/x.mjs\"\n",
         map: None,
-    },
-    Case {
-        words: LINK,
-        files: &[("/app.mjs", "import \"./d\";"), ("/d/x.mjs", "")],
-        status: 1,
-        line: "refused: DirectoryImport from \"/app.mjs\" for \"./d\"\n",
-        map: None,
+        project: None,
     },
     Case {
         words: LINK,
@@ -121,6 +151,7 @@ pub static CASES: [Case; 26] = [
         status: 1,
         line: "refused: Unaskable from \"/app.mjs\" for \"//[\"\n",
         map: None,
+        project: None,
     },
     Case {
         words: LINK,
@@ -128,6 +159,7 @@ pub static CASES: [Case; 26] = [
         status: 1,
         line: "refused: InvalidSpecifier from \"/app.mjs\" for \"./a%2fb.mjs\"\n",
         map: None,
+        project: None,
     },
     Case {
         words: LINK,
@@ -135,62 +167,7 @@ pub static CASES: [Case; 26] = [
         status: 1,
         line: "refused: ExternalUrl from \"/app.mjs\" for \"https://cdn.test/x.js\"\n",
         map: None,
-    },
-    Case {
-        words: "",
-        files: ALONE,
-        status: 9,
-        line: "not built: words\n",
-        map: None,
-    },
-    Case {
-        words: "list",
-        files: ALONE,
-        status: 9,
-        line: "not built: words\n",
-        map: None,
-    },
-    Case {
-        words: "link ./app.mjs",
-        files: ALONE,
-        status: 9,
-        line: "not built: words\n",
-        map: None,
-    },
-    Case {
-        words: "link --base",
-        files: ALONE,
-        status: 9,
-        line: "not built: words\n",
-        map: None,
-    },
-    Case {
-        words: "link --base=https://app.test/ ./app.mjs",
-        files: ALONE,
-        status: 9,
-        line: "not built: words\n",
-        map: None,
-    },
-    Case {
-        words: "link --base https://app.test/ -x",
-        files: ALONE,
-        status: 9,
-        line: "not built: words\n",
-        map: None,
-    },
-    Case {
-        words: "link --base https://app.test/  ./app.mjs",
-        files: ALONE,
-        status: 9,
-        line: "not built: words\n",
-        map: None,
-    },
-    Case {
-        words: LINK,
-        files: &[("/app.mjs", "import \"./b.mjs/?q\";"), ("/b.mjs", "")],
-        status: 1,
-        line: "refused: NotFound from \"/app.mjs\" for \"./b.mjs/?q\"\n",
-        map: None,
+        project: None,
     },
     Case {
         words: LINK,
@@ -198,5 +175,6 @@ pub static CASES: [Case; 26] = [
         status: 5,
         line: "fault: write\n",
         map: None,
+        project: None,
     },
 ];

@@ -1,9 +1,9 @@
 //! Runs of `check`.
 
-use crate::case::{Case, Fails, NONE};
+use crate::case::{APP_PROJECT, Case, EMPTY_PROJECT, Fails, NONE};
 use crate::faults::Fault;
 
-const CHECK: &str = "check --base https://app.test/ ./app.mjs";
+const CHECK: &str = "check";
 
 const BLOCKED_AND_WRONG: &str =
     "{\"imports\":{\"ui/\":\"/node_modules/ui/\",\"ui/b.mjs\":null,\"z\":\"./wrong.mjs\",\"./app.mjs\":\"/x.mjs\",\"/app.mjs\":\"/app.mjs\"}}";
@@ -32,10 +32,12 @@ pub static CHECKED_MAPS: [Case; 10] = [
             ("/node_modules/z/package.json", "{\"exports\":\"./z.mjs\"}"),
             ("/node_modules/z/z.mjs", ""),
             ("/importmap.json", BLOCKED_AND_WRONG),
+            ("/importmap.project.json", APP_PROJECT),
         ],
         status: 6,
         line: "differs: from \"/app.mjs\" for \"ui/b.mjs\" wants \"https://app.test/node_modules/ui/b.mjs\" gets Blocked\ndiffers: from \"/app.mjs\" for \"z\" wants \"https://app.test/node_modules/z/z.mjs\" gets \"https://app.test/wrong.mjs\"\n2 differences\n",
         map: Some(BLOCKED_AND_WRONG),
+        project: Some(APP_PROJECT),
     },
     Case {
         words: CHECK,
@@ -50,10 +52,12 @@ pub static CHECKED_MAPS: [Case; 10] = [
             ("/node_modules/z/package.json", "{\"exports\":\"./z.mjs\"}"),
             ("/node_modules/z/z.mjs", ""),
             ("/importmap.json", SERVING),
+            ("/importmap.project.json", APP_PROJECT),
         ],
         status: 0,
         line: "ok: 4 needs served\n",
         map: Some(SERVING),
+        project: Some(APP_PROJECT),
     },
     Case {
         words: CHECK,
@@ -62,10 +66,12 @@ pub static CHECKED_MAPS: [Case; 10] = [
             ("/node_modules/z/package.json", "{\"exports\":\"./z.mjs\"}"),
             ("/node_modules/z/z.mjs", ""),
             ("/importmap.json", NEAREST_LAST),
+            ("/importmap.project.json", APP_PROJECT),
         ],
         status: 0,
         line: "ok: 2 needs served\n",
         map: Some(NEAREST_LAST),
+        project: Some(APP_PROJECT),
     },
     Case {
         words: CHECK,
@@ -74,10 +80,12 @@ pub static CHECKED_MAPS: [Case; 10] = [
             ("/node_modules/z/package.json", "{\"exports\":\"./z.mjs\"}"),
             ("/node_modules/z/z.mjs", ""),
             ("/importmap.json", NEAREST_FIRST),
+            ("/importmap.project.json", APP_PROJECT),
         ],
         status: 0,
         line: "ok: 2 needs served\n",
         map: Some(NEAREST_FIRST),
+        project: Some(APP_PROJECT),
     },
     Case {
         words: CHECK,
@@ -92,10 +100,12 @@ pub static CHECKED_MAPS: [Case; 10] = [
             ("/node_modules/z/package.json", "{\"exports\":\"./z.mjs\"}"),
             ("/node_modules/z/z.mjs", ""),
             ("/importmap.json", "{}"),
+            ("/importmap.project.json", APP_PROJECT),
         ],
         status: 6,
         line: "differs: from \"/app.mjs\" for \"ui/a.mjs\" wants \"https://app.test/node_modules/ui/a.mjs\" gets Bare\ndiffers: from \"/app.mjs\" for \"ui/b.mjs\" wants \"https://app.test/node_modules/ui/b.mjs\" gets Bare\ndiffers: from \"/app.mjs\" for \"z\" wants \"https://app.test/node_modules/z/z.mjs\" gets Bare\n3 differences\n",
         map: Some("{}"),
+        project: Some(APP_PROJECT),
     },
     Case {
         words: CHECK,
@@ -107,10 +117,12 @@ pub static CHECKED_MAPS: [Case; 10] = [
                 "/importmap.json",
                 "{\"imports\":{\"z\":\"/node_modules/z/z.mjs\",\"/app.mjs\":\"/x.mjs\"}}",
             ),
+            ("/importmap.project.json", APP_PROJECT),
         ],
         status: 6,
         line: "differs: from \"/index.html\" for \"./app.mjs\" wants \"https://app.test/app.mjs\" gets \"https://app.test/x.mjs\"\n1 differences\n",
         map: Some("{\"imports\":{\"z\":\"/node_modules/z/z.mjs\",\"/app.mjs\":\"/x.mjs\"}}"),
+        project: Some(APP_PROJECT),
     },
     Case {
         words: CHECK,
@@ -125,12 +137,14 @@ pub static CHECKED_MAPS: [Case; 10] = [
                 "/importmap.json",
                 "{\"scopes\":{\"/app.mjs\":{\"u/\":\"/v/?/\"}},\"imports\":{\"u/a\":\"/node_modules/u/z.mjs\"}}",
             ),
+            ("/importmap.project.json", APP_PROJECT),
         ],
         status: 6,
         line: "differs: from \"/app.mjs\" for \"u/a\" wants \"https://app.test/node_modules/u/z.mjs\" gets Backtrack\ndiffers: from \"/app.mjs\" for \"u/b/../c\" wants \"https://app.test/node_modules/u/z.mjs\" gets Backtrack\n2 differences\n",
         map: Some(
             "{\"scopes\":{\"/app.mjs\":{\"u/\":\"/v/?/\"}},\"imports\":{\"u/a\":\"/node_modules/u/z.mjs\"}}",
         ),
+        project: Some(APP_PROJECT),
     },
     Case {
         words: CHECK,
@@ -139,10 +153,12 @@ pub static CHECKED_MAPS: [Case; 10] = [
             ("/node_modules/z/package.json", "{\"exports\":\"./z.mjs\"}"),
             ("/node_modules/z/z.mjs", ""),
             ("/importmap.json", "{\"imports\":{\"z\":\"data:,x\"}}"),
+            ("/importmap.project.json", APP_PROJECT),
         ],
         status: 6,
         line: "differs: from \"/app.mjs\" for \"z\" wants \"https://app.test/node_modules/z/z.mjs\" gets \"data:,x\"\n1 differences\n",
         map: Some("{\"imports\":{\"z\":\"data:,x\"}}"),
+        project: Some(APP_PROJECT),
     },
     Case {
         words: CHECK,
@@ -150,10 +166,12 @@ pub static CHECKED_MAPS: [Case; 10] = [
             ("/app.mjs", "import \"./b.mjs\"; import \"./c/../b.mjs\";"),
             ("/b.mjs", ""),
             ("/importmap.json", "{\"imports\":{\"./b.mjs\":null}}"),
+            ("/importmap.project.json", APP_PROJECT),
         ],
         status: 6,
         line: "differs: from \"/app.mjs\" for \"./b.mjs\" wants \"https://app.test/b.mjs\" gets Blocked\n1 differences\n",
         map: Some("{\"imports\":{\"./b.mjs\":null}}"),
+        project: Some(APP_PROJECT),
     },
     Case {
         words: CHECK,
@@ -163,10 +181,12 @@ pub static CHECKED_MAPS: [Case; 10] = [
             ("/node_modules/z/package.json", "{\"exports\":\"./z.mjs\"}"),
             ("/node_modules/z/z.mjs", ""),
             ("/importmap.json", "{}"),
+            ("/importmap.project.json", APP_PROJECT),
         ],
         status: 6,
         line: "differs: from \"/b.mjs?x\" for \"z\" wants \"https://app.test/node_modules/z/z.mjs\" gets Bare\n1 differences\n",
         map: Some("{}"),
+        project: Some(APP_PROJECT),
     },
 ];
 
@@ -174,97 +194,122 @@ pub static CHECKED_MAPS: [Case; 10] = [
 pub static NO_MAPS: [Case; 11] = [
     Case {
         words: CHECK,
-        files: &[("/app.mjs", "import \"./q.mjs\";")],
+        files: &[
+            ("/app.mjs", "import \"./q.mjs\";"),
+            ("/importmap.project.json", APP_PROJECT),
+        ],
         status: 7,
         line: "bad file: map absent\n",
         map: None,
+        project: Some(APP_PROJECT),
     },
     Case {
         words: CHECK,
         files: &[
             ("/app.mjs", "import \"./q.mjs\";"),
             ("/importmap.json/x", ""),
+            ("/importmap.project.json", APP_PROJECT),
         ],
         status: 7,
         line: "bad file: map absent\n",
         map: None,
+        project: Some(APP_PROJECT),
     },
     Case {
         words: CHECK,
-        files: &[("/app.mjs", "import \"./q.mjs\";"), ("/importmap.json", "")],
+        files: &[
+            ("/app.mjs", "import \"./q.mjs\";"),
+            ("/importmap.json", ""),
+            ("/importmap.project.json", APP_PROJECT),
+        ],
         status: 7,
         line: "bad file: map at 0\n",
         map: Some(""),
+        project: Some(APP_PROJECT),
     },
     Case {
         words: CHECK,
         files: &[
             ("/app.mjs", "import \"./q.mjs\";"),
             ("/importmap.json", "{\"imports\":}"),
+            ("/importmap.project.json", APP_PROJECT),
         ],
         status: 7,
         line: "bad file: map at 11\n",
         map: Some("{\"imports\":}"),
+        project: Some(APP_PROJECT),
     },
     Case {
         words: CHECK,
         files: &[
             ("/app.mjs", "import \"./q.mjs\";"),
             ("/importmap.json", "{\"imports\":[]}"),
+            ("/importmap.project.json", APP_PROJECT),
         ],
         status: 7,
         line: "bad file: map Imports\n",
         map: Some("{\"imports\":[]}"),
+        project: Some(APP_PROJECT),
     },
     Case {
         words: CHECK,
         files: &[
             ("/app.mjs", "import \"./q.mjs\";"),
             ("/importmap.json", "[]"),
+            ("/importmap.project.json", APP_PROJECT),
         ],
         status: 7,
         line: "bad file: map Top\n",
         map: Some("[]"),
+        project: Some(APP_PROJECT),
     },
     Case {
         words: CHECK,
         files: &[
             ("/app.mjs", "import \"./q.mjs\";"),
             ("/importmap.json", "{\"scopes\":{\"/\":1},\"imports\":[]}"),
+            ("/importmap.project.json", APP_PROJECT),
         ],
         status: 7,
         line: "bad file: map Imports\n",
         map: Some("{\"scopes\":{\"/\":1},\"imports\":[]}"),
+        project: Some(APP_PROJECT),
     },
     Case {
         words: CHECK,
         files: &[
             ("/app.mjs", "import \"./q.mjs\";"),
             ("/importmap.json", "{\"scopes\":{\"/\":1}}"),
+            ("/importmap.project.json", APP_PROJECT),
         ],
         status: 7,
         line: "bad file: map Scope\n",
         map: Some("{\"scopes\":{\"/\":1}}"),
+        project: Some(APP_PROJECT),
     },
     Case {
         words: CHECK,
         files: &[
             ("/app.mjs", "import \"./q.mjs\";"),
             ("/importmap.json", "{\"scopes\":1}"),
+            ("/importmap.project.json", APP_PROJECT),
         ],
         status: 7,
         line: "bad file: map Scopes\n",
         map: Some("{\"scopes\":1}"),
+        project: Some(APP_PROJECT),
     },
     Case {
         words: CHECK,
         files: &[
             ("/app.mjs", "import \"./q.mjs\";"),
             ("/importmap.json", "{\"integrity\":\"\"}"),
+            ("/importmap.project.json", APP_PROJECT),
         ],
         status: 7,
         line: "bad file: map Integrity\n",
         map: Some("{\"integrity\":\"\"}"),
+        project: Some(APP_PROJECT),
     },
     Case {
         words: CHECK,
@@ -274,58 +319,75 @@ pub static NO_MAPS: [Case; 11] = [
                 "/importmap.json",
                 "{\"x\":[[[[[[[[[[[[[[[[[[[[[[[[[[[[[[[[[[[[[[[[[[[[[[[[[[[[[[[[[[[[[[[[[[[[[[[[[[[[[[[[[[[[[[[[[[[[[[[[[[[[[[[[[[[[[[[[[[[[[[[[[[[[[[[[",
             ),
+            ("/importmap.project.json", APP_PROJECT),
         ],
         status: 3,
         line: "limit: depth above 128\n",
         map: Some(
             "{\"x\":[[[[[[[[[[[[[[[[[[[[[[[[[[[[[[[[[[[[[[[[[[[[[[[[[[[[[[[[[[[[[[[[[[[[[[[[[[[[[[[[[[[[[[[[[[[[[[[[[[[[[[[[[[[[[[[[[[[[[[[[[[[[[[[[",
         ),
+        project: Some(APP_PROJECT),
     },
 ];
 
-/// In which order the words, the map and the trace are seen. The map is looked at once, before the modules; two looks,
-/// the give and a write that never comes fail in turn.
-pub static IN_ORDER: [Fault; 8] = [
+/// In which order the project, the map and the trace are seen. Project and map are looked at once each, before the
+/// modules; three looks, the give and a write that never comes fail in turn.
+pub static IN_ORDER: [Fault; 9] = [
     Fault {
         case: Case {
             words: CHECK,
             files: &[
                 ("/app.mjs", "import \"./q.mjs\";"),
                 ("/importmap.json", "{}"),
+                ("/importmap.project.json", APP_PROJECT),
             ],
             status: 1,
             line: "refused: NotFound from \"/app.mjs\" for \"./q.mjs\"\n",
             map: Some("{}"),
+            project: Some(APP_PROJECT),
         },
         fails: NONE,
     },
     Fault {
         case: Case {
-            words: "check --base ftp://h/ ./app.mjs",
-            files: &[("/app.mjs", "import \"./q.mjs\";")],
-            status: 2,
-            line: "words: BadBase \"ftp://h/\"\n",
-            map: None,
+            words: CHECK,
+            files: &[
+                ("/app.mjs", "import \"./q.mjs\";"),
+                ("/importmap.json", "["),
+            ],
+            status: 7,
+            line: "bad file: project absent\n",
+            map: Some("["),
+            project: None,
         },
         fails: NONE,
     },
     Fault {
         case: Case {
-            words: "check --base https://app.test/ -x",
-            files: &[("/app.mjs", "import \"./q.mjs\";")],
-            status: 9,
-            line: "not built: words\n",
-            map: None,
+            words: CHECK,
+            files: &[
+                ("/app.mjs", "import \"./q.mjs\";"),
+                ("/importmap.json", "["),
+                ("/importmap.project.json", "{"),
+            ],
+            status: 7,
+            line: "bad file: project at 1\n",
+            map: Some("["),
+            project: Some("{"),
         },
         fails: NONE,
     },
     Fault {
         case: Case {
-            words: "check --base https://app.test/",
-            files: &[("/importmap.json", "{}")],
+            words: CHECK,
+            files: &[
+                ("/importmap.json", "{}"),
+                ("/importmap.project.json", EMPTY_PROJECT),
+            ],
             status: 0,
             line: "ok: 0 needs served\n",
             map: Some("{}"),
+            project: Some(EMPTY_PROJECT),
         },
         fails: NONE,
     },
@@ -337,10 +399,12 @@ pub static IN_ORDER: [Fault; 8] = [
                 ("/node_modules/z/package.json", "{\"exports\":\"./z.mjs\"}"),
                 ("/node_modules/z/z.mjs", ""),
                 ("/importmap.json", NEAREST_LAST),
+                ("/importmap.project.json", APP_PROJECT),
             ],
             status: 4,
             line: "fault: read\n",
             map: Some(NEAREST_LAST),
+            project: Some(APP_PROJECT),
         },
         fails: Fails {
             looks: &[1],
@@ -356,10 +420,12 @@ pub static IN_ORDER: [Fault; 8] = [
                 ("/node_modules/z/package.json", "{\"exports\":\"./z.mjs\"}"),
                 ("/node_modules/z/z.mjs", ""),
                 ("/importmap.json", NEAREST_LAST),
+                ("/importmap.project.json", APP_PROJECT),
             ],
             status: 4,
             line: "fault: read\n",
             map: Some(NEAREST_LAST),
+            project: Some(APP_PROJECT),
         },
         fails: Fails {
             looks: &[2],
@@ -375,10 +441,33 @@ pub static IN_ORDER: [Fault; 8] = [
                 ("/node_modules/z/package.json", "{\"exports\":\"./z.mjs\"}"),
                 ("/node_modules/z/z.mjs", ""),
                 ("/importmap.json", NEAREST_LAST),
+                ("/importmap.project.json", APP_PROJECT),
+            ],
+            status: 4,
+            line: "fault: read\n",
+            map: Some(NEAREST_LAST),
+            project: Some(APP_PROJECT),
+        },
+        fails: Fails {
+            looks: &[3],
+            writes: &[],
+            gives: &[],
+        },
+    },
+    Fault {
+        case: Case {
+            words: CHECK,
+            files: &[
+                ("/app.mjs", "import \"z\";"),
+                ("/node_modules/z/package.json", "{\"exports\":\"./z.mjs\"}"),
+                ("/node_modules/z/z.mjs", ""),
+                ("/importmap.json", NEAREST_LAST),
+                ("/importmap.project.json", APP_PROJECT),
             ],
             status: 5,
             line: "",
             map: Some(NEAREST_LAST),
+            project: Some(APP_PROJECT),
         },
         fails: Fails {
             looks: &[],
@@ -394,10 +483,12 @@ pub static IN_ORDER: [Fault; 8] = [
                 ("/node_modules/z/package.json", "{\"exports\":\"./z.mjs\"}"),
                 ("/node_modules/z/z.mjs", ""),
                 ("/importmap.json", NEAREST_LAST),
+                ("/importmap.project.json", APP_PROJECT),
             ],
             status: 0,
             line: "ok: 2 needs served\n",
             map: Some(NEAREST_LAST),
+            project: Some(APP_PROJECT),
         },
         fails: Fails {
             looks: &[],

@@ -1,11 +1,11 @@
 //! How a run may end of which one allocation fails.
 
-use crate::case::{Case, LINK, NONE, PAIR, PAIR_MAP, fits, outcome_of};
+use crate::case::{APP_PROJECT, Case, LINK, NONE, PAIR, PAIR_MAP, fits, outcome_of};
 use std::alloc::Global;
 use tree_model::PathFault;
 
 /// The names of the endings, each with what comes of the run.
-static ENDINGS: [(&str, Case); 4] = [
+static ENDINGS: [(&str, Case); 5] = [
     (
         "done",
         Case {
@@ -14,6 +14,7 @@ static ENDINGS: [(&str, Case); 4] = [
             status: 0,
             line: "ok: 2 modules, 2 requests, 0 mappings\n",
             map: Some(PAIR_MAP),
+            project: Some(APP_PROJECT),
         },
     ),
     (
@@ -24,6 +25,7 @@ static ENDINGS: [(&str, Case); 4] = [
             status: 8,
             line: "memory\n",
             map: None,
+            project: None,
         },
     ),
     // A write for which the folder in memory finds no room fails.
@@ -35,6 +37,18 @@ static ENDINGS: [(&str, Case); 4] = [
             status: 5,
             line: "fault: write\n",
             map: None,
+            project: None,
+        },
+    ),
+    (
+        "half written",
+        Case {
+            words: LINK,
+            files: PAIR,
+            status: 5,
+            line: "fault: write\n",
+            map: Some(PAIR_MAP),
+            project: None,
         },
     ),
     // So does a give for which the output in memory finds none.
@@ -46,6 +60,7 @@ static ENDINGS: [(&str, Case); 4] = [
             status: 5,
             line: "",
             map: Some(PAIR_MAP),
+            project: Some(APP_PROJECT),
         },
     ),
 ];

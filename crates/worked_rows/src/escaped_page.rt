@@ -1,7 +1,7 @@
 //! Runs of `inject` whose map has a name with an end tag in it: the page that comes of one comes of itself, and of
 //! itself with another map.
 
-use crate::case::NONE;
+use crate::case::{APP_PROJECT, NONE};
 use crate::page_cases::{INJECT, PageCase};
 use crate::pages::passes;
 use std::test::Fail;
@@ -37,6 +37,7 @@ static CASES: [PageCase; 2] = [
             ("/package.json", NAMES),
             ("/app.mjs", APP),
             ("/x.mjs", ""),
+            ("/importmap.project.json", APP_PROJECT),
         ],
         fails: NONE,
         status: 0,
@@ -50,6 +51,7 @@ static CASES: [PageCase; 2] = [
             ("/package.json", NAMES),
             ("/app.mjs", APP),
             ("/x.mjs", ""),
+            ("/importmap.project.json", APP_PROJECT),
         ],
         fails: NONE,
         status: 0,

@@ -1,6 +1,6 @@
-//! Runs in which calls of the outside fail.
+//! Runs of `link` in which calls of the outside fail.
 
-use crate::case::{Case, Fails, LINK, PAIR, PAIR_MAP};
+use crate::case::{APP_PROJECT, Case, Fails, LINK, PAIR, PAIR_MAP};
 use crate::cases::MISSING;
 
 /// One run in which calls fail.
@@ -9,10 +9,15 @@ pub struct Fault {
     pub case: Case,
 }
 
-const OLD_MAP: &[(&str, &str)] = &[
+/// A project without entries, in a layout of its own.
+const OLD_PROJECT: &str =
+    "{\"entries\":[],\"conditions\":[\"browser\",\"import\"],\"page\":\"/index.html\",\"base\":\"https://app.test/\"}";
+
+const OLD_FILES: &[(&str, &str)] = &[
     ("/app.mjs", "import \"./b.mjs\";"),
     ("/b.mjs", ""),
     ("/importmap.json", "old"),
+    ("/importmap.project.json", OLD_PROJECT),
 ];
 
 const MISSING_WITH_OLD_MAP: &[(&str, &str)] = &[
@@ -20,10 +25,10 @@ const MISSING_WITH_OLD_MAP: &[(&str, &str)] = &[
     ("/importmap.json", "old"),
 ];
 
-/// A run over a module that asks for another one looks at each of the two, writes the map, and gives one line: two
-/// looks, one write and one give. Each of them fails in turn, and so does the one that would come next. A command
-/// that is refused makes no write that could fail, and refused words and the name of a builtin make no look.
-pub static FAULTS: [Fault; 18] = [
+/// A run over a module that asks for another one looks for the project and at each of the two, writes the map and the
+/// project, and gives one line: three looks, two writes and one give. Each of them fails in turn, and so does the one
+/// that would come next.
+pub static FAULTS: [Fault; 9] = [
     Fault {
         fails: Fails {
             looks: &[1],
@@ -36,6 +41,7 @@ pub static FAULTS: [Fault; 18] = [
             status: 4,
             line: "fault: read\n",
             map: None,
+            project: None,
         },
     },
     Fault {
@@ -50,6 +56,7 @@ pub static FAULTS: [Fault; 18] = [
             status: 4,
             line: "fault: read\n",
             map: None,
+            project: None,
         },
     },
     Fault {
@@ -61,9 +68,25 @@ pub static FAULTS: [Fault; 18] = [
         case: Case {
             words: LINK,
             files: PAIR,
+            status: 4,
+            line: "fault: read\n",
+            map: None,
+            project: None,
+        },
+    },
+    Fault {
+        fails: Fails {
+            looks: &[4],
+            writes: &[],
+            gives: &[],
+        },
+        case: Case {
+            words: LINK,
+            files: PAIR,
             status: 0,
             line: "ok: 2 modules, 2 requests, 0 mappings\n",
             map: Some(PAIR_MAP),
+            project: Some(APP_PROJECT),
         },
     },
     Fault {
@@ -78,6 +101,7 @@ pub static FAULTS: [Fault; 18] = [
             status: 5,
             line: "fault: write\n",
             map: None,
+            project: None,
         },
     },
     Fault {
@@ -89,9 +113,25 @@ pub static FAULTS: [Fault; 18] = [
         case: Case {
             words: LINK,
             files: PAIR,
+            status: 5,
+            line: "fault: write\n",
+            map: Some(PAIR_MAP),
+            project: None,
+        },
+    },
+    Fault {
+        fails: Fails {
+            looks: &[],
+            writes: &[3],
+            gives: &[],
+        },
+        case: Case {
+            words: LINK,
+            files: PAIR,
             status: 0,
             line: "ok: 2 modules, 2 requests, 0 mappings\n",
             map: Some(PAIR_MAP),
+            project: Some(APP_PROJECT),
         },
     },
     Fault {
@@ -106,6 +146,7 @@ pub static FAULTS: [Fault; 18] = [
             status: 5,
             line: "",
             map: Some(PAIR_MAP),
+            project: Some(APP_PROJECT),
         },
     },
     Fault {
@@ -120,11 +161,18 @@ pub static FAULTS: [Fault; 18] = [
             status: 0,
             line: "ok: 2 modules, 2 requests, 0 mappings\n",
             map: Some(PAIR_MAP),
+            project: Some(APP_PROJECT),
         },
     },
+];
+
+/// Calls that fail together: the first one decides, but the output's fault goes before every other. A command that is
+/// refused makes no write that could fail; refused words make no look, and the name of a builtin none behind the
+/// project's.
+pub static FAULTS_TOGETHER: [Fault; 10] = [
     Fault {
         fails: Fails {
-            looks: &[2],
+            looks: &[3],
             writes: &[1],
             gives: &[],
         },
@@ -134,11 +182,12 @@ pub static FAULTS: [Fault; 18] = [
             status: 4,
             line: "fault: read\n",
             map: None,
+            project: None,
         },
     },
     Fault {
         fails: Fails {
-            looks: &[2],
+            looks: &[3],
             writes: &[],
             gives: &[1],
         },
@@ -148,6 +197,7 @@ pub static FAULTS: [Fault; 18] = [
             status: 5,
             line: "",
             map: None,
+            project: None,
         },
     },
     Fault {
@@ -162,48 +212,37 @@ pub static FAULTS: [Fault; 18] = [
             status: 5,
             line: "",
             map: None,
-        },
-    },
-    Fault {
-        fails: Fails {
-            looks: &[2],
-            writes: &[],
-            gives: &[],
-        },
-        case: Case {
-            words: LINK,
-            files: OLD_MAP,
-            status: 4,
-            line: "fault: read\n",
-            map: Some("old"),
+            project: None,
         },
     },
     Fault {
         fails: Fails {
             looks: &[],
-            writes: &[1],
-            gives: &[],
-        },
-        case: Case {
-            words: LINK,
-            files: OLD_MAP,
-            status: 5,
-            line: "fault: write\n",
-            map: Some("old"),
-        },
-    },
-    Fault {
-        fails: Fails {
-            looks: &[],
-            writes: &[],
+            writes: &[2],
             gives: &[1],
         },
         case: Case {
             words: LINK,
-            files: OLD_MAP,
+            files: PAIR,
             status: 5,
             line: "",
             map: Some(PAIR_MAP),
+            project: None,
+        },
+    },
+    Fault {
+        fails: Fails {
+            looks: &[],
+            writes: &[1, 2],
+            gives: &[],
+        },
+        case: Case {
+            words: LINK,
+            files: PAIR,
+            status: 5,
+            line: "fault: write\n",
+            map: None,
+            project: None,
         },
     },
     Fault {
@@ -218,20 +257,7 @@ pub static FAULTS: [Fault; 18] = [
             status: 5,
             line: "",
             map: None,
-        },
-    },
-    Fault {
-        fails: Fails {
-            looks: &[],
-            writes: &[1],
-            gives: &[],
-        },
-        case: Case {
-            words: LINK,
-            files: MISSING_WITH_OLD_MAP,
-            status: 1,
-            line: "refused: NotFound from \"/app.mjs\" for \"./q.mjs\"\n",
-            map: Some("old"),
+            project: None,
         },
     },
     Fault {
@@ -246,11 +272,27 @@ pub static FAULTS: [Fault; 18] = [
             status: 4,
             line: "fault: read\n",
             map: None,
+            project: None,
         },
     },
     Fault {
         fails: Fails {
-            looks: &[1],
+            looks: &[2],
+            writes: &[1],
+            gives: &[],
+        },
+        case: Case {
+            words: "link --base https://app.test/ ui",
+            files: &[],
+            status: 4,
+            line: "fault: read\n",
+            map: None,
+            project: None,
+        },
+    },
+    Fault {
+        fails: Fails {
+            looks: &[2],
             writes: &[1],
             gives: &[],
         },
@@ -260,6 +302,7 @@ pub static FAULTS: [Fault; 18] = [
             status: 1,
             line: "refused: Builtin from \"/index.html\" for \"fs\"\n",
             map: None,
+            project: None,
         },
     },
     Fault {
@@ -274,6 +317,116 @@ pub static FAULTS: [Fault; 18] = [
             status: 2,
             line: "words: BadBase \"ftp://h/\"\n",
             map: None,
+            project: None,
+        },
+    },
+];
+
+/// Where a map and a project are there already.
+pub static FAULTS_OVER_OLD_FILES: [Fault; 7] = [
+    Fault {
+        fails: Fails {
+            looks: &[1],
+            writes: &[],
+            gives: &[],
+        },
+        case: Case {
+            words: LINK,
+            files: OLD_FILES,
+            status: 4,
+            line: "fault: read\n",
+            map: Some("old"),
+            project: Some(OLD_PROJECT),
+        },
+    },
+    Fault {
+        fails: Fails {
+            looks: &[2],
+            writes: &[],
+            gives: &[],
+        },
+        case: Case {
+            words: LINK,
+            files: OLD_FILES,
+            status: 4,
+            line: "fault: read\n",
+            map: Some("old"),
+            project: Some(OLD_PROJECT),
+        },
+    },
+    Fault {
+        fails: Fails {
+            looks: &[3],
+            writes: &[],
+            gives: &[],
+        },
+        case: Case {
+            words: LINK,
+            files: OLD_FILES,
+            status: 4,
+            line: "fault: read\n",
+            map: Some("old"),
+            project: Some(OLD_PROJECT),
+        },
+    },
+    Fault {
+        fails: Fails {
+            looks: &[],
+            writes: &[1],
+            gives: &[],
+        },
+        case: Case {
+            words: LINK,
+            files: OLD_FILES,
+            status: 5,
+            line: "fault: write\n",
+            map: Some("old"),
+            project: Some(OLD_PROJECT),
+        },
+    },
+    Fault {
+        fails: Fails {
+            looks: &[],
+            writes: &[2],
+            gives: &[],
+        },
+        case: Case {
+            words: LINK,
+            files: OLD_FILES,
+            status: 5,
+            line: "fault: write\n",
+            map: Some(PAIR_MAP),
+            project: Some(OLD_PROJECT),
+        },
+    },
+    Fault {
+        fails: Fails {
+            looks: &[],
+            writes: &[],
+            gives: &[1],
+        },
+        case: Case {
+            words: LINK,
+            files: OLD_FILES,
+            status: 5,
+            line: "",
+            map: Some(PAIR_MAP),
+            project: Some(APP_PROJECT),
+        },
+    },
+    Fault {
+        fails: Fails {
+            looks: &[],
+            writes: &[1],
+            gives: &[],
+        },
+        case: Case {
+            words: LINK,
+            files: MISSING_WITH_OLD_MAP,
+            status: 1,
+            line: "refused: NotFound from \"/app.mjs\" for \"./q.mjs\"\n",
+            map: Some("old"),
+            project: None,
         },
     },
 ];

@@ -1,8 +1,8 @@
-//! Runs over folders in memory: tables of words, files and failing calls, with the status, the line and the map that
-//! must come of them.
+//! Runs over folders in memory: tables of words, files and failing calls, with the status, the line, the map and the
+//! project that must come of them.
 //!
 //! The program is one such run, and says how it ended. Its input is the number of allocations that it makes before, so
-//! that the one that fails by its number can be any of the run: `rt try --cases INPUTS --fail-alloc 200` in this
+//! that the one that fails by its number can be any of the run: `rt try --cases INPUTS --fail-alloc 1000` in this
 //! folder, for which `.ci/memory.sh` makes the inputs.
 #![tactic(auto)]
 
@@ -29,7 +29,19 @@ mod page_maps;
 #[cfg(test)]
 mod pages;
 #[cfg(test)]
+mod project_faults;
+#[cfg(test)]
+mod project_files;
+#[cfg(test)]
+mod project_pages;
+#[cfg(test)]
+mod project_rows;
+#[cfg(test)]
+mod project_trees;
+#[cfg(test)]
 mod rows;
+#[cfg(test)]
+mod word_rows;
 
 use crate::endings::ending;
 use std::io;

@@ -1,19 +1,7 @@
-//! Runs of `link` that write a map.
+//! Runs of `link` that write a map and a project.
 
-use crate::case::{ALONE, Case, LINK, PAIR, PAIR_MAP};
-
-const NO_MODULES: &str = "{
-  \"imports\": {}
-}
-";
-
-const ALONE_MAP: &str = "{
-  \"imports\": {},
-  \"integrity\": {
-    \"https://app.test/app.mjs\": \"sha384-OLBgp1GsljhM2TJ+sbHjaiH9txEUvgdDTAzHv2P24donTt6/529l+9Ua0vFImLlb\"
-  }
-}
-";
+use crate::case::{ALONE, APP_PROJECT, Case, EMPTY_PROJECT, LINK, PAIR, PAIR_MAP};
+use crate::project_trees::{ALONE_MAP, NO_MODULES};
 
 const ESCAPED: &str = "{
   \"imports\": {
@@ -70,7 +58,35 @@ const QUOTED: &str = "{
 }
 ";
 
-/// The rows of maps.
+const SUFFIXED_PROJECT: &str = "{
+  \"base\": \"https://app.test/\",
+  \"page\": \"/index.html\",
+  \"conditions\": [
+    \"browser\",
+    \"import\"
+  ],
+  \"entries\": [
+    \"./m.mjs?a\",
+    \"./m.mjs?b\"
+  ]
+}
+";
+
+const BELOW_BASE_PROJECT: &str = "{
+  \"base\": \"https://app.test/app/\",
+  \"page\": \"/index.html\",
+  \"conditions\": [
+    \"browser\",
+    \"import\"
+  ],
+  \"entries\": [
+    \"./m.mjs\",
+    \"./n.mjs\"
+  ]
+}
+";
+
+/// The rows of maps, in folders without a project.
 pub static MAPS: [Case; 11] = [
     Case {
         words: LINK,
@@ -78,6 +94,7 @@ pub static MAPS: [Case; 11] = [
         status: 0,
         line: "ok: 1 modules, 1 requests, 0 mappings\n",
         map: Some(ALONE_MAP),
+        project: Some(APP_PROJECT),
     },
     Case {
         words: LINK,
@@ -85,6 +102,7 @@ pub static MAPS: [Case; 11] = [
         status: 0,
         line: "ok: 2 modules, 2 requests, 0 mappings\n",
         map: Some(PAIR_MAP),
+        project: Some(APP_PROJECT),
     },
     Case {
         words: LINK,
@@ -92,6 +110,7 @@ pub static MAPS: [Case; 11] = [
         status: 0,
         line: "ok: 2 modules, 2 requests, 1 mappings\n",
         map: Some(ESCAPED),
+        project: Some(APP_PROJECT),
     },
     Case {
         words: "link --base https://app.test/",
@@ -99,6 +118,7 @@ pub static MAPS: [Case; 11] = [
         status: 0,
         line: "ok: 0 modules, 0 requests, 0 mappings\n",
         map: Some(NO_MODULES),
+        project: Some(EMPTY_PROJECT),
     },
     Case {
         words: "link --base https://app.test/ ./app.mjs ./app.mjs",
@@ -106,6 +126,7 @@ pub static MAPS: [Case; 11] = [
         status: 0,
         line: "ok: 1 modules, 1 requests, 0 mappings\n",
         map: Some(ALONE_MAP),
+        project: Some(APP_PROJECT),
     },
     Case {
         words: "link --base https://app.test/ ./m.mjs?a ./m.mjs?b",
@@ -113,6 +134,7 @@ pub static MAPS: [Case; 11] = [
         status: 0,
         line: "ok: 2 modules, 2 requests, 0 mappings\n",
         map: Some(SUFFIXED),
+        project: Some(SUFFIXED_PROJECT),
     },
     Case {
         words: LINK,
@@ -120,6 +142,7 @@ pub static MAPS: [Case; 11] = [
         status: 0,
         line: "ok: 1 modules, 1 requests, 0 mappings\n",
         map: Some(ALONE_MAP),
+        project: Some(APP_PROJECT),
     },
     Case {
         words: LINK,
@@ -127,6 +150,7 @@ pub static MAPS: [Case; 11] = [
         status: 0,
         line: "ok: 1 modules, 1 requests, 0 mappings\n",
         map: Some(ALONE_MAP),
+        project: Some(APP_PROJECT),
     },
     Case {
         words: LINK,
@@ -138,6 +162,7 @@ pub static MAPS: [Case; 11] = [
         status: 0,
         line: "ok: 3 modules, 5 requests, 0 mappings\n",
         map: Some(RING),
+        project: Some(APP_PROJECT),
     },
     Case {
         words: "link --base https://app.test/app/ ./m.mjs ./n.mjs",
@@ -150,6 +175,7 @@ pub static MAPS: [Case; 11] = [
         status: 0,
         line: "ok: 4 modules, 4 requests, 1 mappings\n",
         map: Some(BELOW_BASE),
+        project: Some(BELOW_BASE_PROJECT),
     },
     Case {
         words: LINK,
@@ -157,5 +183,6 @@ pub static MAPS: [Case; 11] = [
         status: 0,
         line: "ok: 2 modules, 2 requests, 0 mappings\n",
         map: Some(QUOTED),
+        project: Some(APP_PROJECT),
     },
 ];

@@ -1,6 +1,6 @@
 //! A run over packages of which each look fails in turn.
 
-use crate::case::{MAP_PATH, ended, ends, put, stands};
+use crate::case::{MAP_PATH, PROJECT_PATH, ended, ends, put, stands};
 use std::alloc::Global;
 use std::test::Fail;
 use tree_model::{MemFolder, PathFault};
@@ -38,23 +38,25 @@ static FILES: [(&str, &str); 9] = [
     ),
 ];
 
-/// The paths at which the run looks, with their numbers: Node's rules for one request after another, each path once.
-static LOOKS: [(u64, &str); 12] = [
-    (1, "/app.js"),
-    (2, "/package.json"),
-    (3, "/node_modules/ui"),
-    (4, "/node_modules/ui/package.json"),
-    (5, "/node_modules/ui/b.js"),
-    (6, "/node_modules/ui/x/menu.js"),
-    (7, "/own.js"),
-    (8, "/node_modules/ui/node_modules/@ui/core"),
-    (9, "/node_modules/ui/node_modules/@ui/core/package.json"),
-    (10, "/node_modules/ui/node_modules/@ui/core/lib/index.mjs"),
-    (11, "/node_modules/ui/x/package.json"),
-    (12, "/node_modules/ui/x/node_modules/@ui/core"),
+/// The paths at which the run looks, with their numbers: the project's file, and then by Node's rules for one request
+/// after another, each path once.
+static LOOKS: [(u64, &str); 13] = [
+    (1, "/importmap.project.json"),
+    (2, "/app.js"),
+    (3, "/package.json"),
+    (4, "/node_modules/ui"),
+    (5, "/node_modules/ui/package.json"),
+    (6, "/node_modules/ui/b.js"),
+    (7, "/node_modules/ui/x/menu.js"),
+    (8, "/own.js"),
+    (9, "/node_modules/ui/node_modules/@ui/core"),
+    (10, "/node_modules/ui/node_modules/@ui/core/package.json"),
+    (11, "/node_modules/ui/node_modules/@ui/core/lib/index.mjs"),
+    (12, "/node_modules/ui/x/package.json"),
+    (13, "/node_modules/ui/x/node_modules/@ui/core"),
 ];
 
-// Whether a run of which the look with this number fails ends so, and leaves no map where it isn't done.
+// Whether a run of which the look with this number fails ends so, and leaves no map and no project where it isn't done.
 fn says(alloc: Global, failing: u64, status: u8, line: &str) -> Result<bool, PathFault> {
     let mut folder = MemFolder::new(alloc, &[failing], &[])?;
     for (path, text) in FILES.iter() {
@@ -63,7 +65,9 @@ fn says(alloc: Global, failing: u64, status: u8, line: &str) -> Result<bool, Pat
     let outcome = ended(alloc, LINK_APP, folder, &[])?;
     Ok(
         ends(&outcome, status, line)
-            && (status == 0 || stands(alloc, &outcome.folder, MAP_PATH, None)?),
+            && (status == 0
+                || stands(alloc, &outcome.folder, MAP_PATH, None)?
+                    && stands(alloc, &outcome.folder, PROJECT_PATH, None)?),
     )
 }
 
@@ -74,6 +78,6 @@ fn each_look_fails_in_turn(rt: HostRuntime) -> Result<(), Fail> {
         assert!(rt; says(alloc, *number, 4, "fault: read\n")?, "{path}");
     }
     let line = "ok: 5 modules, 7 requests, 5 mappings\n";
-    assert!(rt; says(alloc, 13, 0, line)?, "no look is left");
+    assert!(rt; says(alloc, 14, 0, line)?, "no look is left");
     Ok(())
 }

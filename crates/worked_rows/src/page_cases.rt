@@ -1,6 +1,6 @@
 //! Runs of `inject`.
 
-use crate::case::{Fails, NONE};
+use crate::case::{APP_PROJECT, Fails, NONE};
 
 /// One run: what it is given, and what must come of it. No map's file is there afterwards.
 pub struct PageCase {
@@ -15,7 +15,7 @@ pub struct PageCase {
     pub page: Option<&'static str>,
 }
 
-pub const INJECT: &str = "inject --base https://app.test/ ./app.mjs";
+pub const INJECT: &str = "inject";
 
 pub const DONE: &str = "ok: 2 modules, 2 requests, 0 mappings\n";
 
@@ -39,21 +39,32 @@ pub const PAGED: &[(&str, &str)] = &[
     ("/index.html", HEAD),
     ("/app.mjs", "import \"./b.mjs\";"),
     ("/b.mjs", ""),
+    ("/importmap.project.json", APP_PROJECT),
 ];
 
-const WITHOUT_PAGE: &[(&str, &str)] = &[("/app.mjs", "import \"./q.mjs\";")];
+const WITHOUT_PAGE: &[(&str, &str)] = &[
+    ("/app.mjs", "import \"./q.mjs\";"),
+    ("/importmap.project.json", APP_PROJECT),
+];
 
-const MISSING: &[(&str, &str)] = &[("/index.html", HEAD), ("/app.mjs", "import \"./q.mjs\";")];
+const WITHOUT_PROJECT: &[(&str, &str)] = &[("/index.html", "<head"), ("/app.mjs", "")];
 
-const LOOKS: Fails = Fails {
-    looks: &[1],
-    writes: &[],
-    gives: &[],
-};
+const MISSING: &[(&str, &str)] = &[
+    ("/index.html", HEAD),
+    ("/app.mjs", "import \"./q.mjs\";"),
+    ("/importmap.project.json", APP_PROJECT),
+];
 
-/// What keeps a map out of a page, and in which order that is seen: the base, the page, the trace. The page is looked at
-/// once, before the modules; each look, the write and the give fail in turn.
-pub static PAGE_CASES: [PageCase; 14] = [
+/// What keeps a map out of a page, and in which order that is seen: the project, the page, the trace.
+pub static PAGE_CASES: [PageCase; 8] = [
+    PageCase {
+        words: INJECT,
+        files: WITHOUT_PROJECT,
+        fails: NONE,
+        status: 7,
+        line: "bad file: project absent\n",
+        page: Some("<head"),
+    },
     PageCase {
         words: INJECT,
         files: WITHOUT_PAGE,
@@ -64,7 +75,11 @@ pub static PAGE_CASES: [PageCase; 14] = [
     },
     PageCase {
         words: INJECT,
-        files: &[("/index.html/x", ""), ("/app.mjs", "")],
+        files: &[
+            ("/index.html/x", ""),
+            ("/app.mjs", ""),
+            ("/importmap.project.json", APP_PROJECT),
+        ],
         fails: NONE,
         status: 7,
         line: "bad file: page absent\n",
@@ -72,7 +87,11 @@ pub static PAGE_CASES: [PageCase; 14] = [
     },
     PageCase {
         words: INJECT,
-        files: &[("/index.html", TWO_MAPS), ("/app.mjs", "")],
+        files: &[
+            ("/index.html", TWO_MAPS),
+            ("/app.mjs", ""),
+            ("/importmap.project.json", APP_PROJECT),
+        ],
         fails: NONE,
         status: 1,
         line: "refused: TwoMaps at 32\n",
@@ -80,7 +99,11 @@ pub static PAGE_CASES: [PageCase; 14] = [
     },
     PageCase {
         words: INJECT,
-        files: &[("/index.html", "<p>"), ("/app.mjs", "import \"./q.mjs\";")],
+        files: &[
+            ("/index.html", "<p>"),
+            ("/app.mjs", "import \"./q.mjs\";"),
+            ("/importmap.project.json", APP_PROJECT),
+        ],
         fails: NONE,
         status: 1,
         line: "refused: NoPlace\n",
@@ -88,7 +111,11 @@ pub static PAGE_CASES: [PageCase; 14] = [
     },
     PageCase {
         words: INJECT,
-        files: &[("/index.html", "<head"), ("/app.mjs", "")],
+        files: &[
+            ("/index.html", "<head"),
+            ("/app.mjs", ""),
+            ("/importmap.project.json", APP_PROJECT),
+        ],
         fails: NONE,
         status: 1,
         line: "refused: PageUnclear at 0\n",
@@ -96,7 +123,11 @@ pub static PAGE_CASES: [PageCase; 14] = [
     },
     PageCase {
         words: INJECT,
-        files: &[("/index.html", "<p><base>"), ("/app.mjs", "")],
+        files: &[
+            ("/index.html", "<p><base>"),
+            ("/app.mjs", ""),
+            ("/importmap.project.json", APP_PROJECT),
+        ],
         fails: NONE,
         status: 1,
         line: "refused: PageUnclear at 3\n",
@@ -110,29 +141,21 @@ pub static PAGE_CASES: [PageCase; 14] = [
         line: "refused: NotFound from \"/app.mjs\" for \"./q.mjs\"\n",
         page: Some(HEAD),
     },
-    PageCase {
-        words: "inject --base ftp://h/ x",
-        files: &[],
-        fails: LOOKS,
-        status: 2,
-        line: "words: BadBase \"ftp://h/\"\n",
-        page: None,
-    },
-    PageCase {
-        words: "inject ./app.mjs",
-        files: PAGED,
-        fails: LOOKS,
-        status: 9,
-        line: "not built: words\n",
-        page: Some(HEAD),
-    },
+];
+
+/// Project and page are looked at once each, before the modules; each look, the write and the give fail in turn.
+pub static PAGE_FAULTS: [PageCase; 9] = [
     PageCase {
         words: INJECT,
-        files: WITHOUT_PAGE,
-        fails: LOOKS,
+        files: PAGED,
+        fails: Fails {
+            looks: &[1],
+            writes: &[],
+            gives: &[],
+        },
         status: 4,
         line: "fault: read\n",
-        page: None,
+        page: Some(HEAD),
     },
     PageCase {
         words: INJECT,
@@ -150,7 +173,31 @@ pub static PAGE_CASES: [PageCase; 14] = [
         words: INJECT,
         files: PAGED,
         fails: Fails {
+            looks: &[3],
+            writes: &[],
+            gives: &[],
+        },
+        status: 4,
+        line: "fault: read\n",
+        page: Some(HEAD),
+    },
+    PageCase {
+        words: INJECT,
+        files: PAGED,
+        fails: Fails {
             looks: &[4],
+            writes: &[],
+            gives: &[],
+        },
+        status: 4,
+        line: "fault: read\n",
+        page: Some(HEAD),
+    },
+    PageCase {
+        words: INJECT,
+        files: PAGED,
+        fails: Fails {
+            looks: &[5],
             writes: &[1],
             gives: &[],
         },
@@ -181,6 +228,30 @@ pub static PAGE_CASES: [PageCase; 14] = [
         status: 1,
         line: "refused: NotFound from \"/app.mjs\" for \"./q.mjs\"\n",
         page: Some(HEAD),
+    },
+    PageCase {
+        words: INJECT,
+        files: WITHOUT_PROJECT,
+        fails: Fails {
+            looks: &[2],
+            writes: &[],
+            gives: &[],
+        },
+        status: 7,
+        line: "bad file: project absent\n",
+        page: Some("<head"),
+    },
+    PageCase {
+        words: INJECT,
+        files: WITHOUT_PAGE,
+        fails: Fails {
+            looks: &[2],
+            writes: &[],
+            gives: &[],
+        },
+        status: 4,
+        line: "fault: read\n",
+        page: None,
     },
 ];
 

@@ -1,13 +1,27 @@
 //! Runs of `inject` that put a map into a page.
 
-use crate::case::NONE;
+use crate::case::{APP_PROJECT, EMPTY_PROJECT, NONE};
 use crate::page_cases::{DONE, HEAD, INJECT, PAGED, PageCase, WITH_MAP};
 
 const INJECTED: &[(&str, &str)] = &[
     ("/index.html", WITH_MAP),
     ("/app.mjs", "import \"./b.mjs\";"),
     ("/b.mjs", ""),
+    ("/importmap.project.json", APP_PROJECT),
 ];
+
+const SITE_PROJECT: &str = "{
+  \"base\": \"https://app.test/site/\",
+  \"page\": \"/index.html\",
+  \"conditions\": [
+    \"browser\",
+    \"import\"
+  ],
+  \"entries\": [
+    \"./app.mjs\"
+  ]
+}
+";
 
 /// Pages with their maps; the first one has none before.
 pub static PAGE_MAPS: [PageCase; 5] = [
@@ -28,7 +42,7 @@ pub static PAGE_MAPS: [PageCase; 5] = [
         page: Some(WITH_MAP),
     },
     PageCase {
-        words: "inject --base https://app.test/site/ ./app.mjs",
+        words: INJECT,
         files: &[
             (
                 "/index.html",
@@ -36,6 +50,7 @@ pub static PAGE_MAPS: [PageCase; 5] = [
             ),
             ("/app.mjs", "import \"/b.mjs\";"),
             ("/b.mjs", ""),
+            ("/importmap.project.json", SITE_PROJECT),
         ],
         fails: NONE,
         status: 0,
@@ -54,8 +69,11 @@ pub static PAGE_MAPS: [PageCase; 5] = [
         ),
     },
     PageCase {
-        words: "inject --base https://app.test/",
-        files: &[("/index.html", "<link>")],
+        words: INJECT,
+        files: &[
+            ("/index.html", "<link>"),
+            ("/importmap.project.json", EMPTY_PROJECT),
+        ],
         fails: NONE,
         status: 0,
         line: "ok: 0 modules, 0 requests, 0 mappings\n",
@@ -77,6 +95,7 @@ pub static PAGE_MAPS: [PageCase; 5] = [
             ),
             ("/app.mjs", "import \"#</script>\";"),
             ("/x.mjs", ""),
+            ("/importmap.project.json", APP_PROJECT),
         ],
         fails: NONE,
         status: 0,

@@ -1,14 +1,15 @@
 use crate::case::{Case, Fails, LINK, NONE, ended, ends, fits, outcome_of, put};
-use crate::cases::CASES;
+use crate::cases::{MISSING_FILES, OTHER_REFUSALS};
 use crate::check_cases::{CHECKED_MAPS, IN_ORDER, NO_MAPS};
-use crate::faults::FAULTS;
+use crate::faults::{FAULTS, FAULTS_OVER_OLD_FILES, FAULTS_TOGETHER};
 use crate::maps::MAPS;
 use primitives::Memory;
 use std::alloc::Global;
 use std::test::Fail;
 use tree_model::{MemFolder, PathFault};
 
-fn passes(alloc: Global, case: &Case, fails: &Fails) -> Result<bool, PathFault> {
+/// Whether the case ends as it must where these calls fail.
+pub fn passes(alloc: Global, case: &Case, fails: &Fails) -> Result<bool, PathFault> {
     let outcome = outcome_of(alloc, case, fails)?;
     fits(alloc, &outcome, case)
 }
@@ -18,8 +19,9 @@ fn each_map_is_written(rt: HostRuntime) -> Result<(), Fail> {
     for (number, case) in MAPS.iter().enumerate() {
         assert!(rt;
             passes(rt.alloc(), case, &NONE)?,
-            "map {number}: {} must write its map and say {}",
+            "map {number}: {} must end with {} {}",
             case.words,
+            case.status,
             case.line
         );
     }
@@ -27,11 +29,25 @@ fn each_map_is_written(rt: HostRuntime) -> Result<(), Fail> {
 }
 
 #[test]
-fn each_row_ends_as_it_must(rt: HostRuntime) -> Result<(), Fail> {
-    for (number, case) in CASES.iter().enumerate() {
+fn each_missing_file_is_told(rt: HostRuntime) -> Result<(), Fail> {
+    for (number, case) in MISSING_FILES.iter().enumerate() {
         assert!(rt;
             passes(rt.alloc(), case, &NONE)?,
-            "row {number}: {} must end with {} {}",
+            "missing file {number}: {} must end with {} {}",
+            case.words,
+            case.status,
+            case.line
+        );
+    }
+    Ok(())
+}
+
+#[test]
+fn each_other_refusal_is_told(rt: HostRuntime) -> Result<(), Fail> {
+    for (number, case) in OTHER_REFUSALS.iter().enumerate() {
+        assert!(rt;
+            passes(rt.alloc(), case, &NONE)?,
+            "refusal {number}: {} must end with {} {}",
             case.words,
             case.status,
             case.line
@@ -45,7 +61,8 @@ fn each_map_is_checked_as_it_must(rt: HostRuntime) -> Result<(), Fail> {
     for (number, case) in CHECKED_MAPS.iter().enumerate() {
         assert!(rt;
             passes(rt.alloc(), case, &NONE)?,
-            "map {number} must end with {} {}",
+            "map {number}: {} must end with {} {}",
+            case.words,
             case.status,
             case.line
         );
@@ -58,7 +75,8 @@ fn what_is_no_map_ends_as_it_must(rt: HostRuntime) -> Result<(), Fail> {
     for (number, case) in NO_MAPS.iter().enumerate() {
         assert!(rt;
             passes(rt.alloc(), case, &NONE)?,
-            "bad map {number} must end with {} {}",
+            "bad map {number}: {} must end with {} {}",
+            case.words,
             case.status,
             case.line
         );
@@ -71,7 +89,8 @@ fn each_check_goes_in_order(rt: HostRuntime) -> Result<(), Fail> {
     for (number, check) in IN_ORDER.iter().enumerate() {
         assert!(rt;
             passes(rt.alloc(), &check.case, &check.fails)?,
-            "check {number} must end with {} {}",
+            "check {number}: {} must end with {} {}",
+            check.case.words,
             check.case.status,
             check.case.line
         );
@@ -84,7 +103,36 @@ fn each_fault_ends_as_it_must(rt: HostRuntime) -> Result<(), Fail> {
     for (number, fault) in FAULTS.iter().enumerate() {
         assert!(rt;
             passes(rt.alloc(), &fault.case, &fault.fails)?,
-            "fault {number} must end with {} {}",
+            "fault {number}: {} must end with {} {}",
+            fault.case.words,
+            fault.case.status,
+            fault.case.line
+        );
+    }
+    Ok(())
+}
+
+#[test]
+fn faults_that_come_together(rt: HostRuntime) -> Result<(), Fail> {
+    for (number, fault) in FAULTS_TOGETHER.iter().enumerate() {
+        assert!(rt;
+            passes(rt.alloc(), &fault.case, &fault.fails)?,
+            "fault {number}: {} must end with {} {}",
+            fault.case.words,
+            fault.case.status,
+            fault.case.line
+        );
+    }
+    Ok(())
+}
+
+#[test]
+fn faults_over_old_files(rt: HostRuntime) -> Result<(), Fail> {
+    for (number, fault) in FAULTS_OVER_OLD_FILES.iter().enumerate() {
+        assert!(rt;
+            passes(rt.alloc(), &fault.case, &fault.fails)?,
+            "fault {number}: {} must end with {} {}",
+            fault.case.words,
             fault.case.status,
             fault.case.line
         );

@@ -12,10 +12,10 @@ use Rattle.layout_spec.proofs.examples.LaidLists.{listed_layout, layout_listed}
 use Rattle.layout_spec.proofs.examples.PrintedLists.{listed_text, lists_text}
 use Rattle.layout_spec.proofs.examples.HeldLists.{none_captured, captured, of_no_need}
 use Rattle.layout_spec.proofs.SomeAgreed.{is_among, disagrees, agreed, agreed_above, stands_at}
-use Rattle.layout_spec.specs.WorkedExamples.{PlaceExamples, app_ab, page_app, app_home, app_id, home_id, PrintsAs, LayoutExamples, CountExamples, below_app, beside, ClashExamples, WorkedExamples, only_integrity, several, TextExamples, neighbor, with_addresses, x_below, x_itself, ServingExamples}
+use Rattle.layout_spec.specs.WorkedExamples.{PlaceExamples, lines, app_ab, page_app, app_home, app_id, home_id, PrintsAs, LayoutExamples, CountExamples, below_app, beside, ClashExamples, WorkedExamples, only_integrity, several, TextExamples, neighbor, with_addresses, x_below, x_itself, ServingExamples}
 use Rattle.layout_spec.specs.declared.Need.{Need}
 
-abbrev printed : (needs : List Need) (text : String) → listed_text (listed_layout needs) ≡ codes text → PrintsAs needs text
+abbrev printed : (needs : List Need) (text : List String) → listed_text (listed_layout needs) ≡ lines text → PrintsAs needs text
 printed needs text e = record { map = map_of_lists (listed_layout needs); agreed = layout_listed needs; text_is = lists_text (listed_layout needs) ∙ e }
 
 place_examples : PlaceExamples

@@ -1,4 +1,4 @@
-use Rattle.generator_core.proofs.Checkings.{absent_ends, folder_ends, too_large_ends, text_found, text_fault, text_memory}
+use Rattle.generator_core.proofs.Checkings.{absent_ends, folder_ends, too_large_ends}
 use Rattle.generator_core.proofs.checking.text_at.Goals as goal
 
 pub returns-in-Ok-Absent : goal.returns-in-Ok-Absent

@@ -1,18 +1,18 @@
 use Rattle.std.proofs.Common.{subst}
-use Rattle.generator_spec.specs.declared.Command.TheVariants.{Inject}
+use Rattle.config_spec.specs.declared.Command.TheVariants.{Inject}
 use Rattle.generator_core.specs.Preparing.{Prepares, own_file}
 use Rattle.generator_core.proofs.Endings.{stop_end, write_end, stop_not_done, spends_few}
 use Rattle.generator_core.proofs.Preparings.{still_few}
 use Rattle.generator_core.proofs.running.inject.Goals as goal
 
 pub returns-in-Ok-clause-end : goal.returns-in-Ok-clause-end
-returns-in-Ok-clause-end g c = λ words is_config. write_end words Inject c.args.config.now is_config _ _ _ _ _ _ c.in-Ok.prepared tt (subst (λ r. Prepares Inject c.args.config.now (g.F.Folder.state c.args.folder.now) r (g.F.Folder.state c.prepare_page.new.folder)) c.in-Ok.is c.prepare_page.ensures.prepares).ready c.finish.ensures
+returns-in-Ok-clause-end g c = λ words is_config. write_end words Inject c.args.config.now _ _ _ _ _ _ c.in-Ok.prepared tt is_config (subst (λ r. Prepares Inject c.args.config.now (g.F.Folder.state c.args.folder.now) r (g.F.Folder.state c.prepare_page.new.folder)) c.in-Ok.is c.prepare_page.ensures.prepares).ready c.finish.ensures
 
 pub returns-in-Ok-clause-steps : goal.returns-in-Ok-clause-steps
 returns-in-Ok-clause-steps g c = spends_few c.in-Ok.prepared _ _ _ _ _ _ _ c.finish.ensures c.in-Ok.ensures.steps
 
 pub returns-in-Err-clause-end : goal.returns-in-Err-clause-end
-returns-in-Err-clause-end g c = λ words is_config. stop_end words Inject c.args.config.now is_config _ _ _ _ _ c.in-Err.stop (subst (λ r. Prepares Inject c.args.config.now (g.F.Folder.state c.args.folder.now) r (g.F.Folder.state c.prepare_page.new.folder)) c.in-Err.is c.prepare_page.ensures.prepares).stopped c.close.ensures.tells c.close.ensures.later
+returns-in-Err-clause-end g c = λ words is_config. stop_end words Inject c.args.config.now _ _ _ _ _ is_config c.in-Err.stop (subst (λ r. Prepares Inject c.args.config.now (g.F.Folder.state c.args.folder.now) r (g.F.Folder.state c.prepare_page.new.folder)) c.in-Err.is c.prepare_page.ensures.prepares).stopped c.close.ensures.tells c.close.ensures.later
 
 pub returns-in-Err-clause-steps : goal.returns-in-Err-clause-steps
 returns-in-Err-clause-steps g c = λ zero. absurd (stop_not_done c.in-Err.stop _ _ _ c.close.ensures.tells zero)

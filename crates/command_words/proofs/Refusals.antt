@@ -1,0 +1,64 @@
+-- Faults of options, of what is asked for, and of words.
+use Rattle.std.proofs.Common.{◌≡◌, ℕ, List, Option, None, Result, Ok, Err, refl, sym, subst}
+use Rattle.std.specs.Prelude.{IsErrAnd, MatchResult}
+use Rattle.config_spec.specs.declared.ConfigFault.{ConfigFault}
+use Rattle.config_spec.specs.declared.ConfigFault.TheVariants as config
+use Rattle.config_spec.specs.declared.Command.TheVariants.{Link}
+use Rattle.config_spec.specs.Words.{RefusesOptions, RefusesWords, SetsBase, SetsPage, command_of}
+use Rattle.config_spec.specs.Words.RefusesOptions.{bad_base, bad_path, bad_conditions}
+use Rattle.config_spec.specs.Words.RefusesWords.{not_built as words_not_built, bad_option as words_bad_option}
+use Rattle.words_spec.specs.PlainWords.{Asked, Asks, LinkOptions, linking}
+use Rattle.command_words.specs.declared.fault.WordsFault.{WordsFault}
+use Rattle.command_words.specs.declared.fault.WordsFault.TheVariants.{Told, NotPlain, Refused, Memory}
+use Rattle.command_words.specs.Faults.{RefusesAs, IsBadBase, IsBadPath, IsBadConditions, RefusesOrder, not_built, bad_option, Explains}
+
+-- ---- the options, in their order
+
+pub base_refused : (given : LinkOptions) (fault : WordsFault) → RefusesAs (IsBadBase given.base) fault → RefusesAs (RefusesOptions given) fault
+base_refused given (Told told) refuses = refuses
+base_refused given NotPlain refuses = refuses
+base_refused given (Refused fault) refuses = subst (RefusesOptions given) (sym refuses.is) (bad_base refuses.text refuses.is_given refuses.bad)
+base_refused given Memory refuses = tt
+
+pub page_refused : (given : LinkOptions) (base : Option (List ℕ)) (fault : WordsFault) → SetsBase given.base base → RefusesAs (IsBadPath given.page) fault → RefusesAs (RefusesOptions given) fault
+page_refused given base (Told told) set refuses = refuses
+page_refused given base NotPlain set refuses = refuses
+page_refused given base (Refused fault) set refuses = subst (RefusesOptions given) (sym refuses.is) (bad_path base refuses.text set refuses.is_given refuses.bad)
+page_refused given base Memory set refuses = tt
+
+pub conditions_refused : (given : LinkOptions) (base page : Option (List ℕ)) (fault : WordsFault) → SetsBase given.base base → SetsPage given.page page → RefusesAs (IsBadConditions given.conditions) fault → RefusesAs (RefusesOptions given) fault
+conditions_refused given base page (Told told) set set_page refuses = refuses
+conditions_refused given base page NotPlain set set_page refuses = refuses
+conditions_refused given base page (Refused fault) set set_page refuses = subst (RefusesOptions given) (sym refuses.is) (bad_conditions base page refuses.text set set_page refuses.is_given refuses.bad)
+conditions_refused given base page Memory set set_page refuses = tt
+
+-- ---- what is asked for
+
+pub link_refused : (given : LinkOptions) (entries : List (List ℕ)) (fault : WordsFault) → RefusesAs (RefusesOptions given) fault → RefusesAs (RefusesOrder (linking given entries)) fault
+link_refused given entries (Told told) refuses = refuses
+link_refused given entries NotPlain refuses = refuses
+link_refused given entries (Refused fault) refuses = bad_option Link fault refl refuses
+link_refused given entries Memory refuses = tt
+
+pub not_built_refused : (asked : Asked) (fault : WordsFault) → command_of asked ≡ None → RefusesAs (λ f. f ≡ config.NotBuilt) fault → RefusesAs (RefusesOrder asked) fault
+not_built_refused asked (Told told) none refuses = refuses
+not_built_refused asked NotPlain none refuses = refuses
+not_built_refused asked (Refused fault) none refuses = subst (RefusesOrder asked) (sym refuses) (not_built none)
+not_built_refused asked Memory none refuses = tt
+
+-- ---- words
+
+of_asked : (texts : List (List ℕ)) (asked : Asked) (fault : ConfigFault) → Asks texts asked → RefusesOrder asked fault → RefusesWords texts fault
+of_asked texts asked fault asks (not_built none) = words_not_built asked asks none
+of_asked texts asked fault asks (bad_option command other is refuses) = words_bad_option asked command other asks is refuses
+
+pub words_refused : (texts : List (List ℕ)) (asked : Asked) (fault : WordsFault) → Asks texts asked → RefusesAs (RefusesOrder asked) fault → Explains texts fault
+words_refused texts asked (Told told) asks refuses = absurd refuses
+words_refused texts asked NotPlain asks refuses = absurd refuses
+words_refused texts asked (Refused fault) asks refuses = of_asked texts asked fault asks refuses
+words_refused texts asked Memory asks refuses = tt
+
+-- a fault that is handed on
+pub handed_on : {X : Type 0} (P : X → Type 0) (Q : WordsFault → Type 0) (result : Result X WordsFault) (fault : WordsFault) → IsErrAnd result (λ other. other ≡ fault) → Q fault → MatchResult result P Q
+handed_on P Q (Ok x) fault is holds = absurd is
+handed_on P Q (Err other) fault is holds = subst Q (sym is) holds

@@ -1,9 +1,0 @@
-use Rattle.std.proofs.Common.{◌∙◌, Err, ap}
-use Rattle.command_words.proofs.LinkConditions.{named, can_be}
-use Rattle.command_words.proofs.config.link_conditions.Goals as goal
-
-pub unreachable-requires : goal.unreachable-requires
-unreachable-requires c = c.in-Err-BadConditions.ensures.bad (ap Err c.in-Err-BadConditions.field-0-is) can_be
-
-pub returns-in-Ok : goal.returns-in-Ok
-returns-in-Ok c = c.in-Ok.ensures.names ∙ named

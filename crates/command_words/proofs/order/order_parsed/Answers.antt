@@ -1,0 +1,37 @@
+use Rattle.std.proofs.Common.{ap, refl}
+use Rattle.config_spec.specs.Words.{command_of}
+use Rattle.words_read.specs.Shown.{shown}
+use Rattle.command_words.proofs.Orders.{nothing_set, same_asked}
+use Rattle.command_words.proofs.Refusals.{not_built_refused}
+use Rattle.command_words.proofs.order.order_parsed.Goals as goal
+
+pub returns-in-Unlink : goal.returns-in-Unlink
+returns-in-Unlink c =
+    same_asked _ _ _ (ap shown c.in-Unlink.is) (record { same = refl; is = refl; sets = nothing_set })
+
+pub returns-in-Refresh : goal.returns-in-Refresh
+returns-in-Refresh c =
+    same_asked _ _ _ (ap shown c.in-Refresh.is) (record { same = refl; is = refl; sets = nothing_set })
+
+pub returns-in-Check : goal.returns-in-Check
+returns-in-Check c =
+    same_asked _ _ _ (ap shown c.in-Check.is) (record { same = refl; is = refl; sets = nothing_set })
+
+pub returns-in-Inject : goal.returns-in-Inject
+returns-in-Inject c =
+    same_asked _ _ _ (ap shown c.in-Inject.is) (record { same = refl; is = refl; sets = nothing_set })
+
+pub returns-in-List : goal.returns-in-List
+returns-in-List c =
+    not_built_refused (shown c.args.parsed) c.not_built.result (ap (λ p. command_of (shown p)) c.in-List.is)
+    c.not_built.ensures
+
+pub returns-in-Session : goal.returns-in-Session
+returns-in-Session c =
+    not_built_refused (shown c.args.parsed) c.not_built-in-Session.result
+    (ap (λ p. command_of (shown p)) c.in-Session.is) c.not_built-in-Session.ensures
+
+pub returns-in-Measure : goal.returns-in-Measure
+returns-in-Measure c =
+    not_built_refused (shown c.args.parsed) c.not_built-in-Measure.result
+    (ap (λ p. command_of (shown p)) c.in-Measure.is) c.not_built-in-Measure.ensures

@@ -1,0 +1,45 @@
+-- What an order is.
+--     command_ordered order, settings_ordered order      its command, and what its options set
+--     IsOrderOf order asked      the order is what is asked for
+--     IsOrder words order        it is what these words ask for
+use Rattle.std.specs.Prelude.{◌≡◌, ℕ, List, Some, map, string_bytes}
+use Rattle.config_spec.specs.declared.Command.{Command}
+use Rattle.config_spec.specs.declared.Command.TheVariants as command
+use Rattle.config_spec.specs.Words.{Settings, Sets, command_of, options_of}
+use Rattle.words_spec.specs.PlainWords.{Asked, Asks, LinkOptions, linking, unlinking, refreshing, checking, injecting}
+use Rattle.command_words.specs.declared.order.Order.{Order}
+use Rattle.command_words.specs.declared.order.Order.TheVariants.{Link, Unlink, Refresh, Check, Inject}
+use Rattle.command_words.specs.Settings.{no_settings}
+
+abbrev pub command_ordered : Order → Command
+command_ordered (Link settings entries) = command.Link
+command_ordered (Unlink entries) = command.Unlink
+command_ordered Refresh = command.Refresh
+command_ordered Check = command.Check
+command_ordered Inject = command.Inject
+
+abbrev pub settings_ordered : Order → Settings
+settings_ordered (Link settings entries) = settings
+settings_ordered (Unlink entries) = no_settings
+settings_ordered Refresh = no_settings
+settings_ordered Check = no_settings
+settings_ordered Inject = no_settings
+
+-- own: what is asked for with the options of the order
+abbrev pub asked_with : LinkOptions → Order → Asked
+asked_with options (Link settings entries) = linking options (map string_bytes entries.now)
+asked_with options (Unlink entries) = unlinking (map string_bytes entries.now)
+asked_with options Refresh = refreshing
+asked_with options Check = checking
+asked_with options Inject = injecting
+
+-- own: the command and the entries are those that are asked for, and the settings are what the options set
+pub record IsOrderOf (order : Order) (asked : Asked) : Type 0 where
+  pub same : asked ≡ asked_with (options_of asked) order
+  pub is : command_of asked ≡ Some (command_ordered order)
+  pub sets : Sets (options_of asked) (settings_ordered order)
+
+pub record IsOrder (words : List (List ℕ)) (order : Order) : Type 0 where
+  pub asked : Asked
+  pub asks : Asks words asked
+  pub is_order : IsOrderOf order asked

@@ -1,0 +1,97 @@
+ghost use Rattle.std.specs.Prelude.{◌≡◌, MatchResult, Some, map, string_bytes};
+ghost use Rattle.words_read.specs.Shown.{options_of, shown};
+ghost use Rattle.words_spec.specs.PlainWords.{linking};
+ghost use Rattle.command_words.specs.Faults.{Explains, RefusesAs, RefusesOrder};
+ghost use Rattle.command_words.specs.Orders.{IsOrder, IsOrderOf, command_ordered};
+
+use crate::fault::WordsFault;
+use crate::settings::{Settings, settings_of};
+use config_spec::{Command, ConfigFault};
+use std::alloc::Global;
+use words_parse::{Command as Parsed, LinkValues, WordsFault as ParseFault, parse};
+
+/// What plain words ask for, of the commands that are built. Entries are the last of the words, as they stand there.
+#[derive(Drop)]
+pub enum Order<'a> {
+    /// The map and the project, with these entries and options.
+    Link {
+        settings: Settings,
+        entries: &'a [String],
+    },
+    /// The map and the project, without these entries.
+    Unlink {
+        entries: &'a [String],
+    },
+    /// The map of the project.
+    Refresh,
+    /// Which needs the map that is there doesn't serve.
+    Check,
+    /// The page, with the map in it.
+    Inject,
+}
+
+impl<'a> Order<'a> {
+    /// The command.
+    pub fn command(&self) -> Command
+        ensures { result ≡ command_ordered self.now }
+    {
+        match self {
+            Order::Link { .. } => Command::Link,
+            Order::Unlink { .. } => Command::Unlink,
+            Order::Refresh => Command::Refresh,
+            Order::Check => Command::Check,
+            Order::Inject => Command::Inject,
+        }
+    }
+}
+
+/// What the words ask for, or why they are refused.
+pub fn order_of<'a>(alloc: Global, words: &'a [String]) -> Result<Order<'a>, WordsFault>
+    ensures { MatchResult result (IsOrder (map string_bytes words.now)) (Explains (map string_bytes words.now)) }
+{
+    match parse(alloc, words) {
+        Ok(parsed) => order_parsed(alloc, parsed),
+        Err(ParseFault::Told(text)) => Err(WordsFault::Told(text)),
+        Err(ParseFault::NotPlain) => Err(WordsFault::NotPlain),
+        Err(ParseFault::Memory) => Err(WordsFault::Memory),
+    }
+}
+
+fn order_parsed<'a>(alloc: Global, parsed: Parsed<'a>) -> Result<Order<'a>, WordsFault>
+    ensures { MatchResult result (λ order. IsOrderOf order (shown parsed.entry))
+        (RefusesAs (RefusesOrder (shown parsed.entry))) }
+{
+    match parsed {
+        Parsed::Link(values, entries) => link_order(alloc, values, entries),
+        Parsed::Unlink(entries) => Ok(Order::Unlink { entries }),
+        Parsed::Refresh => Ok(Order::Refresh),
+        Parsed::Check => Ok(Order::Check),
+        Parsed::Inject => Ok(Order::Inject),
+        Parsed::List => Err(not_built()),
+        Parsed::Session => Err(not_built()),
+        Parsed::Measure(_) => Err(not_built()),
+    }
+}
+
+fn link_order<'a>(
+    alloc: Global,
+    values: LinkValues<'a>,
+    entries: &'a [String],
+) -> Result<Order<'a>, WordsFault>
+    ensures { MatchResult result
+        (λ order. IsOrderOf order (linking (options_of values.entry) (map string_bytes entries.now)))
+        (RefusesAs (RefusesOrder (linking (options_of values.entry) (map string_bytes entries.now)))) }
+{
+    match settings_of(alloc, values) {
+        Ok(settings) => Ok(Order::Link { settings, entries }),
+        Err(fault) => Err(fault),
+    }
+}
+
+fn not_built() -> WordsFault
+    ensures { RefusesAs (λ fault. fault ≡ ConfigFault.NotBuilt) result }
+{
+    WordsFault::Refused {
+        fault: ConfigFault::NotBuilt,
+    }
+}

@@ -1,0 +1,89 @@
+-- Words ask for one command or are refused in one way.
+use Rattle.std.proofs.Common.{◌≡◌, ◌⊎◌, ℕ, List, Option, Some, None, refl, sym, ap, ◌∙◌, subst, inl, inr}
+use Rattle.words_spec.proofs.PlainIsRead.{one_asked, plain_is_read}
+use Rattle.words_spec.proofs.ReadIsPlain.{read_is_plain}
+use Rattle.words_spec.specs.PlainWords.{Asked, Asks}
+use Rattle.words_spec.specs.Reading.{reading_of}
+use Rattle.config_spec.proofs.Options.{one_options_fault, set_or_fault, set_or_refused}
+use Rattle.config_spec.specs.Laws.{WordsAreJudged}
+use Rattle.config_spec.specs.Words.{command_of, IsCommandOf, IsPlain, options_of, RefusesOptions, RefusesWords}
+use Rattle.config_spec.specs.Words.RefusesWords.{bad_option, not_built}
+use Rattle.config_spec.specs.declared.Command.{Command}
+use Rattle.config_spec.specs.declared.ConfigFault.{ConfigFault}
+use Rattle.config_spec.specs.declared.ConfigFault.TheVariants.{NotBuilt}
+
+-- ---- one at most
+
+pub same_command :
+    (some other : Asked) (first second : Command) → some ≡ other → command_of some ≡ Some first
+    → command_of other ≡ Some second → first ≡ second
+same_command some other first second same is is_too =
+    let e : Some first ≡ Some second = sym is ∙ (ap command_of same ∙ is_too) in cc
+
+-- what is built isn't unbuilt
+built :
+    (some other : Asked) (command : Command) → some ≡ other → command_of some ≡ Some command
+    → command_of other ≡ None → ⊥
+built some other command same is none =
+    let e : Some command ≡ None = sym is ∙ (ap command_of same ∙ none) in absurd (cc)
+
+one_command :
+    (words : List (List ℕ)) (some other : Command) → IsCommandOf words some → IsCommandOf words other → some ≡ other
+one_command words some other a b =
+    same_command a.asked b.asked some other (one_asked words a.asked b.asked a.asks b.asks) a.is b.is
+
+one_fault :
+    (words : List (List ℕ)) (some other : ConfigFault) → RefusesWords words some → RefusesWords words other
+    → some ≡ other
+one_fault words some other (not_built asked asks none) (not_built asked_too asks_too none_too) = refl
+one_fault words some other (not_built asked asks none) (bad_option asked_too command fault asks_too is refuses) =
+    absurd (built asked_too asked command (one_asked words asked_too asked asks_too asks) is none)
+one_fault words some other (bad_option asked_too command fault asks_too is refuses) (not_built asked asks none) =
+    absurd (built asked_too asked command (one_asked words asked_too asked asks_too asks) is none)
+one_fault words some other (bad_option asked command fault asks is refuses)
+    (bad_option asked_too command_too fault_too asks_too is_too refuses_too) =
+    let same = one_asked words asked_too asked asks_too asks in
+    one_options_fault (options_of asked) some other refuses
+    (subst (λ a. RefusesOptions (options_of a) other) same refuses_too)
+
+not_both :
+    (words : List (List ℕ)) (command : Command) (fault : ConfigFault) → IsCommandOf words command
+    → RefusesWords words fault → ⊥
+not_both words command fault is (not_built asked asks none) =
+    built is.asked asked command (one_asked words is.asked asked is.asks asks) is.is none
+not_both words command fault is (bad_option asked command_too fault_too asks is_too refuses) =
+    let same = one_asked words asked is.asked asks is.asks in
+    set_or_refused (options_of is.asked) is.settings fault is.sets
+    (subst (λ a. RefusesOptions (options_of a) fault) same refuses)
+
+-- ---- some command, or a fault
+
+abbrev HaveCommand : List (List ℕ) → Type 0
+HaveCommand words = (command : Command) × IsCommandOf words command
+
+abbrev AreRefused : List (List ℕ) → Type 0
+AreRefused words = (fault : ConfigFault) × RefusesWords words fault
+
+command_by :
+    (words : List (List ℕ)) (asked : Asked) → Asks words asked → (found : Option Command)
+    → command_of asked ≡ found → HaveCommand words ⊎ AreRefused words
+command_by words asked asks None e = inr (NotBuilt, not_built asked asks e)
+command_by words asked asks (Some command) e =
+    elim (set_or_fault (options_of asked)) [
+      | inl set ↦ inl (command, record { asked = asked; asks = asks; is = e; settings = set.0; sets = set.1 })
+      | inr refused ↦ inr (refused.0, bad_option asked command refused.0 asks e refused.1)
+    ]
+
+judged_by :
+    (words : List (List ℕ)) (found : Option Asked) → reading_of words ≡ found
+    → (IsPlain words → ⊥) ⊎ (HaveCommand words ⊎ AreRefused words)
+judged_by words None e = inl (λ plain. let f : None ≡ Some plain.asked = sym e ∙ plain_is_read plain.asks in absurd (cc))
+judged_by words (Some asked) e = inr (command_by words asked (read_is_plain words asked e) (command_of asked) refl)
+
+pub words_are_judged : WordsAreJudged
+words_are_judged words = record {
+  one_command = one_command words;
+  one_fault = one_fault words;
+  not_both = not_both words;
+  some = judged_by words (reading_of words) refl;
+}

@@ -1,0 +1,77 @@
+-- The laws of words, projects and configs. Each is the contract of a function of this crate.
+use Rattle.std.specs.Prelude.{◌≡◌, ◌⊎◌, List, ℕ, Option, Result, Err}
+use Rattle.tree_spec.specs.Trees.{Tree}
+use Rattle.trace_spec.specs.Modules.{Config}
+use Rattle.words_spec.specs.PlainWords.{LinkOptions}
+use Rattle.config_spec.specs.declared.Command.{Command}
+use Rattle.config_spec.specs.declared.ConfigFault.{ConfigFault}
+use Rattle.config_spec.specs.declared.ProjectFault.{ProjectFault}
+use Rattle.config_spec.specs.Words.{Settings, Sets, RefusesOptions, IsPlain, IsCommandOf, RefusesWords}
+use Rattle.config_spec.specs.Projects.{HoldsProject, Configures, IsConfigOf, IsConfigFor, CanRefuseConfig}
+
+-- ---- words
+
+-- own law: options set one thing, are refused in one way, and never both
+pub record OptionsDecide (options : LinkOptions) : Type 0 where
+  pub one_settings : (some other : Settings) → Sets options some → Sets options other → some ≡ other
+  pub one_fault : (some other : ConfigFault) → RefusesOptions options some → RefusesOptions options other → some ≡ other
+  pub not_both : (settings : Settings) (fault : ConfigFault) → Sets options settings → RefusesOptions options fault → ⊥
+  pub some : ((settings : Settings) × Sets options settings) ⊎ ((fault : ConfigFault) × RefusesOptions options fault)
+
+abbrev pub OptionsAreJudged : Type 0
+OptionsAreJudged = (options : LinkOptions) → OptionsDecide options
+
+-- own law: words have one command or one fault at most, and never both; plain words have one of them, and others none
+pub record WordsDecide (words : List (List ℕ)) : Type 0 where
+  pub one_command : (some other : Command) → IsCommandOf words some → IsCommandOf words other → some ≡ other
+  pub one_fault : (some other : ConfigFault) → RefusesWords words some → RefusesWords words other → some ≡ other
+  pub not_both : (command : Command) (fault : ConfigFault) → IsCommandOf words command → RefusesWords words fault → ⊥
+  pub some :
+      (IsPlain words → ⊥)
+      ⊎ (((command : Command) × IsCommandOf words command) ⊎ ((fault : ConfigFault) × RefusesWords words fault))
+
+abbrev pub WordsAreJudged : Type 0
+WordsAreJudged = (words : List (List ℕ)) → WordsDecide words
+
+-- ---- projects
+
+-- own law: what stands at the project's path holds one thing
+pub record ProjectDecides (tree : Tree) : Type 0 where
+  pub one :
+      (some other : Result (Option Config) ProjectFault) → HoldsProject tree some → HoldsProject tree other
+      → some ≡ other
+  pub some : (found : Result (Option Config) ProjectFault) × HoldsProject tree found
+
+abbrev pub ProjectsAreRead : Type 0
+ProjectsAreRead = (tree : Tree) → ProjectDecides tree
+
+-- ---- configs
+
+pub record SameConfiguring (some other : Command) (outcome second : Result Config ConfigFault) : Type 0 where
+  pub one_command : some ≡ other
+  pub one_outcome : outcome ≡ second
+
+-- own law: words and a tree have one config or one fault for one command, and where the words ask for a command they
+-- have one
+pub record ConfigDecides (words : List (List ℕ)) (tree : Tree) : Type 0 where
+  pub one :
+      (some other : Command) (outcome second : Result Config ConfigFault) → Configures words tree some outcome
+      → Configures words tree other second → SameConfiguring some other outcome second
+  pub some :
+      (command : Command) → IsCommandOf words command
+      → (outcome : Result Config ConfigFault) × Configures words tree command outcome
+
+abbrev pub ConfigsAreJudged : Type 0
+ConfigsAreJudged = (words : List (List ℕ)) (tree : Tree) → ConfigDecides words tree
+
+-- own law: the config is one that a project's file can hold, with the values of the options
+abbrev pub ConfigsAreProjects : Type 0
+ConfigsAreProjects =
+    (words : List (List ℕ)) (tree : Tree) (command : Command) (config : Config) → IsConfigOf words tree command config
+    → IsConfigFor words command config
+
+-- own law: whatever the tree, these faults and no others
+abbrev pub FaultsAreOfWords : Type 0
+FaultsAreOfWords =
+    (words : List (List ℕ)) (tree : Tree) (command : Command) (fault : ConfigFault)
+    → Configures words tree command (Err fault) → CanRefuseConfig words fault

@@ -1,0 +1,4 @@
+pub mod Words
+pub mod Projects
+pub mod Laws
+pub mod WorkedExamples

@@ -1,0 +1,100 @@
+-- What the words of a command line say of a command, before any look.
+--     command_of asked                  the command that is asked for, where it is built
+--     options_of asked, entries_of asked      the options and the entries that stand in the words
+--     Settings, Sets options settings   what the texts of the options give
+--     RefusesOptions options fault        the text of an option is refused
+--     IsPlain words                     the words have a meaning
+--     IsCommandOf words command         they ask for this command, and none of their texts is refused
+--     RefusesWords words fault            plain words that ask for no command that is built, or have such a text
+use Rattle.std.specs.Prelude.{◌≡◌, ◌≢◌, ℕ, List, codes, Option, Some, None}
+use Rattle.tree_spec.specs.Paths.{IsPath}
+use Rattle.url_spec.specs.Bases.{base_of}
+use Rattle.condition_match.specs.Conditions.{AreConditions, names_in}
+use Rattle.words_spec.specs.PlainWords.{Asked, Asks, LinkOptions, no_options, linking, unlinking, refreshing, checking}
+use Rattle.words_spec.specs.PlainWords.{listing, injecting, editing, measuring}
+use Rattle.config_spec.specs.declared.Command.{Command}
+use Rattle.config_spec.specs.declared.Command.TheVariants.{Link, Unlink, Refresh, Inject, Check}
+use Rattle.config_spec.specs.declared.ConfigFault.{ConfigFault}
+use Rattle.config_spec.specs.declared.ConfigFault.TheVariants.{NotBuilt, BadBase, BadPath, BadConditions}
+
+-- own: the others aren't built yet
+abbrev pub command_of : Asked → Option Command
+command_of (linking options entries) = Some Link
+command_of (unlinking entries) = Some Unlink
+command_of refreshing = Some Refresh
+command_of checking = Some Check
+command_of injecting = Some Inject
+command_of listing = None
+command_of editing = None
+command_of (measuring number) = None
+
+abbrev pub options_of : Asked → LinkOptions
+options_of (linking options entries) = options
+options_of (unlinking entries) = no_options
+options_of refreshing = no_options
+options_of checking = no_options
+options_of injecting = no_options
+options_of listing = no_options
+options_of editing = no_options
+options_of (measuring number) = no_options
+
+-- ---- options
+
+-- own: a base, the path of a page and conditions, each where its option is given
+pub record Settings : Type 0 where
+  pub base : Option (List ℕ)
+  pub page : Option (List ℕ)
+  pub conditions : Option (List (List ℕ))
+
+-- own: a path other than `/`
+pub record IsPagePath (text : List ℕ) : Type 0 where
+  pub is_path : IsPath text
+  pub no_root : text ≢ codes "/"
+
+pub data SetsBase : Option (List ℕ) → Option (List ℕ) → Type 0 where
+  none : SetsBase None None
+  given : (text url : List ℕ) → base_of text ≡ Some url → SetsBase (Some text) (Some url)
+
+pub data SetsPage : Option (List ℕ) → Option (List ℕ) → Type 0 where
+  none : SetsPage None None
+  given : (text : List ℕ) → IsPagePath text → SetsPage (Some text) (Some text)
+
+pub data SetsConditions : Option (List ℕ) → Option (List (List ℕ)) → Type 0 where
+  none : SetsConditions None None
+  given : (text : List ℕ) → AreConditions (names_in text) → SetsConditions (Some text) (Some (names_in text))
+
+-- own: the base that a text gives, a page's path, and the conditions between the commas of a text
+pub record Sets (options : LinkOptions) (settings : Settings) : Type 0 where
+  pub base : SetsBase options.base settings.base
+  pub page : SetsPage options.page settings.page
+  pub conditions : SetsConditions options.conditions settings.conditions
+
+-- own: the base is judged before the page, and the page before the conditions
+pub data RefusesOptions (options : LinkOptions) : ConfigFault → Type 0 where
+  bad_base : (text : List ℕ) → options.base ≡ Some text → base_of text ≡ None → RefusesOptions options (BadBase text)
+  bad_path :
+      (base : Option (List ℕ)) (text : List ℕ) → SetsBase options.base base → options.page ≡ Some text
+      → (IsPagePath text → ⊥) → RefusesOptions options (BadPath text)
+  bad_conditions :
+      (base page : Option (List ℕ)) (text : List ℕ) → SetsBase options.base base → SetsPage options.page page
+      → options.conditions ≡ Some text → (AreConditions (names_in text) → ⊥)
+      → RefusesOptions options (BadConditions text)
+
+-- ---- words
+
+pub record IsPlain (words : List (List ℕ)) : Type 0 where
+  pub asked : Asked
+  pub asks : Asks words asked
+
+pub record IsCommandOf (words : List (List ℕ)) (command : Command) : Type 0 where
+  pub asked : Asked
+  pub asks : Asks words asked
+  pub is : command_of asked ≡ Some command
+  pub settings : Settings
+  pub sets : Sets (options_of asked) settings
+
+pub data RefusesWords (words : List (List ℕ)) : ConfigFault → Type 0 where
+  not_built : (asked : Asked) → Asks words asked → command_of asked ≡ None → RefusesWords words NotBuilt
+  bad_option :
+      (asked : Asked) (command : Command) (fault : ConfigFault) → Asks words asked → command_of asked ≡ Some command
+      → RefusesOptions (options_of asked) fault → RefusesWords words fault

@@ -1,0 +1,3 @@
+mod Once
+mod NewProject
+mod Taken

@@ -1,0 +1,14 @@
+//! The config that a command generates for: that of the folder's project, with what the words of the command line set.
+#![tactic(auto)]
+
+mod defaults;
+mod entries;
+mod fault;
+mod linking;
+mod order;
+#[cfg(test)]
+mod tests;
+mod unlinking;
+
+pub use fault::NoConfig;
+pub use order::config_of;

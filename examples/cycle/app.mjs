@@ -1,0 +1,3 @@
+import { greet } from "hello";
+
+console.log(greet("page"));
