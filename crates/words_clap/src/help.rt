@@ -41,11 +41,13 @@ pub(crate) const INJECT: &str = "Write the page with the map in it";
 pub(crate) const CHECK: &str =
     "Compare the map's file with what the modules need, and write nothing";
 
-pub(crate) const LIST: &str = "Print the modules";
+pub(crate) const LIST: &str = "Print the modules (not built yet)";
 
-pub(crate) const SESSION: &str = "Read edits from the standard input and answer each";
+pub(crate) const SESSION: &str =
+    "Read edits from the standard input and answer each (not built yet)";
 
-pub(crate) const MEASURE: &str = "Generate over a made tree of N packages and print counts";
+pub(crate) const MEASURE: &str =
+    "Generate over a made tree of N packages and print counts (not built yet)";
 
 pub(crate) const BASE: &str =
     "The URL of this folder on the web, as https://app.test/; needed the first time";
