@@ -2,7 +2,7 @@
 use Rattle.std.proofs.Common.{◌≡◌, ℕ, Bool, true, false, Bor, List, Option, Some, None, Result, Ok, Err, codes, refl, sym, subst}
 use Rattle.std.specs.Prelude.{MatchResult, option_map, bytes_eq}
 use Rattle.std.proofs.lemmas.Slice.Eq.{bytes_eq-Decides}
-use Rattle.condition_match.specs.Conditions.{AreConditions, names_in}
+use Rattle.node_spec.specs.Conditions.{AreConditions, names_in}
 use Rattle.tree_spec.specs.Paths.{IsPath}
 use Rattle.url_spec.specs.Bases.{base_of}
 use Rattle.config_spec.specs.Words.{Sets, SetsBase, SetsPage, SetsConditions}

@@ -4,7 +4,7 @@
 --     RefusesOrder asked fault     what is asked for is refused
 --     Explains words fault         the fault is right of the words
 use Rattle.std.specs.Prelude.{◌≡◌, ℕ, List, Option, Some, None, ⊤}
-use Rattle.condition_match.specs.Conditions.{AreConditions, names_in}
+use Rattle.node_spec.specs.Conditions.{AreConditions, names_in}
 use Rattle.url_spec.specs.Bases.{base_of}
 use Rattle.config_spec.specs.declared.Command.{Command}
 use Rattle.config_spec.specs.declared.ConfigFault.{ConfigFault}

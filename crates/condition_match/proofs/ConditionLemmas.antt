@@ -1,13 +1,20 @@
 -- Names that are taken one after another.
-use Rattle.std.proofs.Common.{◌≡◌, ◌≢◌, ◌<◌, ◌==◌, ◌||◌, ◌++◌, ℕ, true, false, List, [], ◌∷◌, Option, Some, Bor, length, get_or, All, refl, append_assoc, sym, ap, subst, ◌∙◌, inl, inr, arith}
+use Rattle.std.proofs.Common.{◌≡◌, ◌≢◌, ◌<◌, ◌==◌, ◌++◌, ℕ, true, false, List, [], ◌∷◌, Option, Some, Bor, length}
+use Rattle.std.proofs.Common.{get_or, All, refl, append_assoc, sym, ap, subst, ◌∙◌, arith}
 use Rattle.std.specs.Prelude.{bytes_eq, option_map}
-use Rattle.std.specs.List.{list_any, slice_split}
-use Rattle.std.proofs.lemmas.Bool.{true≢false, ne_eqb, cases_Bool}
+use Rattle.std.specs.List.{list_any, slice_split, IsDistinct}
+use Rattle.std.proofs.Math.ListN.{get_or-append}
+use Rattle.std.proofs.Math.Seq.{get_or-append_seam}
+use Rattle.std.proofs.lemmas.Bool.{true≢false, ne_eqb}
+use Rattle.std.proofs.lemmas.Cmp.{nat_list_eq_equiv}
 use Rattle.std.proofs.lemmas.List.{length-append}
 use Rattle.std.proofs.lemmas.List.Splits.{slice_split_at, slice_split_none}
 use Rattle.std.proofs.lemmas.List.Elements.{All-nil, All-head, All-tail, All-push, All-from_get_or}
-use Rattle.std.proofs.lemmas.Slice.Eq.{bytes_eq-Decides}
-use Rattle.condition_match.specs.Conditions.{names_in, names_left, IsCondition, AreDistinct, AreConditions}
+use Rattle.std.proofs.lemmas.List.Folds.{Any-from_list_any}
+use Rattle.std.proofs.lemmas.Map.Keys.{apart_from_distinct, IsDistinct-push}
+use Rattle.tree_spec.proofs.FootprintSets.{distinct_none}
+use Rattle.node_spec.specs.Conditions.{names_in, IsCondition, AreConditions}
+use Rattle.condition_match.specs.Names.{names_left}
 
 -- ---- names between commas
 
@@ -29,34 +36,28 @@ no_names (b ∷ text) none = absurd (omega arith)
 -- ---- conditions
 
 pub no_conditions : AreConditions []
-no_conditions = record { few = omega arith; each = All-nil IsCondition; distinct = tt }
+no_conditions = record { few = omega arith; each = All-nil IsCondition; distinct = distinct_none }
 
 in_middle : (P : List ℕ → Type 0) (front : List (List ℕ)) (name : List ℕ) (back : List (List ℕ)) → All P (front ++ name ∷ back) → P name
 in_middle P [] name back all = All-head P name back all
 in_middle P (x ∷ front) name back all = in_middle P front name back (All-tail P x (front ++ name ∷ back) all)
 
-same_name : (one other : List ℕ) → bytes_eq one other ≡ true → one ≡ other
-same_name one other e = (bytes_eq-Decides one other).0 e
-
-repeated : (front : List (List ℕ)) (name : List ℕ) (back : List (List ℕ)) → list_any (bytes_eq name) front ≡ true → AreDistinct (front ++ name ∷ back) → ⊥
-repeated [] name back there d = absurd (cc)
-repeated (x ∷ front) name back there d =
-    elim (cases_Bool (bytes_eq name x)) [
-      | inl here ↦ in_middle (λ other. x ≢ other) front name back d.0 (sym (same_name name x here))
-      | inr other ↦ repeated front name back (ap (λ t. t || list_any (bytes_eq name) front) (sym other) ∙ there) d.1
-    ]
-
-distinct_push : (front : List (List ℕ)) (name : List ℕ) → list_any (bytes_eq name) front ≡ false → AreDistinct front → AreDistinct (front ++ name ∷ [])
-distinct_push [] name none d = (All-nil _, tt)
-distinct_push (x ∷ front) name none d =
-    elim (cases_Bool (bytes_eq name x)) [
-      | inl here ↦ absurd (true≢false (ap (λ t. t || list_any (bytes_eq name) front) (sym here) ∙ none))
-      | inr other ↦ (All-push (λ o. x ≢ o) front name d.0 (λ e. true≢false (sym ((bytes_eq-Decides name x).1 (sym e)) ∙ other)), distinct_push front name (ap (λ t. t || list_any (bytes_eq name) front) (sym other) ∙ none) d.1)
-    ]
+pub not_before : (seen texts : List (List ℕ)) (text : List ℕ) → IsDistinct bytes_eq (seen ++ text ∷ texts) → list_any (bytes_eq text) seen ≡ true → ⊥
+not_before seen texts text distinct there =
+    let found = Any-from_list_any (bytes_eq text) seen there in
+    let all = seen ++ text ∷ texts in
+    let inside : found.0 < length seen = found.2 in
+    let long = length-append seen (text ∷ texts) in
+    let within : length seen < length all = omega arith in
+    let apart = apart_from_distinct bytes_eq all found.0 (length seen) found.1 distinct inside within in
+    let first : get_or all found.0 found.1 ≡ found.1 = get_or-append seen (text ∷ texts) found.1 found.0 inside ∙ found.3 in
+    let second : get_or all (length seen) found.1 ≡ text = get_or-append_seam seen text texts found.1 in
+    let differ : bytes_eq found.1 text ≡ false = (λ j. bytes_eq (sym first j) (sym second j)) ∙ apart in
+    true≢false (sym found.4 ∙ (nat_list_eq_equiv.symm text found.1 ∙ differ))
 
 pub one_more : (names : List (List ℕ)) (name : List ℕ) → AreConditions names → length names ≢ 32 → IsCondition name → list_any (bytes_eq name) names ≡ false → AreConditions (names ++ name ∷ [])
 one_more names name are room is new =
-    record { few = omega (arith, are.few, room, length-append names (name ∷ [])); each = All-push IsCondition names name are.each is; distinct = distinct_push names name new are.distinct }
+    record { few = omega (arith, are.few, room, length-append names (name ∷ [])); each = All-push IsCondition names name are.each is; distinct = IsDistinct-push nat_list_eq_equiv names name are.distinct new }
 
 pub too_many : (all names : List (List ℕ)) (name : List ℕ) (back : List (List ℕ)) → all ≡ names ++ name ∷ back → length names ≡ 32 → AreConditions all → ⊥
 too_many all names name back split full are = omega (arith, are.few, full, ap length split, length-append names (name ∷ back))
@@ -65,7 +66,7 @@ pub no_condition : (all names : List (List ℕ)) (name : List ℕ) (back : List 
 no_condition all names name back split is_none are = is_none (in_middle IsCondition names name back (subst (All IsCondition) split are.each))
 
 pub stands_twice : (all names : List (List ℕ)) (name : List ℕ) (back : List (List ℕ)) → all ≡ names ++ name ∷ back → list_any (bytes_eq name) names ≡ true → AreConditions all → ⊥
-stands_twice all names name back split there are = repeated names name back there (subst AreDistinct split are.distinct)
+stands_twice all names name back split there are = not_before names back name (subst (IsDistinct bytes_eq) split are.distinct) there
 
 -- ---- the loop
 

@@ -1,4 +1,4 @@
-pub mod Conditions
+pub mod Names
 pub mod Segments
 pub mod Choosing
 pub mod CallLaws

@@ -1,7 +1,8 @@
 ghost use Rattle.std.specs.Prelude.{◌≡◌, ◌↔◌, ◌==◌, ◌∷◌, true, All, IfOk, IsTrue, IsErrOf, bytes_eq, length, slice_get};
 ghost use Rattle.std.specs.Prelude.{option_copied, option_map};
 ghost use Rattle.std.specs.List.{list_any, slice_split};
-ghost use Rattle.condition_match.specs.Conditions.{names_in, names_left, is_name_byte, IsCondition, AreConditions};
+ghost use Rattle.node_spec.specs.Conditions.{names_in, is_name_byte, IsCondition, AreConditions};
+ghost use Rattle.condition_match.specs.Names.{names_left};
 
 use crate::cuts::cut_once;
 use primitives::{Listed, Text};
@@ -36,7 +37,7 @@ impl From<AllocError> for ConditionsFault {
 
 impl Model for Conditions {
     ghost use Rattle.std.specs.Prelude.{List, ℕ};
-    ghost use Rattle.condition_match.specs.Conditions.{AreConditions};
+    ghost use Rattle.node_spec.specs.Conditions.{AreConditions};
 
     ghost Value = { List (List ℕ) };
 

@@ -15,7 +15,7 @@ use Rattle.tree_spec.specs.declared.LimitName.TheVariants.{Entries}
 use Rattle.url_spec.proofs.Bases.{bases_stay}
 use Rattle.url_spec.proofs.PathDecisions.{path_by_test}
 use Rattle.url_spec.specs.Bases.{IsBase}
-use Rattle.condition_match.specs.Conditions.{AreConditions}
+use Rattle.node_spec.specs.Conditions.{AreConditions}
 use Rattle.trace_spec.specs.Modules.{Config}
 use Rattle.words_spec.specs.PlainWords.{Asked, Asks, LinkOptions, no_options, linking, unlinking, refreshing, checking}
 use Rattle.words_spec.specs.PlainWords.{listing, injecting, editing, measuring}

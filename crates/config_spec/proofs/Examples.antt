@@ -8,6 +8,7 @@ use Rattle.std.specs.List.{list_any}
 use Rattle.std.specs.Ordering.{nat_cmp}
 use Rattle.std.specs.Prelude.{codes, bytes_eq, nat_lt, Result, Ok, Err, if◌then◌else◌}
 use Rattle.std.proofs.lemmas.List.Elements.{All-head}
+use Rattle.std.proofs.lemmas.Map.Keys.{IsDistinct-head}
 use Rattle.tree_spec.proofs.ByteLists.{texts_differ}
 use Rattle.tree_spec.proofs.Insertion.{get_other}
 use Rattle.tree_spec.specs.Trees.{bare_tree, Tree}
@@ -18,7 +19,7 @@ use Rattle.url_spec.proofs.PathDecisions.{test_by_path}
 use Rattle.url_spec.specs.Bases.{base_of}
 use Rattle.url_spec.specs.PathTests.{is_path}
 use Rattle.url_spec.specs.WorkedExamples.{BaseExamples}
-use Rattle.condition_match.specs.Conditions.{AreConditions, IsCondition}
+use Rattle.node_spec.specs.Conditions.{AreConditions, IsCondition}
 use Rattle.trace_spec.specs.Modules.{Config}
 use Rattle.words_spec.proofs.ReadIsPlain.{read_is_plain}
 use Rattle.words_spec.specs.PlainWords.{Asked, no_options, linking, refreshing}
@@ -62,7 +63,7 @@ two_names =
     (record { nonempty = lit≤ tt; short = lit≤ tt; plain = refl; other = refl }) refl
 
 same_name : AreConditions (codes "a" ∷ codes "a" ∷ []) → ⊥
-same_name are = All-head (λ other. codes "a" ≢ other) (codes "a") [] are.distinct.0 refl
+same_name are = true≢false (IsDistinct-head bytes_eq (codes "a") (codes "a" ∷ []) are.distinct).0
 
 default_name : AreConditions (codes "default" ∷ []) → ⊥
 default_name are = (All-head IsCondition (codes "default") [] are.each).other refl

@@ -5,7 +5,7 @@ use Rattle.tree_spec.proofs.ByteLists.{text_same_or_not}
 use Rattle.tree_spec.proofs.DecidedTrees.{path_or_not}
 use Rattle.tree_spec.specs.Paths.{IsPath}
 use Rattle.url_spec.specs.Bases.{base_of}
-use Rattle.condition_match.specs.Conditions.{AreConditions, names_in}
+use Rattle.node_spec.specs.Conditions.{AreConditions, names_in}
 use Rattle.words_spec.specs.PlainWords.{LinkOptions}
 use Rattle.project_spec.proofs.SomeProject.{OrNot, conditions_or_not}
 use Rattle.config_spec.specs.Laws.{OptionsAreJudged}

@@ -4,8 +4,10 @@ use Rattle.std.specs.List.{list_all}
 use Rattle.std.specs.Prelude.{codes, bytes_eq}
 use Rattle.std.proofs.lemmas.Bool.{and_parts}
 use Rattle.std.proofs.lemmas.List.Elements.{All-nil, All-cons}
+use Rattle.std.proofs.lemmas.Map.Keys.{IsDistinct-cons}
 use Rattle.tree_spec.proofs.ByteLists.{texts_differ}
-use Rattle.condition_match.specs.Conditions.{is_name_byte, AreConditions, IsCondition}
+use Rattle.tree_spec.proofs.FootprintSets.{distinct_one}
+use Rattle.node_spec.specs.Conditions.{is_name_byte, AreConditions, IsCondition}
 
 plain_by_test : (name : List ℕ) → list_all is_name_byte name ≡ true → All (λ b. is_name_byte b ≡ true) name
 plain_by_test [] e = All-nil (λ b. is_name_byte b ≡ true)
@@ -32,12 +34,10 @@ pub two_conditions :
     (some other : List ℕ) → IsTested some → IsTested other → bytes_eq some other ≡ false
     → AreConditions (some ∷ other ∷ [])
 two_conditions some other is is_too e =
-    let last : All (λ name. other ≢ name) [] = All-nil (λ name. other ≢ name) in
     record {
       few = lit≤ tt;
       each =
           All-cons IsCondition some (other ∷ []) (tested some is)
           (All-cons IsCondition other [] (tested other is_too) (All-nil IsCondition));
-      distinct =
-          (All-cons (λ name. some ≢ name) other [] (texts_differ some other e) (All-nil (λ name. some ≢ name)), (last, tt));
+      distinct = IsDistinct-cons bytes_eq some (other ∷ []) (e, tt) (distinct_one other);
     }

@@ -9,7 +9,7 @@
 use Rattle.std.specs.Prelude.{◌≡◌, ◌≢◌, ℕ, List, codes, Option, Some, None}
 use Rattle.tree_spec.specs.Paths.{IsPath}
 use Rattle.url_spec.specs.Bases.{base_of}
-use Rattle.condition_match.specs.Conditions.{AreConditions, names_in}
+use Rattle.node_spec.specs.Conditions.{AreConditions, names_in}
 use Rattle.words_spec.specs.PlainWords.{Asked, Asks, LinkOptions, no_options, linking, unlinking, refreshing, checking}
 use Rattle.words_spec.specs.PlainWords.{listing, injecting, editing, measuring}
 use Rattle.config_spec.specs.declared.Command.{Command}

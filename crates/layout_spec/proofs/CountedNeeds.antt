@@ -1,15 +1,17 @@
 -- Needs that are counted: none is left out and none added, and each stands once.
-use Rattle.std.proofs.Common.{sym, subst, refl, ◌∙◌}
-use Rattle.std.proofs.lemmas.Bool.{and_parts, cases_Bool, cond-true, cond-false, and_from, or_parts, true≢false}
+use Rattle.std.proofs.Common.{sym, subst, refl, ap, ◌∙◌}
+use Rattle.std.proofs.lemmas.Bool.{and_parts, cases_Bool, cond-true, cond-false, and_from, true≢false}
 use Rattle.std.proofs.lemmas.List.Elements.{Contains-append_left, Contains-push, Contains-push_cases}
+use Rattle.std.proofs.lemmas.Map.Keys.{IsDistinct-push}
 use Rattle.std.proofs.lemmas.Map.Views.{Contains-from_any}
 use Rattle.std.proofs.lemmas.Slice.Eq.{bytes_eq-Decides}
-use Rattle.std.specs.List.{list_any}
-use Rattle.std.specs.Prelude.{◌≡◌, true, List, [], ◌∷◌, ◌++◌, if◌then◌else◌, Contains, ◌⊎◌, false}
+use Rattle.std.specs.Cmp.{IsEquivalence}
+use Rattle.std.specs.List.{list_any, IsDistinct}
+use Rattle.std.specs.Prelude.{◌≡◌, true, List, [], ◌∷◌, ◌++◌, if◌then◌else◌, Contains, ◌⊎◌, Bool, false}
 use mathlib.Core.Logic.{inl, inr}
 use Rattle.layout_spec.proofs.Contained.{contains_cases, contains_none, contains_here, contains_there}
 use Rattle.layout_spec.specs.Laws.{CountedKeeps, CountedOnce}
-use Rattle.layout_spec.specs.Needs.{is_need, counted_onto, AreDistinct, with_need}
+use Rattle.layout_spec.specs.Needs.{is_need, counted_onto, with_need}
 use Rattle.layout_spec.specs.declared.Need.{Need}
 
 pub same_need : (one other : Need) → one.referrer ≡ other.referrer → one.asked ≡ other.asked → one.target ≡ other.target → one ≡ other
@@ -73,33 +75,32 @@ counted_keeps needs need = (λ c. onto_keeps [] needs need (inr c), λ c. only (
 pub need_itself : (need : Need) → is_need need need ≡ true
 need_itself need = and_from _ _ (and_from _ _ ((bytes_eq-Decides need.referrer need.referrer).1 refl) ((bytes_eq-Decides need.asked need.asked).1 refl)) ((bytes_eq-Decides need.target need.target).1 refl)
 
-not_there : (need : Need) (needs : List Need) → list_any (is_need need) needs ≡ false → Contains needs need → ⊥
-not_there need [] e c = contains_none need c
-not_there need (first ∷ needs) e c =
-    let parts = or_parts (is_need need first) (list_any (is_need need) needs) e in
-    elim (contains_cases need first needs c) [
-      | inl same ↦ true≢false (sym (need_itself need) ∙ subst (λ other. is_need need other ≡ false) same parts.0)
-      | inr later ↦ not_there need needs parts.1 later
-    ]
+turned : (one other : Need) (here there : Bool) → is_need one other ≡ here → is_need other one ≡ there → here ≡ there
+turned one other true true _ _ = refl
+turned one other false false _ _ = refl
+turned one other true false e none = absurd (true≢false (sym (need_itself other) ∙ (ap (is_need other) (sym (need_by_test one other e)) ∙ none)))
+turned one other false true none e = absurd (true≢false (sym (need_itself one) ∙ (ap (is_need one) (sym (need_by_test other one e)) ∙ none)))
 
-pushed_distinct : (needs : List Need) (need : Need) → AreDistinct needs → (Contains needs need → ⊥) → AreDistinct (needs ++ need ∷ [])
-pushed_distinct [] need d n = ((λ c. contains_none need c), tt)
-pushed_distinct (first ∷ needs) need d n = (
-  (λ c. elim (Contains-push_cases needs need first c) [
-    | inl earlier ↦ d.0 earlier
-    | inr same ↦ n (subst (Contains (first ∷ needs)) (sym same) (contains_here first needs))
-  ]),
-  pushed_distinct needs need d.1 (λ c. n (contains_there need first needs c)),
-)
+-- `is_need` says that two needs are equal
+need_equiv : IsEquivalence is_need
+need_equiv = record {
+  refl = need_itself;
+  symm = λ one other. turned one other (is_need one other) (is_need other one) refl refl;
+  trans = λ one other third e e2. subst (λ need. is_need need third ≡ true) (sym (need_by_test one other e)) e2;
+}
 
-onto_distinct : (done more : List Need) → AreDistinct done → AreDistinct (counted_onto done more)
+onto_distinct : (done more : List Need) → IsDistinct is_need done → IsDistinct is_need (counted_onto done more)
 onto_distinct done [] d = d
 onto_distinct done (need ∷ more) d =
     onto_distinct (if list_any (is_need need) done then done else done ++ need ∷ []) more
     (elim (cases_Bool (list_any (is_need need) done)) [
-      | inl known ↦ subst AreDistinct (sym (cond-true _ done (done ++ need ∷ []) known)) d
-      | inr new ↦ subst AreDistinct (sym (cond-false _ done (done ++ need ∷ []) new)) (pushed_distinct done need d (not_there need done new))
+      | inl known ↦ subst (IsDistinct is_need) (sym (cond-true _ done (done ++ need ∷ []) known)) d
+      | inr new ↦ subst (IsDistinct is_need) (sym (cond-false _ done (done ++ need ∷ []) new)) (IsDistinct-push need_equiv done need d new)
     ])
 
+none_distinct : IsDistinct is_need []
+unfolding IsDistinct
+none_distinct = tt
+
 pub counted_once : CountedOnce
-counted_once needs = onto_distinct [] needs tt
+counted_once needs = onto_distinct [] needs none_distinct

@@ -1,9 +1,10 @@
 -- The laws of needs, layouts and printed maps. Each is the contract of a function of this crate.
 use Rattle.std.specs.Prelude.{◌↔◌, List, ◌∷◌, ◌++◌, Contains, ◌≡◌, ◌==◌, ℕ, false, Option, Some, Ok, All, IsUtf8}
+use Rattle.std.specs.List.{IsDistinct}
 use Rattle.import_map_spec.specs.ParsedMap.{ParsedMap}
 use Rattle.import_map_spec.specs.Parsing.{ParsesMap}
 use Rattle.layout_spec.specs.AgreedLayout.{IsAgreedLayout}
-use Rattle.layout_spec.specs.Needs.{counted, AreDistinct, NoClash, IsAskedByFile}
+use Rattle.layout_spec.specs.Needs.{counted, is_need, NoClash, IsAskedByFile}
 use Rattle.layout_spec.specs.Places.{places, above, IsPlace, AreShrinking}
 use Rattle.layout_spec.specs.PrintedMap.{map_text, IsKept}
 use Rattle.layout_spec.specs.Serving.{held, NoCapture, OfNeeds}
@@ -15,7 +16,7 @@ CountedKeeps = (needs : List Need) (need : Need) → Contains needs need ↔ Con
 
 -- own law: needs that are counted stand once each
 abbrev pub CountedOnce : Type 0
-CountedOnce = (needs : List Need) → AreDistinct (counted needs)
+CountedOnce = (needs : List Need) → IsDistinct is_need (counted needs)
 
 -- own law: the places of a referrer are itself, the folders above it and the top level
 abbrev pub PlacesByCases : Type 0

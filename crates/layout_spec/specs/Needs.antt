@@ -1,13 +1,12 @@
 -- Needs: who asks (by its URL), what for (the specifier as HTML normalizes it), and the URL that has to come of it.
 --     counted needs      each need once, at its first place
---     AreDistinct needs      no need stands twice
 --     NoClash needs      needs of one referrer and one specifier have one target
 --     IsAskedByFile need      the referrer is the URL of a file
 --     IsAsked asked      the text stands for itself at every base, and is no folder's
 --     NamesFiles need      referrer and target are URLs, what is asked for stands for itself, and neither the referrer
 --                          nor what is asked for is a folder's
 use Rattle.std.specs.List.{list_any}
-use Rattle.std.specs.Prelude.{Bool, ◌&&◌, not, bytes_eq, ℕ, List, [], ◌∷◌, ◌++◌, if◌then◌else◌, ◌≡◌, ◌≢◌, Contains, ⊤}
+use Rattle.std.specs.Prelude.{Bool, ◌&&◌, not, bytes_eq, ℕ, List, [], ◌∷◌, ◌++◌, if◌then◌else◌, ◌≡◌, ◌≢◌, Contains}
 use Rattle.std.specs.Prelude.{false}
 use Rattle.std.specs.Str.{IsUtf8}
 use Rattle.url_spec.specs.Parsing.{IsUrl}
@@ -41,11 +40,6 @@ abbrev pub NoClash : List Need → Type 0
 NoClash needs =
     (one other : Need) → Contains needs one → Contains needs other → one.referrer ≡ other.referrer
     → one.asked ≡ other.asked → one.target ≡ other.target
-
--- own: no need stands twice in the list
-abbrev pub AreDistinct : List Need → Type 0
-AreDistinct [] = ⊤
-AreDistinct (need ∷ more) = (Contains more need → ⊥) × AreDistinct more
 
 -- own: the referrer of a need is a URL, and no folder
 pub record IsAskedByFile (need : Need) : Type 0 where

@@ -1,5 +1,6 @@
 pub mod Resolution
 pub mod Records
+pub mod Conditions
 pub mod PackageTargets
 pub mod BareCalls
 pub mod PatternKeys

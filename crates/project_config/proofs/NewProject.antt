@@ -1,7 +1,7 @@
 -- The page and the conditions of a new project can be those of a config.
 use Rattle.std.proofs.Common.{◌≡◌, ◌≢◌, refl, ap}
 use Rattle.std.specs.Prelude.{ℕ, List, codes, length, Option, Some, None, unwrap_or}
-use Rattle.condition_match.specs.Conditions.{names_in, AreConditions}
+use Rattle.node_spec.specs.Conditions.{names_in, AreConditions}
 use Rattle.tree_spec.specs.Paths.{IsPath}
 use Rattle.command_words.specs.Settings.{IsFilePage}
 use Rattle.config_spec.specs.Projects.{page_path, link_conditions}

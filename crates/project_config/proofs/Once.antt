@@ -11,6 +11,7 @@ use Rattle.std.proofs.lemmas.List.Folds.{Any-from_list_any}
 use Rattle.std.proofs.lemmas.Map.Keys.{apart_from_distinct}
 use Rattle.indexmap.specs.IndexSet.{insert_key}
 use Rattle.tree_spec.proofs.FootprintSets.{distinct_none}
+use Rattle.condition_match.proofs.ConditionLemmas.{not_before}
 use Rattle.config_spec.specs.Projects.{once_onto}
 use Rattle.config_spec.proofs.Entries.{onto_distinct}
 
@@ -27,19 +28,6 @@ one_more xs i x text old new within is so_far same e =
     ∙ ap (once_onto []) (ap (λ y. take i xs ++ y ∷ []) is ∙ sym (take_more xs i x within))))
 
 -- ---- texts that are distinct
-
-not_before : (seen texts : List (List ℕ)) (text : List ℕ) → IsDistinct bytes_eq (seen ++ text ∷ texts) → list_any (bytes_eq text) seen ≡ true → ⊥
-not_before seen texts text distinct there =
-    let found = Any-from_list_any (bytes_eq text) seen there in
-    let all = seen ++ text ∷ texts in
-    let inside : found.0 < length seen = found.2 in
-    let long = length-append seen (text ∷ texts) in
-    let within : length seen < length all = omega arith in
-    let apart = apart_from_distinct bytes_eq all found.0 (length seen) found.1 distinct inside within in
-    let first : get_or all found.0 found.1 ≡ found.1 = get_or-append seen (text ∷ texts) found.1 found.0 inside ∙ found.3 in
-    let second : get_or all (length seen) found.1 ≡ text = get_or-append_seam seen text texts found.1 in
-    let differ : bytes_eq found.1 text ≡ false = (λ j. bytes_eq (sym first j) (sym second j)) ∙ apart in
-    true≢false (sym found.4 ∙ (nat_list_eq_equiv.symm text found.1 ∙ differ))
 
 all_put : (seen texts : List (List ℕ)) → IsDistinct bytes_eq (seen ++ texts) → once_onto seen texts ≡ seen ++ texts
 all_put seen [] distinct = sym (append-nil seen)

@@ -4,7 +4,7 @@ use Rattle.std.specs.List.{flat_map, slice_split}
 use Rattle.std.specs.Prelude.{◌↔◌, IsTrue, not}
 use Rattle.std.proofs.lemmas.List.Elements.{All-head, All-tail, All-weaker, All-from_get_or}
 use Rattle.condition_match.proofs.ConditionLemmas.{cut_there, cut_nowhere, names_of}
-use Rattle.condition_match.specs.Conditions.{is_name_byte, names_in, IsCondition, AreConditions}
+use Rattle.node_spec.specs.Conditions.{is_name_byte, names_in, IsCondition, AreConditions}
 use Rattle.project_file.specs.Names.{IsName, joined}
 
 abbrev behind_commas : List (List ℕ) → List ℕ

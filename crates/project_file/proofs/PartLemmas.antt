@@ -13,7 +13,7 @@ use Rattle.import_map_spec.specs.Parsing.{member}
 use Rattle.ordered_json.specs.Lists.{values_of}
 use Rattle.ordered_json.specs.Shown.{items_of, members_of}
 use Rattle.ordered_json.specs.declared.value.Value.{Value}
-use Rattle.condition_match.specs.Conditions.{names_in, AreConditions}
+use Rattle.node_spec.specs.Conditions.{names_in, AreConditions}
 use Rattle.trace_spec.specs.Modules.{Config}
 use Rattle.project_spec.proofs.OneProject.{same_members, same_parts, same_strings}
 use Rattle.project_spec.specs.ProjectFiles.{strings, HasParts, Describes, IsProject, Gives, a_project, no_json, deep_json, ReadsProject, reads_project}

@@ -12,7 +12,7 @@ use Rattle.json_spec.specs.Value.{Json, an_object, Items, Members}
 use Rattle.url_spec.specs.Bases.{base_of}
 use Rattle.ordered_json.specs.Lists.{values_of}
 use Rattle.ordered_json.specs.Shown.{items_of}
-use Rattle.condition_match.specs.Conditions.{AreConditions}
+use Rattle.node_spec.specs.Conditions.{AreConditions}
 use Rattle.trace_spec.specs.Modules.{Config}
 use Rattle.project_spec.specs.ProjectFiles.{strings, HasParts}
 use Rattle.project_file.specs.declared.parts.Written.{Written}

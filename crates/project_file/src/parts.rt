@@ -4,7 +4,7 @@ ghost use Rattle.url_spec.specs.Bases.{base_of};
 ghost use Rattle.import_map_spec.specs.Parsing.{member};
 ghost use Rattle.ordered_json.specs.Lists.{pairs_of, values_of};
 ghost use Rattle.ordered_json.specs.Shown.{json_of, items_of, members_of};
-ghost use Rattle.condition_match.specs.Conditions.{AreConditions};
+ghost use Rattle.node_spec.specs.Conditions.{AreConditions};
 ghost use Rattle.project_file.specs.Strings.{list_found, object_in, string_found};
 ghost use Rattle.project_file.specs.Parts.{HasNoParts, HoldsStrings, IsFilled, IsPage, IsWritten, NotWritten};
 ghost use Rattle.project_file.specs.Parts.{has_written};

@@ -1,5 +1,5 @@
 ghost use Rattle.std.specs.Prelude.{◌≡◌, ◌≤◌, ◌∷◌, ◌++◌, length, All, IfOk, IsUtf8, Ok, OnOk};
-ghost use Rattle.condition_match.specs.Conditions.{AreConditions};
+ghost use Rattle.node_spec.specs.Conditions.{AreConditions};
 ghost use Rattle.json_spec.specs.PrintedString.{quoted};
 ghost use Rattle.json_spec.specs.PrintedValue.{line, printed, printed_items};
 ghost use Rattle.json_spec.specs.Value.{a_list};

@@ -16,7 +16,7 @@ use Rattle.url_spec.proofs.Bases.{folder_kept}
 use Rattle.url_spec.proofs.OwnTexts.{utf8_url}
 use Rattle.url_spec.specs.Bases.{base_of, IsBase}
 use Rattle.url_spec.specs.Parsing.{parse_alone}
-use Rattle.condition_match.specs.Conditions.{is_name_byte, IsCondition}
+use Rattle.node_spec.specs.Conditions.{is_name_byte, IsCondition}
 use Rattle.trace_spec.specs.Modules.{Config}
 use Rattle.project_spec.specs.Laws.{ProjectsReadBack, ReadProjects}
 use Rattle.project_spec.specs.ProjectFiles.{strings, Describes, IsProject, a_project, reads_project, project_value, project_text}

@@ -18,7 +18,7 @@ use Rattle.url_spec.proofs.PathDecisions.{path_by_test, test_by_path}
 use Rattle.url_spec.specs.Bases.{base_of}
 use Rattle.url_spec.specs.PathTests.{is_path}
 use Rattle.import_map_spec.specs.Parsing.{member}
-use Rattle.condition_match.specs.Conditions.{is_name_byte, IsCondition, AreDistinct, AreConditions}
+use Rattle.node_spec.specs.Conditions.{is_name_byte, IsCondition, AreConditions}
 use Rattle.trace_spec.specs.Modules.{Config}
 use Rattle.project_spec.proofs.OneProject.{same_parts, same_members, same_strings}
 use Rattle.project_spec.specs.Laws.{SomeProject}
@@ -61,25 +61,6 @@ false_or_not false = inl refl
 
 -- ---- conditions and entries
 
-condition_or_not : (name : List ℕ) → OrNot (IsCondition name)
-condition_or_not name =
-    other_way
-    (λ is. record { nonempty = is.0; short = is.1.0; plain = is.1.1.0; other = is.1.1.1 })
-    (λ is. (is.nonempty, (is.short, (is.plain, is.other))))
-    (both (most_or_not 1 (length name)) (both (most_or_not (length name) 64) (both (all_or_not _ (λ b. true_or_not (is_name_byte b)) name) (not_so (text_same_or_not name (codes "default"))))))
-
-names_distinct_or_not : (names : List (List ℕ)) → OrNot (AreDistinct names)
-names_distinct_or_not [] = inl tt
-names_distinct_or_not (name ∷ names) =
-    both (all_or_not (λ other. name ≢ other) (λ other. not_so (text_same_or_not name other)) names) (names_distinct_or_not names)
-
-pub conditions_or_not : (names : List (List ℕ)) → OrNot (AreConditions names)
-conditions_or_not names =
-    other_way
-    (λ is. record { few = is.0; each = is.1.0; distinct = is.1.1 })
-    (λ are. (are.few, (are.each, are.distinct)))
-    (both (most_or_not (length names) 32) (both (all_or_not IsCondition condition_or_not names) (names_distinct_or_not names)))
-
 differs_or_not : (text : List ℕ) (texts : List (List ℕ)) → OrNot (AllByRecursion (λ other. bytes_eq text other ≡ false) texts)
 differs_or_not text [] = inl tt
 differs_or_not text (other ∷ texts) = both (false_or_not (bytes_eq text other)) (differs_or_not text texts)
@@ -88,6 +69,20 @@ distinct_or_not : (texts : List (List ℕ)) → OrNot (IsDistinct bytes_eq texts
 unfolding IsDistinct
 distinct_or_not [] = inl tt
 distinct_or_not (text ∷ texts) = both (differs_or_not text texts) (distinct_or_not texts)
+
+condition_or_not : (name : List ℕ) → OrNot (IsCondition name)
+condition_or_not name =
+    other_way
+    (λ is. record { nonempty = is.0; short = is.1.0; plain = is.1.1.0; other = is.1.1.1 })
+    (λ is. (is.nonempty, (is.short, (is.plain, is.other))))
+    (both (most_or_not 1 (length name)) (both (most_or_not (length name) 64) (both (all_or_not _ (λ b. true_or_not (is_name_byte b)) name) (not_so (text_same_or_not name (codes "default"))))))
+
+pub conditions_or_not : (names : List (List ℕ)) → OrNot (AreConditions names)
+conditions_or_not names =
+    other_way
+    (λ is. record { few = is.0; each = is.1.0; distinct = is.1.1 })
+    (λ are. (are.few, (are.each, are.distinct)))
+    (both (most_or_not (length names) 32) (both (all_or_not IsCondition condition_or_not names) (distinct_or_not names)))
 
 -- ---- the parts
 

@@ -18,7 +18,7 @@ use Rattle.json_spec.specs.Value.{Json, a_text, a_list, an_object, Items, no_ite
 use Rattle.json_spec.specs.Value.{a_member}
 use Rattle.url_spec.specs.Bases.{base_of, IsBase}
 use Rattle.import_map_spec.specs.Parsing.{member}
-use Rattle.condition_match.specs.Conditions.{AreConditions}
+use Rattle.node_spec.specs.Conditions.{AreConditions}
 use Rattle.trace_spec.specs.Modules.{Config}
 
 -- the values of a list of strings

@@ -1,6 +1,7 @@
 use Rattle.std.proofs.Common.{◌≡◌, ◌++◌, length}
 use Rattle.std.specs.Prelude.{option_map}
-use Rattle.condition_match.specs.Conditions.{names_in, names_left, AreConditions}
+use Rattle.node_spec.specs.Conditions.{names_in, AreConditions}
+use Rattle.condition_match.specs.Names.{names_left}
 use Rattle.condition_match.proofs.conditions.Conditions.parse.Given as goal
 
 abbrev pub invariant-loop-rest : goal.invariant-loop-rest

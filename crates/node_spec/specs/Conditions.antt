@@ -1,20 +1,16 @@
 -- Conditions as a text: names between commas.
 --     names_in text      the names of the text
+--     IsCondition name      this name can be a condition
 --     AreConditions names      these names can be conditions
-use Rattle.std.specs.Prelude.{◌≡◌, ◌≢◌, ◌<◌, ◌≤◌, ◌||◌, ◌==◌, ℕ, Bool, true, List, [], ◌∷◌, Option, Some, None, All}
-use Rattle.std.specs.Prelude.{length, codes}
-use Rattle.std.specs.List.{slice_split}
+use Rattle.std.specs.Prelude.{◌≡◌, ◌≢◌, ◌<◌, ◌≤◌, ◌||◌, ◌==◌, ℕ, Bool, true, List, [], ◌∷◌, All, length, codes}
+use Rattle.std.specs.Prelude.{bytes_eq}
+use Rattle.std.specs.List.{slice_split, IsDistinct}
 use Rattle.std.specs.Char.{is_ascii_alphanumeric}
 
 -- own: the names between commas; the empty text has none
 abbrev pub names_in : List ℕ → List (List ℕ)
 names_in [] = []
 names_in (b ∷ text) = slice_split (λ c. c == 44) (b ∷ text)
-
--- the names of what is left, if anything is
-abbrev pub names_left : Option (List ℕ) → List (List ℕ)
-names_left None = []
-names_left (Some text) = slice_split (λ b. b == 44) text
 
 abbrev pub is_name_byte : ℕ → Bool
 is_name_byte b = is_ascii_alphanumeric b || b == 45 || b == 95
@@ -26,12 +22,8 @@ pub record IsCondition (name : List ℕ) : Type 0 where
   pub plain : All (λ b. is_name_byte b ≡ true) name
   pub other : name ≢ codes "default"
 
-abbrev pub AreDistinct : List (List ℕ) → Type 0
-AreDistinct [] = Unit {0}
-AreDistinct (name ∷ names) = All (λ other. name ≢ other) names × AreDistinct names
-
 -- own: at most 32 names, none of them twice
 pub record AreConditions (names : List (List ℕ)) : Type 0 where
   pub few : length names ≤ 32
   pub each : All IsCondition names
-  pub distinct : AreDistinct names
+  pub distinct : IsDistinct bytes_eq names
