@@ -1,13 +1,13 @@
 -- Needs that are counted: none is left out and none added, and each stands once.
 use Rattle.std.proofs.Common.{sym, subst, refl, ap, ◌∙◌}
-use Rattle.std.proofs.lemmas.Bool.{and_parts, cases_Bool, cond-true, cond-false, and_from, true≢false}
+use Rattle.std.proofs.lemmas.Bool.{and_parts, cases_Bool, cond-true, cond-false, and_from}
 use Rattle.std.proofs.lemmas.List.Elements.{Contains-append_left, Contains-push, Contains-push_cases}
 use Rattle.std.proofs.lemmas.Map.Keys.{IsDistinct-push}
 use Rattle.std.proofs.lemmas.Map.Views.{Contains-from_any}
 use Rattle.std.proofs.lemmas.Slice.Eq.{bytes_eq-Decides}
-use Rattle.std.specs.Cmp.{IsEquivalence}
+use Rattle.std.specs.Cmp.{IsEquivalence, both_ways}
 use Rattle.std.specs.List.{list_any, IsDistinct}
-use Rattle.std.specs.Prelude.{◌≡◌, true, List, [], ◌∷◌, ◌++◌, if◌then◌else◌, Contains, ◌⊎◌, Bool, false}
+use Rattle.std.specs.Prelude.{◌≡◌, true, List, [], ◌∷◌, ◌++◌, if◌then◌else◌, Contains, ◌⊎◌, false}
 use mathlib.Core.Logic.{inl, inr}
 use Rattle.layout_spec.proofs.Contained.{contains_cases, contains_none, contains_here, contains_there}
 use Rattle.layout_spec.specs.Laws.{CountedKeeps, CountedOnce}
@@ -75,18 +75,15 @@ counted_keeps needs need = (λ c. onto_keeps [] needs need (inr c), λ c. only (
 pub need_itself : (need : Need) → is_need need need ≡ true
 need_itself need = and_from _ _ (and_from _ _ ((bytes_eq-Decides need.referrer need.referrer).1 refl) ((bytes_eq-Decides need.asked need.asked).1 refl)) ((bytes_eq-Decides need.target need.target).1 refl)
 
-turned : (one other : Need) (here there : Bool) → is_need one other ≡ here → is_need other one ≡ there → here ≡ there
-turned one other true true _ _ = refl
-turned one other false false _ _ = refl
-turned one other true false e none = absurd (true≢false (sym (need_itself other) ∙ (ap (is_need other) (sym (need_by_test one other e)) ∙ none)))
-turned one other false true none e = absurd (true≢false (sym (need_itself one) ∙ (ap (is_need one) (sym (need_by_test other one e)) ∙ none)))
+same_turned : (one other : Need) → is_need one other ≡ true → is_need other one ≡ true
+same_turned one other e = subst (λ need. is_need need one ≡ true) (need_by_test one other e) (need_itself one)
 
 -- `is_need` says that two needs are equal
 need_equiv : IsEquivalence is_need
 need_equiv = record {
   refl = need_itself;
-  symm = λ one other. turned one other (is_need one other) (is_need other one) refl refl;
-  trans = λ one other third e e2. subst (λ need. is_need need third ≡ true) (sym (need_by_test one other e)) e2;
+  symm = λ one other. both_ways (is_need one other) (is_need other one) (same_turned one other) (same_turned other one);
+  congr = λ one other third e. ap (λ need. is_need need third) (need_by_test one other e);
 }
 
 onto_distinct : (done more : List Need) → IsDistinct is_need done → IsDistinct is_need (counted_onto done more)
