@@ -1,4 +1,4 @@
-ghost use Rattle.std.specs.Prelude.{◌≡◌, ◌<◌, ◌≤◌, ◌∷◌, ◌++◌, ◌↔◌, length, Err, IfOk, OnOk, IsTrue, codes};
+ghost use Rattle.std.specs.Prelude.{◌≡◌, ◌<◌, ◌≤◌, ◌∷◌, ◌++◌, length, Err, IfOk, OnOk, MatchOption, codes};
 ghost use Rattle.tree_spec.specs.Limits.{limit_number};
 ghost use Rattle.tree_spec.specs.declared.LimitName.TheVariants.{Map};
 ghost use Rattle.map_print.specs.Sizes as sizes;
@@ -50,21 +50,24 @@ pub fn print_map(
     ensures too_large { result ≡ Err PrintFault.MapTooLarge
         → (m : ParsedMap) → Lists layout.now integrity.now m → limit_number Map < length (map_text m) }
 {
-    if !is_within_limit(layout, integrity) {
+    let Some(size) = size_within_limit(layout, integrity) else {
         return Err(PrintFault::MapTooLarge);
-    }
-    let mut out = Vec::new(alloc);
+    };
+    let mut out = Vec::with_capacity(alloc, size)?;
     push_map(&mut out, layout, integrity)?;
     Ok(out)
 }
 
-fn is_within_limit(layout: &Layout, integrity: &Mappings) -> bool
-    ensures { IsTrue result ↔ (sizes.map_size layout.now integrity.now ≤ limit_number Map) }
+// How many bytes the text has; None where that is more than may be printed.
+fn size_within_limit(layout: &Layout, integrity: &Mappings) -> Option<usize>
+    ensures { MatchOption result (limit_number Map < sizes.map_size layout.now integrity.now)
+        (λ size. size ≡ sizes.map_size layout.now integrity.now × size ≤ limit_number Map) }
 {
-    match map_size(layout, integrity) {
-        None => false,
-        Some(size) => size <= MOST_MAP_BYTES,
+    let size = map_size(layout, integrity)?;
+    if size > MOST_MAP_BYTES {
+        return None;
     }
+    Some(size)
 }
 
 fn push_map(out: &mut Vec<u8>, layout: &Layout, integrity: &Mappings) -> Result<(), Memory>

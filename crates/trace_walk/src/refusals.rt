@@ -12,10 +12,13 @@ use trace_spec::{AskCause, TraceFault};
 use tree_model::Path;
 use web_url::{Suffix, WebUrl};
 
-/// A path and a suffix as they are shown to a user.
+/// A path and a suffix as they are shown to a user. A path without one shares its text.
 pub fn shown(alloc: Global, path: &Path, suffix: &Suffix) -> Result<Text, Memory>
     ensures { IfOk result (λ text. text ≡ path.now ++ suffix.now) }
 {
+    if suffix.as_str().is_empty() {
+        return path.to_text(alloc);
+    }
     let mut shown = String::from_str(alloc, path.as_str())?;
     shown.push_str(suffix.as_str())?;
     Ok(Text::from_string(alloc, shown)?)

@@ -81,6 +81,13 @@ impl Path {
         self.text.as_str()
     }
 
+    /// The text, which shares the memory of this path.
+    pub fn to_text(&self, alloc: Global) -> Result<Text, Memory>
+        ensures { IfOk result (λ text. text ≡ self.now) }
+    {
+        self.text.copy(alloc)
+    }
+
     /// An equal path.
     pub fn copy(&self, alloc: Global) -> Result<Path, Memory>
         ensures same { IfOk result (λ copy. copy ≡ self.now) }
