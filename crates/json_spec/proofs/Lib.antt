@@ -1,4 +1,5 @@
 pub mod BracketCount
+pub mod NewNames
 pub mod Settled
 pub mod DistinctNames
 pub mod OneJson

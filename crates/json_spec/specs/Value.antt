@@ -1,9 +1,11 @@
 -- JSON values. RFC 8259, 3 to 7, with the members of an object in written order.
 --     Json, Items, Members      a value, the values of a list, the members of an object
 --     settled ms      an object's members, where its text writes ms
+--     names_of ms      the names of the members, in their order
 --     AreDistinct ms      no name stands twice among the members
 --     HasDistinctNames v      the same in each object of a value, at every level
-use Rattle.std.specs.Prelude.{ℕ, Bool, List, if◌then◌else◌, bytes_eq, ◌≢◌, ⊤}
+use Rattle.std.specs.Prelude.{ℕ, Bool, List, [], ◌∷◌, if◌then◌else◌, bytes_eq, ⊤}
+use Rattle.std.specs.List.{IsDistinct}
 
 mutual
   -- own: a number is its text, as it is written
@@ -38,13 +40,12 @@ settled_onto ms (a_member key value more) = settled_onto (put key value ms) more
 abbrev pub settled : Members → Members
 settled ms = settled_onto no_members ms
 
-abbrev pub IsNewName : List ℕ → Members → Type 0
-IsNewName name no_members = ⊤
-IsNewName name (a_member other value more) = (name ≢ other) × IsNewName name more
+abbrev pub names_of : Members → List (List ℕ)
+names_of no_members = []
+names_of (a_member name value more) = name ∷ names_of more
 
 abbrev pub AreDistinct : Members → Type 0
-AreDistinct no_members = ⊤
-AreDistinct (a_member name value more) = IsNewName name more × AreDistinct more
+AreDistinct members = IsDistinct bytes_eq (names_of members)
 
 abbrev mutual
   pub HasDistinctNames : Json → Type 0

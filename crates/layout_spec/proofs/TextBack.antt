@@ -1,15 +1,16 @@
 -- The text of a map is read as that map.
-use Rattle.tree_spec.proofs.ByteLists.{texts_differ}
 use Rattle.std.proofs.Common.{refl, ap, sym}
 use Rattle.std.specs.Char.{encode_utf8}
 use Rattle.std.specs.FinMap.{entries}
+use Rattle.std.specs.List.{IsDistinct}
 use Rattle.std.specs.Prelude.{ℕ, List, Option, Some, None, [], ◌∷◌, suc, ◌≡◌, false, bytes_eq, IsUtf8, codes, Ok}
+use Rattle.json_spec.proofs.NewNames.{IsNewName}
 use Rattle.json_spec.proofs.NoMarkup.{prints_no_markup}
 use Rattle.json_spec.proofs.PrintedUtf8.{text_utf8}
 use Rattle.json_spec.proofs.ReadBack.{values_read_back}
 use Rattle.json_spec.specs.Grammar.{most_depth}
 use Rattle.json_spec.specs.PrintedValue.{IsPrintable, MembersArePrintable}
-use Rattle.json_spec.specs.Value.{a_text, Members, no_members, a_member, IsNewName, AreDistinct}
+use Rattle.json_spec.specs.Value.{a_text, Members, no_members, a_member, AreDistinct}
 use Rattle.import_map_spec.proofs.Entries.{AllEntries, all_entries}
 use Rattle.import_map_spec.specs.ParsedMap.{Addresses, ParsedMap}
 use Rattle.import_map_spec.specs.Parsing.{as_map}
@@ -40,9 +41,10 @@ integrity_printable depth base (e ∷ es) k = (k.0.key_utf8, k.0.text_utf8, inte
 
 new_part : (key name : List ℕ) (part more : Members) → bytes_eq key name ≡ false → IsNewName key more → IsNewName key (with_part name part more)
 new_part key name no_members more e n = n
-new_part key name (a_member k v ms) more e n = (texts_differ key name e, n)
+new_part key name (a_member k v ms) more e n = (e, n)
 
 distinct_part : (name : List ℕ) (part more : Members) → IsNewName name more → AreDistinct more → AreDistinct (with_part name part more)
+unfolding IsDistinct
 distinct_part name no_members more n d = d
 distinct_part name (a_member k v ms) more n d = (n, d)
 
@@ -56,7 +58,7 @@ unfolding encode_utf8
 names_utf8 = ((codes "imports", (refl, refl)), (codes "scopes", (refl, refl)), (codes "integrity", (refl, refl)))
 
 map_printable : (depth : ℕ) (base : List ℕ) (m : ParsedMap) → IsKept base m → IsPrintable (suc (suc (suc depth))) (map_value m)
-unfolding map_value
+unfolding map_value IsDistinct
 map_printable depth base m k =
     let scopes = members_of addresses_value (entries m.scopes) in
     let integrity = members_of a_text (entries m.integrity) in

@@ -1,5 +1,6 @@
-ghost use Rattle.std.specs.Prelude.{◌≡◌, IsTrue, IsFalse, IfOk};
-ghost use Rattle.json_spec.specs.Value.{IsNewName, AreDistinct};
+ghost use Rattle.std.specs.Prelude.{◌≡◌, IsTrue, IfOk, bytes_eq};
+ghost use Rattle.std.specs.List.{list_any};
+ghost use Rattle.json_spec.specs.Value.{names_of, AreDistinct};
 ghost use Rattle.ordered_json.specs.Pairs.{weight_behind, weighed_names, IsBefore, Ascend};
 ghost use Rattle.ordered_json.specs.Shown.{members_of};
 
@@ -42,7 +43,7 @@ fn few_are_distinct(pairs: &[(Text, Value)]) -> bool
 }
 
 fn has_name(pairs: &[(Text, Value)], name: &Text) -> bool
-    ensures { IsFalse result → IsNewName name.now (members_of pairs.now) }
+    ensures { result ≡ list_any (bytes_eq name.now) (names_of (members_of pairs.now)) }
 {
     let mut rest = pairs;
     while let Some((pair, more)) = rest.split_first() {
