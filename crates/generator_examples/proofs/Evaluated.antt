@@ -13,7 +13,8 @@ use Rattle.trace_spec.specs.declared.TraceFault.{TraceFault}
 use Rattle.trace_spec.specs.declared.TraceFault.TheVariants.{Refused, Clash}
 use Rattle.trace_spec.specs.Modules.{Config}
 use Rattle.trace_spec.specs.Traces.{traced}
-use Rattle.generator_examples.specs.Sites.{Files, based, tree_of, spelling, spelling_all, levels, levels_all, site, site_all}
+use Rattle.node_spec.specs.NodeExamples.{Files}
+use Rattle.generator_examples.specs.Sites.{based, tree_of, spelling, spelling_all, levels, levels_all, site, site_all}
 use Rattle.generator_examples.specs.Sites.{kept, paged, missing, clashing}
 use Rattle.generator_examples.specs.Packages.{packages, packages_all}
 use Rattle.generator_examples.specs.Examples.{IsTraced}

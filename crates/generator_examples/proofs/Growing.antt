@@ -16,7 +16,8 @@ use Rattle.url_spec.proofs.PathDecisions.{segment_by_test, path_by_test}
 use Rattle.import_map_spec.proofs.Entries.{same_key, get_inserted}
 use Rattle.import_map_spec.proofs.examples.WrittenMaps.{looked, get_map_of}
 use Rattle.import_map_spec.specs.WrittenMaps.{insert_all}
-use Rattle.generator_examples.specs.Sites.{Files, tree_of, folder}
+use Rattle.node_spec.specs.NodeExamples.{Files, folder}
+use Rattle.generator_examples.specs.Sites.{tree_of}
 
 -- ---- the tests
 

@@ -24,7 +24,9 @@ use Rattle.config_spec.specs.declared.Command.TheVariants.{Link, Inject, Refresh
 use Rattle.config_spec.specs.declared.ConfigFault.{ConfigFault}
 use Rattle.config_spec.specs.declared.ConfigFault.TheVariants.{Project}
 use Rattle.config_spec.specs.declared.ProjectFault.TheVariants.{Absent}
-use Rattle.generator_examples.specs.Sites.{Files, tree_of, based, links, injects, refreshes, texts}
+use Rattle.node_spec.specs.BuiltinNames.{texts}
+use Rattle.node_spec.specs.NodeExamples.{Files}
+use Rattle.generator_examples.specs.Sites.{tree_of, based, links, injects, refreshes}
 
 abbrev based_options : String → LinkOptions
 based_options base = record { base = Some (codes base); page = None; conditions = None }

@@ -69,7 +69,8 @@ use Rattle.page_spec.specs.Pieces.{first_piece, Part, part, Pieces}
 use Rattle.page_spec.specs.Pieces.Pieces.{none, piece}
 use Rattle.std.specs.Str.{is_utf8, chars}
 use Rattle.soundness.proofs.Sound.{sound, modules_are_known}
-use Rattle.generator_examples.specs.Sites.{Files, tree_of, based, links, injects, refreshes, levels, spelling, spelling_all, spelling_map, site, site_all, site_map, kept, paged, paged_after, missing, kept_missing, clashing, app_project, two_project}
+use Rattle.node_spec.specs.NodeExamples.{Files}
+use Rattle.generator_examples.specs.Sites.{tree_of, based, links, injects, refreshes, levels, spelling, spelling_all, spelling_map, site, site_all, site_map, kept, paged, paged_after, missing, kept_missing, clashing, app_project, two_project}
 use Rattle.generator_examples.specs.Sites.{spelling_imports, site_imports, spelled_text, site_app_text, greet_text, id_text, home_text}
 use Rattle.generator_examples.specs.Packages.{app_text, b_text, menu_text, packages, packages_all, packages_imports, packages_map}
 use Rattle.generator_examples.proofs.ShortTexts.{behind, short_end, short_line}

@@ -16,7 +16,8 @@ use Rattle.trace_spec.specs.Traces.{traced}
 use Rattle.generator_spec.specs.Generation.{Generates}
 use Rattle.generator_spec.specs.Serves.{KnowsModules, Serves}
 use Rattle.generator_spec.specs.Outcome.{Outcome}
-use Rattle.generator_examples.specs.Sites.{Files, tree_of, file, based, links, injects, refreshes, levels, levels_all}
+use Rattle.node_spec.specs.NodeExamples.{Files, file}
+use Rattle.generator_examples.specs.Sites.{tree_of, based, links, injects, refreshes, levels, levels_all}
 use Rattle.generator_examples.specs.Sites.{spelling, spelling_all, spelling_map, site, site_all, site_map}
 use Rattle.generator_examples.specs.Sites.{app_project, kept, paged, paged_after, missing, kept_missing, clashing}
 use Rattle.generator_examples.specs.Traced.{TracedExamples}

@@ -5,7 +5,8 @@
 use Rattle.std.specs.Prelude.{ℕ, List, [], ◌∷◌, ◌++◌, codes}
 use Rattle.layout_spec.specs.WorkedExamples.{need, lines}
 use Rattle.trace_spec.specs.Checks.{Gathered}
-use Rattle.generator_examples.specs.Sites.{Files, folder, file, digest_line, map_end, module_at, spelled, source}
+use Rattle.node_spec.specs.NodeExamples.{Files, folder, file}
+use Rattle.generator_examples.specs.Sites.{digest_line, map_end, module_at, spelled, source}
 
 abbrev pub own_record : List ℕ
 own_record =

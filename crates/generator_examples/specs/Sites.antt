@@ -1,7 +1,5 @@
 -- Small sites that are written out, with what must come of them, typed by hand.
---     Files, tree_of files      paths with what stands there, and the tree of them
---     folder path, file path bytes      one of them
---     texts written             these texts
+--     tree_of files             the tree of these files
 --     digest_line front bytes back rest      a line with the digest of these bytes between two texts, and the rest
 --     based base asked          the config with this base and these entries, and the page `/index.html`
 --     links base asked, injects, refreshes      the words of a command, of `link` with this base and these entries
@@ -13,32 +11,22 @@
 --     levels_all, spelling_all, site_all      the tables of their traces
 --     spelling_map, site_map    the texts of their maps, which begin with spelling_imports, site_imports
 --     paged_after               the files of a site whose page has its map
-use Rattle.std.specs.Prelude.{ℕ, List, [], ◌∷◌, ◌++◌, map, codes}
+use Rattle.std.specs.Prelude.{ℕ, List, [], ◌∷◌, ◌++◌, codes}
 use Prim.Native.String.{String}
-use Rattle.tree_spec.specs.declared.Entry.{Entry}
-use Rattle.tree_spec.specs.declared.Entry.TheVariants.{Stored, Directory}
 use Rattle.tree_spec.specs.Trees.{Tree}
 use Rattle.json_spec.specs.PrintedString.{quoted}
 use Rattle.import_map_spec.specs.WrittenMaps.{map_of}
 use Rattle.integrity_spec.specs.DigestTexts.{digest_text}
+use Rattle.node_spec.specs.BuiltinNames.{texts}
+use Rattle.node_spec.specs.NodeExamples.{Files, file, folder}
 use Rattle.layout_spec.specs.WorkedExamples.{need, lines}
 use Rattle.trace_spec.specs.Modules.{Config, Module}
 use Rattle.trace_spec.specs.Questions.{Source}
 use Rattle.trace_spec.specs.Checks.{Gathered, Spelling}
 use Rattle.config_spec.specs.Projects.{link_conditions}
 
--- own: the list of a tree's entries
-abbrev pub Files : Type 0
-Files = List (List ℕ × Entry)
-
 abbrev pub tree_of : Files → Tree
 tree_of files = map_of files
-
-abbrev pub folder : String → List ℕ × Entry
-folder path = (codes path, Directory)
-
-abbrev pub file : String → List ℕ → List ℕ × Entry
-file path bytes = (codes path, Stored bytes)
 
 -- a line of a map's integrity, with the digest of a file's bytes, and what follows it; and what stands behind the last
 abbrev pub digest_line : String → List ℕ → String → List ℕ → List ℕ
@@ -46,9 +34,6 @@ digest_line front bytes back rest = codes front ++ (quoted (digest_text bytes) +
 
 abbrev pub map_end : List ℕ
 map_end = lines ("  }" ∷ "}" ∷ [])
-
-abbrev pub texts : List String → List (List ℕ)
-texts written = map (λ (text : String). codes text) written
 
 abbrev pub based : String → List String → Config
 based base asked = record {

@@ -18,7 +18,8 @@ use Rattle.trace_spec.specs.Checks.{Gathered}
 use Rattle.trace_spec.specs.Traces.{traced}
 use Rattle.generator_spec.specs.Lines.{trace_line}
 use Rattle.config_spec.specs.Projects.{page_path, link_conditions}
-use Rattle.generator_examples.specs.Sites.{Files, tree_of, folder, file, based}
+use Rattle.node_spec.specs.NodeExamples.{Files, folder, file}
+use Rattle.generator_examples.specs.Sites.{tree_of, based}
 
 abbrev pub says : Result Gathered TraceFault → List ℕ
 says (Ok all) = decimal (length all.modules) ++ (codes " modules, " ++ (decimal all.requests ++ codes " requests\n"))

@@ -10,8 +10,7 @@
 -- with_places a n    n places more at the end, empty, none of which gave a slot
 -- taken_from a s o   what is left where o was taken out from under s: the place of s is empty, or nothing changed
 use Rattle.std.specs.Prelude.{◌≡◌, ℕ, ◌+◌, ◌^◌, ◌<◌, ◌==◌, if◌then◌else◌, List, ◌++◌, length, get_or, slice_set}
-use Rattle.std.specs.Prelude.{replicate, Option, Some, None, refl}
-use Rattle.std.specs.Coded.{Coded, code_by, coded×, coded_list, coded_option, coded_ℕ}
+use Rattle.std.specs.Prelude.{replicate, Option, Some, None}
 use Rattle.slot_arena.specs.declared.slot.Slot.{Slot}
 
 pub record Place (X : Type 0) : Type 0 where
@@ -21,12 +20,6 @@ pub record Place (X : Type 0) : Type 0 where
 module _ {X : Type 0} where
   abbrev pub place : Option X → ℕ → Place X
   place v n = record { value = v; next = n }
-
-  -- the code by which a list of places lies in the logic's one type of values
-  abbrev pub places_code : Coded X → Coded (List (Place X))
-  places_code c =
-      coded_list (code_by (Option X × ℕ) (coded× (coded_option c) coded_ℕ) (λ p. (p.value, p.next))
-      (λ p. place p.0 p.1) (λ _. refl))
 
   abbrev pub place_at : List (Place X) → ℕ → Place X
   place_at a i = get_or a i (place None 0)

@@ -28,7 +28,8 @@ pub struct SlotArena<T> {
 
 impl<T> Model for SlotArena<T> {
     ghost use Rattle.std.specs.Prelude.{List, vec_capacity};
-    ghost use Rattle.slot_arena.specs.Slots.{Place, places_code};
+    ghost use Rattle.slot_arena.specs.Codes.{places_code};
+    ghost use Rattle.slot_arena.specs.Slots.{Place};
     ghost use Rattle.slot_arena.specs.Kept.{AreFields, paired};
 
     ghost Value = { List (Place T) };
