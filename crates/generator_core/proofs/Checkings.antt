@@ -33,12 +33,13 @@ use Rattle.generator_spec.specs.Commands.{Opens as opens, Refuses as refuses, Is
 use Rattle.config_spec.specs.Projects.{IsConfigOf}
 use Rattle.generator_spec.specs.Outcome.{ComesTo as comes, Outcome}
 use Rattle.generator_spec.specs.Ending.{IsDifference, IsDone, IsDone as done, Says, Ends, EndsAs, Shaped as shaped, Says as says}
-use Rattle.generator_core.specs.Configuring.{IsConfigAt}
+use Rattle.generator_spec.specs.Asked.{IsConfigAt}
 use Rattle.generation.specs.declared.stop.Stop.{Stop}
 use Rattle.generation.specs.declared.stop.Stop.TheVariants.{Refused, ReadFault, Memory}
 use Rattle.generation.specs.Generating.{Tracing}
 use Rattle.generator_core.specs.declared.checking.Report.{Report}
-use Rattle.generator_core.specs.Preparing.{EndsBefore, AsksOwn}
+use Rattle.generator_spec.specs.Asked.{AsksOwn}
+use Rattle.generator_core.specs.Preparing.{EndsBefore}
 use Rattle.generator_core.specs.Checking.{IsMapTextFound, FindsMapText, IsMapStop, FindsMap, IsReport, IsHeldAndTraced, IsReported, ChecksBy, Checks}
 use Rattle.generator_core.specs.Checking.{IsMapStop as map_stop}
 use Rattle.generator_core.proofs.Preparings.{earlier_end, own_asked, own_alone, own_then}

@@ -26,7 +26,7 @@ use Rattle.command_words.specs.Orders.{IsOrder, command_ordered, settings_ordere
 use Rattle.generator_spec.specs.declared.Refusal.TheVariants.{Config as Configured}
 use Rattle.generation.specs.declared.stop.Stop.{Stop}
 use Rattle.generation.specs.declared.stop.Stop.TheVariants.{Refused, ReadFault, Memory}
-use Rattle.generator_core.specs.Preparing.{AsksOwn}
+use Rattle.generator_spec.specs.Asked.{AsksOwn}
 use Rattle.generator_core.specs.Configuring.{CanBeHeld, StopsProject, StopsProject as stops_project, FindsProject, StopsConfig, StopsConfig as stops_config, FindsConfig}
 use Rattle.generator_core.proofs.Preparings.{own_asked}
 

@@ -52,9 +52,11 @@ use Rattle.generator_core.specs.declared.prepared.Prepared.{Prepared}
 use Rattle.command_words.specs.declared.fault.WordsFault.{WordsFault}
 use Rattle.command_words.specs.declared.fault.WordsFault.TheVariants as words_fault
 use Rattle.command_words.specs.Faults.{Explains}
-use Rattle.generator_core.specs.Configuring.{IsConfigAt, StopsConfig, StopsConfig as stops_config}
+use Rattle.generator_spec.specs.Asked.{IsConfigAt}
+use Rattle.generator_core.specs.Configuring.{StopsConfig, StopsConfig as stops_config}
 use Rattle.generator_core.specs.Preparing.{EndsBefore, IsPrepared, IsReady, shown_files}
-use Rattle.generator_core.specs.Writing.{AreSome, SaysWrite, TellsNoMeaning, TellsNoMeaning as tells_text, TellsStop, TellsWords, EndsWriting, SpendsFew}
+use Rattle.generator_spec.specs.Steps.{SpendsFew}
+use Rattle.generator_core.specs.Writing.{AreSome, SaysWrite, TellsNoMeaning, TellsNoMeaning as tells_text, TellsStop, TellsWords, EndsWriting}
 use Rattle.generator_core.specs.Writing.{SaysWrite as writes}
 
 pub written_is : (tree : Tree) (path bytes slice : List ℕ) (told : Option Tree) → ((after : Tree) × (told ≡ Some after) × Places tree path (Stored slice) after) → slice ≡ bytes → AreWritten tree (new_file path bytes ∷ []) told

@@ -36,7 +36,8 @@ use Rattle.generation.specs.declared.stop.Stop.TheVariants.{Refused, ReadFault, 
 use Rattle.generation.specs.Generating.{Generating, IsMapOfTree, AsksNoPathTwice, AsksFootprint}
 use Rattle.generator_core.specs.declared.prepared.Prepared.{Prepared}
 use Rattle.generator_core.specs.Preparing.{KeepsProject as keeps_project}
-use Rattle.generator_core.specs.Preparing.{own_file, AsksOwn, AsksFew, EndsBefore, IsPageFound, FindsPage, HasCounts, KeepsProject, AreMapFiles, IsPageFile, IsPrepared, IsReady, Prepares, map_files, shown_files}
+use Rattle.generator_spec.specs.Asked.{own_file, AsksOwn, AsksFew}
+use Rattle.generator_core.specs.Preparing.{EndsBefore, IsPageFound, FindsPage, HasCounts, KeepsProject, AreMapFiles, IsPageFile, IsPrepared, IsReady, Prepares, map_files, shown_files}
 
 -- ---- what is asked of the folder
 

@@ -18,9 +18,10 @@ use Rattle.generator_spec.specs.declared.Refusal.TheVariants as refusal
 use Rattle.generator_spec.specs.Commands.{NewFile}
 use Rattle.generator_spec.specs.Ending.{AreWritten, Ends}
 use Rattle.generator_spec.specs.Lines.{counts_line, memory_line, write_fault_line}
-use Rattle.generator_core.specs.Configuring.{AsksInOrder, AsksInOrder as asks_in_order, IsConfigAt}
+use Rattle.generator_spec.specs.Asked.{AsksInOrder, AsksInOrder as asks_in_order, IsConfigAt}
 use Rattle.generator_core.specs.declared.prepared.Prepared.{Prepared}
-use Rattle.generator_core.specs.Preparing.{AsksOwn, AsksFew, own_file, shown_files}
+use Rattle.generator_spec.specs.Asked.{AsksOwn, AsksFew, own_file}
+use Rattle.generator_core.specs.Preparing.{shown_files}
 use Rattle.generator_core.specs.Writing.{AreSome, EndsWriting, IsWriting, SaysWrite, SaysWrite as says_write, TellsNoMeaning, TellsNoMeaning as tells_text, TellsWords, WritesFiles, WritesFiles as writes_files}
 use Rattle.generator_core.proofs.Endings.{status_done, refusal_not_done, some_same}
 

@@ -23,7 +23,8 @@ use Rattle.generation.specs.declared.stop.Stop.{Stop}
 use Rattle.generation.specs.declared.stop.Stop.TheVariants.{Refused, Memory}
 use Rattle.generation.specs.Generating.{AsksNoPathTwice, AsksFootprint}
 use Rattle.generator_core.specs.declared.checking.Report.{Report}
-use Rattle.generator_core.specs.Preparing.{AsksOwn, AsksFew, EndsBefore}
+use Rattle.generator_spec.specs.Asked.{AsksOwn, AsksFew}
+use Rattle.generator_core.specs.Preparing.{EndsBefore}
 
 -- ---- the map's file
 

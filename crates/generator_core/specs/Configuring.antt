@@ -1,12 +1,9 @@
 -- How a command comes to its config.
 --     CanBeHeld outcome      what a file can give at the project's path
 --     FindsProject before result after      the project's file is read, or it is told why not
---     IsConfigAt words command config state      a told tree gives the words this config; whatever is told, they can
---                                                have it
 --     StopsConfig words before after stop      why there is no config
---     AsksInOrder words before old after      what the folder is asked for in the whole run
 --     FindsConfig words command before result after      the command has its config, or it is told why not
-use Rattle.std.specs.Prelude.{◌≡◌, ◌⊎◌, ◌≤◌, ◌++◌, [], ◌∷◌, ℕ, List, length, Option, Some, Result, Ok, Err}
+use Rattle.std.specs.Prelude.{◌≡◌, ◌≤◌, [], ◌∷◌, ℕ, List, length, Option, Some, Result, Ok, Err}
 use Rattle.std.specs.Prelude.{IfOk, IfErr, IfSome}
 use Rattle.tree_spec.specs.States.{FolderState, OnlyLooks}
 use Rattle.tree_spec.specs.declared.LimitName.TheVariants.{Entries}
@@ -17,12 +14,12 @@ use Rattle.config_spec.specs.declared.Command.{Command}
 use Rattle.config_spec.specs.declared.ConfigFault.{ConfigFault}
 use Rattle.config_spec.specs.declared.ConfigFault.TheVariants.{Project}
 use Rattle.config_spec.specs.declared.ProjectFault.{ProjectFault}
-use Rattle.config_spec.specs.Projects.{project_path, HoldsProject, IsReadFault, IsConfigOf, IsConfigFor}
+use Rattle.config_spec.specs.Projects.{project_path, HoldsProject, IsReadFault}
 use Rattle.config_spec.specs.Projects.{RefusesConfig, CanRefuseConfig}
 use Rattle.generator_spec.specs.declared.Refusal.TheVariants.{Config as Configured}
 use Rattle.generation.specs.declared.stop.Stop.{Stop}
 use Rattle.generation.specs.declared.stop.Stop.TheVariants.{Refused, ReadFault, Memory}
-use Rattle.generator_core.specs.Preparing.{AsksOwn, AsksFew, own_file}
+use Rattle.generator_spec.specs.Asked.{AsksOwn, IsConfigAt}
 
 -- a config can stand in a project's file, and a fault is one of reading
 pub record CanBeHeld (outcome : Result (Option Config) ProjectFault) : Type 0 where
@@ -51,10 +48,6 @@ pub record FindsProject (before : FolderState) (result : Result (Option Config) 
 
 -- ---- the config
 
-pub record IsConfigAt (words : List (List ℕ)) (command : Command) (config : Config) (state : FolderState) : Type 0 where
-  pub told : IfSome state.holds (λ tree. IsConfigOf words tree command config)
-  pub can : IsConfigFor words command config
-
 pub data StopsConfig (words : List (List ℕ)) (before after : FolderState) (stop : Stop) : Type 0 where
   refused :
       (fault : ConfigFault) → stop ≡ Refused (Configured fault)
@@ -73,15 +66,3 @@ pub record FindsConfig (words : List (List ℕ)) (command : Command) (before : F
   pub found : IfOk result (IsConfigured words command before after)
   pub asked : IfSome before.asked (λ old. AsksOwn (project_path ∷ []) old after)
   pub stopped : IfErr result (StopsConfig words before after)
-
--- ---- the whole run
-
--- the folder is asked for nothing; or for the project's path, or nothing yet, and where there is a config, for what its
--- command and the generation need
-pub data AsksInOrder (words : List (List ℕ)) (before : FolderState) (old : List (List ℕ))
-    (after : FolderState) : Type 0 where
-  own : AsksOwn (project_path ∷ []) old after → AsksInOrder words before old after
-  then :
-      (first : List (List ℕ)) → (first ≡ []) ⊎ (first ≡ project_path ∷ []) → (command : Command) (config : Config)
-      → IsConfigAt words command config before
-      → AsksFew config before.holds (own_file command config) (old ++ first) after → AsksInOrder words before old after

@@ -1,22 +1,15 @@
 -- How a command comes to what it writes.
---     own_file command config      the path of the file that the command needs before its trace
---     AsksOwn own old after      the folder was asked for these paths, or for nothing
---     AsksFew config holds own old after      and then for further paths, for none of them twice, which in a told tree
---                              are of the generation's footprint
 --     FindsPage config before result after      the page is read, or it is told why not
 --     shown_files prepared      the files that are to be written
 --     KeepsProject command keeps      whether the command writes the project beside the map
 --     AreMapFiles config keeps generated prepared      the files are the map that was generated, and the project
 --     IsPageFile config page generated prepared      the file is the page with that map
 --     Prepares command config before result after      the command has its file, or it is told why not
-use Rattle.std.specs.Prelude.{◌≡◌, ◌≤◌, ◌⊎◌, ◌++◌, [], ◌∷◌, ℕ, Bool, true, false, List, length, map, bytes_eq}
-use Rattle.std.specs.Prelude.{All, Contains}
-use Rattle.std.specs.Prelude.{Option, Some, Result, Ok, IfOk, IfErr, IfSome}
+use Rattle.std.specs.Prelude.{◌≡◌, ◌≤◌, [], ◌∷◌, ℕ, Bool, true, false, List, length, map}
+use Rattle.std.specs.Prelude.{Result, Ok, IfOk, IfErr, IfSome}
 use Rattle.std.specs.FinMap.{get}
-use Rattle.std.specs.List.{IsDistinct}
 use Rattle.tree_spec.specs.declared.LimitName.TheVariants.{Map}
 use Rattle.tree_spec.specs.Limits.{limit_number}
-use Rattle.tree_spec.specs.LookAskings.{footprint}
 use Rattle.tree_spec.specs.States.{FolderState, OnlyLooks}
 use Rattle.tree_spec.specs.Trees.{Tree}
 use Rattle.page_spec.specs.Injection.{Injection}
@@ -26,43 +19,20 @@ use Rattle.layout_spec.specs.Counting.{mapping_count}
 use Rattle.layout_spec.specs.PrintedMap.{map_text}
 use Rattle.trace_spec.specs.Checks.{Gathered}
 use Rattle.trace_spec.specs.Modules.{Config}
-use Rattle.trace_spec.specs.Traces.{traced, generation}
+use Rattle.trace_spec.specs.Traces.{traced}
 use Rattle.config_spec.specs.declared.Command.{Command}
-use Rattle.config_spec.specs.declared.Command.TheVariants.{Link, Unlink, Refresh, Inject, Check}
+use Rattle.config_spec.specs.declared.Command.TheVariants.{Link, Unlink, Refresh, Inject}
 use Rattle.generator_spec.specs.Commands.{IsPage, Refuses, IsRefusalOf, map_path, NewFile, new_file}
 use Rattle.generator_spec.specs.Commands.{map_and_project, Writes}
 use Rattle.generator_spec.specs.Generation.{PageIsFile}
 use Rattle.generator_spec.specs.Digests.{with_digests}
+use Rattle.generator_spec.specs.Asked.{AsksOwn, AsksFew, own_file}
 use Rattle.generation.specs.declared.generated.Generated.{Generated}
 use Rattle.generation.specs.declared.stop.Stop.{Stop}
 use Rattle.generation.specs.declared.stop.Stop.TheVariants.{ReadFault}
 use Rattle.generation.specs.Generating.{IfRefused}
 use Rattle.generator_core.specs.declared.prepared.Fresh.{Fresh}
 use Rattle.generator_core.specs.declared.prepared.Prepared.{Prepared}
-
--- ---- what is asked of the folder
-
-abbrev pub own_file : Command → Config → List (List ℕ)
-own_file Link config = []
-own_file Unlink config = []
-own_file Refresh config = []
-own_file Inject config = config.page ∷ []
-own_file Check config = map_path ∷ []
-
-pub record AsksOwn (own old : List (List ℕ)) (after : FolderState) : Type 0 where
-  pub first : List (List ℕ)
-  pub is_own : (first ≡ []) ⊎ (first ≡ own)
-  pub asked : after.asked ≡ Some (old ++ first)
-
--- own: the command's own file may be among the further paths too
-pub record AsksFew (config : Config) (holds : Option Tree) (own old : List (List ℕ))
-    (after : FolderState) : Type 0 where
-  pub first : List (List ℕ)
-  pub is_own : (first ≡ []) ⊎ (first ≡ own)
-  pub more : List (List ℕ)
-  pub asked : after.asked ≡ Some (old ++ (first ++ more))
-  pub once : IsDistinct bytes_eq more
-  pub of_footprint : IfSome holds (λ tree. All (Contains (footprint (get tree) (generation config))) more)
 
 -- ---- before the write
 

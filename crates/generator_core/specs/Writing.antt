@@ -3,11 +3,8 @@
 --     SaysWrite before after files done status line      what is said of the writes of the files
 --     TellsWords fault out out_after result      it is told why the words are refused
 --     TellsStop stop out out_after result      it is told why nothing is written
---     SpendsFew out out_after before after      the line of a map went out, with so many modules and requests that they
---                                               are no fewer than the steps
 --     EndsWriting prepared before after out out_after result      the file is written or not, and what is said went out
-use Rattle.std.specs.Prelude.{◌≡◌, ◌≤◌, ◌<◌, ◌+◌, ◌++◌, ℕ, Bool, true, false, List, length, take, Option, None, IfSome}
-use Rattle.std.specs.Prelude.{option_map}
+use Rattle.std.specs.Prelude.{◌≡◌, ◌≤◌, ◌<◌, ℕ, Bool, true, false, List, length, take, Option, None, IfSome}
 use Rattle.tree_spec.specs.Trees.{Tree}
 use Rattle.tree_spec.specs.Counts.{Rose}
 use Rattle.tree_spec.specs.States.{FolderState, SinkState}
@@ -88,11 +85,3 @@ pub record EndsWriting (prepared : Prepared) (before after : FolderState) (out o
   pub looks : after.look_faults ≡ before.look_faults
   pub writes : before.write_faults ≤ after.write_faults
   pub output : out.faults ≤ out_after.faults
-
--- own: a step for each module and for each request that the line tells, at most
-pub record SpendsFew (out out_after : SinkState) (before after : ℕ) : Type 0 where
-  pub modules : ℕ
-  pub requests : ℕ
-  pub mappings : ℕ
-  pub said : out_after.got ≡ option_map (λ front. front ++ counts_line modules requests mappings) out.got
-  pub few : after ≤ before + (modules + requests)

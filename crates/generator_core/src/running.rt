@@ -7,10 +7,11 @@ ghost use Rattle.config_spec.specs.Words.{IsCommandOf};
 ghost use Rattle.generator_spec.specs.Statuses.{done_status};
 ghost use Rattle.generator_spec.specs.Commands.{IsGenerating};
 ghost use Rattle.generator_spec.specs.Ending.{Ends, EndsAs, TellsRefusal};
+ghost use Rattle.generator_spec.specs.Asked.{IsConfigAt, AsksFew, AsksInOrder, own_file};
+ghost use Rattle.generator_spec.specs.Steps.{SpendsFew};
 ghost use Rattle.command_words.specs.Orders.{IsOrder, command_ordered};
-ghost use Rattle.generator_core.specs.Configuring.{IsConfigAt, AsksInOrder};
-ghost use Rattle.generator_core.specs.Preparing.{AsksFew, KeepsProject, own_file, shown_file};
-ghost use Rattle.generator_core.specs.Writing.{TellsStop, TellsWords, EndsWriting, SpendsFew, WritesFiles};
+ghost use Rattle.generator_core.specs.Preparing.{KeepsProject, shown_file};
+ghost use Rattle.generator_core.specs.Writing.{TellsStop, TellsWords, EndsWriting, WritesFiles};
 
 use crate::checking::checked;
 use crate::prepared::{Fresh, Prepared, prepare_map, prepare_page};

@@ -6,6 +6,8 @@ pub mod Serves
 pub mod Lines
 pub mod Checking
 pub mod Outcome
+pub mod Asked
+pub mod Steps
 pub mod Ending
 pub mod Promises
 pub mod Laws

@@ -1,8 +1,9 @@
 use Rattle.std.proofs.Common.{sym, subst, IfSome}
 use Rattle.tree_spec.proofs.ToldStates.{if_some}
 use Rattle.config_spec.specs.declared.Command.TheVariants.{Link, Unlink, Refresh}
-use Rattle.generator_core.specs.Configuring.{IsConfigAt}
-use Rattle.generator_core.specs.Preparing.{AsksFew, own_file, KeepsProject as keeps}
+use Rattle.generator_spec.specs.Asked.{IsConfigAt}
+use Rattle.generator_spec.specs.Asked.{AsksFew, own_file}
+use Rattle.generator_core.specs.Preparing.{KeepsProject as keeps}
 use Rattle.generator_core.proofs.running.commanded.Goals as goal
 
 pub returns-in-Link-clause-end : goal.returns-in-Link-clause-end

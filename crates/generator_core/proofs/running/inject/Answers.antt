@@ -1,6 +1,7 @@
 use Rattle.std.proofs.Common.{subst}
 use Rattle.config_spec.specs.declared.Command.TheVariants.{Inject}
-use Rattle.generator_core.specs.Preparing.{Prepares, own_file}
+use Rattle.generator_spec.specs.Asked.{own_file}
+use Rattle.generator_core.specs.Preparing.{Prepares}
 use Rattle.generator_core.proofs.Endings.{stop_end, write_end, stop_not_done, spends_few}
 use Rattle.generator_core.proofs.Preparings.{still_few}
 use Rattle.generator_core.proofs.running.inject.Goals as goal

@@ -1,7 +1,8 @@
 use Rattle.std.proofs.Common.{sym, subst}
 use Rattle.command_words.specs.Orders.{command_ordered}
 use Rattle.generator_spec.specs.Commands.{IsGenerating}
-use Rattle.generator_core.specs.Configuring.{AsksInOrder, FindsConfig, IsConfigAt}
+use Rattle.generator_spec.specs.Asked.{AsksInOrder, IsConfigAt}
+use Rattle.generator_core.specs.Configuring.{FindsConfig}
 use Rattle.generator_core.proofs.Endings.{config_stop_end, ends_from, stop_not_done}
 use Rattle.generator_core.proofs.Runs.{command_is, config_asks, config_still, for_all_words, project_asks}
 use Rattle.generator_core.proofs.running.ordered.Goals as goal

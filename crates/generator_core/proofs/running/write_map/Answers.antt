@@ -1,5 +1,6 @@
 use Rattle.std.proofs.Common.{subst}
-use Rattle.generator_core.specs.Preparing.{AsksFew, Prepares, own_file}
+use Rattle.generator_spec.specs.Asked.{AsksFew, own_file}
+use Rattle.generator_core.specs.Preparing.{Prepares}
 use Rattle.generator_core.proofs.Endings.{stop_end, write_end, stop_not_done, spends_few}
 use Rattle.generator_core.proofs.Preparings.{generates, still_few}
 use Rattle.generator_core.proofs.Runs.{for_all_words}

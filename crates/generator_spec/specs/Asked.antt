@@ -1,0 +1,56 @@
+-- What a run asks its folder for, where the folder tells it. own: no public standard speaks of it.
+--     own_file command config      the path of the file that the command needs before its trace
+--     AsksOwn own old after      the folder was asked for these paths, or for nothing
+--     AsksFew config holds own old after      and then for further paths, for none of them twice, which in a told tree
+--                              are of the generation's footprint
+--     IsConfigAt words command config state      a told tree gives the words this config; whatever is told, they can
+--                              have it
+--     AsksInOrder words before old after      what the folder is asked for in the whole run
+use Rattle.std.specs.Prelude.{◌≡◌, ◌⊎◌, ◌++◌, [], ◌∷◌, ℕ, List, bytes_eq, All, Contains, Option, Some, IfSome}
+use Rattle.std.specs.FinMap.{get}
+use Rattle.std.specs.List.{IsDistinct}
+use Rattle.tree_spec.specs.LookAskings.{footprint}
+use Rattle.tree_spec.specs.States.{FolderState}
+use Rattle.tree_spec.specs.Trees.{Tree}
+use Rattle.trace_spec.specs.Modules.{Config}
+use Rattle.trace_spec.specs.Traces.{generation}
+use Rattle.config_spec.specs.declared.Command.{Command}
+use Rattle.config_spec.specs.declared.Command.TheVariants.{Link, Unlink, Refresh, Inject, Check}
+use Rattle.config_spec.specs.Projects.{project_path, IsConfigOf, IsConfigFor}
+use Rattle.generator_spec.specs.Commands.{map_path}
+
+abbrev pub own_file : Command → Config → List (List ℕ)
+own_file Link config = []
+own_file Unlink config = []
+own_file Refresh config = []
+own_file Inject config = config.page ∷ []
+own_file Check config = map_path ∷ []
+
+pub record AsksOwn (own old : List (List ℕ)) (after : FolderState) : Type 0 where
+  pub first : List (List ℕ)
+  pub is_own : (first ≡ []) ⊎ (first ≡ own)
+  pub asked : after.asked ≡ Some (old ++ first)
+
+-- own: the command's own file may be among the further paths too
+pub record AsksFew (config : Config) (holds : Option Tree) (own old : List (List ℕ))
+    (after : FolderState) : Type 0 where
+  pub first : List (List ℕ)
+  pub is_own : (first ≡ []) ⊎ (first ≡ own)
+  pub more : List (List ℕ)
+  pub asked : after.asked ≡ Some (old ++ (first ++ more))
+  pub once : IsDistinct bytes_eq more
+  pub of_footprint : IfSome holds (λ tree. All (Contains (footprint (get tree) (generation config))) more)
+
+pub record IsConfigAt (words : List (List ℕ)) (command : Command) (config : Config) (state : FolderState) : Type 0 where
+  pub told : IfSome state.holds (λ tree. IsConfigOf words tree command config)
+  pub can : IsConfigFor words command config
+
+-- own: the folder is asked for nothing; or for the project's path, or nothing yet, and where there is a config, for
+-- what its command and the generation need
+pub data AsksInOrder (words : List (List ℕ)) (before : FolderState) (old : List (List ℕ))
+    (after : FolderState) : Type 0 where
+  own : AsksOwn (project_path ∷ []) old after → AsksInOrder words before old after
+  then :
+      (first : List (List ℕ)) → (first ≡ []) ⊎ (first ≡ project_path ∷ []) → (command : Command) (config : Config)
+      → IsConfigAt words command config before
+      → AsksFew config before.holds (own_file command config) (old ++ first) after → AsksInOrder words before old after
