@@ -13,7 +13,7 @@ use Rattle.url_spec.specs.Specifiers.{begins, is_relative, ends_in_slash}
 use Rattle.node_spec.specs.BuiltinNames.{is_builtin}
 use Rattle.node_spec.specs.EsmResolve.{judged, no_url, by_scheme, node}
 use Rattle.node_spec.specs.NodeAnswers.{Url, Module, Resolving, refuses}
-use Rattle.node_spec.specs.NodeLaws.{IsBare, AnsweredIsBare}
+use Rattle.node_spec.specs.Laws.{IsBare, AnsweredIsBare}
 use Rattle.node_spec.specs.PackageImportsResolve.{imports_resolve}
 use Rattle.node_spec.specs.PackageResolve.{package_resolve}
 use Rattle.node_spec.specs.declared.Cause.{Cause}

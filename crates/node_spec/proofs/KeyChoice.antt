@@ -11,7 +11,7 @@ use Rattle.url_spec.specs.Specifiers.{begins}
 use Rattle.node_spec.proofs.PatternChoice.{none_among}
 use Rattle.node_spec.proofs.PatternOrder.{precedes_before, before_through, never_before_itself, keys_are_in_order}
 use Rattle.node_spec.proofs.PatternParts.{no_exact_match, many_stars, same_pattern, no_pattern}
-use Rattle.node_spec.specs.NodeLaws.{FindsKey}
+use Rattle.node_spec.specs.Laws.{FindsKey}
 use Rattle.node_spec.specs.PatternKeyCompare.{KeyFound, star_count, pattern_base, pattern_trailer, fits, pattern_at, key_match, goes_before, better_key, with_key, first_key}
 use Rattle.node_spec.specs.PatternKeys.{HasNoStar, IsPattern, StartsWith, EndsWith, FitsPattern, KeyMatch, Itself, PatternMatch, Matches, Precedes, IsChoice, MatchesNone, GoesBefore}
 use Rattle.node_spec.specs.PatternKeys.Matches.{by_itself, by_pattern}

@@ -17,7 +17,7 @@ use Rattle.url_spec.specs.PathTests.{is_path}
 use Rattle.node_spec.specs.FileLooks.{look_at_text}
 use Rattle.node_spec.specs.LookupPackageScope.{scopes}
 use Rattle.node_spec.specs.Nearest.{Search, is_accepted, nearest_in, nearest, IsAtOrAbove, IsAccepted, IsDeepest, IsNearest, one_is, none_is}
-use Rattle.node_spec.specs.NodeLaws.{OneNearest, FindsPackageScope, FindsPackageFolder}
+use Rattle.node_spec.specs.Laws.{OneNearest, FindsPackageScope, FindsPackageFolder}
 use Rattle.node_spec.specs.PackageResolve.{packages, package_at}
 
 -- ---- looks at texts

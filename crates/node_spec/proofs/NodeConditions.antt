@@ -15,7 +15,7 @@ use Rattle.node_spec.specs.EsmResolve.{judged, no_url, by_scheme}
 use Rattle.node_spec.specs.Laws.{IsSameSet}
 use Rattle.node_spec.specs.LookupPackageScope.{package_scope}
 use Rattle.node_spec.specs.NodeAnswers.{Url, Refusal, Resolving}
-use Rattle.node_spec.specs.NodeLaws.{NodeConditionsAreASet}
+use Rattle.node_spec.specs.Laws.{NodeConditionsAreASet}
 use Rattle.node_spec.specs.PackageExportsResolve.{is_dotted, is_mixed_object, has_dotted, main_export, subpath_export, exported}
 use Rattle.node_spec.specs.PackageImportsExportsResolve.{Subpaths, at_key, by_key, keys_of}
 use Rattle.node_spec.specs.PackageImportsResolve.{bares_from, imported, imported_in, imported_at, imports_resolve}

@@ -17,7 +17,7 @@ use Rattle.node_spec.specs.EsmFileFormat.{file_format}
 use Rattle.node_spec.specs.EsmResolve.{judged, by_scheme, specifier_url, node}
 use Rattle.node_spec.specs.FileLooks.{without_host, check_url}
 use Rattle.node_spec.specs.NodeAnswers.{Module, Refusal, Resolving, as_node}
-use Rattle.node_spec.specs.NodeLaws.{OneNode, SomeNode, GivesFile, SameNode, SameFormat, RelativeNode}
+use Rattle.node_spec.specs.Laws.{OneNode, SomeNode, GivesFile, SameNode, SameFormat, RelativeNode}
 use Rattle.node_spec.specs.RelativeResolution.{judged_at, url_judged, named_path, joined_judged, relative_resolution}
 use Rattle.node_spec.specs.RelativeResolution.{entry_judged}
 use Rattle.node_spec.specs.Resolution.{Answer, Resolved, Refused, is_folder_path, joined_url}

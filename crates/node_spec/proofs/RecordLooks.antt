@@ -11,7 +11,7 @@ use Rattle.node_spec.proofs.NearestFolders.{text_sees}
 use Rattle.node_spec.proofs.OneRecord.{one_record}
 use Rattle.node_spec.specs.FileLooks.{look_at_text, is_file}
 use Rattle.node_spec.specs.LookupPackageScope.{package_json}
-use Rattle.node_spec.specs.NodeLaws.{RecordIsRead, FindsRecord, OneRecordAt}
+use Rattle.node_spec.specs.Laws.{RecordIsRead, FindsRecord, OneRecordAt}
 use Rattle.node_spec.specs.ReadPackageJson.{read_record, record_or_refusal, record_of_entry, IsRecordAt, no_file, from_file}
 use Rattle.node_spec.specs.Records.{ReadsRecord, reads_record, after_mark}
 

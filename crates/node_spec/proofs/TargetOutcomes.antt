@@ -9,7 +9,7 @@ use Rattle.url_spec.specs.Specifiers.{begins}
 use Rattle.node_spec.proofs.DecidingCall.{never_package}
 use Rattle.node_spec.proofs.SomeOutcome.{Found, silent, behind, found_text, found_first, found_last, found, found_items, found_members, sound, told}
 use Rattle.node_spec.specs.FileLooks.{url_in, check_url}
-use Rattle.node_spec.specs.NodeLaws.{FindsTarget, ExportsLookAtNothing}
+use Rattle.node_spec.specs.Laws.{FindsTarget, ExportsLookAtNothing}
 use Rattle.node_spec.specs.PackageTargetResolve.{Bares, Came, came, bare_comes, text_comes, after_item, after_member, target_comes, items_come, members_come, no_bares, target_url, last_found, package_target}
 use Rattle.node_spec.specs.PackageTargetResolve as resolve
 use Rattle.node_spec.specs.PackageTargets.{Rules, ResolvesTarget, with_match, names_package, has_index_key, is_tried, is_undefined, is_passed, last_of}

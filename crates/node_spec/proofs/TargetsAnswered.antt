@@ -8,7 +8,8 @@ use Rattle.node_spec.proofs.TargetsFollowed.{follows_target}
 use Rattle.node_spec.specs.BareCalls.{WasInvalid, IsDecided, by_found, by_stop, by_target}
 use Rattle.node_spec.specs.PackageTargetResolve.{Bares}
 use Rattle.node_spec.specs.PackageTargets.{Call}
-use Rattle.node_spec.specs.TargetCalls.{LookAnswers, Followed, no_call, a_call, a_stop, Answerer, GivesBare, a_value, a_limit, a_loss, Calls, TargetAnswered}
+use Rattle.node_spec.specs.Laws.{TargetAnswered}
+use Rattle.node_spec.specs.TargetCalls.{LookAnswers, Followed, no_call, a_call, a_stop, Answerer, GivesBare, a_value, a_limit, a_loss, Calls}
 use Rattle.node_spec.specs.declared.BareAnswer.{BareAnswer}
 use Rattle.node_spec.specs.declared.BareAnswer.TheVariants as bare_answer
 use Rattle.node_spec.specs.declared.Outcome.{Outcome}

@@ -13,7 +13,8 @@ use Rattle.node_spec.specs.PackageTargets.ResolvesItems.{no_item, decided, passe
 use Rattle.node_spec.specs.PackageTargets.ResolvesMembers.{no_member, untried, defined, undefined}
 use Rattle.node_spec.specs.PackageTargets.ResolvesTarget.{text_target, index_key, object_target, empty_list, list_target, null_target, bool_target, number_target}
 use Rattle.node_spec.specs.PackageTargets.ResolvesText.{own_place, bare, no_target}
-use Rattle.node_spec.specs.TargetCalls.{LookAnswers, Followed, no_call, a_call, a_stop, brings, FollowsTarget}
+use Rattle.node_spec.specs.Laws.{FollowsTarget}
+use Rattle.node_spec.specs.TargetCalls.{LookAnswers, Followed, no_call, a_call, a_stop, brings}
 use Rattle.node_spec.specs.declared.BareAnswer.{BareAnswer}
 use Rattle.node_spec.specs.declared.Outcome.{Outcome}
 use Rattle.node_spec.specs.declared.Outcome.TheVariants.{Undefined, Null, InvalidTarget, InvalidConfig}

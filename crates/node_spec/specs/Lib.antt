@@ -27,5 +27,4 @@ pub mod PackageImportsResolve
 pub mod EsmFileFormat
 pub mod EsmResolve
 pub mod TargetCalls
-pub mod NodeLaws
 pub mod NodeExamples

@@ -47,9 +47,3 @@ joined_judged (Some url) = if names_host url then answered (Refused InvalidSpeci
 
 abbrev pub relative_resolution : List ℕ → List ℕ → LookAsking Answer
 relative_resolution parent specifier = joined_judged (joined_url parent specifier)
-
--- law: in each tree the asking of a relative specifier comes to Node's answer
-abbrev pub FindsRelative : Type 0
-FindsRelative =
-    (tree : Tree) (parent specifier : List ℕ) → is_relative specifier ≡ true
-    → ResolvesRelative tree parent specifier (outcome (get tree) (relative_resolution parent specifier))

@@ -2,12 +2,11 @@
 --     Followed answers bares now last asked end      these calls lead from a state to this end; `last` is the answer so
 --         far
 --     brings out end            the target's outcome, where the calls end so
---     FollowsTarget T S X       what a target comes to by its calls is what it comes to as an asking
 --     Answerer T S X            what an object that answers bare texts keeps
 --     GivesBare answers bares before text answer after      one call of it
 --     Calls gives before asked after      these calls of an object, one after another
---     IsTargetAnswer, TargetAnswered T S X      what a target comes to as an asking, by what the object keeps behind
---         the calls
+--     IsTargetAnswer answers bares rules target before out after      what a target comes to as an asking, by what the
+--         object keeps behind the calls
 use Rattle.std.specs.Prelude.{◌≡◌, ℕ, Bool, true, false, List, [], ◌∷◌, Option, Some, None}
 use Rattle.asking_spec.specs.Evaluation.{Ended, ends, stopped, then_ended, Answers, evaluated}
 use Rattle.json_spec.specs.Value.{Json}
@@ -38,13 +37,6 @@ pub data Followed {T S X : Type 0} (answers : LookAnswers T S) (bares : Bares X)
 
 abbrev pub brings : {T S X : Type 0} → Outcome → Ended (Option X) T S → Ended (Came X) T S
 brings out end = then_ended end (λ last after. ends (came out last) after)
-
-abbrev pub FollowsTarget : Type 0 → Type 0 → Type 0 → Type 0
-FollowsTarget T S X =
-    (answers : LookAnswers T S) (bares : Bares X) (rules : Rules) (target : Json) (asked : List Call) (out : Outcome)
-    → ResolvesTarget rules target asked out
-    → (now : T) (last : Option X) (end : Ended (Option X) T S) → Followed answers bares now last asked end
-    → evaluated answers now (target_comes bares rules target last) ≡ brings out end
 
 -- ---- an object that answers the calls
 
@@ -88,10 +80,3 @@ pub record IsTargetAnswer {T S X : Type 0} (answers : LookAnswers T S) (bares : 
   pub limit :
       (stop : S) → after.lost ≡ false → after.stop ≡ Some stop
       → (at : T) × (evaluated answers before.state (target_comes bares rules target before.last) ≡ stopped stop at)
-
-abbrev pub TargetAnswered : Type 0 → Type 0 → Type 0 → Type 0
-TargetAnswered T S X =
-    (answers : LookAnswers T S) (bares : Bares X) (rules : Rules) (target : Json) (before : Answerer T S X)
-    (asked : List Call) (out : Outcome) (after : Answerer T S X) → before.stop ≡ None
-    → ResolvesTarget rules target asked out → Calls (GivesBare answers bares) before asked after
-    → IsTargetAnswer answers bares rules target before out after

@@ -9,13 +9,13 @@ ghost use Rattle.node_spec.specs.Laws.{PlacesBeginWithDotSlash, RecordNamesAreDi
 ghost use Rattle.node_spec.specs.Laws.{SomeChoice, SomeOutcome, SomeOutcomeInTurn, SomeRecord};
 ghost use Rattle.node_spec.specs.WorkedExamples.{WorkedExamples};
 ghost use Rattle.node_spec.specs.NodeExamples.{NodeExamples};
-ghost use Rattle.node_spec.specs.NodeLaws.{OneNode, SomeNode, GivesFile, SameNode, SameFormat, RelativeNode};
-ghost use Rattle.node_spec.specs.NodeLaws.{OneNearest, FindsPackageScope, FindsPackageFolder, FindsRecord};
-ghost use Rattle.node_spec.specs.NodeLaws.{OneRecordAt, RecordIsRead, FindsTarget, ExportsLookAtNothing};
-ghost use Rattle.node_spec.specs.NodeLaws.{FindsKey, NodeConditionsAreASet, AnsweredIsBare};
+ghost use Rattle.node_spec.specs.Laws.{OneNode, SomeNode, GivesFile, SameNode, SameFormat, RelativeNode};
+ghost use Rattle.node_spec.specs.Laws.{OneNearest, FindsPackageScope, FindsPackageFolder, FindsRecord};
+ghost use Rattle.node_spec.specs.Laws.{OneRecordAt, RecordIsRead, FindsTarget, ExportsLookAtNothing};
+ghost use Rattle.node_spec.specs.Laws.{FindsKey, NodeConditionsAreASet, AnsweredIsBare};
 ghost use Rattle.node_spec.specs.PatternExamples.{PatternExamples};
-ghost use Rattle.node_spec.specs.TargetCalls.{FollowsTarget, TargetAnswered};
-ghost use Rattle.node_spec.specs.RelativeResolution.{FindsRelative};
+ghost use Rattle.node_spec.specs.Laws.{FollowsTarget, TargetAnswered};
+ghost use Rattle.node_spec.specs.Laws.{FindsRelative};
 ghost use Rattle.node_spec.specs.RecordExamples.{RecordExamples};
 ghost use Rattle.node_spec.specs.TargetExamples.{TargetExamples};
 

@@ -16,7 +16,7 @@ use Rattle.module_spec.specs.declared.request.Request.{Request}
 use Rattle.module_spec.specs.Outlines.{Outline, ReadsOutline, most_requests}
 use Rattle.module_spec.specs.Tokens.{most_brackets}
 use Rattle.node_spec.specs.EsmFileFormat.{IsModule, IsDetected, file_format}
-use Rattle.node_spec.specs.NodeLaws.{IsBare}
+use Rattle.node_spec.specs.Laws.{IsBare}
 use Rattle.layout_spec.specs.declared.Need.{Need}
 use Rattle.layout_spec.specs.Needs.{NoClash}
 use Rattle.trace_spec.specs.declared.TraceFault.{TraceFault}
