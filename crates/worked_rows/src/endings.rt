@@ -1,6 +1,7 @@
 //! How a run may end of which one allocation fails.
 
-use crate::case::{APP_PROJECT, Case, LINK, NONE, PAIR, PAIR_MAP, fits, outcome_of};
+use crate::case::{Case, NONE, fits, outcome_of};
+use crate::package_site::{LINK_PACKAGES, PACKAGES, PACKAGES_LINE, PACKAGES_MAP, PACKAGES_PROJECT};
 use std::alloc::Global;
 use tree_model::PathFault;
 
@@ -9,19 +10,19 @@ static ENDINGS: [(&str, Case); 5] = [
     (
         "done",
         Case {
-            words: LINK,
-            files: PAIR,
+            words: LINK_PACKAGES,
+            files: PACKAGES,
             status: 0,
-            line: "ok: 2 modules, 2 requests, 0 mappings\n",
-            map: Some(PAIR_MAP),
-            project: Some(APP_PROJECT),
+            line: PACKAGES_LINE,
+            map: Some(PACKAGES_MAP),
+            project: Some(PACKAGES_PROJECT),
         },
     ),
     (
         "memory",
         Case {
-            words: LINK,
-            files: PAIR,
+            words: LINK_PACKAGES,
+            files: PACKAGES,
             status: 8,
             line: "memory\n",
             map: None,
@@ -32,8 +33,8 @@ static ENDINGS: [(&str, Case); 5] = [
     (
         "not written",
         Case {
-            words: LINK,
-            files: PAIR,
+            words: LINK_PACKAGES,
+            files: PACKAGES,
             status: 5,
             line: "fault: write\n",
             map: None,
@@ -43,11 +44,11 @@ static ENDINGS: [(&str, Case); 5] = [
     (
         "half written",
         Case {
-            words: LINK,
-            files: PAIR,
+            words: LINK_PACKAGES,
+            files: PACKAGES,
             status: 5,
             line: "fault: write\n",
-            map: Some(PAIR_MAP),
+            map: Some(PACKAGES_MAP),
             project: None,
         },
     ),
@@ -55,17 +56,17 @@ static ENDINGS: [(&str, Case); 5] = [
     (
         "not said",
         Case {
-            words: LINK,
-            files: PAIR,
+            words: LINK_PACKAGES,
+            files: PACKAGES,
             status: 5,
             line: "",
-            map: Some(PAIR_MAP),
-            project: Some(APP_PROJECT),
+            map: Some(PACKAGES_MAP),
+            project: Some(PACKAGES_PROJECT),
         },
     ),
 ];
 
-/// Runs the pair, and names the ending; "wrong" where it is none of them.
+/// Runs over packages, and names the ending; "wrong" where it is none of them.
 pub fn ending(alloc: Global) -> Result<&'static str, PathFault> {
     let outcome = outcome_of(alloc, &ENDINGS[0].1, &NONE)?;
     for (name, case) in &ENDINGS {

@@ -22,6 +22,7 @@ mod limit_rows;
 mod maps;
 #[cfg(test)]
 mod package_looks;
+mod package_site;
 #[cfg(test)]
 mod page_cases;
 #[cfg(test)]

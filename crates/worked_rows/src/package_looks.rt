@@ -1,42 +1,12 @@
-//! A run over packages of which each look fails in turn.
+//! Runs over packages of which each look and each write fails in turn.
 
-use crate::case::{MAP_PATH, PROJECT_PATH, ended, ends, put, stands};
+use crate::case::{Case, Fails, MAP_PATH, PROJECT_PATH, ended, ends, put, stands};
+use crate::faults::Fault;
+use crate::package_site::{LINK_PACKAGES, PACKAGES, PACKAGES_LINE, PACKAGES_MAP, PACKAGES_PROJECT};
+use crate::rows::passes;
 use std::alloc::Global;
 use std::test::Fail;
 use tree_model::{MemFolder, PathFault};
-
-const LINK_APP: &str = "link --base https://app.test/ ./app.js";
-
-/// Conditions, a pattern, a main file, a package's own name and its `imports`, and a package inside another.
-static FILES: [(&str, &str); 9] = [
-    (
-        "/package.json",
-        "{\"name\":\"me\",\"type\":\"module\",\"exports\":{\"./own.js\":\"./own.js\"},\"imports\":{\"#ui\":{\"node\":\"./own.js\",\"default\":\"ui\"}}}",
-    ),
-    (
-        "/app.js",
-        "import { h } from \"ui\"; import \"ui/x/menu\"; import \"me/own.js\"; import \"#ui\";",
-    ),
-    ("/own.js", "export const own = 0;"),
-    (
-        "/node_modules/ui/package.json",
-        "{\"name\":\"ui\",\"type\":\"module\",\"exports\":{\".\":{\"browser\":\"./b.js\",\"default\":\"./n.js\"},\"./x/*\":\"./x/*.js\"}}",
-    ),
-    ("/node_modules/ui/b.js", "export { h } from \"@ui/core\";"),
-    ("/node_modules/ui/n.js", "export const h = 0;"),
-    (
-        "/node_modules/ui/x/menu.js",
-        "import { h } from \"@ui/core\"; export default h;",
-    ),
-    (
-        "/node_modules/ui/node_modules/@ui/core/package.json",
-        "{\"name\":\"@ui/core\",\"main\":\"lib/index.mjs\"}",
-    ),
-    (
-        "/node_modules/ui/node_modules/@ui/core/lib/index.mjs",
-        "export const h = 1;",
-    ),
-];
 
 /// The paths at which the run looks, with their numbers: the project's file, and then by Node's rules for one request
 /// after another, each path once.
@@ -56,13 +26,62 @@ static LOOKS: [(u64, &str); 13] = [
     (13, "/node_modules/ui/x/node_modules/@ui/core"),
 ];
 
+/// The run writes the map and the project. Each of the two fails in turn, and so does the one that would come next.
+static WRITES: [Fault; 3] = [
+    Fault {
+        fails: Fails {
+            looks: &[],
+            writes: &[1],
+            gives: &[],
+        },
+        case: Case {
+            words: LINK_PACKAGES,
+            files: PACKAGES,
+            status: 5,
+            line: "fault: write\n",
+            map: None,
+            project: None,
+        },
+    },
+    Fault {
+        fails: Fails {
+            looks: &[],
+            writes: &[2],
+            gives: &[],
+        },
+        case: Case {
+            words: LINK_PACKAGES,
+            files: PACKAGES,
+            status: 5,
+            line: "fault: write\n",
+            map: Some(PACKAGES_MAP),
+            project: None,
+        },
+    },
+    Fault {
+        fails: Fails {
+            looks: &[],
+            writes: &[3],
+            gives: &[],
+        },
+        case: Case {
+            words: LINK_PACKAGES,
+            files: PACKAGES,
+            status: 0,
+            line: PACKAGES_LINE,
+            map: Some(PACKAGES_MAP),
+            project: Some(PACKAGES_PROJECT),
+        },
+    },
+];
+
 // Whether a run of which the look with this number fails ends so, and leaves no map and no project where it isn't done.
 fn says(alloc: Global, failing: u64, status: u8, line: &str) -> Result<bool, PathFault> {
     let mut folder = MemFolder::new(alloc, &[failing], &[])?;
-    for (path, text) in FILES.iter() {
+    for (path, text) in PACKAGES.iter() {
         put(alloc, &mut folder, path, text.as_bytes())?;
     }
-    let outcome = ended(alloc, LINK_APP, folder, &[])?;
+    let outcome = ended(alloc, LINK_PACKAGES, folder, &[])?;
     Ok(
         ends(&outcome, status, line)
             && (status == 0
@@ -77,7 +96,17 @@ fn each_look_fails_in_turn(rt: HostRuntime) -> Result<(), Fail> {
     for (number, path) in LOOKS.iter() {
         assert!(rt; says(alloc, *number, 4, "fault: read\n")?, "{path}");
     }
-    let line = "ok: 5 modules, 7 requests, 5 mappings\n";
-    assert!(rt; says(alloc, 14, 0, line)?, "no look is left");
+    assert!(rt; says(alloc, 14, 0, PACKAGES_LINE)?, "no look is left");
+    Ok(())
+}
+
+#[test]
+fn each_write_fails_in_turn(rt: HostRuntime) -> Result<(), Fail> {
+    for (number, fault) in WRITES.iter().enumerate() {
+        assert!(rt;
+            passes(rt.alloc(), &fault.case, &fault.fails)?,
+            "fault {number}"
+        );
+    }
     Ok(())
 }
