@@ -19,7 +19,8 @@ Options of link, before the entries, each at most once:
 
 Status:
   0  done
-  1  refused: an import leads to no module, or the page has no place for the map
+  1  refused: an import leads to no module, the page has no place for the map, or
+     unlink names what is no entry
   2  the words can't be used, or help was asked for
   3  a limit is passed
   4  reading failed
