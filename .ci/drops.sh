@@ -1,8 +1,8 @@
 #!/bin/sh
 # Lets each allocation fail in turn while values that count their drops are put into an arena and taken out again: each
-# must be dropped once, also where a growth finds no memory. The program of crates/arena_count first takes and gives back
-# as many pieces of memory as its second word says, so one build serves for all: allocation LAST fails, and a larger
-# number moves the failure to the front of the run. A bad access stops the program. Nothing is proved here.
+# must be dropped once, also where a growth finds no memory. The program of crates/arena_count first takes and gives
+# back as many pieces of memory as its second word says, so one build serves for all: allocation LAST fails, and a
+# larger number moves the failure to the front of the run. A bad access stops the program. Nothing is proved here.
 LAST=${1:-20}
 kept=$(mktemp -d) || exit 1
 trap 'rm -rf "$kept"' EXIT

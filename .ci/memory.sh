@@ -1,7 +1,8 @@
 #!/bin/sh
-# Lets each allocation of a run over two modules fail in turn, outside the gate. The program of crates/worked_rows is
-# that run. It first makes as many allocations as its input says, so one build serves for them all: allocation LAST
-# fails, and a smaller input moves the failure further back in the run. Prints how often the run ended in which way.
+# Lets each allocation of a run of `link` over packages fail in turn, outside the gate. The program of
+# crates/worked_rows is that run. It first makes as many allocations as its input says, so one build serves for them
+# all: allocation LAST fails, and a smaller input moves the failure further back in the run. Prints how often the run
+# ended in which way.
 LAST=${1:-1000}
 kept=$(mktemp -d) || exit 1
 trap 'rm -rf "$kept"' EXIT

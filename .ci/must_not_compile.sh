@@ -1,8 +1,8 @@
 #!/bin/sh
 # A view lends a graph, so a program that keeps one while the graph is changed must not compile. The program in
-# must-not-compile/view_is_kept.txt does so in four ways. In a copy of the crates it is tried twice: as it stands each of
-# its changes must be refused by the borrow checker, at the lines that say so and at no other; and without the lines that
-# use the view afterwards it must compile and run. Nothing is proved here.
+# must-not-compile/view_is_kept.txt does so in four ways. In a copy of the crates it is tried twice: as it stands each
+# of its changes must be refused by the borrow checker, at the lines that say so and at no other; and without the lines
+# that use the view afterwards it must compile and run. Nothing is proved here.
 cd "$(dirname "$0")/.." || exit 1
 text=must-not-compile/view_is_kept.txt
 kept=$(mktemp -d) || exit 1

@@ -1,6 +1,7 @@
 #!/bin/sh
 # Whole runs of build/salimgub in folders on disk: the status, the line, and the map where one is written, each typed by
-# hand; the digests are those of `openssl dgst -sha384`. Every row that fails is named; the status tells whether all passed.
+# hand; the digests are those of `openssl dgst -sha384`. Every row that fails is named; the status tells whether all
+# passed.
 program=$(cd "$(dirname "$0")/.." && pwd)/build/salimgub
 kept=$(mktemp -d) || exit 1
 trap 'rm -rf "$kept"' EXIT
@@ -23,8 +24,8 @@ project() {
 PROJECT
 }
 
-# Whether the folder $kept/NAME has a map and the project's file with one entry, where the status is 0, and neither where
-# it isn't: is_kept NAME ENTRY STATUS.
+# Whether the folder $kept/NAME has a map and the project's file with one entry, where the status is 0, and neither
+# where it isn't: is_kept NAME ENTRY STATUS.
 is_kept() {
     if [ "$3" = 0 ]; then
         [ -e "$kept/$1/importmap.json" ] && project "$2" | diff - "$kept/$1/importmap.project.json"
@@ -33,9 +34,9 @@ is_kept() {
     fi
 }
 
-# Links ENTRY in the folder $kept/NAME: row NAME ENTRY STATUS LINE [TOLD], and the map on the standard input. But for map
-# and project no file may be written, and without a map none. TOLD is what is said on standard error, which is nothing
-# without it.
+# Links ENTRY in the folder $kept/NAME: row NAME ENTRY STATUS LINE [TOLD], and the map on the standard input. But for
+# map and project no file may be written, and without a map none. TOLD is what is said on standard error, which is
+# nothing without it.
 row() {
     cat >"$kept/map"
     before=$(cd "$kept/$1" && find . | sort)
@@ -114,7 +115,8 @@ file() {
 file ui/package.json '{"type":"module","dependencies":{"ui":"1.0.0"}}'
 file ui/src/main.js 'import { h } from "ui"; import "ui/x/menu"; import "./style.js";'
 file ui/src/style.js ''
-file ui/node_modules/ui/package.json '{"name":"ui","type":"module","exports":{".":{"types":"./i.d.ts","browser":"./b.js","default":"./n.js"},"./x/*":"./x/*.js"}}'
+file ui/node_modules/ui/package.json '{"name":"ui","type":"module","exports":{'\
+'".":{"types":"./i.d.ts","browser":"./b.js","default":"./n.js"},"./x/*":"./x/*.js"}}'
 file ui/node_modules/ui/b.js 'export { h } from "@ui/core";'
 file ui/node_modules/ui/n.js 'export const h = 0;'
 file ui/node_modules/ui/x/menu.js 'import { h } from "@ui/core"; export default h;'
@@ -139,7 +141,8 @@ MAP
 
 # The first condition of the object that applies, in the order of the object.
 cp -R "$kept/ui" "$kept/order" && rm -f "$kept/order/importmap.json" "$kept/order/importmap.project.json"
-file order/node_modules/ui/package.json '{"name":"ui","type":"module","exports":{".":{"types":"./i.d.ts","default":"./n.js","browser":"./b.js"},"./x/*":"./x/*.js"}}'
+file order/node_modules/ui/package.json '{"name":"ui","type":"module","exports":{'\
+'".":{"types":"./i.d.ts","default":"./n.js","browser":"./b.js"},"./x/*":"./x/*.js"}}'
 row order ./src/main.js 0 'ok: 5 modules, 5 requests, 3 mappings' <<'MAP'
 {
   "imports": {
@@ -217,8 +220,10 @@ row data ./app.mjs 1 'refused: NotModule "/data.json" Json' </dev/null
 file builtin/app.mjs 'import "node:fs";'
 row builtin ./app.mjs 1 'refused: Builtin from "/app.mjs" for "node:fs"' </dev/null
 
-mkdir -p "$kept/package/node_modules/ui" && echo 'import "ui/x.mjs"; import "./node_modules/ui/x.mjs";' >"$kept/package/app.mjs" &&
-    echo '{"exports":{"./*":"./*"}}' >"$kept/package/node_modules/ui/package.json" && : >"$kept/package/node_modules/ui/x.mjs"
+mkdir -p "$kept/package/node_modules/ui" &&
+    echo 'import "ui/x.mjs"; import "./node_modules/ui/x.mjs";' >"$kept/package/app.mjs" &&
+    echo '{"exports":{"./*":"./*"}}' >"$kept/package/node_modules/ui/package.json" &&
+    : >"$kept/package/node_modules/ui/x.mjs"
 row package ./app.mjs 0 'ok: 2 modules, 3 requests, 1 mappings' <<'MAP'
 {
   "imports": {
@@ -231,15 +236,16 @@ row package ./app.mjs 0 'ok: 2 modules, 3 requests, 1 mappings' <<'MAP'
 }
 MAP
 
-mkdir -p "$kept/nearest/lib/node_modules/ui" "$kept/nearest/node_modules/ui" && echo 'import "ui";' >"$kept/nearest/lib/m.mjs" &&
+mkdir -p "$kept/nearest/lib/node_modules/ui" "$kept/nearest/node_modules/ui" &&
+    echo 'import "ui";' >"$kept/nearest/lib/m.mjs" &&
     echo '{"main":"./i.mjs"}' >"$kept/nearest/node_modules/ui/package.json" && : >"$kept/nearest/node_modules/ui/i.mjs"
 row nearest ./lib/m.mjs 1 'refused: NotFound from "/lib/m.mjs" for "ui"' </dev/null
 
 mkdir "$kept/unread" && printf 'import "./b.mjs' >"$kept/unread/app.mjs"
 row unread ./app.mjs 1 'refused: NotModule "/app.mjs" Unreadable at 7' </dev/null
 
-# Links ENTRIES, a space between each two, in the folder $kept/NAME: at NAME ENTRIES STATUS LINE. What the map says isn't
-# told; it is written exactly where the status is 0.
+# Links ENTRIES, a space between each two, in the folder $kept/NAME: at NAME ENTRIES STATUS LINE. What the map says
+# isn't told; it is written exactly where the status is 0.
 at() {
     rm -f "$kept/$1/importmap.json" "$kept/$1/importmap.project.json"
     (cd "$kept/$1" && "$program" link --base https://app.test/ $2 >"$kept/out")
@@ -259,7 +265,8 @@ at file ./app.mjs 0 'ok: 1 modules, 1 requests, 0 mappings'
 cp "$kept/file/app.mjs" "$kept/file/more.mjs" && printf ' ' >>"$kept/file/more.mjs"
 at file ./more.mjs 3 'limit: file above 16777216'
 
-# Sixteen names of a file with as many bytes as one may have: 268,435,456. One more byte, in a further file, is too many.
+# Sixteen names of a file with as many bytes as one may have: 268,435,456. One more byte, in a further file, is too
+# many.
 mkdir "$kept/bytes" && printf ' ' >"$kept/bytes/more.mjs"
 entries=
 for number in 0 1 2 3 4 5 6 7 8 9 10 11 12 13 14 15; do
@@ -270,8 +277,8 @@ at bytes "$entries" 0 'ok: 16 modules, 16 requests, 0 mappings'
 at bytes "$entries ./more.mjs" 3 'limit: bytes above 268435456'
 
 # From a folder 47 below the root, the name of a package is looked for in 48 folders, and its record and its module are
-# looked at: 50 looks for each of 7,999 packages. The two modules that ask for them, and the place of a record in each of
-# the 48 folders, are 50 more: 400,000. A third entry is one too many.
+# looked at: 50 looks for each of 7,999 packages. The two modules that ask for them, and the place of a record in each
+# of the 48 folders, are 50 more: 400,000. A third entry is one too many.
 mkdir "$kept/looks" && python3 - "$kept/looks" <<'TREE'
 import os
 import sys
@@ -300,8 +307,8 @@ deep=.$(printf '/a%.0s' $(seq 47))
 at looks "$deep/m0.mjs $deep/m1.mjs" 0 'ok: 8001 modules, 8001 requests, 7999 mappings'
 at looks "$deep/m0.mjs $deep/m1.mjs ./more.mjs" 3 'limit: looks above 400000'
 
-# Injects into the folder $kept/NAME, with a project of the entry ./app.mjs: page NAME STATUS LINE, and the page as it is
-# afterwards on the standard input.
+# Injects into the folder $kept/NAME, with a project of the entry ./app.mjs: page NAME STATUS LINE, and the page as it
+# is afterwards on the standard input.
 page() {
     cat >"$kept/wanted"
     project ./app.mjs >"$kept/$1/importmap.project.json"
@@ -309,7 +316,8 @@ page() {
     status=$?
     left=/dev/null
     [ ! -f "$kept/$1/index.html" ] || left=$kept/$1/index.html
-    if [ "$status" = "$2" ] && echo "$3" | diff - "$kept/out" && diff "$kept/wanted" "$left" && [ ! -e "$kept/$1/importmap.json" ]; then
+    if [ "$status" = "$2" ] && echo "$3" | diff - "$kept/out" && diff "$kept/wanted" "$left" &&
+        [ ! -e "$kept/$1/importmap.json" ]; then
         return
     fi
     echo "$1: status $status"
@@ -337,8 +345,8 @@ page folder 7 'bad file: page absent' </dev/null
 mkdir "$kept/cut" && printf '<head' >"$kept/cut/index.html" && : >"$kept/cut/app.mjs"
 page cut 1 'refused: PageUnclear at 0' <"$kept/cut/index.html"
 
-# Checks the map of the folder $kept/NAME, with a project of the entry ./app.mjs: checked NAME STATUS, and the lines on the
-# standard input. Nothing may be written.
+# Checks the map of the folder $kept/NAME, with a project of the entry ./app.mjs: checked NAME STATUS, and the lines on
+# the standard input. Nothing may be written.
 checked() {
     cat >"$kept/wanted"
     project ./app.mjs >"$kept/$1/importmap.project.json"
@@ -440,7 +448,8 @@ file start/node_modules/c/n.mjs ''
     "$program" link --base https://app.test/ --page /p/start.html --conditions=node,import ./app.mjs &&
     "$program" inject) >"$kept/out"
 if [ $? != 0 ] ||
-    ! printf '%s\n' 'ok: 2 modules, 2 requests, 1 mappings' 'ok: 2 modules, 2 requests, 1 mappings' | diff - "$kept/out" ||
+    ! printf '%s\n' 'ok: 2 modules, 2 requests, 1 mappings' 'ok: 2 modules, 2 requests, 1 mappings' |
+        diff - "$kept/out" ||
     ! diff "$kept/start/importmap.project.json" - <<'PROJECT' || ! diff "$kept/start/p/start.html" - <<'PAGE'; then
 {
   "base": "https://app.test/",

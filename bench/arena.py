@@ -3,7 +3,8 @@
 It runs crates/arena_count/out/arena_count, which `rt ci` or `rt run` in crates/arena_count leaves there. Inserting and
 removing in turn is measured beside the same on a vector of options with a list of free places, in the same program;
 looking at 200,000 values in an order without a pattern against a number of looks in a second; and the memory that
-values of 128 bytes take, which is about a module's, against their own size. Each sum that the program prints is checked.
+values of 128 bytes take, which is about a module's, against their own size. Each sum that the program prints is
+checked.
 """
 
 import os

@@ -121,8 +121,9 @@ def against_peer(name, run, peer, share, label):
         print(f"SKIP  {label}: {name} ended with status {peer.status}", flush=True)
     else:
         say(run.seconds <= share * peer.seconds,
-            f"{label}: {run.seconds:.3f} s, {run.seconds / peer.seconds:.3f} of {name}'s {peer.seconds:.3f} s, at most {share}"
-            f"; of processor time {run.processor:.3f} s, {run.processor / peer.processor:.3f} of {peer.processor:.3f} s")
+            f"{label}: {run.seconds:.3f} s, {run.seconds / peer.seconds:.3f} of {name}'s {peer.seconds:.3f} s, "
+            f"at most {share}; of processor time {run.processor:.3f} s, "
+            f"{run.processor / peer.processor:.3f} of {peer.processor:.3f} s")
 
 
 def esbuild(tree, tries):
@@ -155,7 +156,8 @@ def measure(shape, work, modules, slack, tries, peers):
     if shape is not trees.shared:
         sums = floor(whole, tries)
         say(twice.seconds <= max(4 * slack * sums.seconds, NOISE),
-            f"{label}: {twice.seconds / sums.seconds:.2f} times as long as sha384sum, {sums.seconds:.3f} s, at most {4 * slack}")
+            f"{label}: {twice.seconds / sums.seconds:.2f} times as long as sha384sum, {sums.seconds:.3f} s, "
+            f"at most {4 * slack}")
     if peers:
         label = f"{shape.__name__} of {modules // 2} modules"
         against_peer("esbuild", once, esbuild(half, tries), 0.5, label)
@@ -176,7 +178,8 @@ def measure_packages(work, count, slack, tries, peers):
                              f"{once.seconds:.3f} s, at most {12 * slack}")
     sums = floor(whole, tries)
     say(ten.seconds <= max(4 * slack * sums.seconds, NOISE),
-        f"{label}: {ten.seconds / sums.seconds:.2f} times as long as sha384sum, {sums.seconds:.3f} s, at most {4 * slack}")
+        f"{label}: {ten.seconds / sums.seconds:.2f} times as long as sha384sum, {sums.seconds:.3f} s, "
+        f"at most {4 * slack}")
     if peers:
         against_peer("esbuild", ten, esbuild(whole, tries), 0.5, label)
         against_peer("Node with es-module-lexer", ten, node(whole, tries), 0.1, label)

@@ -6,7 +6,8 @@ import { readFileSync, writeFileSync } from "node:fs";
 import { pathToFileURL } from "node:url";
 
 async function lexer() {
-  for (const name of ["es-module-lexer", "file:///usr/share/nodejs/es-module-lexer/dist/lexer.js", process.env.ES_MODULE_LEXER]) {
+  const installed = "file:///usr/share/nodejs/es-module-lexer/dist/lexer.js";
+  for (const name of ["es-module-lexer", installed, process.env.ES_MODULE_LEXER]) {
     try {
       return await import(name);
     } catch {

@@ -107,7 +107,8 @@ def many(size):
     return "import'a';" * (size // 10), "too many requests"
 
 
-HOSTILE = [words, names, long_names, nested, literal, escapes, braced_escapes, pairs, wide, digits, exports, metas, many]
+HOSTILE = [words, names, long_names, nested, literal, escapes, braced_escapes, pairs, wide, digits, exports, metas,
+           many]
 
 
 def best(shape, size, folder):
@@ -123,7 +124,8 @@ def peer(path):
         return None
     runs = []
     for _ in range(TRIES):
-        done = subprocess.run(["node", os.path.join(HERE, "node_lex.mjs"), path], capture_output=True, text=True, check=False)
+        done = subprocess.run(["node", os.path.join(HERE, "node_lex.mjs"), path], capture_output=True, text=True,
+                              check=False)
         if done.returncode != 0:
             return None
         runs.append(float(done.stdout.split()[0]))
@@ -141,7 +143,8 @@ def ordinary(folder):
     seconds, alone = min(mine), min(lexing)
     say(size / seconds >= SPEED, f"ordinary code: {seconds:.3f} s for {size} bytes, {size / seconds / 1e6:.0f} MB/s, "
                                  f"at least {SPEED / 1e6:.0f}")
-    say(alone / seconds >= PACE, f"its tokens alone: {alone:.3f} s, so {alone / seconds:.2f} of their pace, at least {PACE}")
+    say(alone / seconds >= PACE, f"its tokens alone: {alone:.3f} s, so {alone / seconds:.2f} of their pace, "
+                                 f"at least {PACE}")
     other = peer(path)
     if other is None:
         print("      no es-module-lexer: skipped")

@@ -1,8 +1,8 @@
 """Measures how fast the tokens of a module text are read, by processor time, and says PASS or FAIL to each target.
 
 It runs crates/token_count/out/token_count, which `rt ci` or `rt run` in crates/token_count leaves there. The times hold
-all that this program does: it starts, reads the file, sees that it is UTF-8, and then reads the tokens. The line that it
-prints is checked, against counts that come from how the text is made.
+all that this program does: it starts, reads the file, sees that it is UTF-8, and then reads the tokens. The line that
+it prints is checked, against counts that come from how the text is made.
 """
 
 import sys
@@ -165,7 +165,8 @@ def main():
         seconds, size = best(code, SIZE, folder)
         speed = size / seconds
         say(speed >= SPEED, f"ordinary code: {seconds:.3f} s for {size} bytes, {speed / 1e6:.0f} MB/s, "
-                            f"without the file {size / max(seconds - floor, 1e-9) / 1e6:.0f}, at least {SPEED / 1e6:.0f}")
+                            f"without the file {size / max(seconds - floor, 1e-9) / 1e6:.0f}, "
+                            f"at least {SPEED / 1e6:.0f}")
         for shape in HOSTILE:
             half, _ = best(shape, SIZE // 2, folder)
             whole, size = best(shape, SIZE, folder)

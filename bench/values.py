@@ -1,8 +1,8 @@
 """Measures how fast JSON is read, by processor time, and says PASS or FAIL to the target.
 
-It runs crates/value_count/out/value_count, which `rt ci` or `rt run` in crates/value_count leaves there, on the texts of
-json_texts.py. The times hold all that this program does but for freeing the value: it starts, reads the file, and then
-reads the text. The number of values that it prints is checked against what Python's reader finds. Beside each
+It runs crates/value_count/out/value_count, which `rt ci` or `rt run` in crates/value_count leaves there, on the texts
+of json_texts.py. The times hold all that this program does but for freeing the value: it starts, reads the file, and
+then reads the text. The number of values that it prints is checked against what Python's reader finds. Beside each
 stands Node's `JSON.parse` of the same text alone, where Node is installed.
 """
 
@@ -47,7 +47,8 @@ def seconds(path, wanted):
 
 
 def pace():
-    """Tells how fast the machine is at this moment, by a fixed loop: a virtual one may be twice as slow an hour later."""
+    """Tells how fast the machine is at this moment, by a fixed loop: a virtual one may be twice as slow an hour
+    later."""
     start = time.process_time()
     total = 0
     for i in range(5_000_000):
@@ -59,7 +60,8 @@ def beside(path, size):
     """Node's speed on the text, once."""
     if not shutil.which("node"):
         return ""
-    run = subprocess.run(["node", "--max-old-space-size=8192", "-e", NODE, path], check=False, capture_output=True, text=True)
+    run = subprocess.run(["node", "--max-old-space-size=8192", "-e", NODE, path], check=False, capture_output=True,
+                         text=True)
     return f"; Node {size / float(run.stdout) / 1e6:.0f} MB/s" if run.returncode == 0 else "; Node failed"
 
 
@@ -72,8 +74,8 @@ def written(text, path):
 
 
 def fastest(wanted):
-    """The fastest of a few runs over each text. Each round goes over all texts, so that a slow moment of the machine falls on
-    one run of several texts, and not on all runs of one."""
+    """The fastest of a few runs over each text. Each round goes over all texts, so that a slow moment of the machine
+    falls on one run of several texts, and not on all runs of one."""
     best = {}
     for _ in range(TRIES):
         for path, line in wanted.items():
@@ -98,7 +100,8 @@ def main():
         sys.exit("bench: there is no crates/value_count/out/value_count: run `rt run` in crates/value_count first")
     with tempfile.TemporaryDirectory(prefix="salimgub-values-") as folder:
         paths = {name: os.path.join(folder, f"{name}.json") for name in json_texts.TEXTS | json_texts.TOLD}
-        wanted = {paths[name]: written(text(), paths[name]) for name, text in (json_texts.TEXTS | json_texts.TOLD).items()}
+        texts = (json_texts.TEXTS | json_texts.TOLD).items()
+        wanted = {paths[name]: written(text(), paths[name]) for name, text in texts}
         pace()
         best = fastest(wanted)
         pace()

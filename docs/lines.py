@@ -1,9 +1,11 @@
 #!/usr/bin/env python3
-"""Prints the table of crates of architecture.md: `docs/lines.py [FOLDER]`, for the repository in that folder (else the one it lies in).
+"""Prints the table of crates of architecture.md: `docs/lines.py [FOLDER]`, for the repository in that folder (else the
+one it lies in).
 
-To believe: lines of `specs/` of the crates whose names end in `_spec`, without comments, blank lines and `use` lines: definitions,
-the statements of laws and of worked examples, and what else stands there. Words: the same of the other crates, whose contracts
-use them almost alone. Proofs: lines of `proofs/`. Code and tests: lines of `src/`. Edits: files of `must-fail/`.
+To believe: lines of `specs/` of the crates whose names end in `_spec`, without comments, blank lines and `use` lines:
+definitions, the statements of laws and of worked examples, and what else stands there. Words: the same of the other
+crates, whose contracts alone use them. Proofs: lines of `proofs/`. Code and tests: lines of `src/`. Edits: files of
+`must-fail/`.
 """
 import pathlib
 import re
