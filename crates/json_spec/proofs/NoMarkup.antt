@@ -2,7 +2,7 @@
 use Rattle.std.proofs.Common.{ap, arith, refl, sym, ◌∙◌}
 use Rattle.std.proofs.lemmas.Bool.{cond_both, or_cases, or_parts, ltb-true, eqb-true, ne_eqb, true≢false}
 use Rattle.std.proofs.lemmas.List.Elements.{All-nil, All-cons, All-append, All-weaker}
-use Rattle.std.specs.Prelude.{ℕ, ◌<◌, List, ◌∷◌, ◌+◌, nat_lt, ◌/◌, ◌%◌, ◌||◌, ◌==◌, ◌++◌, ◌≡◌, [], true, zero, suc, codes, false, All}
+use Rattle.std.specs.Prelude.{ℕ, List, ◌∷◌, ◌+◌, nat_lt, ◌/◌, ◌%◌, ◌||◌, ◌==◌, ◌++◌, ◌≡◌, [], true, zero, suc, codes, false, All}
 use mathlib.Core.Logic.{inl, inr}
 use Rattle.json_spec.specs.Numbers.{IsNumber}
 use Rattle.json_spec.proofs.NumberBack.{is_number_byte, IsNumberByte, number_bytes}

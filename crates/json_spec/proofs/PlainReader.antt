@@ -1,32 +1,22 @@
--- A plain reader: each text has an outcome. Its first argument bounds how many bytes it reads.
+-- The plain reader answers what the grammar has, and each text has one outcome.
+use Rattle.json_spec.proofs.OneJson.{one_json}
 use Rattle.json_spec.proofs.Shorter.{piece_at_most, AtMost, more_room, escape_at_most, Below, space_at_most, less_room, scalar_below}
 use Rattle.tree_spec.proofs.ByteLists.{no_utf8_text}
-use Rattle.std.proofs.Common.{refl, arith}
+use Rattle.std.proofs.Common.{refl, subst, arith}
 use Rattle.std.proofs.lemmas.Bool.{eqb-true, eqb-false, ltb-true, ltb-false}
 use Rattle.std.proofs.lemmas.Str.{IsUtf8-from_is_utf8}
-use Rattle.std.specs.Prelude.{ℕ, Bool, true, false, List, [], ◌∷◌, nat_lt, ◌==◌, zero, suc, length, ◌≡◌, ◌≤◌, ◌≢◌, ◌<◌, if◌then◌else◌, Result}
+use Rattle.std.specs.Prelude.{ℕ, Bool, true, false, List, [], ◌∷◌, nat_lt, ◌==◌, zero, suc, length, ◌≡◌, ◌≤◌, ◌≢◌, ◌<◌, if◌then◌else◌}
 use Rattle.std.specs.Str.{is_utf8}
-use Rattle.json_spec.specs.Grammar.{Reading, after_space, fault_here, text_behind, colon_at, ReadsName, name_text, no_name, name_ends, Member, paired, a_pair, behind_member, behind_item, ReadsMember, member_value, member_name, MoreMembers, members_close, members_next, members_fault, members_other, members_end, ReadsMembers, no_member, first_member, member_fault, object_ends, MoreItems, items_close, items_next, items_fault, items_other, items_end, ReadsItems, no_item, first_item, item_fault, list_ends, scalar_at, as_object, as_list, as_text, TooDeep, ReadsWith, reads_text, reads_list, reads_object, reads_scalar, value_ends, IsTooDeep, Reads, Fault, most_depth, whole_text, with_offset, ReadsJson, json_text}
+use Rattle.json_spec.specs.Grammar.{Reading, after_space, fault_here, text_behind, colon_at, ReadsName, name_text, no_name, name_ends, Member, paired, a_pair, behind_item, ReadsMember, member_value, member_name, MoreMembers, members_close, members_next, members_fault, members_other, members_end, ReadsMembers, no_member, first_member, member_fault, object_ends, MoreItems, items_close, items_next, items_fault, items_other, items_end, ReadsItems, no_item, first_item, item_fault, list_ends, as_object, as_list, as_text, ReadsWith, reads_text, reads_list, reads_object, reads_scalar, value_ends, IsTooDeep, Reads, most_depth, ReadsJson, json_text}
+use Rattle.json_spec.specs.Laws.{JsonIsRead}
+use Rattle.json_spec.specs.PlainReader.{text_plain, text_escape, text_quote, read_text, checked, string_of, read_string, name_at}
+use Rattle.json_spec.specs.PlainReader.{read_name, read_member, behind_pair, members_comma, members_brace, more_members}
+use Rattle.json_spec.specs.PlainReader.{first_members, read_members, items_comma, items_bracket, more_items, first_items}
+use Rattle.json_spec.specs.PlainReader.{read_items, value_object, value_list, value_text, read_with, too_deep, read_value}
+use Rattle.json_spec.specs.PlainReader.{read_json}
 use Rattle.json_spec.specs.Strings.{escape_at, ReadsText, close, plain, escape, no_escape, control, text_ends, ReadsString, in_utf8, no_utf8, no_string}
 use Rattle.json_spec.specs.Taken.{refused, Read, behind_piece, and_then, taken}
-use Rattle.json_spec.specs.Value.{Json, Members, no_members, Items, no_items}
-
-abbrev text_plain : (List ℕ → Read (List ℕ)) → ℕ → List ℕ → Bool → Read (List ℕ)
-text_plain next b bytes true = refused tt
-text_plain next b bytes false = behind_piece (b ∷ []) (next bytes)
-
-abbrev text_escape : (List ℕ → Read (List ℕ)) → ℕ → List ℕ → Bool → Read (List ℕ)
-text_escape next b bytes true = and_then (escape_at bytes) (λ piece middle. behind_piece piece (next middle))
-text_escape next b bytes false = text_plain next b bytes (nat_lt b 32)
-
-abbrev text_quote : (List ℕ → Read (List ℕ)) → ℕ → List ℕ → Bool → Read (List ℕ)
-text_quote next b bytes true = taken [] bytes
-text_quote next b bytes false = text_escape next b bytes (b == 92)
-
-abbrev pub read_text : ℕ → List ℕ → Read (List ℕ)
-read_text zero bytes = refused tt
-read_text (suc n) [] = refused tt
-read_text (suc n) (b ∷ bytes) = text_quote (λ more. read_text n more) b bytes (b == 34)
+use Rattle.json_spec.specs.Value.{Json, Members, Items}
 
 abbrev SoundText : List ℕ → Read (List ℕ) → Type 0
 SoundText bytes out = ReadsText bytes out × AtMost (length bytes) out
@@ -57,17 +47,6 @@ text_sound zero bytes l = absurd (omega arith)
 text_sound (suc n) [] l = (text_ends, tt)
 text_sound (suc n) (b ∷ bytes) l = quote_sound (λ more. read_text n more) b bytes (λ more m. text_sound n more (omega arith)) (b == 34) refl
 
-abbrev checked : Bool → List ℕ → List ℕ → Read (List ℕ)
-checked true text rest = taken text rest
-checked false text rest = refused tt
-
-abbrev string_of : Read (List ℕ) → Read (List ℕ)
-string_of (taken text rest) = checked (is_utf8 text) text rest
-string_of (refused e) = refused e
-
-abbrev read_string : ℕ → List ℕ → Read (List ℕ)
-read_string n bytes = string_of (read_text n bytes)
-
 abbrev SoundString : List ℕ → Read (List ℕ) → Type 0
 SoundString bytes out = ReadsString bytes out × AtMost (length bytes) out
 
@@ -83,14 +62,6 @@ string_sound : (n : ℕ) (bytes : List ℕ) → length bytes < n → SoundString
 string_sound n bytes l = string_from bytes (read_text n bytes) (text_sound n bytes l)
 
 -- ---- names
-
-abbrev name_at : ℕ → ℕ → List ℕ → Bool → Reading (List ℕ)
-name_at n b bytes true = text_behind bytes (λ name rest. colon_at name (after_space rest)) (read_string n bytes)
-name_at n b bytes false = fault_here (b ∷ bytes)
-
-abbrev read_name : ℕ → List ℕ → Reading (List ℕ)
-read_name n [] = fault_here []
-read_name n (b ∷ bytes) = name_at n b bytes (b == 34)
 
 -- a reader that gives what its relation has, and takes something where it doesn't refuse
 abbrev IsSound : {A : Type 0} → ℕ → (List ℕ → Reading A → Type 0) → (List ℕ → Reading A) → Type 0
@@ -119,54 +90,6 @@ name_sound n [] l = (name_ends, tt)
 name_sound n (b ∷ bytes) l = name_step n b bytes l (b == 34) refl
 
 -- ---- the members of an object and the items of a list, where a value is read by value
-
-abbrev read_member : (List ℕ → Reading Json) → ℕ → List ℕ → Reading Member
-read_member value n bytes = and_then (read_name n bytes) (λ name middle. paired name (value (after_space middle)))
-
-abbrev behind_pair : Member → Reading Members → Reading Members
-behind_pair (a_pair name value) out = behind_member name value out
-
-abbrev members_comma : (List ℕ → Reading Member) → (List ℕ → Reading Members) → ℕ → List ℕ → Bool → Reading Members
-members_comma member next b bytes true = and_then (member (after_space bytes)) (λ pair middle. behind_pair pair (next (after_space middle)))
-members_comma member next b bytes false = fault_here (b ∷ bytes)
-
-abbrev members_brace : (List ℕ → Reading Member) → (List ℕ → Reading Members) → ℕ → List ℕ → Bool → Reading Members
-members_brace member next b bytes true = taken no_members bytes
-members_brace member next b bytes false = members_comma member next b bytes (b == 44)
-
-abbrev more_members : (List ℕ → Reading Member) → ℕ → List ℕ → Reading Members
-more_members member zero bytes = fault_here []
-more_members member (suc k) [] = fault_here []
-more_members member (suc k) (b ∷ bytes) = members_brace member (λ more. more_members member k more) b bytes (b == 125)
-
-abbrev first_members : (List ℕ → Reading Member) → ℕ → ℕ → List ℕ → Bool → Reading Members
-first_members member n b bytes true = taken no_members bytes
-first_members member n b bytes false = and_then (member (b ∷ bytes)) (λ pair middle. behind_pair pair (more_members member n (after_space middle)))
-
-abbrev read_members : (List ℕ → Reading Member) → ℕ → List ℕ → Reading Members
-read_members member n [] = fault_here []
-read_members member n (b ∷ bytes) = first_members member n b bytes (b == 125)
-
-abbrev items_comma : (List ℕ → Reading Json) → (List ℕ → Reading Items) → ℕ → List ℕ → Bool → Reading Items
-items_comma value next b bytes true = and_then (value (after_space bytes)) (λ v middle. behind_item v (next (after_space middle)))
-items_comma value next b bytes false = fault_here (b ∷ bytes)
-
-abbrev items_bracket : (List ℕ → Reading Json) → (List ℕ → Reading Items) → ℕ → List ℕ → Bool → Reading Items
-items_bracket value next b bytes true = taken no_items bytes
-items_bracket value next b bytes false = items_comma value next b bytes (b == 44)
-
-abbrev more_items : (List ℕ → Reading Json) → ℕ → List ℕ → Reading Items
-more_items value zero bytes = fault_here []
-more_items value (suc k) [] = fault_here []
-more_items value (suc k) (b ∷ bytes) = items_bracket value (λ more. more_items value k more) b bytes (b == 93)
-
-abbrev first_items : (List ℕ → Reading Json) → ℕ → ℕ → List ℕ → Bool → Reading Items
-first_items value n b bytes true = taken no_items bytes
-first_items value n b bytes false = and_then (value (b ∷ bytes)) (λ v middle. behind_item v (more_items value n (after_space middle)))
-
-abbrev read_items : (List ℕ → Reading Json) → ℕ → List ℕ → Reading Items
-read_items value n [] = fault_here []
-read_items value n (b ∷ bytes) = first_items value n b bytes (b == 93)
 
 behind_item_below : (n : ℕ) (v : Json) (out : Reading Items) → Below n out → Below n (behind_item v out)
 behind_item_below n v (taken vs rest) l = l
@@ -279,29 +202,6 @@ module _ (n : ℕ) (reads : List ℕ → Reading Json → Type 0) (value : List 
 
 -- ---- values
 
-abbrev value_object : (List ℕ → Reading Members) → ℕ → List ℕ → Bool → Reading Json
-value_object members b bytes true = as_object (members bytes)
-value_object members b bytes false = scalar_at (b ∷ bytes)
-
-abbrev value_list : (List ℕ → Reading Items) → (List ℕ → Reading Members) → ℕ → List ℕ → Bool → Reading Json
-value_list items members b bytes true = as_list (items bytes)
-value_list items members b bytes false = value_object members b bytes (b == 123)
-
-abbrev value_text : ℕ → (List ℕ → Reading Items) → (List ℕ → Reading Members) → ℕ → List ℕ → Bool → Reading Json
-value_text n items members b bytes true = as_text bytes (read_string n bytes)
-value_text n items members b bytes false = value_list items members b bytes (b == 91)
-
-abbrev read_with : ℕ → (List ℕ → Reading Items) → (List ℕ → Reading Members) → List ℕ → Reading Json
-read_with n items members [] = fault_here []
-read_with n items members (b ∷ bytes) = value_text n items members b bytes (b == 34)
-
-abbrev too_deep : {A : Type 0} → List ℕ → Reading A
-too_deep bytes = refused (TooDeep (suc (length bytes)))
-
-abbrev pub read_value : ℕ → ℕ → List ℕ → Reading Json
-read_value zero n bytes = read_with n too_deep too_deep bytes
-read_value (suc depth) n bytes = read_with n (λ more. read_items (λ xs. read_value depth n xs) n (after_space more)) (λ more. read_members (read_member (λ xs. read_value depth n xs) n) n (after_space more)) bytes
-
 as_list_below : (n : ℕ) (out : Reading Items) → Below n out → Below n (as_list out)
 as_list_below n (taken vs rest) l = l
 as_list_below n (refused f) l = tt
@@ -350,8 +250,11 @@ value_sound (suc depth) n =
     with_sound n _ _ _ _ (inside n (ReadsItems (Reads depth)) (read_items (λ xs. read_value depth n xs) n) (items_sound n (Reads depth) (λ xs. read_value depth n xs) (value_sound depth n)))
     (inside n (ReadsMembers (Reads depth)) (read_members (read_member (λ xs. read_value depth n xs) n) n) (members_sound n (Reads depth) (read_member (λ xs. read_value depth n xs) n) (member_sound n (Reads depth) (λ xs. read_value depth n xs) (value_sound depth n))))
 
-abbrev pub read_json : List ℕ → Result Json Fault
-read_json bytes = with_offset (length bytes) (whole_text (read_value most_depth (suc (length bytes)) (after_space bytes)))
-
 pub json_sound : (bytes : List ℕ) → ReadsJson bytes (read_json bytes)
 json_sound bytes = let s = space_at_most bytes in json_text (read_value most_depth (suc (length bytes)) (after_space bytes)) (value_sound most_depth (suc (length bytes)) (after_space bytes) (omega arith)).0
+
+pub json_is_read : JsonIsRead
+json_is_read bytes out = (
+  (λ reads. one_json bytes (read_json bytes) out (json_sound bytes) reads),
+  (λ is. subst (ReadsJson bytes) is (json_sound bytes)),
+)

@@ -4,22 +4,19 @@ use Rattle.std.proofs.lemmas.Bool.{cond-false, cond_both}
 use Rattle.std.proofs.lemmas.Cmp.{nat_list_eq_equiv}
 use Rattle.std.specs.List.{IsDistinct}
 use Rattle.std.specs.Prelude.{◌≡◌, ℕ, false, List, bytes_eq, ⊤}
+use Rattle.json_spec.specs.PropertyOrder.{joined}
 use Rattle.json_spec.specs.Value.{Members, no_members, a_member, Json, put, settled_onto, AreDistinct, settled}
 use Rattle.json_spec.proofs.NewNames.{IsNewName}
 
-abbrev appended : Members → Members → Members
-appended no_members ms = ms
-appended (a_member name value more) ms = a_member name value (appended more ms)
+pub joined_nothing : (ms : Members) → joined ms no_members ≡ ms
+joined_nothing no_members = refl
+joined_nothing (a_member name value more) = ap (a_member name value) (joined_nothing more)
 
-appended_none : (ms : Members) → appended ms no_members ≡ ms
-appended_none no_members = refl
-appended_none (a_member name value more) = ap (a_member name value) (appended_none more)
+joined_more : (ms more : Members) (name : List ℕ) (value : Json) → joined (joined ms (a_member name value no_members)) more ≡ joined ms (a_member name value more)
+joined_more no_members more name value = refl
+joined_more (a_member n v ms) more name value = ap (a_member n v) (joined_more ms more name value)
 
-appended_more : (ms more : Members) (name : List ℕ) (value : Json) → appended (appended ms (a_member name value no_members)) more ≡ appended ms (a_member name value more)
-appended_more no_members more name value = refl
-appended_more (a_member n v ms) more name value = ap (a_member n v) (appended_more ms more name value)
-
-put_new : (name : List ℕ) (value : Json) (ms : Members) → IsNewName name ms → put name value ms ≡ appended ms (a_member name value no_members)
+put_new : (name : List ℕ) (value : Json) (ms : Members) → IsNewName name ms → put name value ms ≡ joined ms (a_member name value no_members)
 put_new name value no_members n = refl
 put_new name value (a_member other v more) n =
     cond-false _ _ _ n.0 ∙ ap (a_member other v) (put_new name value more n.1)
@@ -30,20 +27,20 @@ Apart ms no_members = ⊤
 Apart ms (a_member name value more) = IsNewName name ms × Apart ms more
 
 new_behind : (name other : List ℕ) (value : Json) (ms : Members) → bytes_eq name other ≡ false → IsNewName name ms
-    → IsNewName name (appended ms (a_member other value no_members))
+    → IsNewName name (joined ms (a_member other value no_members))
 new_behind name other value no_members n m = (n, tt)
 new_behind name other value (a_member k v more) n m = (m.0, new_behind name other value more n m.1)
 
-apart_behind : (ms more : Members) (name : List ℕ) (value : Json) → Apart ms more → IsNewName name more → Apart (appended ms (a_member name value no_members)) more
+apart_behind : (ms more : Members) (name : List ℕ) (value : Json) → Apart ms more → IsNewName name more → Apart (joined ms (a_member name value no_members)) more
 apart_behind ms no_members name value a n = tt
 apart_behind ms (a_member k v more) name value a n =
     (new_behind k name value ms (nat_list_eq_equiv.symm k name ∙ n.0) a.0, apart_behind ms more name value a.1 n.1)
 
-settled_apart : (ms more : Members) → Apart ms more → AreDistinct more → settled_onto ms more ≡ appended ms more
+settled_apart : (ms more : Members) → Apart ms more → AreDistinct more → settled_onto ms more ≡ joined ms more
 unfolding IsDistinct
-settled_apart ms no_members a d = sym (appended_none ms)
+settled_apart ms no_members a d = sym (joined_nothing ms)
 settled_apart ms (a_member name value more) a d =
-    ap (λ k. settled_onto k more) (put_new name value ms a.0) ∙ (settled_apart (appended ms (a_member name value no_members)) more (apart_behind ms more name value a.1 d.0) d.1 ∙ appended_more ms more name value)
+    ap (λ k. settled_onto k more) (put_new name value ms a.0) ∙ (settled_apart (joined ms (a_member name value no_members)) more (apart_behind ms more name value a.1 d.0) d.1 ∙ joined_more ms more name value)
 
 apart_from_none : (ms : Members) → Apart no_members ms
 apart_from_none no_members = tt

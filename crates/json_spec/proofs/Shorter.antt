@@ -5,7 +5,8 @@ use Rattle.std.proofs.lemmas.Bool.{cond_both}
 use Rattle.std.specs.Prelude.{ℕ, ◌≤◌, length, ⊤, ◌<◌, suc, List, Option, Some, None, zero, ◌+◌, ◌*◌, [], ◌∷◌, ◌==◌, Bool, true, false, cond, encode_utf8, codes}
 use Rattle.json_spec.specs.Grammar.{is_space, after_space, as_number, Reading, word_else, scalar_at}
 use Rattle.json_spec.specs.Numbers.{maybe, piece_then, one_of, after_digits, leading_digits, some_digits, digits_at, int_at, frac_at, exp_at, number_at}
-use Rattle.json_spec.specs.Strings.{taken_from, hex_value, hex_digits, behind, is_low_surrogate, pair_character, second_half, four_digits, is_high_surrogate, unicode_character, short_escape, escape_at}
+use Rattle.std.specs.Char.Utf16.{is_high_surrogate, is_low_surrogate, surrogate_pair_char}
+use Rattle.json_spec.specs.Strings.{taken_from, hex_value, hex_digits, behind, second_half, four_digits, unicode_character, short_escape, escape_at}
 use Rattle.json_spec.specs.Taken.{Taken, taken, refused, and_then, Read, behind_piece, or_else}
 use Rattle.json_spec.specs.Value.{Json, a_null, a_bool}
 
@@ -54,7 +55,7 @@ either n true x y p q = p
 either n false x y p q = q
 
 half_at_most : (n high low : ℕ) (rest : List ℕ) → length rest ≤ n → AtMost n (second_half high low rest)
-half_at_most n high low rest l = either n (is_low_surrogate low) (taken (encode_utf8 (pair_character high low)) rest) (refused tt) l tt
+half_at_most n high low rest l = either n (is_low_surrogate low) (taken (encode_utf8 (surrogate_pair_char high low)) rest) (refused tt) l tt
 
 pair_at_most : (n high : ℕ) (more : List ℕ) → length more ≤ n → AtMost n (and_then (four_digits more) (second_half high))
 pair_at_most n high more l = then_at_most n (four_digits more) (second_half high) (more_room _ n (four_digits more) l (hex_at_most 4 0 more)) (half_at_most n high)

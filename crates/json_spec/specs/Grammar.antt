@@ -2,8 +2,17 @@
 --     ReadsJson bytes out      the bytes have the value, or the first fault, out
 --     Reads depth bytes out      the same of one value at the front of the bytes, in which depth brackets may be
 --         open at once
+--     ReadsWith items members bytes out      the same, where lists and objects are read as told
 --     ReadsMembers, ReadsItems      the same of the members of an object and the values of a list
+--     MoreMembers, MoreItems      the same of what follows a member, and of what follows a value of a list
+--     ReadsMember, ReadsName      the same of a name with its value, and of a name with its colon
+--     scalar_at bytes      the value at the front that is no string, list or object
+--     after_space bytes      the bytes behind white space
+--     Reading A      what is taken at the front and the bytes after it, or a fault
+--     Fault      the first fault of a text: no JSON, or too many brackets open, and its place
+--     IsTooDeep bytes out      a bracket is refused before the bytes
 --     most_depth      how many brackets may be open at once
+--     whole_text out      the value of a text that begins as out says, where nothing follows it, or its fault
 -- A fault's place is counted from the end while the text is read, and is turned into an offset once, in `ReadsJson`.
 use Rattle.std.specs.Prelude.{ℕ, Bool, ◌||◌, ◌==◌, List, [], ◌∷◌, if◌then◌else◌, length, Option, Some, None, true}
 use Rattle.std.specs.Prelude.{false, codes, suc, ◌≢◌, ◌≡◌, zero, Result, Ok, Err, ◌-◌}

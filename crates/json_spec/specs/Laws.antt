@@ -1,11 +1,12 @@
 -- The laws of JSON texts and of their printed form. Each is the contract of a function of this crate.
 use Rattle.std.specs.Prelude.{◌≡◌, ◌≤◌, ◌==◌, ℕ, true, false, not, List, ◌∷◌, ◌++◌, length, filter, Result, IfOk, Ok}
-use Rattle.std.specs.Prelude.{IsUtf8, All}
+use Rattle.std.specs.Prelude.{IsUtf8, All, ◌↔◌}
 use Rattle.std.specs.List.Sorted.{IsPermutation, IsNonDecreasingBy}
 use Rattle.json_spec.specs.Grammar.{Fault, ReadsJson, most_depth}
 use Rattle.json_spec.specs.Numbers.{IsNumber, number_at}
 use Rattle.json_spec.specs.PropertyOrder.{Pair, pairs_of, is_array_index, number_of, index_members, other_members}
 use Rattle.json_spec.specs.PropertyOrder.{in_property_order}
+use Rattle.json_spec.specs.PlainReader.{read_json}
 use Rattle.json_spec.specs.PrintedString.{escaped, quoted}
 use Rattle.json_spec.specs.PrintedValue.{printed_text, IsPrintable}
 use Rattle.json_spec.specs.Strings.{ReadsText}
@@ -19,6 +20,10 @@ OneJson = (bytes : List ℕ) (a c : Result Json Fault) → ReadsJson bytes a →
 -- own law: each text has a value or a first fault
 abbrev pub SomeJson : Type 0
 SomeJson = (bytes : List ℕ) → (out : Result Json Fault) × ReadsJson bytes out
+
+-- own law: the plain reader answers the outcome of each text, so what is said by its answer is said by the grammar
+abbrev pub JsonIsRead : Type 0
+JsonIsRead = (bytes : List ℕ) (out : Result Json Fault) → ReadsJson bytes out ↔ (read_json bytes ≡ out)
 
 -- own law: a value that a text has holds no name twice in one object
 abbrev pub NamesAreDistinct : Type 0

@@ -3,6 +3,7 @@ pub mod Taken
 pub mod Strings
 pub mod Numbers
 pub mod Grammar
+pub mod PlainReader
 pub mod PropertyOrder
 pub mod PrintedString
 pub mod PrintedValue

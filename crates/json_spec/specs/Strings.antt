@@ -3,7 +3,8 @@
 --     ReadsText bytes out      the same, whether its text is UTF-8 or not
 --     escape_at bytes      the character of the escape whose `\` stands before the bytes
 use Rattle.std.specs.Prelude.{ℕ, ◌||◌, ◌==◌, if◌then◌else◌, Option, Some, None, ◌-◌, ◌&&◌, nat_le, zero, suc, ◌+◌, ◌*◌}
-use Rattle.std.specs.Prelude.{List, [], ◌∷◌, Bool, nat_lt, encode_utf8, ◌≡◌, ◌<◌, ◌≤◌, ◌≢◌, IsUtf8}
+use Rattle.std.specs.Prelude.{List, [], ◌∷◌, encode_utf8, ◌≡◌, ◌<◌, ◌≤◌, ◌≢◌, IsUtf8}
+use Rattle.std.specs.Char.Utf16.{is_high_surrogate, is_low_surrogate, surrogate_pair_char}
 use Rattle.json_spec.specs.Taken.{refused, Read, taken, and_then, behind_piece}
 
 -- RFC 8259, 7: the character that a `\` and one character stand for
@@ -39,27 +40,16 @@ hex_digits (suc n) v (b ∷ bytes) = taken_from (hex_value b) (λ d. hex_digits 
 abbrev pub four_digits : List ℕ → Read ℕ
 four_digits bytes = hex_digits 4 0 bytes
 
--- Unicode: the code points U+D800 to U+DBFF, and U+DC00 to U+DFFF
-abbrev pub is_high_surrogate : ℕ → Bool
-is_high_surrogate n = nat_le 55296 n && nat_lt n 56320
-
-abbrev pub is_low_surrogate : ℕ → Bool
-is_low_surrogate n = nat_le 56320 n && nat_lt n 57344
-
 -- the bytes behind a text that they begin with
 abbrev pub behind : List ℕ → List ℕ → Option (List ℕ)
 behind [] bytes = Some bytes
 behind (f ∷ front) [] = None
 behind (f ∷ front) (b ∷ bytes) = if f == b then behind front bytes else None
 
--- RFC 8259, 7: the character of a surrogate pair
-abbrev pub pair_character : ℕ → ℕ → ℕ
-pair_character high low = 65536 + (high - 55296) * 1024 + (low - 56320)
-
--- own: a surrogate that is no half of a pair is refused
+-- RFC 8259, 7: the character of a surrogate pair. own: a surrogate that is no half of one is refused
 abbrev pub second_half : ℕ → ℕ → List ℕ → Read (List ℕ)
 second_half high low rest =
-    if is_low_surrogate low then taken (encode_utf8 (pair_character high low)) rest else refused tt
+    if is_low_surrogate low then taken (encode_utf8 (surrogate_pair_char high low)) rest else refused tt
 
 abbrev pub unicode_character : ℕ → List ℕ → Read (List ℕ)
 unicode_character n rest =

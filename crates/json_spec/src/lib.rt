@@ -3,8 +3,9 @@
 //! Definitions and laws alone: each function here is empty, and its contract is a law.
 #![tactic(auto)]
 
-ghost use Rattle.json_spec.specs.Laws.{LongestNumber, MembersInOrder, NamesAreDistinct, OneJson, PrintsNoMarkup};
-ghost use Rattle.json_spec.specs.Laws.{PrintsUtf8, SomeJson, StringsReadBack, TextsReadBack, ValuesReadBack};
+ghost use Rattle.json_spec.specs.Laws.{JsonIsRead, LongestNumber, MembersInOrder, NamesAreDistinct, OneJson};
+ghost use Rattle.json_spec.specs.Laws.{PrintsNoMarkup, PrintsUtf8, SomeJson, StringsReadBack, TextsReadBack};
+ghost use Rattle.json_spec.specs.Laws.{ValuesReadBack};
 ghost use Rattle.json_spec.specs.WorkedExamples.{WorkedExamples};
 
 /// A text has at most one outcome, a value or a first fault.
@@ -17,6 +18,12 @@ pub fn one_json()
 #[tactic(auto, using(crate::proofs::SomeJson::some_json))]
 pub fn some_json()
     ensures { SomeJson }
+{}
+
+/// The plain reader answers the one outcome of each text.
+#[tactic(auto, using(crate::proofs::PlainReader::json_is_read))]
+pub fn json_is_read()
+    ensures { JsonIsRead }
 {}
 
 /// No object of a text's value holds a name twice, at any level.

@@ -3,7 +3,8 @@ use Rattle.std.proofs.Common.{◌≡◌, ℕ, List, true, Option, Some, None, re
 use Rattle.std.specs.FinMap.{get}
 use Rattle.asking_spec.proofs.AskingLemmas.{outcome_then}
 use Rattle.asking_spec.specs.Askings.{answered}
-use Rattle.json_spec.proofs.PlainReader.{read_json, json_sound}
+use Rattle.json_spec.proofs.PlainReader.{json_sound}
+use Rattle.json_spec.specs.PlainReader.{read_json}
 use Rattle.tree_spec.specs.Trees.{Tree}
 use Rattle.tree_spec.specs.declared.Entry.{Entry}
 use Rattle.tree_spec.specs.declared.Entry.TheVariants.{Stored, Directory}

@@ -5,7 +5,7 @@
 use Rattle.std.specs.FinMap.{get}
 use Rattle.std.specs.Prelude.{◌≡◌, ℕ, List, false, Option, Some, None, Result, Ok, Err}
 use Rattle.asking_spec.specs.Askings.{answered, and_then}
-use Rattle.json_spec.proofs.PlainReader.{read_json}
+use Rattle.json_spec.specs.PlainReader.{read_json}
 use Rattle.tree_spec.specs.Trees.{Tree}
 use Rattle.tree_spec.specs.declared.Entry.{Entry}
 use Rattle.tree_spec.specs.declared.Entry.TheVariants.{Stored, Directory}

@@ -3,8 +3,9 @@ use Rattle.std.proofs.Common.{refl}
 use Rattle.std.specs.Char.{encode_utf8}
 use Rattle.std.specs.Prelude.{◌≡◌, ℕ, List, Result}
 use Rattle.std.specs.Str.{is_utf8, chars}
-use Rattle.json_spec.proofs.PlainReader.{read_json, json_sound}
+use Rattle.json_spec.proofs.PlainReader.{json_sound}
 use Rattle.json_spec.specs.Grammar.{Fault, ReadsJson, most_depth}
+use Rattle.json_spec.specs.PlainReader.{read_json}
 use Rattle.json_spec.specs.Value.{Json}
 use Rattle.json_spec.specs.WorkedExamples.{PrintedExamples, TokenExamples, TextExamples, ByteExamples, WorkedExamples}
 

@@ -3,8 +3,9 @@ use Rattle.std.proofs.Common.{refl}
 use Rattle.std.specs.Char.{encode_utf8}
 use Rattle.std.specs.Prelude.{◌≡◌, ℕ, List, Result}
 use Rattle.std.specs.Str.{is_utf8, chars}
-use Rattle.json_spec.proofs.PlainReader.{read_json, json_sound}
+use Rattle.json_spec.proofs.PlainReader.{json_sound}
 use Rattle.json_spec.specs.Grammar.{most_depth}
+use Rattle.json_spec.specs.PlainReader.{read_json}
 use Rattle.node_spec.specs.RecordExamples.{RecordExamples}
 use Rattle.node_spec.specs.Records.{Record, RecordFault, record_outcome, after_mark, ReadsRecord, reads_record}
 
