@@ -1,11 +1,14 @@
 -- How a key matches, and what is found when one more key is looked at.
-use Rattle.std.proofs.Common.{◌≡◌, ◌≢◌, ◌<◌, ◌+◌, ◌-◌, ℕ, zero, suc, true, false, List, [], ◌∷◌, ◌++◌, length, take, get_or, refl, sym, ap, ◌∙◌, subst, arith, add-one, append_assoc, length-append, Option, Some, None, Bor}
+use Rattle.std.proofs.Common.{◌≡◌, ◌≢◌, ◌<◌, ◌≤◌, ◌+◌, ◌-◌, ℕ, zero, suc, true, false, List, [], ◌∷◌, ◌++◌, length, take, get_or, refl, sym, ap, ◌∙◌, subst, arith, add-one, append_assoc, length-append, Option, Some, None, Bor}
 use Rattle.std.specs.Prelude.{MatchOption, slice_get, IsUtf8}
-use Rattle.std.proofs.lemmas.List.{append_cancel_left}
+use Rattle.std.proofs.lemmas.List.{append_cancel_left, take_all}
 use Rattle.std.proofs.Math.Seq.{take-append_seam}
 use Rattle.std.proofs.lemmas.Str.{IsCharBoundary-start, IsCharBoundary-from_take, IsCharBoundary-at_seam}
 use Rattle.std.specs.Str.{IsCharBoundary}
 use Rattle.std.proofs.lemmas.List.Elements.{All-from_get_or}
+use Rattle.json_spec.specs.Value.{names_of}
+use Rattle.ordered_json.specs.Shown.{members_of}
+use Rattle.ordered_json.specs.declared.value.Value.{Value}
 use Rattle.node_spec.specs.PatternKeys.{HasNoStar, IsPattern, KeyMatch, PatternMatch, Matches, IsChoice, GoesBefore}
 use Rattle.node_spec.specs.PatternKeys.Matches.{by_itself, by_pattern}
 use Rattle.node_spec.specs.Laws.{PartStands}
@@ -102,6 +105,29 @@ module _ (keys : List (List ℕ)) (asked key : List ℕ) where
       }
 
 -- ---- all keys
+
+pub key_stands : (pairs : List (List ℕ × Value)) (i : ℕ) (pair : List ℕ × Value) → slice_get pairs i ≡ Some pair
+    → slice_get (names_of (members_of pairs)) i ≡ Some pair.0
+key_stands [] i pair e = absurd (cc)
+key_stands (other ∷ pairs) zero pair e =
+    let same : other ≡ pair = cc in ap (λ (p : List ℕ × Value). Some p.0) same
+key_stands (other ∷ pairs) (suc i) pair e = key_stands pairs i pair e
+
+pub no_key : (pairs : List (List ℕ × Value)) (i : ℕ) → slice_get pairs i ≡ None
+    → length (names_of (members_of pairs)) ≤ i
+no_key [] i e = omega arith
+no_key (other ∷ pairs) zero e = absurd (cc)
+no_key (other ∷ pairs) (suc i) e = let past = no_key pairs i e in omega (arith, past)
+
+names_length : (pairs : List (List ℕ × Value)) → length (names_of (members_of pairs)) ≡ length pairs
+names_length [] = refl
+names_length (pair ∷ pairs) = ap suc (names_length pairs)
+
+pub all_found : (pairs : List (List ℕ × Value)) (i : ℕ) (asked : List ℕ) (best : Option Match) → length pairs ≤ i
+    → Finds (take i (names_of (members_of pairs))) asked best → Finds (names_of (members_of pairs)) asked best
+all_found pairs i asked best past found =
+    let names = names_of (members_of pairs) in
+    subst (λ keys. Finds keys asked best) (take_all i names (omega (arith, names_length pairs, past))) found
 
 pub next_key : (keys : List (List ℕ)) (i : ℕ) (key : List ℕ) → slice_get keys i ≡ Some key → take (i + 1) keys ≡ take i keys ++ key ∷ []
 next_key [] i key e = cc

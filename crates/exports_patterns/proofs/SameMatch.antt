@@ -1,34 +1,32 @@
 -- One match is found: two would stand at one place, and say the same.
-use Rattle.std.specs.Prelude.{◌≡◌, ℕ, Bool, true, false, List, [], ◌∷◌, map, slice_get, Some, if◌then◌else◌}
+use Rattle.std.specs.Prelude.{◌≡◌, ℕ, Bool, true, false, List, [], ◌∷◌, slice_get, Some, bytes_eq, if◌then◌else◌}
 use Rattle.std.proofs.Common.{zero, suc, refl, sym, ap, ◌∙◌, subst}
-use Rattle.json_spec.specs.Value.{IsNewName, AreDistinct}
-use Rattle.ordered_json.specs.declared.value.Value.{Value}
-use Rattle.ordered_json.specs.Lists.{pairs_of}
-use Rattle.ordered_json.specs.Shown.{members_of}
+use Rattle.std.specs.List.{AllByRecursion, IsDistinct}
+use Rattle.std.proofs.lemmas.Bool.{true≢false}
+use Rattle.std.proofs.lemmas.Slice.Eq.{bytes_eq-Decides}
 use Rattle.node_spec.specs.PatternKeys.{KeyMatch, Itself, PatternMatch}
 use Rattle.node_spec.proofs.PatternChoice.{one_choice}
 use Rattle.exports_patterns.specs.declared.pattern_keys.Match.{Match}
 use Rattle.exports_patterns.specs.Found.{keys_of, match_shown}
 use Rattle.exports_patterns.specs.OneFound.{OneFound}
 
-abbrev names : List (List ℕ × Value) → List (List ℕ)
-names pairs = map (λ (pair : List ℕ × Value). pair.0) pairs
-
-new_name : (name : List ℕ) (pairs : List (List ℕ × Value)) (i : ℕ) → IsNewName name (members_of pairs)
-    → slice_get (names pairs) i ≡ Some name → ⊥
+new_name : (name : List ℕ) (keys : List (List ℕ)) (i : ℕ) → AllByRecursion (λ other. bytes_eq name other ≡ false) keys
+    → slice_get keys i ≡ Some name → ⊥
 new_name name [] i n e = cc
-new_name name (pair ∷ pairs) zero n e = n.0 cc
-new_name name (pair ∷ pairs) (suc i) n e = new_name name pairs i n.1 e
+new_name name (key ∷ keys) zero n e =
+    let same : name ≡ key = cc in true≢false (sym ((bytes_eq-Decides name key).1 same) ∙ n.0)
+new_name name (key ∷ keys) (suc i) n e = new_name name keys i n.1 e
 
-same_place : (pairs : List (List ℕ × Value)) (key : List ℕ) (i j : ℕ) → AreDistinct (members_of pairs)
-    → slice_get (names pairs) i ≡ Some key → slice_get (names pairs) j ≡ Some key → i ≡ j
+same_place : (keys : List (List ℕ)) (key : List ℕ) (i j : ℕ) → IsDistinct bytes_eq keys
+    → slice_get keys i ≡ Some key → slice_get keys j ≡ Some key → i ≡ j
+unfolding IsDistinct
 same_place [] key i j d e f = cc
-same_place (pair ∷ pairs) key zero zero d e f = refl
-same_place (pair ∷ pairs) key zero (suc j) d e f =
-    let s : pair.0 ≡ key = cc in absurd (new_name pair.0 pairs j d.0 (f ∙ ap Some (sym s)))
-same_place (pair ∷ pairs) key (suc i) zero d e f =
-    let s : pair.0 ≡ key = cc in absurd (new_name pair.0 pairs i d.0 (e ∙ ap Some (sym s)))
-same_place (pair ∷ pairs) key (suc i) (suc j) d e f = ap suc (same_place pairs key i j d.1 e f)
+same_place (first ∷ keys) key zero zero d e f = refl
+same_place (first ∷ keys) key zero (suc j) d e f =
+    let s : first ≡ key = cc in absurd (new_name first keys j d.0 (f ∙ ap Some (sym s)))
+same_place (first ∷ keys) key (suc i) zero d e f =
+    let s : first ≡ key = cc in absurd (new_name first keys i d.0 (e ∙ ap Some (sym s)))
+same_place (first ∷ keys) key (suc i) (suc j) d e f = ap suc (same_place keys key i j d.1 e f)
 
 abbrev NoSpan : Bool → ℕ → ℕ → Type 0
 NoSpan exact from to = exact ≡ true → (from ≡ 0) × (to ≡ 0)
@@ -57,6 +55,6 @@ pub one_found : OneFound
 one_found members asked found other d f g =
     let c = one_choice (keys_of members) asked f.key g.key (match_shown found) (match_shown other) f.chosen g.chosen in
     same_match found.index other.index found.exact other.exact found.from found.to other.from other.to
-    (same_place (pairs_of members) g.key found.index other.index d
+    (same_place (keys_of members) g.key found.index other.index d
     (subst (λ k. slice_get (keys_of members) found.index ≡ Some k) c.0 f.stands) g.stands)
     f.no_span g.no_span c.1

@@ -2,16 +2,17 @@
 --     keys_of members      the keys of an object's members, in order
 --     IsFound keys asked found      the match stands for the choice among these keys, at a place where that key is
 --     HasSpan asked found      the span of the match may be cut out of the text
-use Rattle.std.specs.Prelude.{◌≡◌, ◌≤◌, ℕ, List, map, slice_get, Option, Some, MatchOption, if◌then◌else◌, true}
+use Rattle.std.specs.Prelude.{◌≡◌, ◌≤◌, ℕ, List, slice_get, Option, Some, MatchOption, if◌then◌else◌, true}
 use Rattle.std.specs.Str.{IsCharBoundary}
-use Rattle.ordered_json.specs.declared.value.Value.{Value}
+use Rattle.json_spec.specs.Value.{names_of}
 use Rattle.ordered_json.specs.declared.value.Members.{Members}
 use Rattle.ordered_json.specs.Lists.{pairs_of}
+use Rattle.ordered_json.specs.Shown.{members_of}
 use Rattle.node_spec.specs.PatternKeys.{KeyMatch, Itself, PatternMatch, Matches, IsChoice, MatchesNone}
 use Rattle.exports_patterns.specs.declared.pattern_keys.Match.{Match}
 
 abbrev pub keys_of : Members → List (List ℕ)
-keys_of members = map (λ (pair : List ℕ × Value). pair.0) (pairs_of members)
+keys_of members = names_of (members_of (pairs_of members))
 
 abbrev pub match_shown : Match → KeyMatch
 match_shown found = if found.exact then Itself else PatternMatch found.from found.to

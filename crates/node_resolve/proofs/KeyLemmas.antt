@@ -1,15 +1,15 @@
 -- The target of the key that is taken.
 --     key_none, key_some           by what is found for a text
 use Rattle.std.proofs.Common.{◌≡◌, ℕ, List, Option, None, ap, ◌∙◌}
-use Rattle.json_spec.specs.Value.{Json}
+use Rattle.json_spec.specs.Value.{Json, names_of}
 use Rattle.node_spec.specs.NodeAnswers.{refuses}
-use Rattle.node_spec.specs.PackageImportsExportsResolve.{Subpaths, keys_of, at_key, by_key}
+use Rattle.node_spec.specs.PackageImportsExportsResolve.{Subpaths, at_key, by_key}
 use Rattle.node_spec.specs.PackageTargetResolve.{package_target}
 use Rattle.node_spec.specs.PackageTargets.{Rules}
 use Rattle.node_spec.specs.PatternKeyCompare.{first_key}
 use Rattle.node_resolve.specs.Members.{IsTarget}
 
-pub key_none : (subpaths : Subpaths) (asked : List ℕ) → first_key asked (keys_of subpaths.members) ≡ None
+pub key_none : (subpaths : Subpaths) (asked : List ℕ) → first_key asked (names_of subpaths.members) ≡ None
     → by_key subpaths asked ≡ refuses subpaths.nothing
 key_none subpaths asked e = ap (at_key subpaths asked) e
 

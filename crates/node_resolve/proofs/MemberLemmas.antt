@@ -3,24 +3,23 @@
 --     mixed_is                     some names pass and some don't
 --     field_passed, field_here     the value with a name, member by member
 --     none_first, target_is        the key that is taken
-use Rattle.std.proofs.Common.{◌≡◌, ◌≢◌, ◌&&◌, ◌||◌, ℕ, zero, suc, Bool, true, false, not, List, [], ◌∷◌, Option, Some, None, refl, sym, ap, ◌∙◌, subst}
-use Rattle.std.specs.Prelude.{map, slice_get, bytes_eq, MatchOption}
-use Rattle.std.specs.List.{list_any, list_all}
+use Rattle.std.proofs.Common.{◌≡◌, ◌&&◌, ◌||◌, ℕ, zero, suc, Bool, true, false, not, List, [], ◌∷◌, Option, Some, None, refl, sym, ap, ◌∙◌, subst}
+use Rattle.std.specs.Prelude.{slice_get, bytes_eq, MatchOption}
+use Rattle.std.specs.List.{list_any, list_all, IsDistinct}
 use Rattle.std.proofs.lemmas.Bool.{cond-true, cond-false}
 use Rattle.std.proofs.lemmas.Cmp.{nat_list_eq_equiv}
-use Rattle.json_spec.specs.Value.{AreDistinct, IsNewName}
+use Rattle.json_spec.proofs.NewNames.{IsNewName}
+use Rattle.json_spec.specs.Value.{AreDistinct, names_of}
 use Rattle.ordered_json.specs.Shown.{json_of, members_of}
 use Rattle.ordered_json.specs.declared.value.Value.{Value}
 use Rattle.exports_patterns.specs.Found.{match_shown, IsFound}
 use Rattle.exports_patterns.specs.declared.pattern_keys.Match.{Match}
 use Rattle.node_spec.proofs.KeyChoice.{finds_key}
 use Rattle.node_spec.proofs.PatternChoice.{one_choice}
-use Rattle.node_spec.specs.PackageImportsExportsResolve.{keys_of}
 use Rattle.node_spec.specs.PatternKeyCompare.{KeyFound, first_key, pattern_match}
 use Rattle.node_spec.specs.PatternKeys.{KeyMatch, IsChoice, MatchesNone}
 use Rattle.node_spec.specs.Records.{field}
 use Rattle.node_resolve.specs.Members.{IsTarget}
-use Rattle.tree_spec.proofs.ByteLists.{other_text}
 
 abbrev Pairs : Type 0
 Pairs = List (List ℕ × Value)
@@ -28,12 +27,12 @@ Pairs = List (List ℕ × Value)
 -- ---- tests of names
 
 pub any_key : (test : List ℕ → Bool) (pairs : Pairs)
-    → list_any (λ (pair : List ℕ × Value). test pair.0) pairs ≡ list_any test (keys_of (members_of pairs))
+    → list_any (λ (pair : List ℕ × Value). test pair.0) pairs ≡ list_any test (names_of (members_of pairs))
 any_key test [] = refl
 any_key test (pair ∷ pairs) = ap (λ b. test pair.0 || b) (any_key test pairs)
 
 pub all_keys : (test : List ℕ → Bool) (pairs : Pairs)
-    → list_all (λ (pair : List ℕ × Value). test pair.0) pairs ≡ list_all test (keys_of (members_of pairs))
+    → list_all (λ (pair : List ℕ × Value). test pair.0) pairs ≡ list_all test (names_of (members_of pairs))
 all_keys test [] = refl
 all_keys test (pair ∷ pairs) = ap (λ b. test pair.0 && b) (all_keys test pairs)
 
@@ -57,13 +56,15 @@ pub field_here : (name : List ℕ) (pair : List ℕ × Value) (pairs : Pairs) �
 field_here name pair pairs e = cond-true _ (json_of pair.1) (field name (members_of pairs)) e
 
 new_at : (name : List ℕ) (pairs : Pairs) (i : ℕ) (pair : List ℕ × Value) → IsNewName name (members_of pairs)
-    → slice_get pairs i ≡ Some pair → name ≢ pair.0
+    → slice_get pairs i ≡ Some pair → bytes_eq name pair.0 ≡ false
 new_at name [] i pair n e = absurd (cc)
-new_at name (other ∷ pairs) zero pair n e = λ same. n.0 (let f : other ≡ pair = cc in same ∙ sym (ap (λ (p : List ℕ × Value). p.0) f))
+new_at name (other ∷ pairs) zero pair n e =
+    let f : pair ≡ other = cc in ap (λ (p : List ℕ × Value). bytes_eq name p.0) f ∙ n.0
 new_at name (other ∷ pairs) (suc i) pair n e = new_at name pairs i pair n.1 e
 
 pub field_at : (pairs : Pairs) (i : ℕ) (pair : List ℕ × Value) → AreDistinct (members_of pairs)
     → slice_get pairs i ≡ Some pair → field pair.0 (members_of pairs) ≡ json_of pair.1
+unfolding IsDistinct
 field_at [] i pair d e = absurd (cc)
 field_at (other ∷ pairs) zero pair d e =
     let f : other ≡ pair = cc in
@@ -71,7 +72,7 @@ field_at (other ∷ pairs) zero pair d e =
     ∙ ap (λ (p : List ℕ × Value). json_of p.1) f
 field_at (other ∷ pairs) (suc i) pair d e =
     field_passed pair.0 other pairs
-    (other_text pair.0 other.0 (λ same. new_at other.0 pairs i pair d.0 e (sym same)))
+    (nat_list_eq_equiv.symm pair.0 other.0 ∙ new_at other.0 pairs i pair d.0 e)
     ∙ field_at pairs i pair d.1 e
 
 -- ---- the key that is taken
@@ -90,12 +91,8 @@ none_by : (asked : List ℕ) (keys : List (List ℕ)) (first : Option KeyFound)
 none_by asked keys None is none = refl
 none_by asked keys (Some chosen) is none = absurd (none chosen.key chosen.found is.among is.matches)
 
-names : (pairs : Pairs) → map (λ (pair : List ℕ × Value). pair.0) pairs ≡ keys_of (members_of pairs)
-names [] = refl
-names (pair ∷ pairs) = ap (λ keys. pair.0 ∷ keys) (names pairs)
-
 name_at : (pairs : Pairs) (i : ℕ) (pair : List ℕ × Value) (key : List ℕ) → slice_get pairs i ≡ Some pair
-    → slice_get (map (λ (p : List ℕ × Value). p.0) pairs) i ≡ Some key → key ≡ pair.0
+    → slice_get (names_of (members_of pairs)) i ≡ Some key → key ≡ pair.0
 name_at [] i pair key e f = absurd (cc)
 name_at (other ∷ pairs) zero pair key e f =
     let same : other ≡ pair = cc in
@@ -104,28 +101,27 @@ name_at (other ∷ pairs) zero pair key e f =
 name_at (other ∷ pairs) (suc i) pair key e f = name_at pairs i pair key e f
 
 pub not_there : (pairs : Pairs) (i : ℕ) (key : List ℕ)
-    → slice_get (map (λ (p : List ℕ × Value). p.0) pairs) i ≡ Some key → slice_get pairs i ≡ None → ⊥
+    → slice_get (names_of (members_of pairs)) i ≡ Some key → slice_get pairs i ≡ None → ⊥
 not_there [] i key e f = cc
 not_there (pair ∷ pairs) zero key e f = cc
 not_there (pair ∷ pairs) (suc i) key e f = not_there pairs i key e f
 
-pub none_first : (pairs : Pairs) (asked : List ℕ) → MatchesNone (map (λ (pair : List ℕ × Value). pair.0) pairs) asked
-    → first_key asked (keys_of (members_of pairs)) ≡ None
+pub none_first : (pairs : Pairs) (asked : List ℕ) → MatchesNone (names_of (members_of pairs)) asked
+    → first_key asked (names_of (members_of pairs)) ≡ None
 none_first pairs asked none =
-    none_by asked (keys_of (members_of pairs)) (first_key asked (keys_of (members_of pairs)))
-    (finds_key asked (keys_of (members_of pairs))) (subst (λ keys. MatchesNone keys asked) (names pairs) none)
+    none_by asked (names_of (members_of pairs)) (first_key asked (names_of (members_of pairs)))
+    (finds_key asked (names_of (members_of pairs))) none
 
 pub target_is : (pairs : Pairs) (asked : List ℕ) (chosen : Match) (pair : List ℕ × Value) (star : Option (List ℕ))
-    → AreDistinct (members_of pairs) → IsFound (map (λ (p : List ℕ × Value). p.0) pairs) asked chosen
+    → AreDistinct (members_of pairs) → IsFound (names_of (members_of pairs)) asked chosen
     → slice_get pairs chosen.index ≡ Some pair → pattern_match asked (match_shown chosen) ≡ star
     → IsTarget (members_of pairs) asked (json_of pair.1) star
 target_is pairs asked chosen pair star d is e s =
     let key_is : is.key ≡ pair.0 = name_at pairs chosen.index pair is.key e is.stands in
     record {
       chosen = record { key = is.key; found = match_shown chosen };
-      first = first_by asked (keys_of (members_of pairs)) is.key (match_shown chosen)
-          (first_key asked (keys_of (members_of pairs))) (finds_key asked (keys_of (members_of pairs)))
-          (subst (λ keys. IsChoice keys asked is.key (match_shown chosen)) (names pairs) is.chosen);
+      first = first_by asked (names_of (members_of pairs)) is.key (match_shown chosen)
+          (first_key asked (names_of (members_of pairs))) (finds_key asked (names_of (members_of pairs))) is.chosen;
       target_is = ap (λ k. field k (members_of pairs)) key_is ∙ field_at pairs chosen.index pair d e;
       star_is = s;
     }

@@ -5,11 +5,11 @@ use Rattle.std.proofs.Common.{◌≡◌, ℕ, List, true, false, sym, ap, ◌∙
 use Rattle.std.specs.Prelude.{codes}
 use Rattle.std.proofs.lemmas.Bool.{cond-true, cond-false}
 use Rattle.std.specs.List.{list_all}
-use Rattle.json_spec.specs.Value.{Json, a_text, a_list, an_object, Items, Members}
+use Rattle.json_spec.specs.Value.{Json, a_text, a_list, an_object, Items, Members, names_of}
 use Rattle.ordered_json.specs.declared.value.Value.TheVariants as value
 use Rattle.node_spec.specs.NodeAnswers.{refuses}
 use Rattle.node_spec.specs.PackageExportsResolve.{is_dotted, has_dotted, main_target, main_export, export_paths, subpath_export}
-use Rattle.node_spec.specs.PackageImportsExportsResolve.{keys_of, by_key}
+use Rattle.node_spec.specs.PackageImportsExportsResolve.{by_key}
 use Rattle.node_spec.specs.Records.{field}
 use Rattle.node_spec.specs.declared.Cause.TheVariants.{NotExported}
 
@@ -33,14 +33,14 @@ module _ (conditions : List (List ℕ)) (folder : List ℕ) (json : Json) where
       ∙ ap (main_target conditions folder) (sym e))
 
   pub subpath_by_key : (subpath : List ℕ) (members : Members) → json ≡ an_object members
-      → list_all is_dotted (keys_of members) ≡ true
+      → list_all is_dotted (names_of members) ≡ true
       → subpath_export conditions folder subpath json ≡ by_key (export_paths conditions folder members) subpath
   subpath_by_key subpath members e d =
       ap (subpath_export conditions folder subpath) e
       ∙ cond-true _ (by_key (export_paths conditions folder members) subpath) (refuses NotExported) d
 
   pub subpath_none : (subpath : List ℕ) (members : Members) → json ≡ an_object members
-      → list_all is_dotted (keys_of members) ≡ false
+      → list_all is_dotted (names_of members) ≡ false
       → subpath_export conditions folder subpath json ≡ refuses NotExported
   subpath_none subpath members e d =
       ap (subpath_export conditions folder subpath) e

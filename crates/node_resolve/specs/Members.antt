@@ -3,10 +3,9 @@
 --     IsTarget members asked found         the target of the key that is taken, with what stands for `*`
 --     FindsTarget members asked result     the same, where a key is taken
 use Rattle.std.specs.Prelude.{◌≡◌, ℕ, List, Option, Some, None}
-use Rattle.json_spec.specs.Value.{Json, a_null, Members}
+use Rattle.json_spec.specs.Value.{Json, a_null, Members, names_of}
 use Rattle.ordered_json.specs.Shown.{json_of}
 use Rattle.ordered_json.specs.declared.value.Value.{Value}
-use Rattle.node_spec.specs.PackageImportsExportsResolve.{keys_of}
 use Rattle.node_spec.specs.PatternKeyCompare.{KeyFound, first_key, pattern_match}
 use Rattle.node_spec.specs.Records.{field}
 use denote.Ref.{Bor}
@@ -17,6 +16,6 @@ found_field (Some value) = json_of value.now
 
 pub record IsTarget (members : Members) (asked : List ℕ) (target : Json) (star : Option (List ℕ)) : Type 0 where
   pub chosen : KeyFound
-  pub first : first_key asked (keys_of members) ≡ Some chosen
+  pub first : first_key asked (names_of members) ≡ Some chosen
   pub target_is : field chosen.key members ≡ target
   pub star_is : pattern_match asked chosen.found ≡ star

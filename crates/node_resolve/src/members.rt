@@ -1,8 +1,8 @@
 //! Members of the objects in a record.
 ghost use Rattle.std.specs.Prelude.{◌≡◌};
 ghost use Rattle.std.specs.List.{list_any, list_all};
+ghost use Rattle.json_spec.specs.Value.{names_of};
 ghost use Rattle.node_spec.specs.PackageExportsResolve as exports;
-ghost use Rattle.node_spec.specs.PackageImportsExportsResolve.{keys_of};
 ghost use Rattle.node_spec.specs.Records.{field};
 ghost use Rattle.ordered_json.specs.Lists.{pairs_of};
 ghost use Rattle.ordered_json.specs.Shown.{members_of};
@@ -40,7 +40,7 @@ fn any_dotted(members: &[(Text, Value)]) -> bool
 
 /// Whether each name does.
 pub fn are_dotted(members: &Members) -> bool
-    ensures { result ≡ list_all exports.is_dotted (keys_of (members_of (pairs_of members.now))) }
+    ensures { result ≡ list_all exports.is_dotted (names_of (members_of (pairs_of members.now))) }
 {
     all_dotted(members.as_slice())
 }

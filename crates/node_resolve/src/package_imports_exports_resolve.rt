@@ -1,7 +1,6 @@
 //! The target of a key in an object of subpaths (Node.js, ECMAScript modules: PACKAGE_IMPORTS_EXPORTS_RESOLVE).
 ghost use Rattle.std.specs.Prelude.{◌≡◌, None, MatchOption, option_map};
-ghost use Rattle.json_spec.specs.Value.{AreDistinct};
-ghost use Rattle.node_spec.specs.PackageImportsExportsResolve.{keys_of};
+ghost use Rattle.json_spec.specs.Value.{AreDistinct, names_of};
 ghost use Rattle.exports_patterns.specs.Found.{HasSpan, match_shown};
 ghost use Rattle.node_spec.specs.PatternKeyCompare.{first_key, pattern_match};
 ghost use Rattle.ordered_json.specs.Lists.{pairs_of};
@@ -17,7 +16,7 @@ pub fn target_of<'a, 'b>(
     asked: &'b str,
 ) -> Option<(&'a Value, Option<&'b str>)>
     requires { AreDistinct (members_of (pairs_of members.now)) }
-    ensures { MatchOption result (first_key asked.now (keys_of (members_of (pairs_of members.now))) ≡ None)
+    ensures { MatchOption result (first_key asked.now (names_of (members_of (pairs_of members.now))) ≡ None)
         (λ found. IsTarget (members_of (pairs_of members.now)) asked.now (json_of found.0.now)
         (option_map (λ part. part.now) found.1)) }
 {

@@ -4,7 +4,7 @@ use Rattle.std.specs.Prelude.{◌&&◌, ◌||◌, not, bytes_eq, codes, cond}
 use Rattle.std.specs.List.{list_all}
 use Rattle.std.proofs.Math.Path.{fun_ext}
 use Rattle.asking_spec.specs.Askings.{and_then, on_ok, and_ok}
-use Rattle.json_spec.specs.Value.{Json, a_null, a_bool, a_number, a_text, a_list, an_object, Items, no_items, an_item, Members, no_members, a_member}
+use Rattle.json_spec.specs.Value.{Json, a_null, a_bool, a_number, a_text, a_list, an_object, Items, no_items, an_item, Members, no_members, a_member, names_of}
 use Rattle.tree_spec.specs.FoldersAbove.{folder_of}
 use Rattle.tree_spec.specs.LookAskings.{LookAsking}
 use Rattle.url_spec.specs.Schemes.{scheme_of}
@@ -17,7 +17,7 @@ use Rattle.node_spec.specs.LookupPackageScope.{package_scope}
 use Rattle.node_spec.specs.NodeAnswers.{Url, Refusal, Resolving}
 use Rattle.node_spec.specs.Laws.{NodeConditionsAreASet}
 use Rattle.node_spec.specs.PackageExportsResolve.{is_dotted, is_mixed_object, has_dotted, main_export, subpath_export, exported}
-use Rattle.node_spec.specs.PackageImportsExportsResolve.{Subpaths, at_key, by_key, keys_of}
+use Rattle.node_spec.specs.PackageImportsExportsResolve.{Subpaths, at_key, by_key}
 use Rattle.node_spec.specs.PackageImportsResolve.{bares_from, imported, imported_in, imported_at, imports_resolve}
 use Rattle.node_spec.specs.PackageResolve.{package_folder, by_record, in_folder, in_modules, by_name, split_at, name_length, lacks_name, is_package_name, package_resolve}
 use Rattle.node_spec.specs.PackageSelfResolve.{Subpath, is_null, has_name, self_in, self_at, self_or}
@@ -145,7 +145,7 @@ module _ (some other : List (List ℕ)) (same : IsSameSet some other) where
       → by_key (paths bares some imports folder nothing fields) asked
       ≡ by_key (paths bares other imports folder nothing fields) asked
   key_same bares imports folder nothing fields asked =
-      at_same bares imports folder nothing fields asked (first_key asked (keys_of fields))
+      at_same bares imports folder nothing fields asked (first_key asked (names_of fields))
 
   -- ---- exports
 
@@ -167,7 +167,8 @@ module _ (some other : List (List ℕ)) (same : IsSameSet some other) where
   subpath_same folder subpath (a_text text) = refl
   subpath_same folder subpath (a_list items) = refl
   subpath_same folder subpath (an_object fields) =
-      same_both (list_all is_dotted (keys_of fields)) _ _ _ _ (key_same no_bares false folder cause.NotExported fields subpath)
+      same_both (list_all is_dotted (names_of fields)) _ _ _ _
+      (key_same no_bares false folder cause.NotExported fields subpath)
       refl
 
   exported_same : (folder subpath : List ℕ) (exports : Json)

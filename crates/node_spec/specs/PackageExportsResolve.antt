@@ -3,10 +3,10 @@
 --         is `.` or begins with `./`
 use Rattle.std.specs.Prelude.{◌&&◌, not, ℕ, Bool, false, List, codes, bytes_eq, if◌then◌else◌, None}
 use Rattle.std.specs.List.{list_any, list_all}
-use Rattle.json_spec.specs.Value.{Json, a_null, a_bool, a_number, a_text, a_list, an_object, Members}
+use Rattle.json_spec.specs.Value.{Json, a_null, a_bool, a_number, a_text, a_list, an_object, Members, names_of}
 use Rattle.url_spec.specs.Specifiers.{begins}
 use Rattle.node_spec.specs.NodeAnswers.{Url, Resolving, refuses}
-use Rattle.node_spec.specs.PackageImportsExportsResolve.{Subpaths, keys_of, by_key}
+use Rattle.node_spec.specs.PackageImportsExportsResolve.{Subpaths, by_key}
 use Rattle.node_spec.specs.PackageTargetResolve.{no_bares, package_target}
 use Rattle.node_spec.specs.PackageTargets.{Rules}
 use Rattle.node_spec.specs.Records.{field}
@@ -16,11 +16,11 @@ abbrev pub is_dotted : List ℕ → Bool
 is_dotted key = begins key (codes ".")
 
 abbrev pub has_dotted : Members → Bool
-has_dotted members = list_any is_dotted (keys_of members)
+has_dotted members = list_any is_dotted (names_of members)
 
 -- "If exports is an Object with both a key starting with "." and a key not starting with ".""
 abbrev pub is_mixed : Members → Bool
-is_mixed members = has_dotted members && list_any (λ key. not (is_dotted key)) (keys_of members)
+is_mixed members = has_dotted members && list_any (λ key. not (is_dotted key)) (names_of members)
 
 abbrev pub export_rules : List (List ℕ) → Rules
 export_rules conditions = record { conditions = conditions; pattern_match = None; is_imports = false }
@@ -56,7 +56,7 @@ subpath_export conditions folder subpath (a_number number) = refuses NotExported
 subpath_export conditions folder subpath (a_text text) = refuses NotExported
 subpath_export conditions folder subpath (a_list items) = refuses NotExported
 subpath_export conditions folder subpath (an_object members) =
-    if list_all is_dotted (keys_of members) then by_key (export_paths conditions folder members) subpath
+    if list_all is_dotted (names_of members) then by_key (export_paths conditions folder members) subpath
     else refuses NotExported
 
 abbrev pub is_mixed_object : Json → Bool

@@ -1,9 +1,8 @@
 -- The target of a key in an object of subpaths (Node.js, ECMAScript modules: PACKAGE_IMPORTS_EXPORTS_RESOLVE).
 --     Subpaths                  an object in the record of the package at a folder, under these conditions
---     keys_of members           the names of an object's members
 --     by_key subpaths asked     the URL of the target of the key that is taken
-use Rattle.std.specs.Prelude.{ℕ, Bool, List, [], ◌∷◌, Option, Some, None}
-use Rattle.json_spec.specs.Value.{Members, no_members, a_member}
+use Rattle.std.specs.Prelude.{ℕ, Bool, List, Option, Some, None}
+use Rattle.json_spec.specs.Value.{Members, names_of}
 use Rattle.node_spec.specs.NodeAnswers.{Url, Resolving, refuses}
 use Rattle.node_spec.specs.PackageTargetResolve.{Bares, Found, package_target}
 use Rattle.node_spec.specs.PackageTargets.{Rules}
@@ -20,10 +19,6 @@ pub record Subpaths : Type 0 where
   pub nothing : Cause
   pub members : Members
 
-abbrev pub keys_of : Members → List (List ℕ)
-keys_of no_members = []
-keys_of (a_member key value more) = key ∷ keys_of more
-
 abbrev pub rules_for : Subpaths → List ℕ → KeyFound → Rules
 rules_for subpaths asked chosen = record {
   conditions = subpaths.conditions;
@@ -38,4 +33,4 @@ at_key subpaths asked (Some chosen) =
     (field chosen.key subpaths.members)
 
 abbrev pub by_key : Subpaths → List ℕ → Resolving Url
-by_key subpaths asked = at_key subpaths asked (first_key asked (keys_of subpaths.members))
+by_key subpaths asked = at_key subpaths asked (first_key asked (names_of subpaths.members))
