@@ -5,7 +5,7 @@ ghost use Rattle.module_spec.specs.Tokens.{Lexeme, Reaches, depth, is_property};
 ghost use Rattle.es_lexer.specs.Open.{top_bracket};
 ghost use Rattle.es_lexer.specs.Steps.{NextIs};
 
-use crate::look::{MOST_BRACKETS, look};
+use crate::look::look;
 use crate::sorts::kind_of;
 use crate::spellings::{hashbang_rest, skip};
 use crate::state::{Last, Open, change, top_of};
@@ -13,6 +13,7 @@ use module_spec::{Bracket, LexFault, Token};
 use primitives::Memory;
 use std::alloc::Global;
 use std::marker::Model;
+use tree_spec::MOST_BRACKETS;
 
 /// The reader of a module text's tokens. A contract sees it as the text and what is left of it.
 #[derive(Drop)]

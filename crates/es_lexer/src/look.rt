@@ -6,9 +6,7 @@ ghost use Rattle.module_spec.specs.Tokens.Next.{Ends, Faults, Gives};
 use crate::pieces::piece;
 use crate::sorts::{closes, opens, same_bracket};
 use module_spec::{Bracket, LexKind, Sort};
-
-/// How many brackets may be open.
-pub const MOST_BRACKETS: usize = 4096;
+use tree_spec::MOST_BRACKETS;
 
 fn is_closed_by(opened: Option<Bracket>, closed: Bracket) -> bool
     ensures { result ≡ is_closed_by opened closed }

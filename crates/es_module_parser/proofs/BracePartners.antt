@@ -38,34 +38,34 @@ first_is zero b rest e = absurd (cc)
 first_is (suc n) b rest e = cc
 
 -- what is known of a token that comes next
-data Spelled : Next → Type 0 where
-  at_end : Spelled Ends
-  at_fault : {left : ℕ} {kind : LexKind} → Spelled (Faults left kind)
-  spelled : {t : Lexeme} {after : List ℕ} → (t.text ≡ 123 ∷ [] → t.sort ≡ Punctuator OpenCurly) → Spelled (Gives t after)
+data OpensCurly : Next → Type 0 where
+  at_end : OpensCurly Ends
+  at_fault : {left : ℕ} {kind : LexKind} → OpensCurly (Faults left kind)
+  a_curly : {t : Lexeme} {after : List ℕ} → (t.text ≡ 123 ∷ [] → t.sort ≡ Punctuator OpenCurly) → OpensCurly (Gives t after)
 
-unless_spelled : (refused : Option LexKind) (regex part : Bool) (b : ℕ) (rest after : List ℕ) (sort : Sort) → piece regex part (b ∷ rest) ≡ Some (sort, after) → Spelled (unless_refused refused sort (b ∷ rest) after)
-unless_spelled (Some kind) regex part b rest after sort e = at_fault
-unless_spelled None regex part b rest after sort e =
-    spelled (λ f. ap sort_of (sym (subst (λ x. piece regex part (x ∷ rest) ≡ Some (sort, after)) (first_is (length (b ∷ rest) - length after) b rest f) e) ∙ curly_piece regex part rest))
+unless_curly : (refused : Option LexKind) (regex part : Bool) (b : ℕ) (rest after : List ℕ) (sort : Sort) → piece regex part (b ∷ rest) ≡ Some (sort, after) → OpensCurly (unless_refused refused sort (b ∷ rest) after)
+unless_curly (Some kind) regex part b rest after sort e = at_fault
+unless_curly None regex part b rest after sort e =
+    a_curly (λ f. ap sort_of (sym (subst (λ x. piece regex part (x ∷ rest) ≡ Some (sort, after)) (first_is (length (b ∷ rest) - length after) b rest f) e) ∙ curly_piece regex part rest))
 
-found_spelled : (found : Piece) (innermost : Option Bracket) (d : ℕ) (regex part : Bool) (b : ℕ) (rest : List ℕ) → piece regex part (b ∷ rest) ≡ found → Spelled (next_from innermost d (b ∷ rest) found)
-found_spelled None innermost d regex part b rest e = at_fault
-found_spelled (Some found) innermost d regex part b rest e = unless_spelled (refusal (opens found.0) (closes found.0) innermost d) regex part b rest found.1 found.0 e
+found_curly : (found : Piece) (innermost : Option Bracket) (d : ℕ) (regex part : Bool) (b : ℕ) (rest : List ℕ) → piece regex part (b ∷ rest) ≡ found → OpensCurly (next_from innermost d (b ∷ rest) found)
+found_curly None innermost d regex part b rest e = at_fault
+found_curly (Some found) innermost d regex part b rest e = unless_curly (refusal (opens found.0) (closes found.0) innermost d) regex part b rest found.1 found.0 e
 
-end_spelled : (c : Bool) → Spelled (if c then Ends else Faults 0 Unreadable)
-end_spelled true = at_end
-end_spelled false = at_fault
+end_curly : (c : Bool) → OpensCurly (if c then Ends else Faults 0 Unreadable)
+end_curly true = at_end
+end_curly false = at_fault
 
-next_spelled : (slash : Bool) (innermost : Option Bracket) (d : ℕ) (bytes : List ℕ) → Spelled (next_at slash innermost d bytes)
+next_curly : (slash : Bool) (innermost : Option Bracket) (d : ℕ) (bytes : List ℕ) → OpensCurly (next_at slash innermost d bytes)
 unfolding next_at
-next_spelled slash innermost d [] = end_spelled (d == 0)
-next_spelled slash innermost d (b ∷ rest) = found_spelled (piece slash (is_template innermost) (b ∷ rest)) innermost d slash (is_template innermost) b rest refl
+next_curly slash innermost d [] = end_curly (d == 0)
+next_curly slash innermost d (b ∷ rest) = found_curly (piece slash (is_template innermost) (b ∷ rest)) innermost d slash (is_template innermost) b rest refl
 
-of_spelled : {t : Lexeme} {after : List ℕ} → Spelled (Gives t after) → t.text ≡ 123 ∷ [] → t.sort ≡ Punctuator OpenCurly
-of_spelled (spelled h) e = h e
+of_curly : {t : Lexeme} {after : List ℕ} → OpensCurly (Gives t after) → t.text ≡ 123 ∷ [] → t.sort ≡ Punctuator OpenCurly
+of_curly (a_curly h) e = h e
 
 curly_sort : {before : List Lexeme} {rest after : List ℕ} {t : Lexeme} → IsNext before rest (Gives t after) → t.text ≡ 123 ∷ [] → t.sort ≡ Punctuator OpenCurly
-curly_sort {before} (next {at} {bytes} {slash} s i k e) f = of_spelled (subst (λ out. Spelled out) (sym e) (next_spelled slash (opener at) (depth before) bytes)) f
+curly_sort {before} (next {at} {bytes} {slash} s i k e) f = of_curly (subst (λ out. OpensCurly out) (sym e) (next_curly slash (opener at) (depth before) bytes)) f
 
 sort_at : {text : List ℕ} {t : Lexeme} {before : List Lexeme} {rest : List ℕ} → Reaches text (t ∷ before) rest → t.text ≡ 123 ∷ [] → t.sort ≡ Punctuator OpenCurly
 sort_at (go r n) e = curly_sort n e

@@ -232,14 +232,14 @@ opened word (Some at) none next = wrong_form at ∷ []
 opened word (Some at) alone next = wrong_form at ∷ []
 opened word (Some at) (asks count) next = wrong_form at ∷ []
 
-abbrev pub settled : Progress → List Request → List Placed → Result (List Request) ModuleFault
-settled Outside so_far later = requests so_far (findings None later)
-settled (Inside e word inner) so_far later = requests so_far (opened word inner (form e later) (λ n. findings n later))
-settled (Broken fault) so_far later = Err fault
+abbrev pub finished : Progress → List Request → List Placed → Result (List Request) ModuleFault
+finished Outside so_far later = requests so_far (findings None later)
+finished (Inside e word inner) so_far later = requests so_far (opened word inner (form e later) (λ n. findings n later))
+finished (Broken fault) so_far later = Err fault
 
-abbrev pub settled_next : Next → Placed → List Request → List Placed → Result (List Request) ModuleFault
-settled_next (Goes progress) t so_far later = settled progress so_far later
-settled_next Specifier t so_far later = requests so_far (specifier t ∷ findings None later)
+abbrev pub finished_behind : Next → Placed → List Request → List Placed → Result (List Request) ModuleFault
+finished_behind (Goes progress) t so_far later = finished progress so_far later
+finished_behind Specifier t so_far later = requests so_far (specifier t ∷ findings None later)
 
 abbrev begun_form : Bool → Bool → List Placed → Form
 begun_form c d later = if c then behind_import later else if d then export_declaration later else none
@@ -250,12 +250,12 @@ found_none t none next = refl
 found_none t alone next = refl
 found_none t (asks count) next = refl
 
-begun_by : (t : Placed) (later : List Placed) (so_far : List Request) (c d : Bool) → requests so_far (found t None (begun_form c d later) (λ n. findings n later)) ≡ settled (if c then Inside ImportDeclaration t.token.from None else if d then Inside ExportDeclaration t.token.from None else Outside) so_far later
+begun_by : (t : Placed) (later : List Placed) (so_far : List Request) (c d : Bool) → requests so_far (found t None (begun_form c d later) (λ n. findings n later)) ≡ finished (if c then Inside ImportDeclaration t.token.from None else if d then Inside ExportDeclaration t.token.from None else Outside) so_far later
 begun_by t later so_far true d = ap (requests so_far) (found_none t (behind_import later) (λ n. findings n later))
 begun_by t later so_far false true = ap (requests so_far) (found_none t (export_declaration later) (λ n. findings n later))
 begun_by t later so_far false false = refl
 
-pub begun_step : (t : Placed) (later : List Placed) (so_far : List Request) → requests so_far (findings None (t ∷ later)) ≡ settled (begun (seen_of t) t.text) so_far later
+pub begun_step : (t : Placed) (later : List Placed) (so_far : List Request) → requests so_far (findings None (t ∷ later)) ≡ finished (begun (seen_of t) t.text) so_far later
 begun_step t later so_far = begun_by t later so_far (is_top t && is_word t (codes "import")) (is_top t && is_word t (codes "export"))
 
 plain_case : (t : Placed) (later : List Placed) (so_far : List Request) (word : ℕ) (g : Form) → requests so_far (opened word None (further g) (λ a. found t a none (λ n. findings n later))) ≡ requests so_far (opened word None g (λ a. findings a later))
@@ -274,7 +274,7 @@ word_case t later so_far word (asks count) b (inl e) = absurd (cc)
 word_case t later so_far word (asks count) b (inr e) = rw e refl
 
 go_case : (t : Placed) (later : List Placed) (so_far : List Request) (word : ℕ) (e : Expect) (top i x : Bool) → ((top && (i || x)) ≡ false) ⊎ NoneBegins later (form e later)
-    → requests so_far (opened word None (further (form e later)) (λ a. found t a (begun_form (top && i) (top && x) later) (λ n. findings n later))) ≡ settled (if top && (i || x) then Inside e word (Some t.token.from) else Inside e word None) so_far later
+    → requests so_far (opened word None (further (form e later)) (λ a. found t a (begun_form (top && i) (top && x) later) (λ n. findings n later))) ≡ finished (if top && (i || x) then Inside e word (Some t.token.from) else Inside e word None) so_far later
 go_case t later so_far word e false i x p = plain_case t later so_far word (form e later)
 go_case t later so_far word e true false false p = plain_case t later so_far word (form e later)
 go_case t later so_far word e true true x (inl p) = absurd (cc)
@@ -290,7 +290,7 @@ asked_case t later so_far true false false p = refl
 asked_case t later so_far true true x p = absurd (cc)
 asked_case t later so_far true false true p = absurd (cc)
 
-inside_step : (t : Placed) (later : List Placed) (so_far : List Request) (word : ℕ) {turn : Turn} {f : Form} → Turns t later turn f → requests so_far (opened word None f (λ a. findings a (t ∷ later))) ≡ settled_next (moved word turn (seen_of t) t.text) t so_far later
+inside_step : (t : Placed) (later : List Placed) (so_far : List Request) (word : ℕ) {turn : Turn} {f : Form} → Turns t later turn f → requests so_far (opened word None f (λ a. findings a (t ∷ later))) ≡ finished_behind (moved word turn (seen_of t) t.text) t so_far later
 inside_step t later so_far word (goes e p) = go_case t later so_far word e (is_top t) (is_word t (codes "import")) (is_word t (codes "export")) p
 inside_step t later so_far word fails = refl
 inside_step t later so_far word (asked p) = asked_case t later so_far (is_top t) (is_word t (codes "import")) (is_word t (codes "export")) p
@@ -303,7 +303,7 @@ wrong_case word inner so_far none next more = refl
 wrong_case word inner so_far alone next more = refl
 wrong_case word inner so_far (asks count) next more = refl
 
-wrong_step : (t : Placed) (later : List Placed) (so_far : List Request) (word inner : ℕ) {turn : Turn} {f : Form} → Turns t later turn f → requests so_far (opened word (Some inner) f (λ a. findings a (t ∷ later))) ≡ settled (moved_wrong word inner turn) so_far later
+wrong_step : (t : Placed) (later : List Placed) (so_far : List Request) (word inner : ℕ) {turn : Turn} {f : Form} → Turns t later turn f → requests so_far (opened word (Some inner) f (λ a. findings a (t ∷ later))) ≡ finished (moved_wrong word inner turn) so_far later
 wrong_step t later so_far word inner (goes e p) = wrong_case word inner so_far (form e later) (λ a. findings a (t ∷ later)) (λ a. findings a later)
 wrong_step t later so_far word inner fails = refl
 wrong_step t later so_far word inner (asked p) = refl
@@ -315,11 +315,11 @@ Deep Outside d = Unit {0}
 Deep (Broken fault) d = Unit {0}
 Deep (Inside e word inner) d = InBraces e d
 
-pub step_settled : (p : Progress) (t : Placed) (later : List Placed) (so_far : List Request) → Deep p t.depth → settled p so_far (t ∷ later) ≡ settled_next (stepped p (seen_of t) t.text) t so_far later
-step_settled Outside t later so_far d = begun_step t later so_far
-step_settled (Broken fault) t later so_far d = refl
-step_settled (Inside e word None) t later so_far d = inside_step t later so_far word (turns_of e t later d)
-step_settled (Inside e word (Some inner)) t later so_far d = wrong_step t later so_far word inner (turns_of e t later d)
+pub step_finished : (p : Progress) (t : Placed) (later : List Placed) (so_far : List Request) → Deep p t.depth → finished p so_far (t ∷ later) ≡ finished_behind (stepped p (seen_of t) t.text) t so_far later
+step_finished Outside t later so_far d = begun_step t later so_far
+step_finished (Broken fault) t later so_far d = refl
+step_finished (Inside e word None) t later so_far d = inside_step t later so_far word (turns_of e t later d)
+step_finished (Inside e word (Some inner)) t later so_far d = wrong_step t later so_far word inner (turns_of e t later d)
 
 -- ---- and it keeps that a bracket is open inside of braces
 

@@ -1,6 +1,6 @@
 -- Characters of texts, and what they come to in a literal.
 use lib.Utf8.{scalar, scalars, scalar_cases}
-use Rattle.std.proofs.Common.{◌≡◌, ◌<◌, ◌≤◌, ◌+◌, ◌-◌, ◌*◌, ◌==◌, ◌⊎◌, inl, inr, ℕ, zero, suc, Bool, true, false, nat_le, List, [], ◌∷◌, ◌++◌, length, take, drop, if◌then◌else◌, Option, Some, None, refl, sym, ap, subst, ◌∙◌, arith, take_at, drop_at, length-append, append-nil, append_assoc}
+use Rattle.std.proofs.Common.{◌≡◌, ◌<◌, ◌≤◌, ◌+◌, ◌-◌, ◌*◌, ◌==◌, ◌⊎◌, inl, inr, ℕ, zero, suc, Bool, true, false, nat_le, List, [], ◌∷◌, ◌++◌, length, take, drop, Option, Some, None, refl, sym, ap, subst, ◌∙◌, arith, take_at, drop_at, length-append, append-nil, append_assoc}
 use Rattle.std.proofs.lemmas.Str.{chars-nil, chars-append, chars_past_char, encodes-chars, scalars-chars, IsUtf8-drop, IsCharBoundary-from_take}
 use Rattle.std.proofs.lemmas.Bool.{and_parts, eq-eqb, eqb-true, le-leb, lt-leb, le-ltb, or_parts, cond-true}
 use Rattle.std.proofs.lemmas.List.Folds.{list_any-append}
@@ -10,7 +10,8 @@ use Rattle.std.specs.Char.{encode_utf8}
 use Rattle.std.specs.Prelude.{slice_index, option_map}
 use Rattle.std.specs.Str.{chars, IsUtf8, encode_utf8_all}
 use Rattle.module_spec.specs.Characters.{is_hex_digit, hex_digits}
-use Rattle.module_spec.specs.StringValues.{Element, hex_value, hex_number, braced_escape, escape, elements, is_high_surrogate, is_low_surrogate, surrogate_pair, behind_character, code_points}
+use Rattle.std.specs.Char.Utf16.{is_high_surrogate, is_low_surrogate, surrogate_pair_char}
+use Rattle.module_spec.specs.StringValues.{Element, hex_value, hex_number, braced_escape, escape, elements, behind_character, code_points}
 use Rattle.module_spec.specs.StringValues.Element.{unit}
 use Rattle.es_module_parser.specs.declared.literals.Waiting.TheVariants.{Nothing, High}
 use Rattle.es_module_parser.specs.Literals.{sixteens, element_of, inside_value, IsPart, behind_text, settled}
@@ -122,9 +123,9 @@ pub first_added : (text new : List ℕ) (code c : ℕ) → is_high_surrogate cod
 first_added text new code c high is same e more =
     rw (high, is) (behind_one text new code (code_points None more) (subst (λ x. new ≡ text ++ encode_utf8 x) same e))
 
-pub second_added : (text new : List ℕ) (high code c : ℕ) → is_low_surrogate code ≡ true → c ≡ surrogate_pair high code → new ≡ text ++ encode_utf8 c → (more : List Element) → settled text (High high) (unit code ∷ more) ≡ settled new Nothing more
+pub second_added : (text new : List ℕ) (high code c : ℕ) → is_low_surrogate code ≡ true → c ≡ surrogate_pair_char high code → new ≡ text ++ encode_utf8 c → (more : List Element) → settled text (High high) (unit code ∷ more) ≡ settled new Nothing more
 second_added text new high code c low same e more =
-    rw low (behind_one text new (surrogate_pair high code) (code_points None more) (subst (λ x. new ≡ text ++ encode_utf8 x) same e))
+    rw low (behind_one text new (surrogate_pair_char high code) (code_points None more) (subst (λ x. new ≡ text ++ encode_utf8 x) same e))
 
 -- ---- a literal without an escape
 

@@ -1,4 +1,5 @@
 -- The tokens so far, by what the parser keeps of them.
+use Rattle.std.specs.Prelude.{IfOk, IfErr}
 use Rattle.std.proofs.Common.{◌≡◌, ◌<◌, ◌==◌, ◌&&◌, ◌||◌, not, codes, ℕ, Bool, true, false, if◌then◌else◌, List, [], ◌∷◌, ◌++◌, length, reverse, Option, Some, None, Result, Ok, Err, refl, sym, ◌∙◌, ap, subst, slice_range, append_assoc, append-nil}
 use Rattle.std.proofs.lemmas.Grind.{reverse_onto}
 use Rattle.module_spec.specs.declared.token.Token.{Token}
@@ -26,9 +27,11 @@ use Rattle.es_module_parser.specs.declared.progress.Progress.TheVariants.{Outsid
 use Rattle.es_module_parser.specs.declared.progress.Next.{Next}
 use Rattle.es_module_parser.specs.declared.progress.Next.TheVariants.{Goes, Specifier}
 use Rattle.es_module_parser.specs.Faults as faults
-use Rattle.es_module_parser.specs.Progress.{IsIdle, word_is, stepped, progress_behind, requests_behind, ended}
+use Rattle.es_module_parser.specs.Progress.{IsIdle, seen_at, word_is, stepped, progress_behind, requests_behind, ended}
+use Rattle.es_module_parser.specs.declared.requests.Outline as told_outlines
+use Rattle.es_module_parser.specs.Outlines.{as_outline, EndsAs}
 use Rattle.es_module_parser.specs.Declaring.{declares_now, after_token, declares_at_end}
-use Rattle.es_module_parser.proofs.FormSteps.{seen_of, settled, settled_next, begun_step, step_settled, step_deep, Deep, DeepNext}
+use Rattle.es_module_parser.proofs.FormSteps.{seen_of, finished, finished_behind, begun_step, step_finished, step_deep, Deep, DeepNext}
 use Rattle.es_module_parser.proofs.DeclaringSteps.{declares_from, declare_step, declared_at_end}
 
 pub record Reading (text : List ℕ) (lexer : List ℕ × List ℕ) (progress : Progress) (so_far : List Request) (after : After) (declared : Bool) : Type 0 where
@@ -36,7 +39,7 @@ pub record Reading (text : List ℕ) (lexer : List ℕ × List ℕ) (progress : 
   pub before : List Lexeme
   pub reached : Reaches text before lexer.1
   pub deep : Deep progress (depth before)
-  pub asking : (later : List Placed) → requests [] (findings None (reverse (places (length text) before) ++ later)) ≡ settled progress so_far later
+  pub asking : (later : List Placed) → requests [] (findings None (reverse (places (length text) before) ++ later)) ≡ finished progress so_far later
   pub declaring : (later : List Placed) → declares (reverse (places (length text) before) ++ later) ≡ (declared || declares_from after later)
 
 pub nothing_read : (text : List ℕ) (lexer : List ℕ × List ℕ) (so_far : List Request) → lexer ≡ (text, hashbang_rest text) → so_far ≡ [] → Reading text lexer Outside so_far Other false
@@ -56,7 +59,7 @@ abbrev end_of : Option module_faults.ModuleFault → List Request → Result (Li
 end_of None so_far = Ok so_far
 end_of (Some f) so_far = Err f
 
-at_end : (p : Progress) (so_far : List Request) → settled p so_far [] ≡ end_of (ended p) so_far
+at_end : (p : Progress) (so_far : List Request) → finished p so_far [] ≡ end_of (ended p) so_far
 at_end Outside so_far = refl
 at_end (Broken f) so_far = refl
 at_end (Inside ImportDeclaration word inner) so_far = refl
@@ -84,7 +87,7 @@ ends {text} {progress} {so_far} {after} {declared} end r e =
     let shows = sym (ap (λ (ts : List Placed). declares ts) none) ∙ (r.declaring [] ∙ ap (λ d. declared || d) (declared_at_end after)) in
     ap (λ x. outline_of x (declares all_of)) asks ∙ ap (λ d. outline_of (end_of end so_far) d) shows
 
-pub whole_read : {text : List ℕ} {lexer : List ℕ × List ℕ} {progress : Progress} {so_far : List Request} {after : After} {declared : Bool} (rest : List ℕ) → (r : Reading text lexer progress so_far after declared) → NextIs text r.before lexer.1 (Ok None) rest → None ≡ ended progress → (asked : List Request) (shows : Bool) → asked ≡ so_far → shows ≡ (declared || declares_at_end after) → ReadsOutline text (Ok (record { requests = asked; declares = shows }))
+whole_read : {text : List ℕ} {lexer : List ℕ × List ℕ} {progress : Progress} {so_far : List Request} {after : After} {declared : Bool} (rest : List ℕ) → (r : Reading text lexer progress so_far after declared) → NextIs text r.before lexer.1 (Ok None) rest → None ≡ ended progress → (asked : List Request) (shows : Bool) → asked ≡ so_far → shows ≡ (declared || declares_at_end after) → ReadsOutline text (Ok (record { requests = asked; declares = shows }))
 whole_read rest r s e asked shows f g = all r.reached s.0 (rw (f, g) (sym (ends None r e)))
 
 fault_says : (text : List ℕ) (f : module_faults.ModuleFault) → ReadsOutline text (Err f) → faults.IsFaultOf text (faults.fault_of f)
@@ -92,8 +95,27 @@ fault_says text (Unreadable at) r = r
 fault_says text TooDeep r = r
 fault_says text TooManyRequests r = r
 
-pub fault_read : {text : List ℕ} {lexer : List ℕ × List ℕ} {progress : Progress} {so_far : List Request} {after : After} {declared : Bool} (rest : List ℕ) (f : module_faults.ModuleFault) (out : OutlineFault) → (r : Reading text lexer progress so_far after declared) → NextIs text r.before lexer.1 (Ok None) rest → Some f ≡ ended progress → out ≡ faults.fault_of f → faults.IsFaultOf text out
+fault_read : {text : List ℕ} {lexer : List ℕ × List ℕ} {progress : Progress} {so_far : List Request} {after : After} {declared : Bool} (rest : List ℕ) (f : module_faults.ModuleFault) (out : OutlineFault) → (r : Reading text lexer progress so_far after declared) → NextIs text r.before lexer.1 (Ok None) rest → Some f ≡ ended progress → out ≡ faults.fault_of f → faults.IsFaultOf text out
 fault_read {text} rest f out r s e g = subst (λ o. faults.IsFaultOf text o) (sym g) (fault_says text f (all r.reached s.0 (sym (ends (Some f) r e))))
+
+-- what is told at the text's end
+pub ends_whole : {text : List ℕ} {lexer : List ℕ × List ℕ} {progress : Progress} {so_far : List Request} {after : After} {declared : Bool} (rest : List ℕ) (end : Option module_faults.ModuleFault)
+    → (r : Reading text lexer progress so_far after declared) → NextIs text r.before lexer.1 (Ok None) rest → end ≡ ended progress
+    → (out : Result told_outlines.Outline OutlineFault) → EndsAs end so_far (declared || declares_at_end after) out
+    → IfOk out (λ outline. ReadsOutline text (Ok (as_outline outline)))
+ends_whole rest None r s e (Ok outline) f = whole_read rest r s e outline.requests outline.declares f.0 f.1
+ends_whole rest (Some g) r s e (Ok outline) f = absurd f
+ends_whole rest None r s e (Err other) f = tt
+ends_whole rest (Some g) r s e (Err other) f = tt
+
+pub ends_fault : {text : List ℕ} {lexer : List ℕ × List ℕ} {progress : Progress} {so_far : List Request} {after : After} {declared : Bool} (rest : List ℕ) (end : Option module_faults.ModuleFault)
+    → (r : Reading text lexer progress so_far after declared) → NextIs text r.before lexer.1 (Ok None) rest → end ≡ ended progress
+    → (out : Result told_outlines.Outline OutlineFault) → EndsAs end so_far (declared || declares_at_end after) out
+    → IfErr out (λ other. faults.IsFaultOf text other)
+ends_fault rest None r s e (Ok outline) f = tt
+ends_fault rest (Some g) r s e (Ok outline) f = tt
+ends_fault rest None r s e (Err other) f = absurd f
+ends_fault rest (Some g) r s e (Err other) f = fault_read rest g other r s e f
 
 pub lexical_read : {text : List ℕ} {lexer : List ℕ × List ℕ} {progress : Progress} {so_far : List Request} {after : After} {declared : Bool} (rest : List ℕ) (f : LexFault) (out : OutlineFault) → (r : Reading text lexer progress so_far after declared) → NextIs text r.before lexer.1 (Err f) rest → out ≡ faults.lexical_fault f.at f.kind → faults.IsFaultOf text out
 lexical_read {text} rest f out r s e =
@@ -111,15 +133,15 @@ or_assoc : (a b c : Bool) → (a || (b || c)) ≡ ((a || b) || c)
 or_assoc true b c = refl
 or_assoc false b c = refl
 
-limit_kept : (c : Bool) (token : Token) (text : List ℕ) (so_far : List Request) (later : List Placed) → (if c then Err TooManyRequests else requests (so_far ++ record { from = token.from; to = token.to; text = text } ∷ []) (findings None later)) ≡ settled (if c then Broken TooManyRequests else Outside) (if c then so_far else so_far ++ record { from = token.from; to = token.to; text = text } ∷ []) later
+limit_kept : (c : Bool) (token : Token) (text : List ℕ) (so_far : List Request) (later : List Placed) → (if c then Err TooManyRequests else requests (so_far ++ record { from = token.from; to = token.to; text = text } ∷ []) (findings None later)) ≡ finished (if c then Broken TooManyRequests else Outside) (if c then so_far else so_far ++ record { from = token.from; to = token.to; text = text } ∷ []) later
 limit_kept true token text so_far later = refl
 limit_kept false token text so_far later = refl
 
-asked_kept : (t : Placed) (value : Option (List ℕ)) (so_far : List Request) (later : List Placed) → string_value t.text ≡ value → settled_next Specifier t so_far later ≡ settled (progress_behind Specifier t.token value so_far) (requests_behind Specifier t.token value so_far) later
+asked_kept : (t : Placed) (value : Option (List ℕ)) (so_far : List Request) (later : List Placed) → string_value t.text ≡ value → finished_behind Specifier t so_far later ≡ finished (progress_behind Specifier t.token value so_far) (requests_behind Specifier t.token value so_far) later
 asked_kept t None so_far later e = rw e refl
 asked_kept t (Some text) so_far later e = rw e (limit_kept (length so_far == most_requests) t.token text so_far later)
 
-next_kept : (n : Next) (t : Placed) (so_far : List Request) (later : List Placed) → settled_next n t so_far later ≡ settled (progress_behind n t.token (string_value t.text) so_far) (requests_behind n t.token (string_value t.text) so_far) later
+next_kept : (n : Next) (t : Placed) (so_far : List Request) (later : List Placed) → finished_behind n t so_far later ≡ finished (progress_behind n t.token (string_value t.text) so_far) (requests_behind n t.token (string_value t.text) so_far) later
 next_kept (Goes p) t so_far later = refl
 next_kept Specifier t so_far later = asked_kept t (string_value t.text) so_far later refl
 
@@ -135,29 +157,27 @@ deep_behind : (n : Next) (token : Token) (value : Option (List ℕ)) (so_far : L
 deep_behind (Goes p) token value so_far d x = x
 deep_behind Specifier token value so_far d x = deep_asked token value so_far d
 
-pub read_on : {text : List ℕ} {lexer : List ℕ × List ℕ} {progress : Progress} {so_far : List Request} {after : After} {declared : Bool} (new : List ℕ × List ℕ) (n : Next) (p : Progress) (more : List Request) (a : After) (now : Bool) (token : Token) (spelled : List ℕ) (property : Bool) (d behind : ℕ) (top : Bool)
+pub read_on : {text : List ℕ} {lexer : List ℕ × List ℕ} {progress : Progress} {so_far : List Request} {after : After} {declared : Bool} (new : List ℕ × List ℕ) (n : Next) (p : Progress) (more : List Request) (a : After) (now : Bool) (token : Token) (spelled : List ℕ) (property : Bool) (d behind : ℕ) (seen : Seen)
     → (r : Reading text lexer progress so_far after declared) → new.0 ≡ lexer.0 → NextIs text r.before lexer.1 (Ok (Some token)) new.1
     → ((some : List Lexeme) × Reaches lexer.0 some lexer.1 × (property ≡ is_property some))
     → ((some : List Lexeme) × Reaches lexer.0 some lexer.1 × (d ≡ depth some))
     → ((some : List Lexeme) × Reaches new.0 some new.1 × (behind ≡ depth some))
-    → top ≡ (not property && d == 0)
+    → seen ≡ seen_at token (not property) d behind
     → spelled ≡ slice_range text token.from token.to
-    → n ≡ stepped progress (record { kind = token.kind; from = token.from; plain = not property; top = top; behind = behind }) spelled
+    → n ≡ stepped progress seen spelled
     → p ≡ progress_behind n token (string_value spelled) so_far → more ≡ requests_behind n token (string_value spelled) so_far
-    → now ≡ (declared || declares_now after (record { kind = token.kind; from = token.from; plain = not property; top = top; behind = behind }) spelled)
-    → a ≡ after_token after (record { kind = token.kind; from = token.from; plain = not property; top = top; behind = behind }) spelled
+    → now ≡ (declared || declares_now after seen spelled)
+    → a ≡ after_token after seen spelled
     → Reading text new p more a now
-read_on {text} {lexer} {progress} {so_far} {after} {declared} new n p more a now token spelled property d behind top r e s properties depths behinds tops f g h i j k =
+read_on {text} {lexer} {progress} {so_far} {after} {declared} new n p more a now token spelled property d behind seen r e s properties depths behinds sees f g h i j k =
     let t : Placed = placed (length text) r.before s.lexeme in
     let reached : Reaches text (s.lexeme ∷ r.before) new.1 = go r.reached s.next in
     let whole : new.0 ≡ text = e ∙ r.whole in
     let property_is : property ≡ is_property r.before = told is_property text lexer r.before r.whole r.reached properties in
     let depth_is : d ≡ t.depth = told depth text lexer r.before r.whole r.reached depths in
     let behind_is : behind ≡ t.behind = told depth text new (s.lexeme ∷ r.before) whole reached behinds in
-    let top_is : top ≡ is_top t = tops ∙ rw (property_is, depth_is) refl in
     let spelled_is : spelled ≡ t.text = f ∙ s.slice in
-    let seen : Seen = record { kind = token.kind; from = token.from; plain = not property; top = top; behind = behind } in
-    let seen_is : seen ≡ seen_of t = rw (property_is, top_is, behind_is) (ap (λ (x : Token). record { kind = x.kind; from = x.from; plain = t.plain; top = is_top t; behind = t.behind }) s.told) in
+    let seen_is : seen ≡ seen_of t = sees ∙ rw (property_is, depth_is, behind_is) (ap (λ (x : Token). seen_at x t.plain t.depth t.behind) s.told) in
     let stepped_is : n ≡ stepped progress (seen_of t) t.text = g ∙ (ap (λ x. stepped progress x spelled) seen_is ∙ ap (λ x. stepped progress (seen_of t) x) spelled_is) in
     let now_is : now ≡ (declared || declares_now after (seen_of t) t.text) = j ∙ (ap (λ x. declared || declares_now after x spelled) seen_is ∙ ap (λ x. declared || declares_now after (seen_of t) x) spelled_is) in
     let after_is : a ≡ after_token after (seen_of t) t.text = k ∙ (ap (λ x. after_token after x spelled) seen_is ∙ ap (λ x. after_token after (seen_of t) x) spelled_is) in
@@ -171,8 +191,8 @@ read_on {text} {lexer} {progress} {so_far} {after} {declared} new n p more a now
       asking = λ later.
           ap (λ (ts : List Placed). requests [] (findings None ts)) (turned_over (places (length text) r.before) t later)
           ∙ (r.asking (t ∷ later)
-          ∙ (step_settled progress t later so_far r.deep
-          ∙ (ap (λ q. settled_next q t so_far later) (sym stepped_is)
+          ∙ (step_finished progress t later so_far r.deep
+          ∙ (ap (λ q. finished_behind q t so_far later) (sym stepped_is)
           ∙ (next_kept n t so_far later
           ∙ rw (progress_is, more_is) refl))));
       declaring = λ later.
@@ -214,10 +234,10 @@ idle_on {text} {lexer} {progress} {so_far} {after} {declared} new token spelled 
       asking = λ later.
           ap (λ (ts : List Placed). requests [] (findings None ts)) (turned_over (places (length text) r.before) t later)
           ∙ (r.asking (t ∷ later)
-          ∙ (ap (λ p. settled p so_far (t ∷ later)) idle.outside
+          ∙ (ap (λ p. finished p so_far (t ∷ later)) idle.outside
           ∙ (begun_step t later so_far
-          ∙ (ap (λ p. settled p so_far later) (idle_begun (is_top t) (is_word t (codes "import")) (is_word t (codes "export")) t.token.from no_import no_export)
-          ∙ ap (λ p. settled p so_far later) (sym idle.outside)))));
+          ∙ (ap (λ p. finished p so_far later) (idle_begun (is_top t) (is_word t (codes "import")) (is_word t (codes "export")) t.token.from no_import no_export)
+          ∙ ap (λ p. finished p so_far later) (sym idle.outside)))));
       declaring = λ later.
           ap (λ (ts : List Placed). declares ts) (turned_over (places (length text) r.before) t later)
           ∙ (r.declaring (t ∷ later)

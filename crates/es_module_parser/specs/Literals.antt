@@ -4,7 +4,8 @@ use Rattle.std.specs.Prelude.{option_map, drop, length}
 use Rattle.std.specs.Str.{encode_utf8_all}
 use Rattle.module_spec.specs.Characters.{is_hex_digit, hex_digits}
 use Rattle.module_spec.specs.StringValues.{Element, hex_value, hex_number, braced_escape, unicode_escape, hex_escape}
-use Rattle.module_spec.specs.StringValues.{escape, elements, is_high_surrogate, code_points}
+use Rattle.std.specs.Char.Utf16.{is_high_surrogate}
+use Rattle.module_spec.specs.StringValues.{escape, elements, code_points}
 use Rattle.module_spec.specs.StringValues.Element.{unit, nothing, wrong}
 use Rattle.es_module_parser.specs.declared.literals.Waiting.{Waiting}
 use Rattle.es_module_parser.specs.declared.literals.Waiting.TheVariants.{Nothing, High, Alone}

@@ -44,6 +44,11 @@ exported_is kind text =
     || word_is kind text (codes "class")
     || word_is kind text (codes "async")
 
+-- a token in its place: no property's name where it is plain, so many brackets before it, and so many behind it
+abbrev pub seen_at : Token → Bool → ℕ → ℕ → Seen
+seen_at token plain depth behind =
+    record { kind = token.kind; from = token.from; plain = plain; top = plain && depth == 0; behind = behind }
+
 -- ---- what a token is to a declaration
 
 abbrev pub in_braces : ℕ → Expect → Expect → Turn

@@ -5,7 +5,7 @@ ghost use Rattle.std.specs.Str.{chars};
 ghost use Rattle.std.specs.Char.{is_ascii_digit};
 ghost use Rattle.module_spec.specs.Characters.{is_hex_digit, hex_digits, is_wide_line_end, begins_digit};
 ghost use Rattle.module_spec.specs.StringValues.{begins_line_feed, escaped_character, string_value, between_quotes};
-ghost use Rattle.module_spec.specs.StringValues.{is_high_surrogate, is_low_surrogate};
+ghost use Rattle.std.specs.Char.Utf16.{is_high_surrogate, is_low_surrogate};
 ghost use Rattle.module_spec.specs.StringValues.Element.{unit};
 ghost use Rattle.es_module_parser.specs.declared.literals.Waiting.TheVariants as Waiting;
 ghost use Rattle.es_module_parser.specs.Literals.{element_of, inside_value, IsWaiting, IsAdded, IsFront, IsDigit};

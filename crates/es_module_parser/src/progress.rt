@@ -10,9 +10,7 @@ use crate::terminals::is_word;
 use module_spec::{ModuleFault, Request, Token};
 use primitives::{Listed, Memory};
 use std::alloc::Global;
-
-/// How many modules a text may ask for.
-pub const MOST_REQUESTS: usize = 4096;
+use tree_spec::MOST_MODULE_REQUESTS;
 
 /// Where the reading of a text stands.
 #[derive(Clone, Copy, Debug, PartialEq, Eq)]
@@ -96,7 +94,7 @@ fn ask(
     let Some(text) = string_value(alloc, literal)? else {
         return Ok(Progress::Broken(ModuleFault::Unreadable { at: token.from }));
     };
-    if asked.len() == MOST_REQUESTS {
+    if asked.len() == MOST_MODULE_REQUESTS {
         return Ok(Progress::Broken(ModuleFault::TooManyRequests));
     }
     asked.push(Request {

@@ -1,9 +1,10 @@
-ghost use Rattle.std.specs.Prelude.{◌≡◌, ◌+◌, ◌&&◌, ◌||◌, ◌==◌, not, bytes_eq, codes, Ok, IfOk, IfErr};
+ghost use Rattle.std.specs.Prelude.{◌≡◌, ◌+◌, ◌||◌, not, bytes_eq, codes, Ok, IfOk, IfErr};
 ghost use Rattle.std.specs.Bool.{OnTrue};
 ghost use Rattle.module_spec.specs.Outlines.{ReadsOutline};
 ghost use Rattle.es_module_parser.specs.Faults.{IsFaultOf, lexical_fault};
-ghost use Rattle.es_module_parser.specs.Outlines.{as_outline};
-ghost use Rattle.es_module_parser.specs.Progress.{IsIdle};
+ghost use Rattle.es_module_parser.specs.Declaring.{declares_at_end};
+ghost use Rattle.es_module_parser.specs.Outlines.{as_outline, EndsAs};
+ghost use Rattle.es_module_parser.specs.Progress.{IsIdle, seen_at, ended};
 
 use crate::declaring::After;
 use crate::expect::Seen;
@@ -12,7 +13,7 @@ use crate::progress::Progress;
 use crate::requests::{Outline, Requests};
 use crate::terminals::is_name;
 use es_lexer::{LexFault, LexKind, Lexer};
-use module_spec::Kind;
+use module_spec::{Kind, Request, Token};
 use primitives::{Listed, Steps};
 use std::alloc::Global;
 use std::sync::ledger::Ledger;
@@ -26,10 +27,17 @@ fn lexical(fault: LexFault) -> OutlineFault
     }
 }
 
-fn is_top(plain: bool, depth: usize) -> bool
-    ensures { result ≡ (plain && depth == 0) }
+// The token in its place: no property's name where it is plain, so many brackets before it, and so many behind it.
+fn seen_at(token: Token, plain: bool, depth: usize, behind: usize) -> Seen
+    ensures { result ≡ seen_at token plain depth behind }
 {
-    plain && depth == 0
+    Seen {
+        kind: token.kind,
+        from: token.from,
+        plain,
+        top: plain && depth == 0,
+        behind,
+    }
 }
 
 // Whether a text is one of the two words. Few tokens are as long as they are, so this is asked before the kind, which
@@ -52,6 +60,24 @@ fn is_idle(progress: Progress, after: After, kind: Kind, text: &[u8]) -> bool
             After::Dot => false,
             After::Other => !(begins_declaration(text) && is_name(kind)),
         },
+    }
+}
+
+// What the text has where it ends here.
+fn outline_at_end(
+    progress: Progress,
+    asked: Listed<Request>,
+    after: After,
+    declares: bool,
+) -> Result<Outline, OutlineFault>
+    ensures { EndsAs (ended progress) asked (declares || declares_at_end after) result }
+{
+    match progress.fault_at_end() {
+        Some(fault) => Err(OutlineFault::from(fault)),
+        None => Ok(Outline {
+            requests: Requests::of(asked),
+            declares: after.declares_at_end(declares),
+        }),
     }
 }
 
@@ -78,27 +104,13 @@ pub fn outline<L: Ledger>(
         let depth = lexer.depth();
         match lexer.next() {
             Err(fault) => return Err(lexical(fault)),
-            Ok(None) => match progress.fault_at_end() {
-                Some(fault) => return Err(OutlineFault::from(fault)),
-                None => {
-                    return Ok(Outline {
-                        requests: Requests::of(asked),
-                        declares: after.declares_at_end(declares),
-                    });
-                }
-            },
+            Ok(None) => return outline_at_end(progress, asked, after, declares),
             Ok(Some(token)) => {
                 let spelled = &bytes[token.from..token.to];
                 if is_idle(progress, after, token.kind, spelled) {
                     continue;
                 }
-                let seen = Seen {
-                    kind: token.kind,
-                    from: token.from,
-                    plain,
-                    top: is_top(plain, depth),
-                    behind: lexer.depth(),
-                };
+                let seen = seen_at(token, plain, depth, lexer.depth());
                 declares = after.declares(declares, seen, spelled);
                 after = after.token(seen, spelled);
                 let next = progress.step(seen, spelled);

@@ -1,5 +1,6 @@
 -- Brackets that are open, and partners.
 use Rattle.std.proofs.Common.{◌≡◌, ◌≤◌, ◌<◌, ◌+◌, ◌-◌, ◌==◌, ℕ, List, [], ◌∷◌, ◌++◌, Bool, true, false, length, if◌then◌else◌, Option, Some, None, refl, sym, ◌∙◌, ap, subst, arith}
+use Rattle.std.specs.Prelude.{drop}
 use Rattle.std.proofs.lemmas.List.{length-append}
 use Rattle.module_spec.specs.declared.token.Mark.TheVariants.{OpenRound, OpenSquare, OpenCurly, CloseRound, CloseSquare, CloseCurly, Dot, Step, Stop, Operator}
 use Rattle.module_spec.specs.declared.token.Sort.{Sort}
@@ -16,11 +17,13 @@ use Rattle.module_spec.specs.Tokens.IsNext.{next}
 use Rattle.module_spec.specs.Tokens.Reaches.{begin, go}
 use Rattle.module_spec.specs.Brackets.{StaysOpen}
 use Rattle.module_spec.specs.Laws.{DepthCounts, OnePartner, CurlyPartners}
-use Rattle.module_spec.proofs.TokenLaws.{open_brackets, pushed, popped, behind_top, top_of, innermost_top, one_innermost}
+use Rattle.module_spec.specs.OutlineReading.{open_brackets, with_opened, without_closed, innermost as innermost_of}
+use Rattle.module_spec.proofs.TokenLaws.{innermost_top, one_innermost}
 
 -- ---- a token that is given closes nothing but the innermost bracket
 
-data Allowed (innermost : Option Bracket) (d : ℕ) : Next → Type 0 where
+-- what comes next is the end, a fault, or a token that isn't refused
+pub data Allowed (innermost : Option Bracket) (d : ℕ) : Next → Type 0 where
   at_end : Allowed innermost d Ends
   at_fault : {left : ℕ} {kind : LexKind} → Allowed innermost d (Faults left kind)
   allowed : {t : Lexeme} {after : List ℕ} → refusal (opens t.sort) (closes t.sort) innermost d ≡ None → Allowed innermost d (Gives t after)
@@ -37,7 +40,7 @@ end_allowed : (c : Bool) (innermost : Option Bracket) (d : ℕ) → Allowed inne
 end_allowed true innermost d = at_end
 end_allowed false innermost d = at_fault
 
-next_allowed : (slash : Bool) (innermost : Option Bracket) (d : ℕ) (bytes : List ℕ) → Allowed innermost d (next_at slash innermost d bytes)
+pub next_allowed : (slash : Bool) (innermost : Option Bracket) (d : ℕ) (bytes : List ℕ) → Allowed innermost d (next_at slash innermost d bytes)
 unfolding next_at
 next_allowed slash innermost d [] = end_allowed (d == 0) innermost d
 next_allowed slash innermost d (b ∷ rest) = found_allowed (piece slash (is_template innermost) (b ∷ rest)) innermost d (b ∷ rest)
@@ -95,7 +98,7 @@ some_at : (at : List Lexeme) (k : Bracket) → opener at ≡ Some k → 1 ≤ le
 some_at [] k e = absurd (cc)
 some_at (o ∷ at) k e = omega arith
 
-some_top : (stack : List (List Lexeme)) → 1 ≤ length (top_of stack) → 1 ≤ length stack
+some_top : (stack : List (List Lexeme)) → 1 ≤ length (innermost_of stack) → 1 ≤ length stack
 some_top [] l = absurd (omega arith)
 some_top (x ∷ stack) l = omega arith
 
@@ -104,17 +107,17 @@ closes_some {before} {k} c e =
     let top = innermost_top before c.at c.inner in
     some_top (open_brackets before) (subst (λ (x : List Lexeme). 1 ≤ length x) (sym top) (some_at c.at k (c.closing k e)))
 
-length_behind : (stack : List (List Lexeme)) → length (behind_top stack) ≡ length stack - 1
+length_behind : (stack : List (List Lexeme)) → length (drop 1 stack) ≡ length stack - 1
 length_behind [] = omega arith
 length_behind (x ∷ stack) = omega arith
 
-length_popped : (c : Option Bracket) (stack : List (List Lexeme)) → length (popped c stack) ≡ length stack - count c
-length_popped None stack = omega arith
-length_popped (Some k) stack = length_behind stack
+length_closed : (c : Option Bracket) (stack : List (List Lexeme)) → length (without_closed c stack) ≡ length stack - count c
+length_closed None stack = omega arith
+length_closed (Some k) stack = length_behind stack
 
-length_pushed : (o : Option Bracket) (x : List Lexeme) (stack : List (List Lexeme)) → length (pushed o x stack) ≡ length stack + count o
-length_pushed None x stack = omega arith
-length_pushed (Some k) x stack = omega arith
+length_opened : (o : Option Bracket) (x : List Lexeme) (stack : List (List Lexeme)) → length (with_opened o x stack) ≡ length stack + count o
+length_opened None x stack = omega arith
+length_opened (Some k) x stack = omega arith
 
 -- a closing token comes where a bracket is open
 enough : {t : Lexeme} {before : List Lexeme} (c : Option Bracket) → closes t.sort ≡ c → Comes t before → count c ≤ length (open_brackets before)
@@ -126,8 +129,8 @@ open_is_depth text before rest (begin e) = refl
 open_is_depth text before rest (go {t} {before = first} {rest = middle} r n) =
     let so_far = open_is_depth text first middle r in
     let some = enough (closes t.sort) refl (comes n) in
-    let pops = length_popped (closes t.sort) (open_brackets first) in
-    let pushes = length_pushed (opens t.sort) (t ∷ first) (popped (closes t.sort) (open_brackets first)) in
+    let pops = length_closed (closes t.sort) (open_brackets first) in
+    let pushes = length_opened (opens t.sort) (t ∷ first) (without_closed (closes t.sort) (open_brackets first)) in
     omega (arith, so_far, some, pops, pushes)
 
 pub depth_counts : DepthCounts
@@ -215,23 +218,23 @@ curly_closes_alone (Punctuator Operator) e = refl
 
 top_lies : {before : List Lexeme} {t : Lexeme} (o : Lexeme) (inner : List Lexeme) (k : Bracket) {stack : List (List Lexeme)} → Comes t before → open_brackets before ≡ (o ∷ inner) ∷ stack → opens o.sort ≡ Some Curly → closes t.sort ≡ Some k → k ≡ Curly
 top_lies {before} {t} o inner k {stack} c s opened closed =
-    let at_is : c.at ≡ o ∷ inner = sym (innermost_top before c.at c.inner) ∙ ap top_of s in
+    let at_is : c.at ≡ o ∷ inner = sym (innermost_top before c.at c.inner) ∙ ap innermost_of s in
     let same : opens o.sort ≡ Some k = sym (ap opener at_is) ∙ c.closing k closed in
     let e : Some Curly ≡ Some k = sym opened ∙ same in cc
 
-pushed_lies : {x : List Lexeme} {n : ℕ} {stack : List (List Lexeme)} (o : Option Bracket) (y : List Lexeme) → Lies x n stack → Lies x n (pushed o y stack)
-pushed_lies None y l = l
-pushed_lies (Some k) y l = deeper l
+opened_lies : {x : List Lexeme} {n : ℕ} {stack : List (List Lexeme)} (o : Option Bracket) (y : List Lexeme) → Lies x n stack → Lies x n (with_opened o y stack)
+opened_lies None y l = l
+opened_lies (Some k) y l = deeper l
 
-popped_lies : {t o : Lexeme} {before inner : List Lexeme} {stack : List (List Lexeme)} (closed : Option Bracket) → closes t.sort ≡ closed → Comes t before → open_brackets before ≡ stack → length (open_brackets before) ≡ depth before → opens o.sort ≡ Some Curly → depth inner < depth (t ∷ before) → Lies (o ∷ inner) (depth inner) stack → Lies (o ∷ inner) (depth inner) (popped closed stack)
-popped_lies None e c s size opened stays l = l
-popped_lies {t} {o} {before} {inner} (Some k) e c s size opened stays (on_top below) =
+closed_lies : {t o : Lexeme} {before inner : List Lexeme} {stack : List (List Lexeme)} (closed : Option Bracket) → closes t.sort ≡ closed → Comes t before → open_brackets before ≡ stack → length (open_brackets before) ≡ depth before → opens o.sort ≡ Some Curly → depth inner < depth (t ∷ before) → Lies (o ∷ inner) (depth inner) stack → Lies (o ∷ inner) (depth inner) (without_closed closed stack)
+closed_lies None e c s size opened stays l = l
+closed_lies {t} {o} {before} {inner} (Some k) e c s size opened stays (on_top below) =
     let curly : k ≡ Curly = top_lies o inner k c s opened e in
     let no_open = ap count (curly_closes_alone t.sort (e ∙ ap (λ x. Some x) curly)) in
     let one_close = ap count e in
     let sized = ap (λ (xs : List (List Lexeme)). length xs) s in
     absurd (omega (arith, below, size, sized, no_open, one_close, stays))
-popped_lies (Some k) e c s size opened stays (deeper l) = l
+closed_lies (Some k) e c s size opened stays (deeper l) = l
 
 -- as long as more brackets are open than before it, what opened one lies in the stack
 lies : (text : List ℕ) (o : Lexeme) (between inner : List Lexeme) (rest : List ℕ) → Reaches text (between ++ o ∷ inner) rest → opens o.sort ≡ Some Curly → StaysOpen between o inner → Lies (o ∷ inner) (depth inner) (open_brackets (between ++ o ∷ inner))
@@ -240,7 +243,7 @@ lies text o [] inner rest (go {rest = middle} r n) opened stays =
 lies text o (t ∷ between) inner rest (go {rest = middle} r n) opened stays =
     let before : List Lexeme = between ++ o ∷ inner in
     let so_far = lies text o between inner middle r opened (λ later front e. stays (t ∷ later) front (ap (λ xs. t ∷ xs) e)) in
-    pushed_lies (opens t.sort) (t ∷ before) (popped_lies (closes t.sort) refl (comes n) refl (open_is_depth text before middle r) opened (stays [] (t ∷ between) refl) so_far)
+    opened_lies (opens t.sort) (t ∷ before) (closed_lies (closes t.sort) refl (comes n) refl (open_is_depth text before middle r) opened (stays [] (t ∷ between) refl) so_far)
 
 lies_long : {x : List Lexeme} {n : ℕ} {stack : List (List Lexeme)} → Lies x n stack → n < length stack
 lies_long (on_top e) = omega (arith, e)
@@ -257,7 +260,7 @@ record Closes (t o : Lexeme) (before inner : List Lexeme) : Type 0 where
 closes_it : {t o : Lexeme} {before inner : List Lexeme} {stack : List (List Lexeme)} (closed : Option Bracket) → closes t.sort ≡ closed → Comes t before → open_brackets before ≡ stack → length (open_brackets before) ≡ depth before → opens o.sort ≡ Some Curly → depth (t ∷ before) ≤ depth inner → Lies (o ∷ inner) (depth inner) stack → Closes t o before inner
 closes_it {t} None e c s size opened back (on_top below) = let no_close = ap count e in let sized = ap (λ (xs : List (List Lexeme)). length xs) s in absurd (omega (arith, below, size, sized, no_close, back))
 closes_it {t} {o} {before} {inner} (Some k) e c s size opened back (on_top below) =
-    let at_is : c.at ≡ o ∷ inner = sym (innermost_top before c.at c.inner) ∙ ap top_of s in
+    let at_is : c.at ≡ o ∷ inner = sym (innermost_top before c.at c.inner) ∙ ap innermost_of s in
     let curly : k ≡ Curly = top_lies o inner k c s opened e in
     record { balanced = balanced_of o inner at_is c.inner; closed = e ∙ ap (λ x. Some x) curly }
 closes_it closed e c s size opened back (deeper l) =

@@ -1,15 +1,11 @@
 -- The function that reads an outline reads what the relation says.
-use Rattle.std.proofs.Common.{◌≡◌, ◌<◌, ◌==◌, ℕ, zero, suc, Bool, true, false, List, [], ◌∷◌, length, Option, Some, None, if◌then◌else◌, refl, subst, arith}
+use Rattle.std.proofs.Common.{◌≡◌, ◌<◌, ℕ, zero, suc, List, [], ◌∷◌, length, Option, Some, None, refl, subst, arith}
 use Rattle.module_spec.specs.declared.token.Bracket.{Bracket}
-use Rattle.module_spec.specs.declared.token.Sort.{Sort}
-use Rattle.module_spec.specs.declared.token.LexKind.{LexKind}
-use Rattle.module_spec.specs.declared.token.LexKind.TheVariants.{Unreadable}
 use Rattle.module_spec.specs.Sorts.{opens, closes}
 use Rattle.module_spec.specs.Spellings.{blank_rest, hashbang_rest}
-use Rattle.module_spec.specs.Tokens.{Piece, piece, Lexeme, lexeme, Next, next_from, next_at, unless_refused, refusal}
-use Rattle.module_spec.specs.Tokens.{is_template, opener, depth, Balanced, Outside, Innermost, Slash, Skips}
+use Rattle.module_spec.specs.Tokens.{Lexeme, Next, refusal}
+use Rattle.module_spec.specs.Tokens.{opener, depth, Balanced, Outside, Innermost, Slash, Skips}
 use Rattle.module_spec.specs.Tokens.{IsNext, Reaches}
-use Rattle.module_spec.specs.Tokens.Next.{Ends, Faults, Gives}
 use Rattle.module_spec.specs.Tokens.Balanced.{same, neither, closed}
 use Rattle.module_spec.specs.Tokens.Outside.{first, later}
 use Rattle.module_spec.specs.Tokens.Innermost.{none, bracket}
@@ -24,7 +20,7 @@ use Rattle.module_spec.specs.OutlineReading.{or_further, skipped, next_of, read_
 use Rattle.module_spec.specs.Laws.{OutlineIsRead}
 use Rattle.module_spec.proofs.OutlineLaws.{one_outline}
 use Rattle.module_spec.proofs.Suffixes.{blank_shorter, next_shorter}
-use Rattle.module_spec.proofs.BracketLaws.{closes_innermost}
+use Rattle.module_spec.proofs.BracketLaws.{Allowed, at_end, at_fault, allowed as is_allowed, next_allowed, closes_innermost}
 
 -- ---- the brackets that are open
 
@@ -56,36 +52,6 @@ open_more t before unclosed None (Some k) eo ec (inside b e out below) allowed =
 open_more t before unclosed (Some l) (Some k) eo ec (empty b) allowed = absurd (let e = allowed k refl in cc)
 open_more t before unclosed (Some l) (Some k) eo ec (inside b e out below) allowed =
     inside same eo (later ec b (allowed k refl) out) below
-
--- ---- a token that isn't refused closes the innermost bracket or none
-
--- what comes next is the end, a fault, or a token that isn't refused
-data Comes (inner : Option Bracket) (d : ℕ) : Next → Type 0 where
-  an_end : Comes inner d Ends
-  a_fault : (left : ℕ) (kind : LexKind) → Comes inner d (Faults left kind)
-  a_token : (t : Lexeme) (after : List ℕ) → refusal (opens t.sort) (closes t.sort) inner d ≡ None
-      → Comes inner d (Gives t after)
-
-comes_unless : (inner : Option Bracket) (d : ℕ) (bytes : List ℕ) (refused : Option LexKind) (sort : Sort) (rest : List ℕ)
-    → refusal (opens sort) (closes sort) inner d ≡ refused → Comes inner d (unless_refused refused sort bytes rest)
-comes_unless inner d bytes None sort rest e = a_token (lexeme sort bytes rest) rest e
-comes_unless inner d bytes (Some kind) sort rest e = a_fault (length bytes) kind
-
-comes_from : (inner : Option Bracket) (d : ℕ) (bytes : List ℕ) (found : Piece)
-    → Comes inner d (next_from inner d bytes found)
-comes_from inner d bytes None = a_fault (length bytes) Unreadable
-comes_from inner d bytes (Some found) =
-    comes_unless inner d bytes (refusal (opens found.0) (closes found.0) inner d) found.0 found.1 refl
-
-comes_end : (inner : Option Bracket) (d : ℕ) (c : Bool) → Comes inner d (if c then Ends else Faults 0 Unreadable)
-comes_end inner d true = an_end
-comes_end inner d false = a_fault 0 Unreadable
-
-comes_at : (slash : Bool) (inner : Option Bracket) (d : ℕ) (bytes : List ℕ)
-    → Comes inner d (next_at slash inner d bytes)
-unfolding next_at
-comes_at slash inner d [] = comes_end inner d (d == 0)
-comes_at slash inner d (b ∷ rest) = comes_from inner d (b ∷ rest) (piece slash (is_template inner) (b ∷ rest))
 
 -- ---- what comes next
 
@@ -121,11 +87,11 @@ reads_by : (room : ℕ) (text : List ℕ) (before : List Lexeme) (rest : List �
     → Reaches text before rest → Kept before
     → ((further : List Lexeme) (after : List ℕ) → length after < room → Reaches text further after → Kept further
     → ReadsOutline text (read_from room (length text) further after))
-    → (out : Next) → IsNext before rest out → Comes (opener (innermost (open_brackets before))) (depth before) out
+    → (out : Next) → IsNext before rest out → Allowed (opener (innermost (open_brackets before))) (depth before) out
     → ReadsOutline text (read_on (length text) before out (λ further after. read_from room (length text) further after))
-reads_by room text before rest l reached kept behind out i an_end = all reached i refl
-reads_by room text before rest l reached kept behind out i (a_fault left kind) = fault reached i refl
-reads_by room text before rest l reached kept behind out i (a_token t after e) =
+reads_by room text before rest l reached kept behind out i at_end = all reached i refl
+reads_by room text before rest l reached kept behind out i at_fault = fault reached i refl
+reads_by room text before rest l reached kept behind out i (is_allowed {t} {after} e) =
     let shorter = next_shorter before rest after t i in
     behind (t ∷ before) after (omega arith) (go reached i) (kept_more t before kept e)
 
@@ -139,7 +105,7 @@ reads_from (suc room) text before rest l reached kept =
     next kept.slash (innermost_is kept.unclosed) (skips (suc (length rest)) rest (omega arith)) refl in
     reads_by room text before rest l reached kept
     (λ further after m r k. reads_from room text further after m r k)
-    (next_of before rest) comes (comes_at (begins_regex before) inner (depth before) at)
+    (next_of before rest) comes (next_allowed (begins_regex before) inner (depth before) at)
 
 reads_outline : (text : List ℕ) → ReadsOutline text (read_outline text)
 unfolding read_outline

@@ -1,9 +1,11 @@
 -- A text has one list of tokens or one first fault.
+use Rattle.std.specs.Prelude.{drop}
 use Rattle.std.proofs.Common.{◌≡◌, ℕ, ◌<◌, List, [], ◌∷◌, Bool, length, Option, Some, None, ◌⊎◌, inl, inr, refl, sym, ◌∙◌, ap, subst, arith}
 use Rattle.module_spec.specs.declared.token.Bracket.{Bracket}
 use Rattle.module_spec.specs.declared.token.LexKind.{LexKind}
 use Rattle.module_spec.specs.Sorts.{opens, closes}
 use Rattle.module_spec.specs.Spellings.{hashbang_rest}
+use Rattle.module_spec.specs.OutlineReading.{open_brackets, without_closed, innermost}
 use Rattle.module_spec.specs.Tokens.{Lexeme, Balanced, Outside, Innermost, opener, depth, plain_word, slash_after, Slash, Next, next_at, Skips, IsNext, Reaches}
 use Rattle.module_spec.specs.Laws.{OneTokens, OneReach}
 use Rattle.module_spec.proofs.Suffixes.{next_shorter}
@@ -17,58 +19,38 @@ use Rattle.module_spec.specs.Tokens.IsNext.{next}
 use Rattle.module_spec.specs.Tokens.Reaches.{begin, go}
 use Rattle.module_spec.specs.Tokens.ReadsTokens.{all, fault}
 
--- ---- the tokens that opened the brackets which are open, the innermost one first, each with the tokens before it
-
-abbrev pub pushed : Option Bracket → List Lexeme → List (List Lexeme) → List (List Lexeme)
-pushed None at stack = stack
-pushed (Some k) at stack = at ∷ stack
-
-abbrev pub behind_top : List (List Lexeme) → List (List Lexeme)
-behind_top [] = []
-behind_top (x ∷ stack) = stack
-
-abbrev pub popped : Option Bracket → List (List Lexeme) → List (List Lexeme)
-popped None stack = stack
-popped (Some k) stack = behind_top stack
-
-abbrev pub open_brackets : List Lexeme → List (List Lexeme)
-open_brackets [] = []
-open_brackets (t ∷ before) = pushed (opens t.sort) (t ∷ before) (popped (closes t.sort) (open_brackets before))
-
-abbrev pub top_of : List (List Lexeme) → List Lexeme
-top_of [] = []
-top_of (x ∷ stack) = x
+-- ---- the brackets that are open
 
 at_neither : (t : Lexeme) (before : List Lexeme) → opens t.sort ≡ None → closes t.sort ≡ None → open_brackets (t ∷ before) ≡ open_brackets before
 at_neither t before o c = rw (o, c) refl
 
-at_closer : (t : Lexeme) (k : Bracket) (before : List Lexeme) → opens t.sort ≡ None → closes t.sort ≡ Some k → open_brackets (t ∷ before) ≡ behind_top (open_brackets before)
+at_closer : (t : Lexeme) (k : Bracket) (before : List Lexeme) → opens t.sort ≡ None → closes t.sort ≡ Some k → open_brackets (t ∷ before) ≡ drop 1 (open_brackets before)
 at_closer t k before o c = rw (o, c) refl
 
-at_opener : (o : Lexeme) (k : Bracket) (before : List Lexeme) → opens o.sort ≡ Some k → open_brackets (o ∷ before) ≡ (o ∷ before) ∷ popped (closes o.sort) (open_brackets before)
+at_opener : (o : Lexeme) (k : Bracket) (before : List Lexeme) → opens o.sort ≡ Some k → open_brackets (o ∷ before) ≡ (o ∷ before) ∷ without_closed (closes o.sort) (open_brackets before)
 at_opener o k before e = rw e refl
 
-popped_none : (c : Option Bracket) (stack : List (List Lexeme)) → c ≡ None → popped c stack ≡ stack
-popped_none c stack e = rw e refl
+closed_none : (c : Option Bracket) (stack : List (List Lexeme)) → c ≡ None → without_closed c stack ≡ stack
+closed_none c stack e = rw e refl
 
-popped_some : (c : Option Bracket) (k : Bracket) (stack : List (List Lexeme)) → c ≡ Some k → popped c stack ≡ behind_top stack
-popped_some c k stack e = rw e refl
+closed_some : (c : Option Bracket) (k : Bracket) (stack : List (List Lexeme)) → c ≡ Some k → without_closed c stack ≡ drop 1 stack
+closed_some c k stack e = rw e refl
 
 mutual
   balanced_brackets : (before at : List Lexeme) → Balanced before at → open_brackets before ≡ open_brackets at
   balanced_brackets before at same = refl
   balanced_brackets before at (neither {t} {before = rest} o c b) = at_neither t rest o c ∙ balanced_brackets rest at b
   balanced_brackets before at (closed {t} {o} {k} {before = rest} {inner} {outer} no_open is_closed b is_opened out b2) =
-      at_closer t k rest no_open is_closed ∙ (ap behind_top (balanced_brackets rest (o ∷ inner) b ∙ at_opener o k inner is_opened) ∙ (outside_brackets o inner outer out ∙ balanced_brackets outer at b2))
+      at_closer t k rest no_open is_closed ∙ (ap (drop 1) (balanced_brackets rest (o ∷ inner) b ∙ at_opener o k inner is_opened) ∙ (outside_brackets o inner outer out ∙ balanced_brackets outer at b2))
 
-  outside_brackets : (o : Lexeme) (inner outer : List Lexeme) → Outside o inner outer → popped (closes o.sort) (open_brackets inner) ≡ open_brackets outer
-  outside_brackets o inner outer (first e) = popped_none _ _ e
+  outside_brackets : (o : Lexeme) (inner outer : List Lexeme) → Outside o inner outer → without_closed (closes o.sort) (open_brackets inner) ≡ open_brackets outer
+  outside_brackets o inner outer (first e) = closed_none _ _ e
   outside_brackets o inner outer (later {p} {k} {before} e b is_opened out) =
-      popped_some _ k _ e ∙ (ap behind_top (balanced_brackets inner (p ∷ before) b ∙ at_opener p _ before is_opened) ∙ outside_brackets p before outer out)
+      closed_some _ k _ e ∙ (ap (drop 1) (balanced_brackets inner (p ∷ before) b ∙ at_opener p _ before is_opened) ∙ outside_brackets p before outer out)
 
-pub innermost_top : (before at : List Lexeme) → Innermost before at → top_of (open_brackets before) ≡ at
-innermost_top before at (none b) = ap top_of (balanced_brackets before [] b)
-innermost_top before at (bracket {o} {k} {at = outer} b e) = ap top_of (balanced_brackets before (o ∷ outer) b ∙ at_opener o k outer e)
+pub innermost_top : (before at : List Lexeme) → Innermost before at → innermost (open_brackets before) ≡ at
+innermost_top before at (none b) = ap innermost (balanced_brackets before [] b)
+innermost_top before at (bracket {o} {k} {at = outer} b e) = ap innermost (balanced_brackets before (o ∷ outer) b ∙ at_opener o k outer e)
 
 -- ---- one step
 

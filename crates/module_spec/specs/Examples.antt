@@ -167,9 +167,6 @@ pub record ManyExamples : Type 0 where
 
 -- ---- whole texts
 
-abbrev pub asking : ℕ → ℕ → List ℕ → Request
-asking from to text = record { from = from; to = to; text = text }
-
 abbrev pub Reads : List ℕ → List Request → Bool → Type 0
 Reads text requests declares = read_outline text ≡ Ok (record { requests = requests; declares = declares })
 
@@ -178,11 +175,11 @@ FaultsAt text at = read_outline text ≡ Err (module_fault.Unreadable at)
 
 pub record ReadingExamples : Type 0 where
   pub empty : Reads [] [] false
-  pub effects : Reads (codes "import \"./b.mjs\";") (asking 7 16 (codes "./b.mjs") ∷ []) true
-  pub two : Reads (codes " import\"a\";\n\timport 'b'") (asking 7 10 (codes "a") ∷ asking 20 23 (codes "b") ∷ []) true
+  pub effects : Reads (codes "import \"./b.mjs\";") (request 7 16 (codes "./b.mjs") ∷ []) true
+  pub two : Reads (codes " import\"a\";\n\timport 'b'") (request 7 10 (codes "a") ∷ request 20 23 (codes "b") ∷ []) true
   pub bindings :
       Reads (codes "import a, {b} from \"x\";export*from'y'")
-      (asking 19 22 (codes "x") ∷ asking 34 37 (codes "y") ∷ []) true
+      (request 19 22 (codes "x") ∷ request 34 37 (codes "y") ∷ []) true
   pub no_request : Reads (codes "export {};") [] true
   pub no_declaration : Reads (codes "module.exports = 1;") [] false
   pub a_comment : Reads (codes "// import \"a\"") [] false

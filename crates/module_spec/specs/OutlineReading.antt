@@ -4,7 +4,7 @@
 --     next_of before rest       what comes behind these tokens, where this is the rest of the text
 --     read_outline text         what `ReadsOutline` relates to the text
 use Rattle.std.specs.Prelude.{ℕ, zero, suc, ◌-◌, Bool, true, List, [], ◌∷◌, Option, Some, None, Result, Err, length}
-use Rattle.std.specs.Prelude.{reverse}
+use Rattle.std.specs.Prelude.{drop, reverse}
 use Rattle.module_spec.specs.declared.token.Bracket.{Bracket}
 use Rattle.module_spec.specs.declared.request.ModuleFault.{ModuleFault}
 use Rattle.module_spec.specs.declared.request.ModuleFault.TheVariants.{Unreadable}
@@ -17,11 +17,12 @@ use Rattle.module_spec.specs.Outlines.{Outline, outlined, lexical_fault}
 
 -- ---- the brackets that are open
 
+-- those that are left where a token may close one
 abbrev pub without_closed : Option Bracket → List (List Lexeme) → List (List Lexeme)
 without_closed None unclosed = unclosed
-without_closed (Some k) [] = []
-without_closed (Some k) (at ∷ unclosed) = unclosed
+without_closed (Some k) unclosed = drop 1 unclosed
 
+-- those, and the one that a token may open
 abbrev pub with_opened : Option Bracket → List Lexeme → List (List Lexeme) → List (List Lexeme)
 with_opened None at unclosed = unclosed
 with_opened (Some k) at unclosed = at ∷ unclosed

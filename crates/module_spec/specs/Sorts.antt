@@ -1,5 +1,14 @@
 -- What the kinds of tokens do to brackets, and what a name says of what stands behind it. ECMA-262, 12.7.2, 12.8 and
 -- 12.9.
+--     kind_of sort      the kind that a caller is told
+--     opens sort, closes sort      the bracket that a token opens or closes
+--     mark_opens mark, mark_closes mark      the same of a punctuator
+--     same_bracket a b      they are brackets of one form
+--     word text      what a name says of what may stand behind it
+--     is_condition_word, is_value_word, is_statement_word      the words that say so
+--     is_condition, is_for, is_await      the word is of that kind
+--     is_dot sort      behind the token a name is the name of a property
+--     sort_before_value sort word      behind the token a `{` opens an object literal
 use Rattle.std.specs.Prelude.{ℕ, Bool, true, false, List, bytes_eq, codes, ◌||◌, if◌then◌else◌, Option, Some, None}
 use Rattle.module_spec.specs.declared.token.Mark.{Mark}
 use Rattle.module_spec.specs.declared.token.Mark.TheVariants.{OpenRound, OpenSquare, OpenCurly, CloseRound, CloseSquare}

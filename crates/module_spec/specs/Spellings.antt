@@ -1,5 +1,16 @@
 -- How far comments, literals and punctuators reach: the bytes behind them, or none where the text ends before they
 -- do. ECMA-262, 12.4, 12.8 and 12.9.
+--     blank_rest bytes      behind one character of white space, one line end or one comment
+--     line_rest, comment_rest      before the line end that ends a comment, and behind its `*/`
+--     slash_rest bytes      behind a comment, from behind its first `/`
+--     hashbang_rest text      behind the first line of a text that begins with `#!`
+--     number_rest bytes      behind a number
+--     text_rest quote bytes      behind a string, from behind its opening quote
+--     template_rest bytes      behind a part of a template, and whether a backquote ends it
+--     regex_body_rest class escaped bytes      behind a regular expression's closing `/`
+--     punctuator bytes      the punctuator at the front: its mark and its length
+--     punctuators      the table of them
+--     begins_with front bytes      the first text stands at the front of the second one
 use Rattle.std.specs.Prelude.{ℕ, Bool, true, false, not, ◌&&◌, ◌||◌, ◌==◌, List, [], ◌∷◌, if◌then◌else◌, Option, Some}
 use Rattle.std.specs.Prelude.{None, slice_index, drop, length, codes}
 use Rattle.std.specs.Char.{is_ascii_digit}

@@ -1,14 +1,14 @@
 -- The value of a string literal. ECMA-262, 12.9.4.2, and 11.1.3 to 11.1.5 for its surrogates.
 --     string_value literal      the text, in UTF-8, that the literal with its quotes stands for; none where it holds
---                               a wrong escape or a
---                               surrogate that is no half of a pair
+--                               a wrong escape or a surrogate that is no half of a pair
 --     escape characters      what the `\` before these characters begins, and how many of them belong to it
 -- Characters are told by their numbers.
 use lib.Utf8.{scalar}
-use Rattle.std.specs.Prelude.{ℕ, zero, suc, ◌+◌, ◌-◌, ◌*◌, Bool, false, not, ◌&&◌, ◌||◌, ◌==◌, nat_le, nat_lt, List, []}
+use Rattle.std.specs.Prelude.{ℕ, zero, suc, ◌+◌, ◌-◌, ◌*◌, Bool, false, not, ◌&&◌, ◌||◌, ◌==◌, nat_le, List, []}
 use Rattle.std.specs.Prelude.{◌∷◌, if◌then◌else◌, Option, Some, None, option_map, slice_index, take, drop, length}
 use Rattle.std.specs.Str.{chars, encode_utf8_all}
 use Rattle.std.specs.Char.{is_ascii_digit}
+use Rattle.std.specs.Char.Utf16.{is_high_surrogate, is_low_surrogate, surrogate_pair_char}
 use Rattle.module_spec.specs.Characters.{begins_digit, is_hex_digit, hex_digits, is_wide_line_end}
 
 -- what a character or an escape adds: a code unit, or a character that needs two of them; nothing; or the literal is
@@ -89,22 +89,12 @@ elements (suc count) (c ∷ rest) = elements count rest
 elements zero (c ∷ rest) =
     if c == 92 then (escape rest).1 ∷ elements (escape rest).0 rest else unit c ∷ elements zero rest
 
--- Unicode: U+D800 to U+DBFF, and U+DC00 to U+DFFF
-abbrev pub is_high_surrogate : ℕ → Bool
-is_high_surrogate code = nat_le 55296 code && nat_lt code 56320
-
-abbrev pub is_low_surrogate : ℕ → Bool
-is_low_surrogate code = nat_le 56320 code && nat_lt code 57344
-
--- ECMA-262, 11.1.3
-abbrev pub surrogate_pair : ℕ → ℕ → ℕ
-surrogate_pair high low = 65536 + (high - 55296) * 1024 + (low - 56320)
-
 abbrev pub behind_character : ℕ → Option (List ℕ) → Option (List ℕ)
 behind_character c None = None
 behind_character c (Some rest) = Some (c ∷ rest)
 
--- the characters that the elements come to, behind a high surrogate that waits for the low one. Own: none where a
+-- ECMA-262, 11.1.3 and 11.1.4: the characters that the elements come to, behind a high surrogate that waits for the
+-- low one. Own: none where a
 -- surrogate is alone, or where a number is above that of every character
 abbrev pub code_points : Option ℕ → List Element → Option (List ℕ)
 code_points None [] = Some []
@@ -118,7 +108,7 @@ code_points None (unit c ∷ rest) =
     else if scalar c then behind_character c (code_points None rest)
     else None
 code_points (Some high) (unit c ∷ rest) =
-    if is_low_surrogate c then behind_character (surrogate_pair high c) (code_points None rest) else None
+    if is_low_surrogate c then behind_character (surrogate_pair_char high c) (code_points None rest) else None
 
 -- what stands between the first character and the last one
 abbrev pub between_quotes : List ℕ → List ℕ

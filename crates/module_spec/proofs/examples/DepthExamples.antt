@@ -32,13 +32,13 @@ abbrev opened : ℕ → ℕ → List Lexeme
 opened zero left = []
 opened (suc count) left = opening left ∷ opened count (suc left)
 
-innermost : (count left : ℕ) → Innermost (opened count left) (opened count left)
-innermost zero left = none same
-innermost (suc count) left = bracket same refl
+innermost_opened : (count left : ℕ) → Innermost (opened count left) (opened count left)
+innermost_opened zero left = none same
+innermost_opened (suc count) left = bracket same refl
 
 slash : (count left : ℕ) → Slash (opened count left) true
 slash zero left = start
-slash (suc count) left = token (innermost count (suc left)) refl
+slash (suc count) left = token (innermost_opened count (suc left)) refl
 
 depth-opened : (count left : ℕ) → depth (opened count left) ≡ count
 depth-opened zero left = refl
@@ -66,9 +66,9 @@ not_most count below = ne_eqb count most_brackets (λ e. omega arith)
 at_bracket : (count left : ℕ) → count < most_brackets → IsNext (opened count (suc left)) (rounds (suc left)) (Gives (opening left) (rounds left))
 unfolding blank_rest
 at_bracket count left below =
-    let open_brackets = depth-opened count (suc left) in
-    next (slash count (suc left)) (innermost count (suc left)) (stop refl)
-    (taken (opener (opened count (suc left))) (depth (opened count (suc left))) left (subst (λ n. (n == most_brackets) ≡ false) (sym open_brackets) (not_most count below)))
+    let deep = depth-opened count (suc left) in
+    next (slash count (suc left)) (innermost_opened count (suc left)) (stop refl)
+    (taken (opener (opened count (suc left))) (depth (opened count (suc left))) left (subst (λ n. (n == most_brackets) ≡ false) (sym deep) (not_most count below)))
 
 no_hashbang : (count : ℕ) → rounds count ≡ hashbang_rest (rounds count)
 no_hashbang zero = refl
@@ -97,7 +97,7 @@ one_too_many count e =
     let size : length (rounds (suc count)) ≡ suc count = length-replicate (suc count) 40 in
     let place : count ≡ length (rounds (suc count)) - 1 = omega (arith, size) in
     fault (reached (rounds (suc count)) count 1 (ap rounds sum) (omega arith))
-    (next (slash count 1) (innermost count 1) (stop refl) (refused (opener (opened count 1)) (depth (opened count 1)) 0 (eq-eqb _ _ (depth-opened count 1 ∙ e))))
+    (next (slash count 1) (innermost_opened count 1) (stop refl) (refused (opener (opened count 1)) (depth (opened count 1)) 0 (eq-eqb _ _ (depth-opened count 1 ∙ e))))
     (ap deep place)
 
 unless_open : (closed : Bool) → closed ≡ false → Faults 0 Unreadable ≡ (if closed then Ends else Faults 0 Unreadable)
@@ -117,5 +117,5 @@ as_many_as_may count e =
     let place : count ≡ length (rounds count) - 0 = omega (arith, size) in
     let counted = depth-opened count 0 in
     fault (reached (rounds count) count 0 (ap rounds sum) (omega arith))
-    (next (slash count 0) (innermost count 0) (stop refl) (left_open (opener (opened count 0)) (depth (opened count 0)) (ne_eqb _ _ (λ zero_open. omega (arith, counted)))))
+    (next (slash count 0) (innermost_opened count 0) (stop refl) (left_open (opener (opened count 0)) (depth (opened count 0)) (ne_eqb _ _ (λ zero_open. omega (arith, counted)))))
     (ap unreadable place)
