@@ -3,6 +3,13 @@
 --     resolve_in map referrer specifier      what the specifier comes to in the module or page at the referrer
 --     resolve_imports_match url text addresses      what a module specifier map answers for a normalized specifier
 --     resolve_scopes_match url text referrer scopes      what the scopes answer
+--     resolve_normalized imports scopes referrer url text      what a normalized specifier comes to
+--     longest_front answer text n      what the longest front of at most n bytes answers that answers anything
+--     exact_match, prefix_match      what a key answers that is the specifier, and one that is a prefix of it
+--     prefix_key addresses front rest      what a front of the specifier answers as a key
+--     scope_match, prefix_scope      what a scope answers, and one whose key is a prefix of the referrer
+--     scope_addresses scopes      the scopes by look-up, each a look-up of its own
+--     Lookup X      what a map has at a key
 use Rattle.std.specs.FinMap.{get}
 use Rattle.std.specs.Prelude.{Option, Some, None, ℕ, List, zero, suc, take, drop, if◌then◌else◌, length, option_map}
 use Rattle.std.specs.Option.{option_or}

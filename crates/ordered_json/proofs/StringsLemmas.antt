@@ -20,8 +20,8 @@ two_pieces : (piece more : List ℕ) (out : Read (List ℕ)) → behind_piece pi
 two_pieces piece more (taken text rest) = ap (λ (xs : List ℕ). taken xs rest) (sym (append_assoc piece more text))
 two_pieces piece more (refused e) = refl
 
-pub begins : (bytes : List ℕ) → Completes bytes [] bytes
-begins bytes = record { all = λ out r. rw (no_piece out) r }
+nothing_taken : (bytes : List ℕ) → Completes bytes [] bytes
+nothing_taken bytes = record { all = λ out r. rw (no_piece out) r }
 
 -- the front that stands for itself
 abbrev pub plain_front : List ℕ → List ℕ
@@ -121,8 +121,8 @@ escapes_turn inner piece middle d t e is f = let l = left inner d t e in let m =
 
 -- `front` is the plain front of the whole
 pub begins_plain : (bytes after front items : List ℕ) → after ≡ after_plain bytes → ((p : List ℕ) → bytes ≡ p ++ after → front ≡ p) → items ≡ front → Completes bytes items after
-begins_plain bytes after front items e p i = (turned bytes [] bytes after front items (begins bytes) (omega arith) e p i).whole
+begins_plain bytes after front items e p i = (turned bytes [] bytes after front items (nothing_taken bytes) (omega arith) e p i).whole
 
 -- a string without an escape: `after` is behind its plain front, which is `piece`
 pub plain_string : (bytes after piece rest : List ℕ) → after ≡ after_plain bytes → ((p : List ℕ) → bytes ≡ p ++ after → piece ≡ p) → after ≡ 34 ∷ rest → ReadsText bytes (taken piece rest) × (length rest < length bytes)
-plain_string bytes after piece rest e p closed = closes_turn rest 34 (turned bytes [] bytes after piece piece (begins bytes) (omega arith) e p refl) closed refl
+plain_string bytes after piece rest e p closed = closes_turn rest 34 (turned bytes [] bytes after piece piece (nothing_taken bytes) (omega arith) e p refl) closed refl

@@ -11,7 +11,7 @@ use Rattle.std.proofs.lemmas.Bool.Decides.{nat_tests}
 use Rattle.std.proofs.lemmas.Bool.{cond-true, cond-false}
 use denote.Ref.{Bor}
 use Rattle.json_spec.specs.PropertyOrder.{number_of, is_array_index, by_number, index_members, other_members, joined, in_property_order}
-use Rattle.json_spec.specs.Value.{Members, no_members, a_member}
+use Rattle.json_spec.specs.Value.{Members, a_member}
 use Rattle.ordered_json.specs.Shown.{json_of}
 use Rattle.ordered_json.specs.declared.value.Value.{Value}
 use Rattle.property_order.specs.Lent.{lent, AreNumbered, HasIndices}
@@ -100,10 +100,6 @@ other_put pair old new other e more = ap (λ xs. joined (lent xs) (other_members
 pub index_passed : (pair : List ℕ × Value) (old : List Lent) → is_array_index pair.0 ≡ true
     → (more : Members) → joined (lent old) (other_members more) ≡ joined (lent old) (other_members (a_member pair.0 (json_of pair.1) more))
 index_passed pair old index more = ap (joined (lent old)) (sym (cond-true _ _ _ index))
-
-pub joined_nothing : (ms : Members) → joined ms no_members ≡ ms
-joined_nothing no_members = refl
-joined_nothing (a_member key value more) = ap (a_member key value) (joined_nothing more)
 
 pub whole : (xs ys : List Lent) (ms : Members) → lent xs ≡ index_members ms → lent ys ≡ joined (lent xs) (other_members ms) → lent ys ≡ in_property_order ms
 whole xs ys ms e f = f ∙ ap (λ indices. joined indices (other_members ms)) e

@@ -3,7 +3,7 @@ use Rattle.std.proofs.lemmas.List.{nil_from_length}
 use Rattle.json_spec.specs.PropertyOrder.{joined, other_members}
 use Rattle.ordered_json.specs.Shown.{members_of}
 use Rattle.property_order.specs.Lent.{lent}
-use Rattle.property_order.proofs.OrderLemmas.{joined_nothing}
+use Rattle.json_spec.proofs.Settled.{joined_nothing}
 use Rattle.property_order.proofs.order.put_others.Goals as goal
 
 pub returns : goal.returns
