@@ -70,6 +70,9 @@ stands_twice all names name back split there are = not_before names back name (s
 
 -- ---- the loop
 
+pub none_read : (text : List ℕ) (names : List (List ℕ)) → names ≡ [] → 0 < length text → names_in text ≡ names ++ slice_split (λ b. b == 44) text
+none_read text names none some = names_of text some ∙ ap (λ ns. ns ++ slice_split (λ b. b == 44) text) (sym none)
+
 pub name_taken : (all names : List (List ℕ)) (rest : Option (Bor (List ℕ))) (left : Bor (List ℕ)) (name : List ℕ) (back : List (List ℕ)) → all ≡ names ++ names_left (option_map (λ text. text.now) rest) → rest ≡ Some left → slice_split (λ b. b == 44) left.now ≡ name ∷ back → all ≡ names ++ name ∷ back
 name_taken all names rest left name back so_far here split = so_far ∙ (ap (λ r. names ++ names_left (option_map (λ (text : Bor (List ℕ)). text.now) r)) here ∙ ap (λ ns. names ++ ns) split)
 
