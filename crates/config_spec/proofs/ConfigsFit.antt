@@ -7,6 +7,8 @@ use Rattle.std.specs.Prelude.{if◌then◌else◌}
 use Rattle.std.proofs.lemmas.Bool.{ltb-false}
 use Rattle.std.proofs.lemmas.List.Elements.{All-nil, All-cons}
 use Rattle.std.proofs.lemmas.Map.Keys.{IsDistinct-cons}
+use Rattle.std.proofs.lemmas.Map.Views.{Contains-from_any}
+use Rattle.std.proofs.lemmas.Slice.Eq.{bytes_eq-Decides}
 use Rattle.tree_spec.proofs.ByteLists.{texts_differ}
 use Rattle.tree_spec.proofs.FootprintSets.{distinct_none}
 use Rattle.tree_spec.specs.Limits.{limit_number}
@@ -23,7 +25,7 @@ use Rattle.project_spec.proofs.ReadBack.{read_projects}
 use Rattle.project_spec.specs.ProjectFiles as project
 use Rattle.project_spec.specs.ProjectFiles.{IsProject, ReadsProject}
 use Rattle.config_spec.proofs.Entries.{filtered_distinct, filtered_fewer, onto_distinct, onto_holds}
-use Rattle.config_spec.proofs.Entries.{all_within, apart_without, found_there, without_lacks, without_within}
+use Rattle.config_spec.proofs.Entries.{all_within, apart_without, without_lacks, without_within}
 use Rattle.config_spec.proofs.Options.{one_settings}
 use Rattle.config_spec.proofs.TwoConditions.{two_conditions}
 use Rattle.config_spec.specs.Laws.{ConfigsAreProjects}
@@ -46,13 +48,13 @@ pub record Fits (config : Config) : Type 0 where
   pub is_project : IsProject config
   pub few : length config.entries ≤ limit_number Entries
 
-abbrev Outcome : Type 0
+abbrev pub Outcome : Type 0
 Outcome = Result Config ConfigFault
 
-abbrev good : Config → Outcome
-good config = Ok config
+abbrev pub as_outcome : Config → Outcome
+as_outcome config = Ok config
 
-same_result : {some other : Config} → good some ≡ good other → some ≡ other
+same_result : {some other : Config} → as_outcome some ≡ as_outcome other → some ≡ other
 same_result e = cc
 
 -- ---- options over a config
@@ -272,7 +274,7 @@ unlinked_there (entry ∷ more) config result is =
     by true e rest is =
         let later = rest is in
         record {
-          there = (found_there entry config.entries e, all_within entry config.entries more later.there);
+          there = (Contains-from_any (λ one other. (bytes_eq-Decides one other).0) entry config.entries e, all_within entry config.entries more later.there);
           distinct = IsDistinct-cons bytes_eq entry more (apart_without entry config.entries more later.there) later.distinct;
         }
     by false e rest is = absurd (cc)
@@ -295,7 +297,7 @@ taken_comes asked settings next (Some old) result sets fits step is =
 
 same_fits :
     (asked : Asked) (result : Config) → HasEntriesOf asked result.entries → (old : Config) → Fits old
-    → good result ≡ good old → Fitting asked result
+    → as_outcome result ≡ as_outcome old → Fitting asked result
 same_fits asked result entries old fits is =
     record { fits = subst Fits (sym (same_result is)) fits; entries = entries }
 

@@ -107,8 +107,3 @@ pub all_within :
 all_within entry entries [] held = tt
 all_within entry entries (text ∷ named) held =
     (without_within entry entries text held.0, all_within entry entries named held.1)
-
-pub found_there : (entry : List ℕ) (entries : List (List ℕ)) → list_any (bytes_eq entry) entries ≡ true
-    → Contains entries entry
-found_there entry entries e =
-    Contains-from_any {eq = bytes_eq} (λ one other same. (bytes_eq-Decides one other).0 same) entry entries e

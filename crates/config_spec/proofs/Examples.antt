@@ -1,6 +1,6 @@
 -- The worked examples.
 use Rattle.std.proofs.Common.{Option, subst, ◌≡◌, ◌∙◌, ℕ, Bool, true, false, List, [], ◌∷◌, ◌++◌, ◌+◌, Some, None}
-use Rattle.std.proofs.Common.{◌≢◌, lit≤, refl}
+use Rattle.std.proofs.Common.{lit≤, refl}
 use Rattle.std.proofs.Common.{sym, ap, length, length-append, true≢false}
 use Rattle.std.specs.Cmp.Lexicographic.{slice_cmp}
 use Rattle.std.specs.FinMap.{empty, get-empty}
@@ -24,10 +24,11 @@ use Rattle.trace_spec.specs.Modules.{Config}
 use Rattle.words_spec.proofs.ReadIsPlain.{read_is_plain}
 use Rattle.words_spec.specs.PlainWords.{Asked, no_options, linking, refreshing}
 use Rattle.words_spec.specs.Reading.{reading_of}
+use Rattle.config_spec.proofs.Options.{no_settings_set}
 use Rattle.config_spec.proofs.TwoConditions.{two_conditions}
 use Rattle.config_spec.specs.Projects.{config_by, HoldsProject, project_path, RefusesConfig, with_few}
 use Rattle.config_spec.specs.Projects.HoldsProject.{absent, folder, too_large}
-use Rattle.config_spec.specs.Words.{command_of, IsPagePath, options_of, Settings, Sets}
+use Rattle.config_spec.specs.Words.{command_of, IsPagePath, no_settings, options_of, Sets}
 use Rattle.config_spec.specs.Words.RefusesOptions.{bad_base, bad_conditions, bad_path}
 use Rattle.config_spec.specs.Words.RefusesWords.{not_built}
 use Rattle.config_spec.specs.Words.SetsBase.{none as no_base, given as some_base}
@@ -153,17 +154,11 @@ no_project =
     (get_other empty (codes "/") Directory project_path (texts_differ project_path (codes "/") refl)
     ∙ get-empty (slice_cmp nat_cmp) project_path)
 
-abbrev nothing : Settings
-nothing = record { base = None; page = None; conditions = None }
-
-nothing_set : Sets no_options nothing
-nothing_set = record { base = no_base; page = no_page; conditions = no_names }
-
 -- words without options are refused for what is found
 refused_by :
     (words : List (List ℕ)) (tree : Tree) (asked : Asked) (command : Command) (found : Result (Option Config) ProjectFault)
     (fault : ConfigFault) → reading_of words ≡ Some asked → command_of asked ≡ Some command
-    → options_of asked ≡ no_options → HoldsProject tree found → Err fault ≡ config_by asked nothing found
+    → options_of asked ≡ no_options → HoldsProject tree found → Err fault ≡ config_by asked no_settings found
     → RefusesConfig words tree fault
 refused_by words tree asked command found fault read is none holds comes = record {
   command = command;
@@ -172,8 +167,8 @@ refused_by words tree asked command found fault read is none holds comes = recor
         asked = asked;
         asks = read_is_plain words asked read;
         is = is;
-        settings = nothing;
-        sets = subst (λ options. Sets options nothing) (sym none) nothing_set;
+        settings = no_settings;
+        sets = subst (λ options. Sets options no_settings) (sym none) no_settings_set;
         found = found;
         holds = holds;
         comes = comes;

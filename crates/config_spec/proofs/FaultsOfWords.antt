@@ -3,7 +3,9 @@ use Rattle.std.proofs.Common.{◌≡◌, ℕ, Bool, true, false, List, [], ◌�
 use Rattle.std.specs.List.{AllByRecursion, IsDistinct, list_any}
 use Rattle.std.specs.Prelude.{bytes_eq, nat_lt, length, Contains, Option, Some, None, Result, Ok, Err, if◌then◌else◌}
 use Rattle.std.proofs.lemmas.Map.Keys.{IsDistinct-cons}
-use Rattle.config_spec.proofs.Entries.{all_within, apart_without, found_there}
+use Rattle.std.proofs.lemmas.Map.Views.{Contains-from_any}
+use Rattle.std.proofs.lemmas.Slice.Eq.{bytes_eq-Decides}
+use Rattle.config_spec.proofs.Entries.{all_within, apart_without}
 use Rattle.json_spec.specs.Grammar as json
 use Rattle.json_spec.specs.Value.{Json}
 use Rattle.tree_spec.specs.Limits.{limit_number}
@@ -121,7 +123,7 @@ unlinked_refuses (entry ∷ more) config fault is =
           entry = lacks.entry;
           more = lacks.more;
           parts = ap (λ texts. entry ∷ texts) lacks.parts;
-          there = (found_there entry config.entries e, all_within entry config.entries lacks.front lacks.there);
+          there = (Contains-from_any (λ one other. (bytes_eq-Decides one other).0) entry config.entries e, all_within entry config.entries lacks.front lacks.there);
           distinct =
               IsDistinct-cons bytes_eq entry lacks.front (apart_without entry config.entries lacks.front lacks.there)
               lacks.distinct;

@@ -6,10 +6,11 @@ use Rattle.tree_spec.proofs.DecidedTrees.{path_or_not}
 use Rattle.tree_spec.specs.Paths.{IsPath}
 use Rattle.url_spec.specs.Bases.{base_of}
 use Rattle.node_spec.specs.Conditions.{AreConditions, names_in}
-use Rattle.words_spec.specs.PlainWords.{LinkOptions}
+use Rattle.words_spec.specs.PlainWords.{LinkOptions, no_options}
 use Rattle.project_spec.proofs.SomeProject.{OrNot, conditions_or_not}
 use Rattle.config_spec.specs.Laws.{OptionsAreJudged}
 use Rattle.config_spec.specs.Words.{IsPagePath, RefusesOptions, Sets, SetsBase, SetsConditions, SetsPage, Settings}
+use Rattle.config_spec.specs.Words.{no_settings}
 use Rattle.config_spec.specs.Words.RefusesOptions.{bad_base, bad_conditions, bad_path}
 use Rattle.config_spec.specs.Words.SetsBase.{none as no_base, given as some_base}
 use Rattle.config_spec.specs.Words.SetsConditions.{none as no_names, given as some_names}
@@ -100,8 +101,11 @@ set_or_refused options settings fault sets (bad_conditions set page text sets_ba
 abbrev SetsSomething : LinkOptions → Type 0
 SetsSomething options = (settings : Settings) × Sets options settings
 
-abbrev AreRefused : LinkOptions → Type 0
-AreRefused options = (fault : ConfigFault) × RefusesOptions options fault
+pub no_settings_set : Sets no_options no_settings
+no_settings_set = record { base = no_base; page = no_page; conditions = no_names }
+
+abbrev OptionsAreRefused : LinkOptions → Type 0
+OptionsAreRefused options = (fault : ConfigFault) × RefusesOptions options fault
 
 -- a text that is given, and isn't of its form
 abbrev IsBad : Option (List ℕ) → (List ℕ → Type 0) → Type 0
@@ -153,7 +157,7 @@ names_or_bad (Some text) = elim (conditions_or_not (names_in text)) [
   | inr none ↦ inr (text, refl, none)
 ]
 
-pub set_or_fault : (options : LinkOptions) → SetsSomething options ⊎ AreRefused options
+pub set_or_fault : (options : LinkOptions) → SetsSomething options ⊎ OptionsAreRefused options
 set_or_fault options =
     elim (base_or_bad options.base) [
       | inr bad ↦ inr (BadBase bad.0, bad_base bad.0 bad.1 (none_given bad.0 (base_of bad.0) refl bad.2))

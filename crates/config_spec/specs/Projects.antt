@@ -2,10 +2,17 @@
 --     project_path                      the path of the project's file
 --     HoldsProject tree found           what its file gives: a config, nothing where there is no file, or a fault
 --     page_path, link_conditions        the page and the conditions of a new project
+--     linked settings entries found     the config that `link` makes of a project, or of none
+--     unlinked entries config           the config that `unlink` leaves of a project
 --     config_by asked settings found    the config that a command generates for, or why there is none
+--     Configures words tree command outcome   the words ask for this command, and this comes of what the file gives
 --     IsConfigOf words tree command config    these words, over this tree, ask for this command with this config
 --     RefusesConfig words tree fault    they ask for a command, and there is no config for it
+--     AreTaken named entries            no text is named twice, and none of them is an entry
+--     HasEntriesOf asked entries        what `link` names is there, and what `unlink` names is taken
 --     IsConfigFor words command config  no tree gives them a config that isn't so
+--     IsReadLimit, IsReadFault          how a project's file that is there can fail to be read
+--     RefusesAsked asked fault          a project, or the want of one, can refuse what is asked for so
 --     CanRefuseConfig words fault       no tree refuses them in another way
 use Rattle.std.specs.FinMap.{get}
 use Rattle.std.specs.List.{IsDistinct, list_any}

@@ -1,7 +1,8 @@
 -- What the words of a command line say of a command, before any look.
 --     command_of asked                  the command that is asked for, where it is built
---     options_of asked, entries_of asked      the options and the entries that stand in the words
+--     options_of asked                  the options that stand in the words
 --     Settings, Sets options settings   what the texts of the options give
+--     no_settings                       no option is given
 --     RefusesOptions options fault        the text of an option is refused
 --     IsPlain words                     the words have a meaning
 --     IsCommandOf words command         they ask for this command, and none of their texts is refused
@@ -45,6 +46,9 @@ pub record Settings : Type 0 where
   pub base : Option (List ℕ)
   pub page : Option (List ℕ)
   pub conditions : Option (List (List ℕ))
+
+abbrev pub no_settings : Settings
+no_settings = record { base = None; page = None; conditions = None }
 
 -- own: a path other than `/`
 pub record IsPagePath (text : List ℕ) : Type 0 where

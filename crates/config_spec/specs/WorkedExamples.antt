@@ -15,8 +15,8 @@ use Rattle.config_spec.specs.declared.Command.TheVariants.{Link}
 use Rattle.config_spec.specs.declared.ProjectFault.TheVariants.{Absent, TooLarge, NotProject}
 use Rattle.config_spec.specs.declared.ConfigFault.TheVariants.{NotBuilt, BadBase, BadPath, BadConditions, Project}
 use Rattle.config_spec.specs.declared.ConfigFault.TheVariants.{NoBase, NotLinked, TooManyEntries}
-use Rattle.config_spec.specs.Words.{Settings, Sets, RefusesOptions, RefusesWords}
-use Rattle.config_spec.specs.Projects.{config_by, IsConfigOf, RefusesConfig}
+use Rattle.config_spec.specs.Words.{Settings, Sets, no_settings, RefusesOptions, RefusesWords}
+use Rattle.config_spec.specs.Projects.{project_path, config_by, IsConfigOf, RefusesConfig}
 
 -- ---- options
 
@@ -28,9 +28,6 @@ with_page text = record { base = None; page = Some text; conditions = None }
 
 abbrev with_conditions : List ℕ → LinkOptions
 with_conditions text = record { base = None; page = None; conditions = Some text }
-
-abbrev no_settings : Settings
-no_settings = record { base = None; page = None; conditions = None }
 
 abbrev base_set : List ℕ → Settings
 base_set url = record { base = Some url; page = None; conditions = None }
@@ -153,20 +150,17 @@ pub record EntryExamples : Type 0 where
 
 -- ---- whole words
 
-abbrev file_path : List ℕ
-file_path = codes "/importmap.project.json"
-
 pub record WordExamples : Type 0 where
   pub not_built : RefusesWords (codes "list" ∷ []) NotBuilt
   pub no_base : RefusesConfig (codes "link" ∷ codes "./app.mjs" ∷ []) bare_tree NoBase
   pub refresh_nothing : RefusesConfig (codes "refresh" ∷ []) bare_tree (Project Absent)
   pub folder :
-      (tree : Tree) → get tree file_path ≡ Some Directory
+      (tree : Tree) → get tree project_path ≡ Some Directory
       → RefusesConfig (codes "refresh" ∷ []) tree (Project Absent)
   pub link_by_folder :
-      (tree : Tree) → get tree file_path ≡ Some Directory → RefusesConfig (codes "link" ∷ []) tree NoBase
+      (tree : Tree) → get tree project_path ≡ Some Directory → RefusesConfig (codes "link" ∷ []) tree NoBase
   pub large :
-      (tree : Tree) (bytes : List ℕ) → get tree file_path ≡ Some (Stored bytes) → 16777216 < length bytes
+      (tree : Tree) (bytes : List ℕ) → get tree project_path ≡ Some (Stored bytes) → 16777216 < length bytes
       → RefusesConfig (codes "link" ∷ []) tree (Project TooLarge)
   pub new :
       IsConfigOf (codes "link" ∷ codes "--base=HTTPS://H/a/" ∷ codes "./app.mjs" ∷ []) bare_tree Link

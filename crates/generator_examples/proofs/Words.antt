@@ -1,6 +1,6 @@
 -- The config that words give over files, where both are written out.
 use Rattle.std.proofs.Common.{◌≡◌, ◌≤◌, refl, ap, ◌∙◌, Ok}
-use Rattle.std.specs.Prelude.{ℕ, List, codes, length, Result, Some, None}
+use Rattle.std.specs.Prelude.{ℕ, List, codes, length, Some, None}
 use Prim.Native.String.{String}
 use Rattle.tree_spec.specs.declared.Entry.TheVariants.{Stored}
 use Rattle.tree_spec.specs.declared.LimitName.TheVariants.{File}
@@ -11,17 +11,18 @@ use Rattle.project_spec.specs.ProjectFiles.{ReadsProject}
 use Rattle.trace_spec.specs.Modules.{Config}
 use Rattle.url_spec.specs.Bases.{base_of}
 use Rattle.words_spec.proofs.ReadIsPlain.{read_is_plain}
-use Rattle.words_spec.specs.PlainWords.{Asked, Asks, LinkOptions, no_options, linking, injecting, refreshing}
+use Rattle.words_spec.specs.PlainWords.{Asked, Asks, LinkOptions, linking, injecting, refreshing}
 use Rattle.words_spec.specs.PlainWords.Asks.{inject, refresh}
 use Rattle.words_spec.specs.Reading.{reading_of}
+use Rattle.config_spec.proofs.ConfigsFit.{as_outcome}
+use Rattle.config_spec.proofs.Options.{no_settings_set}
 use Rattle.config_spec.specs.Projects.{config_by, HoldsProject, IsConfigOf, RefusesConfig, project_path}
 use Rattle.config_spec.specs.Projects.HoldsProject.{absent, reads}
-use Rattle.config_spec.specs.Words.{Settings, Sets}
+use Rattle.config_spec.specs.Words.{Settings, no_settings}
 use Rattle.config_spec.specs.Words.SetsBase.{none as no_base, given as some_base}
 use Rattle.config_spec.specs.Words.SetsConditions.{none as no_names}
 use Rattle.config_spec.specs.Words.SetsPage.{none as no_page}
 use Rattle.config_spec.specs.declared.Command.TheVariants.{Link, Inject, Refresh}
-use Rattle.config_spec.specs.declared.ConfigFault.{ConfigFault}
 use Rattle.config_spec.specs.declared.ConfigFault.TheVariants.{Project}
 use Rattle.config_spec.specs.declared.ProjectFault.TheVariants.{Absent}
 use Rattle.node_spec.specs.BuiltinNames.{texts}
@@ -34,12 +35,6 @@ based_options base = record { base = Some (codes base); page = None; conditions 
 abbrev based_settings : String → Settings
 based_settings base = record { base = Some (codes base); page = None; conditions = None }
 
-abbrev nothing : Settings
-nothing = record { base = None; page = None; conditions = None }
-
-nothing_set : Sets no_options nothing
-nothing_set = record { base = no_base; page = no_page; conditions = no_names }
-
 abbrev pub is_linking : String → List String → Asked
 is_linking base asked = linking (based_options base) (texts asked)
 
@@ -50,10 +45,7 @@ links_ask base asked read = read_is_plain (links base asked) (is_linking base as
 no_project_in : (files : Files) → looked files project_path ≡ None → HoldsProject (tree_of files) (Ok None)
 no_project_in files none = absent (ap (λ (f : Sights). f project_path) (get_map_of files) ∙ none)
 
-abbrev outcome : Config → Result Config ConfigFault
-outcome config = Ok config
-
-pub link_gives : (files : Files) (base : String) (asked : List String) → reading_of (links base asked) ≡ Some (is_linking base asked) → base_of (codes base) ≡ Some (codes base) → looked files project_path ≡ None → outcome (based base asked) ≡ config_by (is_linking base asked) (based_settings base) (Ok None)
+pub link_gives : (files : Files) (base : String) (asked : List String) → reading_of (links base asked) ≡ Some (is_linking base asked) → base_of (codes base) ≡ Some (codes base) → looked files project_path ≡ None → as_outcome (based base asked) ≡ config_by (is_linking base asked) (based_settings base) (Ok None)
     → IsConfigOf (links base asked) (tree_of files) Link (based base asked)
 link_gives files base asked read is none comes = record {
   asked = is_linking base asked;
@@ -75,8 +67,8 @@ inject_gives files config text there small read = record {
   asked = injecting;
   asks = inject;
   is = refl;
-  settings = nothing;
-  sets = nothing_set;
+  settings = no_settings;
+  sets = no_settings_set;
   found = Ok (Some config);
   holds = project_in files config text there small read;
   comes = refl;
@@ -87,8 +79,8 @@ refresh_gives files config text there small read = record {
   asked = refreshing;
   asks = refresh;
   is = refl;
-  settings = nothing;
-  sets = nothing_set;
+  settings = no_settings;
+  sets = no_settings_set;
   found = Ok (Some config);
   holds = project_in files config text there small read;
   comes = refl;
@@ -102,8 +94,8 @@ refresh_lacks files none = record {
         asked = refreshing;
         asks = refresh;
         is = refl;
-        settings = nothing;
-        sets = nothing_set;
+        settings = no_settings;
+        sets = no_settings_set;
         found = Ok None;
         holds = no_project_in files none;
         comes = refl;

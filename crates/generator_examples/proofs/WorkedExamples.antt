@@ -1,5 +1,5 @@
 -- The worked examples.
-use Rattle.std.proofs.Common.{◌≡◌, ◌≢◌, ◌⊎◌, inl, inr, refl, sym, ap, ◌∙◌, lit≤, ◌++◌, Ok, subst, append_assoc}
+use Rattle.std.proofs.Common.{◌≡◌, refl, sym, ap, ◌∙◌, lit≤, ◌++◌, Ok, subst, append_assoc}
 use Prim.Native.String.{String}
 use Rattle.std.specs.Prelude.{◌≤◌, ℕ, true, false, List, [], ◌∷◌, length, drop, codes, Option, Some, None, IsUtf8}
 use Rattle.std.specs.Fmt.{digits}
@@ -9,11 +9,10 @@ use Rattle.tree_spec.specs.declared.LimitName.TheVariants.{Map}
 use Rattle.tree_spec.specs.Limits.{limit_number}
 use Rattle.tree_spec.specs.Trees.{Tree, IsTree, Places}
 use Rattle.tree_spec.specs.LookAskings.{Sights}
-use Rattle.tree_spec.specs.declared.Entry.{Entry}
-use Rattle.tree_spec.proofs.ByteLists.{text_same_or_not}
-use Rattle.tree_spec.proofs.Insertion.{same_tree, get_here, get_other}
+use Rattle.tree_spec.proofs.Insertion.{get_here}
 use Rattle.tree_spec.proofs.Placings.{in_root}
 use Rattle.std.specs.FinMap.{get, insert}
+use Rattle.import_map_spec.proofs.Entries.{insert_again}
 use Rattle.import_map_spec.proofs.examples.WrittenMaps.{looked, get_map_of}
 use Rattle.import_map_spec.specs.ParsedMap.{ParsedMap, Texts}
 use Rattle.import_map_spec.specs.WrittenMaps.{Lists, map_of, map_of_lists}
@@ -72,7 +71,7 @@ use Rattle.soundness.proofs.Sound.{sound, modules_are_known}
 use Rattle.node_spec.specs.NodeExamples.{Files}
 use Rattle.generator_examples.specs.Sites.{tree_of, based, links, injects, refreshes, levels, spelling, spelling_all, spelling_map, site, site_all, site_map, kept, paged, paged_after, missing, kept_missing, clashing, app_project, two_project}
 use Rattle.generator_examples.specs.Sites.{spelling_imports, site_imports, spelled_text, site_app_text, greet_text, id_text, home_text}
-use Rattle.generator_examples.specs.Packages.{app_text, b_text, menu_text, packages, packages_all, packages_imports, packages_map}
+use Rattle.generator_examples.specs.Packages.{package_app_text, b_text, menu_text, packages, packages_all, packages_imports, packages_map}
 use Rattle.generator_examples.proofs.ShortTexts.{behind, short_end, short_line}
 use Rattle.generator_examples.specs.Examples.{IsTraced, IsMapped, with_map, linked_files, Trees, TraceExamples, MapExamples, EndExamples, WorkedExamples}
 use Rattle.generator_examples.proofs.TracedExamples.{traced_examples}
@@ -212,7 +211,7 @@ packages_pairs =
     ∷ (codes "https://app.test/own.js", digest_text (codes "export const own = 0;"))
     ∷ (codes "https://app.test/node_modules/ui/x/menu.js", digest_text menu_text)
     ∷ (codes "https://app.test/node_modules/ui/b.js", digest_text b_text)
-    ∷ (codes "https://app.test/app.js", digest_text app_text)
+    ∷ (codes "https://app.test/app.js", digest_text package_app_text)
     ∷ []
 
 spelling_digests : digests (based "https://app.test/" ("./app.mjs" ∷ [])) spelling_all.modules spelling_all.sources ≡ map_of spelling_pairs
@@ -255,7 +254,7 @@ site_short =
 packages_short : length packages_map ≤ limit_number Map
 packages_short =
     behind packages_imports
-    (short_line "    \"https://app.test/app.js\": " app_text ",\n" (short_line "    \"https://app.test/node_modules/ui/b.js\": " b_text ",\n" (short_line "    \"https://app.test/node_modules/ui/node_modules/@ui/core/lib/index.mjs\": " (codes "export const h = 1;") ",\n" (short_line "    \"https://app.test/node_modules/ui/x/menu.js\": " menu_text ",\n" (short_line "    \"https://app.test/own.js\": " (codes "export const own = 0;") "\n" short_end (lit≤ tt) (lit≤ tt)) (lit≤ tt) (lit≤ tt)) (lit≤ tt) (lit≤ tt)) (lit≤ tt) (lit≤ tt)) (lit≤ tt) (lit≤ tt))
+    (short_line "    \"https://app.test/app.js\": " package_app_text ",\n" (short_line "    \"https://app.test/node_modules/ui/b.js\": " b_text ",\n" (short_line "    \"https://app.test/node_modules/ui/node_modules/@ui/core/lib/index.mjs\": " (codes "export const h = 1;") ",\n" (short_line "    \"https://app.test/node_modules/ui/x/menu.js\": " menu_text ",\n" (short_line "    \"https://app.test/own.js\": " (codes "export const own = 0;") "\n" short_end (lit≤ tt) (lit≤ tt)) (lit≤ tt) (lit≤ tt)) (lit≤ tt) (lit≤ tt)) (lit≤ tt) (lit≤ tt)) (lit≤ tt) (lit≤ tt))
     (lit≤ tt) (lit≤ tt)
 
 abbrev some_text : List ℕ → Option (List ℕ)
@@ -351,13 +350,13 @@ page_parent = record { name = codes "index.html"; segment = segment_by_test (cod
 abbrev page_after : List ℕ
 page_after = codes "<head><script type=\"importmap\">" ++ (spelling_map ++ (codes "</script>" ++ (10 ∷ (codes "</head>" ++ 10 ∷ []))))
 
-abbrev page_text : List ℕ
-page_text = codes "<head></head>" ++ 10 ∷ []
+abbrev short_page_text : List ℕ
+short_page_text = codes "<head></head>" ++ 10 ∷ []
 
 abbrev page_parts : List Part
 page_parts = part Start (codes "<head>") ∷ part End (codes "</head>") ∷ part Text (10 ∷ []) ∷ []
 
-page_pieces : Pieces None page_text page_parts
+page_pieces : Pieces None short_page_text page_parts
 unfolding first_piece
 page_pieces = piece refl refl (piece refl refl (piece refl refl (none refl)))
 
@@ -373,26 +372,18 @@ page_start = codes "<head><script type=\"importmap\">"
 page_is_after : page_start ++ ((spelling_map ++ element_end) ++ page_end) ≡ page_after
 page_is_after = ap (λ rest. page_start ++ rest) (append_assoc spelling_map element_end page_end)
 
-page_injected : Injection spelling_map page_text (Ok (page_start ++ ((spelling_map ++ element_end) ++ page_end)))
+page_injected : Injection spelling_map short_page_text (Ok (page_start ++ ((spelling_map ++ element_end) ++ page_end)))
 unfolding attribute is_map_start is_utf8 chars lib.Utf8.encode
 page_injected = utf8 refl page_pieces
 
-page_takes : Injection spelling_map page_text (Ok page_after)
-page_takes = subst (λ new. Injection spelling_map page_text (Ok new)) page_is_after page_injected
+page_takes : Injection spelling_map short_page_text (Ok page_after)
+page_takes = subst (λ new. Injection spelling_map short_page_text (Ok new)) page_is_after page_injected
 
-page_stands : IsPage (tree_of paged) (based "https://app.test/" ("./app.mjs" ∷ [])) page_text
-page_stands = record { stands = get_here (tree_of kept) page_path (Stored page_text); small = lit≤ tt }
-
--- what is placed again is placed once
-twice : (tree : Tree) (path : List ℕ) (old new : Entry) → insert (insert tree path old) path new ≡ insert tree path new
-twice tree path old new = same_tree _ _ (λ other. by other (text_same_or_not other path))
-  where
-    by : (other : List ℕ) → (other ≡ path) ⊎ (other ≢ path) → get (insert (insert tree path old) path new) other ≡ get (insert tree path new) other
-    by other (inl e) = ap (get (insert (insert tree path old) path new)) e ∙ (get_here (insert tree path old) path new ∙ sym (ap (get (insert tree path new)) e ∙ get_here tree path new))
-    by other (inr n) = get_other (insert tree path old) path new other n ∙ (get_other tree path old other n ∙ sym (get_other tree path new other n))
+page_stands : IsPage (tree_of paged) (based "https://app.test/" ("./app.mjs" ∷ [])) short_page_text
+page_stands = record { stands = get_here (tree_of kept) page_path (Stored short_page_text); small = lit≤ tt }
 
 page_placed : Places (tree_of paged) page_path (Stored page_after) (tree_of paged_after)
-page_placed = (in_root (tree_of paged) page_path (Stored page_after) (tree_of paged_after) trees.of_paged page_parent).1 (sym (twice (tree_of kept) page_path (Stored page_text) (Stored page_after)))
+page_placed = (in_root (tree_of paged) page_path (Stored page_after) (tree_of paged_after) trees.of_paged page_parent).1 (sym (insert_again (tree_of kept) page_path (Stored short_page_text) (Stored page_after)))
 
 no_page : get (tree_of kept_missing) page_path ≡ None
 no_page = looked_at kept_missing page_path ∙ refl
@@ -403,7 +394,7 @@ end_examples = record {
   two_spellings = linked_outcome spelling "https://app.test/" ("./app.mjs" ∷ []) spelling_map app_project _ app_printed app_gives spelling_generates (sym (ap (λ n. counts_line 2 2 n ∷ []) spelling_mappings)) (placed_two spelling spelling_map _ trees.of_spelling refl refl refl);
   of_site = linked_outcome site "https://app.test/" ("./app.mjs" ∷ []) site_map app_project _ app_printed site_gives site_generates (sym (ap (λ n. counts_line 5 8 n ∷ []) site_mappings)) (placed_two site site_map _ trees.of_site refl refl refl);
   refreshed = record { files = new_file map_path spelling_map ∷ []; comes = written Refresh _ spelling_map kept_gives kept_generates refreshed refl (sym (ap (λ n. counts_line 2 2 n ∷ []) spelling_mappings)); placed = (_, placed kept spelling_map trees.of_kept refl, refl) };
-  in_page = record { files = new_file page_path page_after ∷ []; comes = written Inject _ spelling_map paged_gives paged_generates (in_page page_text page_after page_stands page_takes) refl (sym (ap (λ n. counts_line 2 2 n ∷ []) spelling_mappings)); placed = (_, page_placed, refl) };
+  in_page = record { files = new_file page_path page_after ∷ []; comes = written Inject _ spelling_map paged_gives paged_generates (in_page short_page_text page_after page_stands page_takes) refl (sym (ap (λ n. counts_line 2 2 n ∷ []) spelling_mappings)); placed = (_, page_placed, refl) };
   no_page = record { files = []; comes = refused (Page Absent) (by_tree Inject _ (Page Absent) no_page_gives (page Absent (absent no_page))) refl refl refl; placed = refl };
   no_project = record { files = []; comes = refused (Configured (Project project_fault.Absent)) (by_project (Project project_fault.Absent) (refresh_lacks spelling refl)) refl refl refl; placed = refl };
   second_entry = record { files = []; comes = refused (Trace _) (by_tree Link _ (Trace _) missing_gives (trace Link _ (nothing Link link) missing_traced)) refl refl refl; placed = refl };

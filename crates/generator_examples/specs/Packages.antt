@@ -19,8 +19,8 @@ own_record =
     ∷ "}"
     ∷ [])
 
-abbrev pub app_text : List ℕ
-app_text =
+abbrev pub package_app_text : List ℕ
+package_app_text =
     lines
     ("import { h } from \"ui\";"
     ∷ "import menu from 'ui/x/menu'; // import \"ui/y\""
@@ -54,7 +54,7 @@ abbrev pub packages : Files
 packages =
     folder "/"
     ∷ file "/package.json" own_record
-    ∷ file "/app.js" app_text
+    ∷ file "/app.js" package_app_text
     ∷ file "/own.js" (codes "export const own = 0;")
     ∷ folder "/node_modules"
     ∷ folder "/node_modules/ui"
@@ -81,7 +81,7 @@ packages_all = record {
       ∷ module_at "/node_modules/ui/node_modules/@ui/core/lib/index.mjs"
       ∷ [];
   sources =
-      source app_text ("ui" ∷ "ui/x/menu" ∷ "me/own.js" ∷ "#ui" ∷ [])
+      source package_app_text ("ui" ∷ "ui/x/menu" ∷ "me/own.js" ∷ "#ui" ∷ [])
       ∷ source b_text ("@ui/core" ∷ [])
       ∷ source menu_text ("@ui/core" ∷ [])
       ∷ source (codes "export const own = 0;") []
@@ -127,7 +127,7 @@ packages_imports =
 abbrev pub packages_map : List ℕ
 packages_map =
     packages_imports
-    ++ digest_line "    \"https://app.test/app.js\": " app_text ",\n"
+    ++ digest_line "    \"https://app.test/app.js\": " package_app_text ",\n"
     (digest_line "    \"https://app.test/node_modules/ui/b.js\": " b_text ",\n"
     (digest_line "    \"https://app.test/node_modules/ui/node_modules/@ui/core/lib/index.mjs\": "
     (codes "export const h = 1;") ",\n"

@@ -9,15 +9,12 @@ use Rattle.config_spec.specs.Words.{IsCommandOf, IsPlain, RefusesWords}
 use Rattle.config_spec.specs.Words.RefusesWords.{not_built, bad_option}
 use Rattle.config_spec.specs.Projects.{Configures, IsConfigOf, IsConfigFor, RefusesConfig}
 use Rattle.config_spec.proofs.Configs.{configs_are_judged}
-use Rattle.config_spec.proofs.ConfigsFit.{configs_are_projects}
+use Rattle.config_spec.proofs.ConfigsFit.{as_outcome, configs_are_projects}
 use Rattle.config_spec.proofs.WordsJudged.{words_are_judged}
 
 pub record SameConfig (some other : Command) (config second : Config) : Type 0 where
   pub one_command : some ≡ other
   pub one_config : config ≡ second
-
-abbrev as_outcome : Config → Result Config ConfigFault
-as_outcome config = Ok config
 
 abbrev as_refused : ConfigFault → Result Config ConfigFault
 as_refused fault = Err fault
@@ -39,12 +36,6 @@ refused_is_plain words fault (not_built asked asks none) = record { asked = aske
 refused_is_plain words fault (bad_option asked command why asks is refuses) = record { asked = asked; asks = asks }
 
 module _ (words : List (List ℕ)) where
-  pub one_words_fault : (some other : ConfigFault) → RefusesWords words some → RefusesWords words other → some ≡ other
-  one_words_fault = (words_are_judged words).one_fault
-
-  pub one_command : (some other : Command) → IsCommandOf words some → IsCommandOf words other → some ≡ other
-  one_command = (words_are_judged words).one_command
-
   pub refused_or_command : (fault : ConfigFault) (command : Command) → RefusesWords words fault → IsCommandOf words command → ⊥
   refused_or_command fault command refuses is = (words_are_judged words).not_both command fault is refuses
 

@@ -14,6 +14,7 @@ use Rattle.trace_spec.specs.Modules.{Config}
 use Rattle.generator_spec.specs.declared.Refusal.{Refusal}
 use Rattle.generator_spec.specs.declared.Refusal.TheVariants.{Config as Configured}
 use Rattle.words_spec.specs.PlainWords.{Asked, LinkOptions}
+use Rattle.config_spec.proofs.WordsJudged.{words_are_judged}
 use Rattle.config_spec.specs.declared.ConfigFault.{ConfigFault}
 use Rattle.config_spec.specs.Words.{IsPlain, options_of, RefusesOptions, RefusesWords}
 use Rattle.config_spec.specs.Words.RefusesOptions.{bad_base, bad_path, bad_conditions}
@@ -35,7 +36,7 @@ use Rattle.generator_spec.specs.Outcome.{ComesTo, ComesTo as comes, FilesPlaced,
 use Rattle.generator_spec.specs.Ending.{CanRefuse, CanRefuse as can, IsDone, StopsWriting, Shaped, Says, Ends}
 use Rattle.generator_spec.specs.Ending.{Shaped as shaped, Says as says, Ends as ends}
 use Rattle.generator_spec.specs.Promises.{AreWrong, HasStopped, Untouched, Shows}
-use Rattle.generator_spec.proofs.Configs.{command_for, command_is_plain, one_words_fault, refused_is_plain, refused_or_command}
+use Rattle.generator_spec.proofs.Configs.{command_for, command_is_plain, refused_is_plain, refused_or_command}
 
 -- ---- statuses
 
@@ -245,7 +246,7 @@ module _ (words : List (List ℕ)) (before after : FolderState) (status : ℕ) (
   -- ---- words that are refused
 
   can_be : (fault : ConfigFault) → RefusesWords words fault → (why : Refusal) → CanRefuse words why → why ≡ Configured fault
-  can_be fault refuses why (can.by_words other is) = ap Configured (one_words_fault words other fault is refuses)
+  can_be fault refuses why (can.by_words other is) = ap Configured ((words_are_judged words).one_fault other fault is refuses)
   can_be fault refuses why (can.by_project other is) = absurd (refused_or_command words fault is.command refuses (record { asked = is.asked; asks = is.asks; is = is.is; settings = is.settings; sets = is.sets }))
   can_be fault refuses why (can.by_tree command config reason is of) = absurd (refused_or_command words fault command refuses (command_for words command config is))
 

@@ -16,6 +16,7 @@ use Rattle.trace_spec.specs.declared.TraceFault.{TraceFault}
 use Rattle.trace_spec.specs.Modules.{Config}
 use Rattle.trace_spec.specs.Checks.{Gathered}
 use Rattle.trace_spec.specs.Traces.{traced}
+use Rattle.config_spec.proofs.WordsJudged.{words_are_judged}
 use Rattle.config_spec.specs.declared.Command.{Command}
 use Rattle.config_spec.specs.declared.Command.TheVariants.{Link, Unlink, Refresh, Check}
 use Rattle.generator_spec.specs.declared.Refusal.{Refusal}
@@ -31,7 +32,7 @@ use Rattle.generator_spec.specs.Lines.{status_of, line_of, done_line}
 use Rattle.generator_spec.specs.Outcome.{ComesTo, FilesPlaced, Outcome, RefusesRun, RefusesRun as runs}
 use Rattle.generator_spec.specs.Outcome.ComesTo.{not_plain, refused, written, checked}
 use Rattle.generator_spec.specs.Laws.{OneOutcome, HasOutcome, SomeOutcome}
-use Rattle.generator_spec.proofs.Configs.{SameConfig, one_config, one_words_fault, one_config_fault, refused_or_config}
+use Rattle.generator_spec.proofs.Configs.{SameConfig, one_config, one_config_fault, refused_or_config}
 use Rattle.generator_spec.proofs.Configs.{words_refused_or_config, words_refused_or_refused, page_is_path, plain_or_not}
 use Rattle.generator_spec.proofs.Configs.{command_is, command_is_plain, refused_is_plain}
 use Rattle.generator_spec.proofs.Configs.{Judged, Judged as judgement, judged}
@@ -180,7 +181,7 @@ module _ (words : List (List ℕ)) (tree : Tree) (status other : ℕ) (lines oth
 
 -- a run is refused for one reason
 pub one_run_refusal : (words : List (List ℕ)) (tree : Tree) (why because : Refusal) → RefusesRun words tree why → RefusesRun words tree because → why ≡ because
-one_run_refusal words tree why because (runs.by_words fault is) (runs.by_words other too) = ap Configured (one_words_fault words fault other is too)
+one_run_refusal words tree why because (runs.by_words fault is) (runs.by_words other too) = ap Configured ((words_are_judged words).one_fault fault other is too)
 one_run_refusal words tree why because (runs.by_words fault is) (runs.by_project other too) = absurd (words_refused_or_refused words tree fault other is too)
 one_run_refusal words tree why because (runs.by_words fault is) (runs.by_tree command config reason is_config too) = absurd (words_refused_or_config words tree fault command config is is_config)
 one_run_refusal words tree why because (runs.by_project fault is) (runs.by_words other too) = absurd (words_refused_or_refused words tree other fault too is)

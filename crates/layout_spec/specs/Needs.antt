@@ -3,8 +3,6 @@
 --     NoClash needs      needs of one referrer and one specifier have one target
 --     IsAskedByFile need      the referrer is the URL of a file
 --     IsAsked asked      the text stands for itself at every base, and is no folder's
---     NamesFiles need      referrer and target are URLs, what is asked for stands for itself, and neither the referrer
---                          nor what is asked for is a folder's
 use Rattle.std.specs.List.{list_any}
 use Rattle.std.specs.Prelude.{Bool, ◌&&◌, not, bytes_eq, ℕ, List, [], ◌∷◌, ◌++◌, if◌then◌else◌, ◌≡◌, ◌≢◌, Contains}
 use Rattle.std.specs.Prelude.{false}
@@ -53,10 +51,3 @@ pub record IsAsked (asked : List ℕ) : Type 0 where
   pub utf8 : IsUtf8 asked
   pub normal : (base : List ℕ) → normalized base asked ≡ asked
   pub no_folder : ends_in_slash asked ≡ false
-
--- own: the referrer and the target of a need are URLs, and neither the referrer nor what it asks for is a folder's
-pub record NamesFiles (need : Need) : Type 0 where
-  pub referrer : IsUrl need.referrer
-  pub asked : IsAsked need.asked
-  pub target : IsUrl need.target
-  pub referrer_is_file : ends_in_slash need.referrer ≡ false

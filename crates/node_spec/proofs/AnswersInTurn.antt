@@ -25,19 +25,19 @@ module _ (answer : AnswersBehind) (rules : Rules) where
       (t.0, tells_both (before ++ call ∷ []) front back t.1 (subst (λ calls. TellsBehind answer calls back) (sym (append_assoc before (call ∷ []) front)) u))
 
   -- it comes to some outcome, behind these calls
-  record Comes (Is : List Call → Outcome → Type 0) (before : List Call) : Type 0 where
+  record ComesInTurn (Is : List Call → Outcome → Type 0) (before : List Call) : Type 0 where
     asked : List Call
     out : Outcome
     is : Is asked out
     tells : TellsBehind answer before asked
 
-  silently : (Is : List Call → Outcome → Type 0) (before : List Call) (out : Outcome) → Is [] out → Comes Is before
+  silently : (Is : List Call → Outcome → Type 0) (before : List Call) (out : Outcome) → Is [] out → ComesInTurn Is before
   silently Is before out is = record { asked = []; out = out; is = is; tells = tt }
 
-  comes_as : (Is Other : List Call → Outcome → Type 0) (before : List Call) → ((asked : List Call) (out : Outcome) → Is asked out → Other asked out) → Comes Is before → Comes Other before
+  comes_as : (Is Other : List Call → Outcome → Type 0) (before : List Call) → ((asked : List Call) (out : Outcome) → Is asked out → Other asked out) → ComesInTurn Is before → ComesInTurn Other before
   comes_as Is Other before turn c = record { asked = c.asked; out = c.out; is = turn c.asked c.out c.is; tells = c.tells }
 
-  text_comes : (before : List Call) (text : List ℕ) → Comes (ResolvesText rules text) before
+  text_comes : (before : List Call) (text : List ℕ) → ComesInTurn (ResolvesText rules text) before
   text_comes before text =
       elim (cases_Bool (begins text (codes "./"))) [
         | inl e ↦ silently (ResolvesText rules text) before (own_outcome rules.pattern_match text) (own_place e)
@@ -47,14 +47,14 @@ module _ (answer : AnswersBehind) (rules : Rules) where
         ]
       ]
 
-  item_comes : (before : List Call) (item : Json) (more : Items) → Comes (ResolvesTarget rules item) before → ((later : List Call) → Comes (ResolvesItems rules more) later) → Comes (ResolvesItems rules (an_item item more)) before
+  item_comes : (before : List Call) (item : Json) (more : Items) → ComesInTurn (ResolvesTarget rules item) before → ((later : List Call) → ComesInTurn (ResolvesItems rules more) later) → ComesInTurn (ResolvesItems rules (an_item item more)) before
   item_comes before item more first behind =
       elim (cases_Bool (is_passed first.out)) [
         | inl p ↦ (let rest = behind (before ++ first.asked) in record { asked = first.asked ++ rest.asked; out = last_of first.out rest.out; is = passed item more first.asked rest.asked first.out rest.out first.is p rest.is; tells = tells_both before first.asked rest.asked first.tells rest.tells })
         | inr d ↦ record { asked = first.asked; out = first.out; is = decided item more first.asked first.out first.is d; tells = first.tells }
       ]
 
-  tried_comes : (before : List Call) (key : List ℕ) (value : Json) (more : Members) → is_tried rules.conditions key ≡ true → Comes (ResolvesTarget rules value) before → ((later : List Call) → Comes (ResolvesMembers rules more) later) → Comes (ResolvesMembers rules (a_member key value more)) before
+  tried_comes : (before : List Call) (key : List ℕ) (value : Json) (more : Members) → is_tried rules.conditions key ≡ true → ComesInTurn (ResolvesTarget rules value) before → ((later : List Call) → ComesInTurn (ResolvesMembers rules more) later) → ComesInTurn (ResolvesMembers rules (a_member key value more)) before
   tried_comes before key value more t first behind =
       elim (cases_Bool (is_undefined first.out)) [
         | inl u ↦ (let rest = behind (before ++ first.asked) in record { asked = first.asked ++ rest.asked; out = rest.out; is = undefined key value more first.asked rest.asked rest.out t (subst (λ o. ResolvesTarget rules value first.asked o) (undefined_from first.out u) first.is) rest.is; tells = tells_both before first.asked rest.asked first.tells rest.tells })
@@ -62,7 +62,7 @@ module _ (answer : AnswersBehind) (rules : Rules) where
       ]
 
   mutual
-    comes : (before : List Call) (target : Json) → Comes (ResolvesTarget rules target) before
+    comes : (before : List Call) (target : Json) → ComesInTurn (ResolvesTarget rules target) before
     comes before a_null = silently (ResolvesTarget rules a_null) before Null null_target
     comes before (a_bool b) = silently (ResolvesTarget rules (a_bool b)) before InvalidTarget (bool_target b)
     comes before (a_number number) = silently (ResolvesTarget rules (a_number number)) before InvalidTarget (number_target number)
@@ -77,11 +77,11 @@ module _ (answer : AnswersBehind) (rules : Rules) where
           | inr e ↦ comes_as (ResolvesMembers rules ms) (ResolvesTarget rules (an_object ms)) before (λ asked out r. object_target ms asked out e r) (members_come before ms)
         ]
 
-    items_come : (before : List Call) (vs : Items) → Comes (ResolvesItems rules vs) before
+    items_come : (before : List Call) (vs : Items) → ComesInTurn (ResolvesItems rules vs) before
     items_come before no_items = silently (ResolvesItems rules no_items) before Undefined no_item
     items_come before (an_item item more) = item_comes before item more (comes before item) (λ later. items_come later more)
 
-    members_come : (before : List Call) (ms : Members) → Comes (ResolvesMembers rules ms) before
+    members_come : (before : List Call) (ms : Members) → ComesInTurn (ResolvesMembers rules ms) before
     members_come before no_members = silently (ResolvesMembers rules no_members) before Undefined no_member
     members_come before (a_member key value more) =
         elim (cases_Bool (is_tried rules.conditions key)) [

@@ -17,9 +17,6 @@ use Rattle.node_spec.specs.declared.Outcome.{Outcome}
 found_in : (name : List ℕ) (names : List (List ℕ)) → Contains names name → list_any (bytes_eq name) names ≡ true
 found_in name names c = list_any_at (bytes_eq name) names c.0 name c.1 ((bytes_eq-Decides _ _).1 (sym c.2))
 
-stands_in : (name : List ℕ) (names : List (List ℕ)) → list_any (bytes_eq name) names ≡ true → Contains names name
-stands_in name names e = Contains-from_any (λ x y. (bytes_eq-Decides x y).0) name names e
-
 both_true : (some other : Bool) → (some ≡ true → other ≡ true) → (other ≡ true → some ≡ true) → some ≡ other
 both_true true other there back = sym (there refl)
 both_true false true there back = back refl
@@ -27,7 +24,7 @@ both_true false false there back = refl
 
 pub tried_alike : (some other : List (List ℕ)) (key : List ℕ) → IsSameSet some other → is_tried some key ≡ is_tried other key
 tried_alike some other key same =
-    ap (λ t. bytes_eq key (codes "default") || t) (both_true (list_any (bytes_eq key) some) (list_any (bytes_eq key) other) (λ e. found_in key other ((same key).0 (stands_in key some e))) (λ e. found_in key some ((same key).1 (stands_in key other e))))
+    ap (λ t. bytes_eq key (codes "default") || t) (both_true (list_any (bytes_eq key) some) (list_any (bytes_eq key) other) (λ e. found_in key other ((same key).0 (Contains-from_any (λ x y. (bytes_eq-Decides x y).0) key some e))) (λ e. found_in key some ((same key).1 (Contains-from_any (λ x y. (bytes_eq-Decides x y).0) key other e))))
 
 -- ---- each rule holds under both
 

@@ -123,17 +123,17 @@ deciding_call_is_last rules target asked out r = target_decided rules target ask
 
 -- ---- exports
 
-abbrev IsSilent : List Call → Outcome → Type 0
-IsSilent asked out = (asked ≡ []) × (out ≢ Bare) × (out ≢ Stopped)
+abbrev SaysNothing : List Call → Outcome → Type 0
+SaysNothing asked out = (asked ≡ []) × (out ≢ Bare) × (out ≢ Stopped)
 
-no_calls : (out : Outcome) → IsOwn out → IsSilent [] out
+no_calls : (out : Outcome) → IsOwn out → SaysNothing [] out
 no_calls out is = (refl, is.0, is.1)
 
 pub never_package : (imports : Bool) (target : List ℕ) → imports ≡ false → names_package imports target ≡ true → ⊥
 unfolding names_package
 never_package imports target e n = true≢false (sym (and_parts _ _ n).0 ∙ e)
 
-text_silent : (rules : Rules) (target : List ℕ) (asked : List Call) (out : Outcome) → rules.is_imports ≡ false → ResolvesText rules target asked out → IsSilent asked out
+text_silent : (rules : Rules) (target : List ℕ) (asked : List Call) (out : Outcome) → rules.is_imports ≡ false → ResolvesText rules target asked out → SaysNothing asked out
 text_silent rules target asked out e (own_place f) = no_calls out (own_is_own rules.pattern_match target)
 text_silent rules target asked out e (bare answer f n) = absurd (never_package rules.is_imports target e n)
 text_silent rules target asked out e (no_target f n) = no_calls InvalidTarget invalid_own
@@ -145,7 +145,7 @@ last_silent : (first rest : Outcome) → IsOwn first → IsOwn rest → IsOwn (l
 last_silent first rest a b = cond_both (is_undefined rest) first rest IsOwn (λ none. a) (λ some. b)
 
 mutual
-  target_silent : (rules : Rules) (target : Json) (asked : List Call) (out : Outcome) → rules.is_imports ≡ false → ResolvesTarget rules target asked out → IsSilent asked out
+  target_silent : (rules : Rules) (target : Json) (asked : List Call) (out : Outcome) → rules.is_imports ≡ false → ResolvesTarget rules target asked out → SaysNothing asked out
   target_silent rules target asked out e (text_target text _ _ r) = text_silent rules text asked out e r
   target_silent rules target asked out e (index_key ms f) = no_calls InvalidConfig config_own
   target_silent rules target asked out e (object_target ms _ _ f r) = members_silent rules ms asked out e r
@@ -155,7 +155,7 @@ mutual
   target_silent rules target asked out e (bool_target b) = no_calls InvalidTarget invalid_own
   target_silent rules target asked out e (number_target n) = no_calls InvalidTarget invalid_own
 
-  members_silent : (rules : Rules) (ms : Members) (asked : List Call) (out : Outcome) → rules.is_imports ≡ false → ResolvesMembers rules ms asked out → IsSilent asked out
+  members_silent : (rules : Rules) (ms : Members) (asked : List Call) (out : Outcome) → rules.is_imports ≡ false → ResolvesMembers rules ms asked out → SaysNothing asked out
   members_silent rules ms asked out e no_member = no_calls Undefined undefined_own
   members_silent rules ms asked out e (untried key v more _ _ f r) = members_silent rules more asked out e r
   members_silent rules ms asked out e (defined key v more _ _ f r u) = target_silent rules v asked out e r
@@ -164,7 +164,7 @@ mutual
       let rest = members_silent rules more back out e s in
       (both_silent front back first.0 rest.0, rest.1, rest.2)
 
-  items_silent : (rules : Rules) (vs : Items) (asked : List Call) (out : Outcome) → rules.is_imports ≡ false → ResolvesItems rules vs asked out → IsSilent asked out
+  items_silent : (rules : Rules) (vs : Items) (asked : List Call) (out : Outcome) → rules.is_imports ≡ false → ResolvesItems rules vs asked out → SaysNothing asked out
   items_silent rules vs asked out e no_item = no_calls Undefined undefined_own
   items_silent rules vs asked out e (decided v more _ _ r d) = target_silent rules v asked out e r
   items_silent rules vs asked out e (passed v more front back first rest r p s) =

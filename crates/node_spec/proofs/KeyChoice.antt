@@ -22,13 +22,13 @@ record Starless (text : List ℕ) : Type 0 where
   none : HasNoStar text
   count : star_count text ≡ 0
 
-record Split (text base trailer : List ℕ) : Type 0 where
+record SplitAtStar (text base trailer : List ℕ) : Type 0 where
   parts : text ≡ base ++ 42 ∷ trailer
   before : HasNoStar base
   count : star_count text ≡ suc (star_count trailer)
 
 abbrev HasStar : List ℕ → Type 0
-HasStar text = Split text (pattern_base text) (pattern_trailer text)
+HasStar text = SplitAtStar text (pattern_base text) (pattern_trailer text)
 
 at_star : (text : List ℕ) → HasStar (42 ∷ text)
 at_star text = record { parts = refl; before = All-nil (λ b. b ≢ 42); count = refl }
@@ -48,13 +48,13 @@ module _ (b : ℕ) (text : List ℕ) (other : (b == 42) ≡ false) where
 
   behind_other : HasStar text → HasStar (b ∷ text)
   behind_other split =
-      let whole : Split (b ∷ text) (b ∷ pattern_base text) (pattern_trailer text) = record {
+      let whole : SplitAtStar (b ∷ text) (b ∷ pattern_base text) (pattern_trailer text) = record {
         parts = ap (λ t. b ∷ t) split.parts;
         before = All-cons (λ c. c ≢ 42) b (pattern_base text) is_other split.before;
         count = same_count ∙ split.count;
       } in
-      subst (λ t. Split (b ∷ text) (pattern_base (b ∷ text)) t) (sym trailer_is)
-      (subst (λ t. Split (b ∷ text) t (pattern_trailer text)) (sym base_is) whole)
+      subst (λ t. SplitAtStar (b ∷ text) (pattern_base (b ∷ text)) t) (sym trailer_is)
+      (subst (λ t. SplitAtStar (b ∷ text) t (pattern_trailer text)) (sym base_is) whole)
 
   more_starless : Starless text → Starless (b ∷ text)
   more_starless s = record {
@@ -139,8 +139,8 @@ module _ (asked key base trailer : List ℕ) where
 
 -- ---- how one key matches
 
-abbrev Decided : List ℕ → List ℕ → Option KeyMatch → Type 0
-Decided asked key found = MatchOption found ((also : KeyMatch) → Matches asked key also → ⊥) (Matches asked key)
+abbrev KeyDecided : List ℕ → List ℕ → Option KeyMatch → Type 0
+KeyDecided asked key found = MatchOption found ((also : KeyMatch) → Matches asked key also → ⊥) (Matches asked key)
 
 module _ (asked key : List ℕ) where
   abbrev exact : Option KeyMatch
@@ -149,7 +149,7 @@ module _ (asked key : List ℕ) where
   abbrev pattern : Option KeyMatch
   pattern = pattern_at asked key (pattern_base key) (pattern_trailer key)
 
-  exact_by : (same : Bool) → Decides same (key ≡ asked) → HasNoStar key → Decided asked key (cond same (Some Itself) None)
+  exact_by : (same : Bool) → Decides same (key ≡ asked) → HasNoStar key → KeyDecided asked key (cond same (Some Itself) None)
   exact_by true d none = by_itself (d.0 refl) none
   exact_by false d none = no_exact_match asked key none (λ e. true≢false (sym (d.1 e)))
 
@@ -161,7 +161,7 @@ module _ (asked key : List ℕ) where
       not_fits (subst (λ x. FitsPattern asked key base x) same.1 (subst (λ x. FitsPattern asked key x t) same.0 f))
 
   fit_by : (base trailer : List ℕ) → IsPattern key base trailer → (b : Bool) → fits asked key base trailer ≡ b
-      → Decided asked key (cond b (Some (PatternMatch (length base) (length asked - length trailer))) None)
+      → KeyDecided asked key (cond b (Some (PatternMatch (length base) (length asked - length trailer))) None)
   fit_by base trailer p true e = by_pattern base trailer p (fits_is asked key base trailer e)
   fit_by base trailer p false e =
       no_fit base trailer p (λ f. true≢false (sym (fits_from asked key base trailer f) ∙ e))
@@ -169,35 +169,35 @@ module _ (asked key : List ℕ) where
   counted : (n : ℕ) → star_count key ≡ n → key_match asked key ≡ cond (n == 0) exact (cond (n == 1) pattern None)
   counted n e = ap (λ m. cond (m == 0) exact (cond (m == 1) pattern None)) e
 
-  no_star_match : Starless key → Decided asked key (key_match asked key)
+  no_star_match : Starless key → KeyDecided asked key (key_match asked key)
   no_star_match s =
-      subst (Decided asked key) (sym (counted 0 s.count))
+      subst (KeyDecided asked key) (sym (counted 0 s.count))
       (exact_by (bytes_eq key asked) (bytes_eq-Decides key asked) s.none)
 
-  one_star_match : HasStar key → Starless (pattern_trailer key) → Decided asked key (key_match asked key)
+  one_star_match : HasStar key → Starless (pattern_trailer key) → KeyDecided asked key (key_match asked key)
   one_star_match split s =
       let p : IsPattern key (pattern_base key) (pattern_trailer key) =
       record { parts = split.parts; before_star = split.before; after_star = s.none } in
-      subst (Decided asked key) (sym (counted 1 (split.count ∙ ap suc s.count)))
+      subst (KeyDecided asked key) (sym (counted 1 (split.count ∙ ap suc s.count)))
       (fit_by (pattern_base key) (pattern_trailer key) p (fits asked key (pattern_base key) (pattern_trailer key)) refl)
 
-  many_match : HasStar key → HasStar (pattern_trailer key) → Decided asked key (key_match asked key)
+  many_match : HasStar key → HasStar (pattern_trailer key) → KeyDecided asked key (key_match asked key)
   many_match split more =
       let n : ℕ = suc (suc (star_count (pattern_trailer (pattern_trailer key)))) in
       let count : star_count key ≡ n = split.count ∙ ap suc more.count in
       let zero_not : (n == 0) ≡ false = elim (cases_Bool (n == 0)) [ inl e ↦ absurd (let s : n ≡ 0 = eqb-true n 0 e in omega arith) | inr e ↦ e ] in
       let one_not : (n == 1) ≡ false = elim (cases_Bool (n == 1)) [ inl e ↦ absurd (let s : n ≡ 1 = eqb-true n 1 e in omega arith) | inr e ↦ e ] in
-      subst (Decided asked key)
+      subst (KeyDecided asked key)
       (sym (counted n count ∙ (cond-false _ exact _ zero_not ∙ cond-false _ pattern None one_not)))
       (many_stars asked key (pattern_base key) (pattern_trailer key) _ _ split.parts split.before more.parts)
 
   by_split : Starless key ⊎ HasStar key → Starless (pattern_trailer key) ⊎ HasStar (pattern_trailer key)
-      → Decided asked key (key_match asked key)
+      → KeyDecided asked key (key_match asked key)
   by_split (inl s) rest = no_star_match s
   by_split (inr split) (inl s) = one_star_match split s
   by_split (inr split) (inr more) = many_match split more
 
-  pub key_match_is : Decided asked key (key_match asked key)
+  pub key_match_is : KeyDecided asked key (key_match asked key)
   key_match_is = by_split (star_or_none key) (star_or_none (pattern_trailer key))
 
 -- ---- the order
@@ -318,7 +318,7 @@ module _ (asked key : List ℕ) (more : List (List ℕ)) where
   with_better found m None none = keeps_first found m (λ other also c n p. none other also c n)
   with_better found m (Some held) choice = better_by found m held choice (goes_before held.found found) refl
 
-  with_more : (match : Option KeyMatch) → Decided asked key match → (best : Option KeyFound) → Finds more asked best
+  with_more : (match : Option KeyMatch) → KeyDecided asked key match → (best : Option KeyFound) → Finds more asked best
       → Finds keys asked (with_key key match best)
   with_more None not None none = none_matches not none
   with_more None not (Some held) choice =

@@ -1,9 +1,9 @@
 -- A clash is one of two requests.
-use Rattle.std.specs.Prelude.{◌≡◌, ℕ, Bool, true, false, List, ◌∷◌, ◌++◌, Option, Some, None}
+use Rattle.std.specs.Prelude.{◌≡◌, ◌≤◌, ℕ, Bool, true, false, List, ◌∷◌, ◌++◌, Option, Some, None}
 use Rattle.std.specs.Prelude.{Result, Ok, Err, nat_lt, length, Contains, if◌then◌else◌}
 use Rattle.std.specs.List.{list_any}
 use Rattle.std.proofs.Common.{refl, sym, ap, ◌∙◌, subst}
-use Rattle.std.proofs.lemmas.Bool.{cond-false}
+use Rattle.std.proofs.lemmas.Bool.{cond-false, ltb-false}
 use Rattle.std.proofs.lemmas.List.Elements.{Contains-append_left, Contains-append_right}
 use Rattle.asking_spec.specs.Askings.{Asking, outcome}
 use Rattle.asking_spec.specs.Evaluation.{Ended, ends, stopped, evaluated}
@@ -77,11 +77,11 @@ module _ (sights : Sights) (config : Config) where
 
   -- ---- a request that clashes
 
-  module _ (before : Gathered) (referrer : Referrer Module) (specifier shown_by first first_to second second_to : List ℕ)
-    where
-      abbrev clash : TraceFault
-      clash = Clash shown_by first first_to second second_to
+  module _ (shown_by first first_to second second_to : List ℕ) where
+    abbrev clash : TraceFault
+    clash = Clash shown_by first first_to second second_to
 
+    module _ (before : Gathered) (referrer : Referrer Module) (specifier : List ℕ) where
       record Clashes (need : Need) (spelling : Spelling) : Type 0 where
         clashing_so : list_any (clashes need) before.needs ≡ true
         shown_so : clash_with config referrer (clashing need before.needs before.spellings) spelling ≡ clash
@@ -109,7 +109,7 @@ module _ (sights : Sights) (config : Config) where
           }
           by false is f = absurd (no_room need spelling f)
 
-      record Led (want : Wanted) (found : Result Module Refusal) : Type 0 where
+      record LedToClash (want : Wanted) (found : Result Module Refusal) : Type 0 where
         target : Module
         answers_so : found ≡ Ok target
         url : List ℕ
@@ -122,7 +122,7 @@ module _ (sights : Sights) (config : Config) where
           → served_at config (a_module target) ≡ name
           → named config before referrer want
           (record { referrer = shown config referrer; specifier = specifier; target = target }) name ≡ Err clash
-          → Led want (Ok target)
+          → LedToClash want (Ok target)
       named_clash want target None is e = absurd (cc)
       named_clash want target (Some url) is e = by (ends_in_slash url) refl e
         where
@@ -131,7 +131,7 @@ module _ (sights : Sights) (config : Config) where
               then Err (refused_by config referrer specifier TrailingSlash)
               else needed config before referrer (record { referrer = want.referrer; asked = want.asked; target = url })
               (record { referrer = shown config referrer; specifier = specifier; target = target })) ≡ Err clash
-              → Led want (Ok target)
+              → LedToClash want (Ok target)
           by true slash f = absurd (cc)
           by false file f = record {
             target = target;
@@ -143,7 +143,7 @@ module _ (sights : Sights) (config : Config) where
           }
 
       led_clash : (want : Wanted) (found : Result Module Refusal)
-          → led config before referrer specifier want found ≡ Err clash → Led want found
+          → led config before referrer specifier want found ≡ Err clash → LedToClash want found
       led_clash want (Err (by_cause cause)) e = absurd (cc)
       led_clash want (Err too_deep) e = absurd (cc)
       led_clash want (Ok target) e = named_clash want target (served_at config (a_module target)) refl e
@@ -197,6 +197,8 @@ module _ (sights : Sights) (config : Config) where
               named = check.wants.named;
               shown_so = shows;
               is_request = subst (Contains (specifiers sights config referrer)) seconds is_request;
+              short = subst (λ s. length s ≤ limit_number Specifier) seconds
+                  (ltb-false (limit_number Specifier) (length specifier) check.short);
               asks = subst (λ s. AsksFor want.referrer s want.asked) seconds
                   (asks_for sights config referrer specifier want parts.target check.wants parts.answers_so);
               leads_there = subst (λ s. leads sights config referrer s ≡ Some parts.target) seconds
@@ -213,35 +215,31 @@ module _ (sights : Sights) (config : Config) where
             shown_second_to = (let p : second_to ≡ shown config (a_module parts.target) = cc in p);
           }
 
-  -- ---- a visit that clashes
-
-  module _ (shown_by first first_to second second_to : List ℕ) where
-    abbrev the_clash : TraceFault
-    the_clash = Clash shown_by first first_to second second_to
+    -- ---- a visit that clashes
 
     end_clash : {X : Type 0} (asking : Asking Question Answer (Result X TraceFault)) (before : Trail)
         (end : Ended (Result X TraceFault) Trail LimitName) → evaluated (answers sights) before asking ≡ end
-        → result_of end ≡ Err the_clash → outcome (always sights) asking ≡ Err the_clash
+        → result_of end ≡ Err clash → outcome (always sights) asking ≡ Err clash
     end_clash asking before (ends result after) is e = came_to asking before after result is ∙ e
     end_clash asking before (stopped limit after) is e = absurd (cc)
 
     opens_no_clash : (before : Gathered) (referrer : Referrer Module)
-        → outcome (always sights) (opens config before referrer) ≡ Err the_clash → ⊥
+        → outcome (always sights) (opens config before referrer) ≡ Err clash → ⊥
     opens_no_clash before the_page e = by_page (served_at config the_page) e
       where
-        by_page : (name : Option (List ℕ)) → page_opened config before name ≡ Err the_clash → ⊥
+        by_page : (name : Option (List ℕ)) → page_opened config before name ≡ Err clash → ⊥
         by_page None f = absurd (cc)
         by_page (Some url) f = absurd (cc)
     opens_no_clash before (a_module m) e = by_source (always sights (of_module m.path)) e
       where
-        by_source : (found : Result Source NoSource) → module_opened config before m found ≡ Err the_clash → ⊥
+        by_source : (found : Result Source NoSource) → module_opened config before m found ≡ Err clash → ⊥
         by_source (Ok source) f = absurd (cc)
         by_source (Err (not_module reason)) f = absurd (cc)
         by_source (Err (above limit)) f = absurd (cc)
 
     request_clash : (before : Gathered) (trail : Trail) (referrer : Referrer Module) (front : List (List ℕ))
         (specifier : List ℕ) → Next before referrer
-        → RefusedRequest sights config before trail referrer the_clash front specifier
+        → RefusedRequest sights config before trail referrer clash front specifier
         → IsClash sights config shown_by first first_to second second_to
     request_clash before trail referrer front specifier next is =
         let opened = came_to (opens config before referrer) trail is.middle (Ok is.opened) is.opens_so in
@@ -257,14 +255,14 @@ module _ (sights : Sights) (config : Config) where
         still (λ s c. at s (Contains-append_left front (specifier ∷ is.behind) s c))
         (came_to (followed (rules config) is.opened.after referrer front) is.middle is.later (Ok is.tables) is.passed)).holds
         holds in
-        clash_of is.tables referrer specifier shown_by first first_to second second_to tables
+        clash_of is.tables referrer specifier tables
         (at specifier (Contains-append_right front (specifier ∷ is.behind) specifier (contains_here specifier is.behind)))
         (checked config is.tables referrer specifier) refl
         (end_clash (follows config is.tables referrer specifier) is.later
         (evaluated (answers sights) is.later (follows config is.tables referrer specifier)) refl is.refused)
 
     visit_clash : (before : Gathered) (trail : Trail) (referrer : Referrer Module) (asked : List Question)
-        → Next before referrer → RefusedAt sights config before trail referrer the_clash asked
+        → Next before referrer → RefusedAt sights config before trail referrer clash asked
         → IsClash sights config shown_by first first_to second second_to
     visit_clash before trail referrer _ next (at_opening refuses) =
         absurd (opens_no_clash before referrer

@@ -40,12 +40,12 @@ module_itself m =
 abbrev pub AreOnce : List Module → Type 0
 AreOnce modules = (i j : ℕ) (m : Module) → slice_get modules i ≡ Some m → slice_get modules j ≡ Some m → i ≡ j
 
-record AtEnd (modules : List Module) (i : ℕ) (m last : Module) : Type 0 where
+record IsLast (modules : List Module) (i : ℕ) (m last : Module) : Type 0 where
   place : i ≡ length modules
   is_last : last ≡ m
 
 pushed_at : (modules : List Module) (last : Module) (i : ℕ) (m : Module) → slice_get (modules ++ last ∷ []) i ≡ Some m
-    → (slice_get modules i ≡ Some m) ⊎ AtEnd modules i m last
+    → (slice_get modules i ≡ Some m) ⊎ IsLast modules i m last
 pushed_at [] last zero m e = inr (record { place = refl; is_last = (let p : last ≡ m = cc in p) })
 pushed_at [] last (suc i) m e = absurd (cc)
 pushed_at (x ∷ modules) last zero m e = inl e

@@ -159,22 +159,22 @@ opens_is sights config before (a_module m) opened e =
     }
 
 -- an opening leaves modules and needs as they are
-pub record Leaves (before after : Gathered) : Type 0 where
+pub record LeavesTables (before after : Gathered) : Type 0 where
   pub modules : after.modules ≡ before.modules
   pub needs : after.needs ≡ before.needs
   pub spellings : after.spellings ≡ before.spellings
   pub requests : after.requests ≡ before.requests
 
 leaves_by : (sights : Sights) (before : Gathered) (referrer : Referrer Module)
-    → Leaves before (opening_put sights before referrer)
+    → LeavesTables before (opening_put sights before referrer)
 leaves_by sights before the_page = record { modules = refl; needs = refl; spellings = refl; requests = refl }
 leaves_by sights before (a_module m) = record { modules = refl; needs = refl; spellings = refl; requests = refl }
 
 pub opens_leaves : (sights : Sights) (config : Config) (before : Gathered) (referrer : Referrer Module)
     (opened : Opened Gathered) → outcome (always sights) (opens config before referrer) ≡ Ok opened
-    → Leaves before opened.after
+    → LeavesTables before opened.after
 opens_leaves sights config before referrer opened e =
-    subst (Leaves before) (sym (opens_is sights config before referrer opened e).after)
+    subst (LeavesTables before) (sym (opens_is sights config before referrer opened e).after)
     (leaves_by sights before referrer)
 
 -- ---- requests
@@ -331,7 +331,7 @@ pub record Follows (sights : Sights) (config : Config) (before : Gathered) (refe
 
 module _ (sights : Sights) (config : Config) (before : Gathered) (referrer : Referrer Module) (specifier : List ℕ)
     (after : Gathered) where
-  record Led (want : Wanted) (found : Result Module Refusal) : Type 0 where
+  record LedTo (want : Wanted) (found : Result Module Refusal) : Type 0 where
     target : Module
     answers : found ≡ Ok target
     url : List ℕ
@@ -342,7 +342,7 @@ module _ (sights : Sights) (config : Config) (before : Gathered) (referrer : Ref
   led_named : (want : Wanted) (target : Module) (name : Option (List ℕ)) → served_at config (a_module target) ≡ name
       → named config before referrer want
       (record { referrer = shown config referrer; specifier = specifier; target = target }) name ≡ Ok after
-      → Led want (Ok target)
+      → LedTo want (Ok target)
   led_named want target None is e = absurd (cc)
   led_named want target (Some url) is e = by (ends_in_slash url) refl e
     where
@@ -351,7 +351,7 @@ module _ (sights : Sights) (config : Config) (before : Gathered) (referrer : Ref
           then Err (refused_by config referrer specifier TrailingSlash)
           else needed config before referrer (record { referrer = want.referrer; asked = want.asked; target = url })
           (record { referrer = shown config referrer; specifier = specifier; target = target })) ≡ Ok after
-          → Led want (Ok target)
+          → LedTo want (Ok target)
       by true slash f = absurd (cc)
       by false file f = record {
         target = target;
@@ -362,7 +362,7 @@ module _ (sights : Sights) (config : Config) (before : Gathered) (referrer : Ref
       }
 
   led_parts : (want : Wanted) (found : Result Module Refusal) → led config before referrer specifier want found ≡ Ok after
-      → Led want found
+      → LedTo want found
   led_parts want (Err (by_cause cause)) e = absurd (cc)
   led_parts want (Err too_deep) e = absurd (cc)
   led_parts want (Ok target) e = led_named want target (served_at config (a_module target)) refl e

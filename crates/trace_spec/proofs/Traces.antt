@@ -4,13 +4,12 @@ use Rattle.std.specs.Prelude.{Option, Some, None, option_map, Result, Ok, Err, u
 use Rattle.std.specs.Str.{IsUtf8}
 use Rattle.std.proofs.Common.{refl, sym, ap, ◌∙◌, subst, arith, lit≤, length-append, append_assoc, append-nil}
 use mathlib.Core.Logic.{inl, inr}
-use Rattle.std.proofs.lemmas.Bool.{ltb-true}
-use Rattle.std.proofs.lemmas.List.Elements.{Contains-append_left}
+use Rattle.std.proofs.lemmas.Bool.{ltb-true, ltb-false}
 use Rattle.asking_spec.specs.Askings.{outcome}
 use Rattle.asking_spec.specs.Evaluation.{Ended, ends, stopped, evaluated}
 use Rattle.asking_spec.proofs.EvaluationLemmas.{ends_outcome}
 use Rattle.tree_spec.specs.declared.LimitName.{LimitName}
-use Rattle.tree_spec.specs.declared.LimitName.TheVariants.{Modules, Requests}
+use Rattle.tree_spec.specs.declared.LimitName.TheVariants.{Modules, Requests, Specifier}
 use Rattle.tree_spec.specs.Limits.{limit_number}
 use Rattle.tree_spec.specs.LookAskings.{Sights}
 use Rattle.tree_spec.specs.LookLimits.{Trail, no_trail}
@@ -38,13 +37,13 @@ use Rattle.trace_spec.specs.Laws.{NeedsAreRequests}
 use Rattle.trace_spec.proofs.SpellingLemmas.{spelled_more}
 use Rattle.trace_spec.proofs.Lists.{same_module, AreOnce, new_module, once_more}
 use Rattle.trace_spec.proofs.NeedLemmas.{no_clash_more}
-use Rattle.trace_spec.proofs.Steps.{answers_always, traced_outcome, file_name_parts, opens_is, Leaves, opens_leaves}
+use Rattle.trace_spec.proofs.Steps.{answers_always, traced_outcome, file_name_parts, opens_is, LeavesTables, opens_leaves}
 use Rattle.trace_spec.proofs.Steps.{Fits, Follows, follows_is, follows_asks}
 use Rattle.trace_spec.proofs.WalkModules.{LeadsBy, walk_has_levels, walk_is_reached}
 use Rattle.trace_spec.proofs.WalkOrder.{all_in, PutsBy, walk_in_order}
 use Rattle.trace_spec.proofs.WalkRefusals.{Grows, KeepsFew, walk_where_all_pass, walk_fails_first, walk_few}
 use Rattle.trace_spec.proofs.WalkRoom.{walk_same}
-use Rattle.trace_spec.proofs.WalkFacts.{IsVisited, Keeps, AtEnd, WasVisited, at_end}
+use Rattle.trace_spec.proofs.WalkFacts.{IsVisited, visited_still, Keeps, AtEnd, WasVisited, at_end}
 
 -- a request of a referrer
 pub record Link : Type 0 where
@@ -245,16 +244,11 @@ module _ (sights : Sights) (config : Config) where
     pub once : AreOnce before.modules
     pub few_requests : before.requests ≤ limit_number Requests
 
-  visited_more : (referrer : Referrer Module) (modules more : List Module) → IsVisited modules referrer
-      → IsVisited (modules ++ more) referrer
-  visited_more the_page modules more is = tt
-  visited_more (a_module m) modules more is = Contains-append_left modules more m is
-
   still_of : (before : Gathered) (need other : Need) (spelling : Spelling) → IsOf before other
       → IsOf (with_request before need spelling) other
   still_of before need other spelling is = record {
     referrer = is.referrer;
-    visited = visited_more is.referrer before.modules (new_modules is_module before.modules (spelling.target ∷ [])) is.visited;
+    visited = visited_still is.referrer before.modules (new_modules is_module before.modules (spelling.target ∷ [])) is.visited;
     named = is.named;
     specifier = is.specifier;
     is_request = is.is_request;
@@ -294,6 +288,7 @@ module _ (sights : Sights) (config : Config) where
             named = own.named;
             shown_so = refl;
             is_request = asked_for;
+            short = ltb-false (limit_number Specifier) (length specifier) is.checked.short;
             asks = own.asks;
             leads_there = own.leads_to;
             is_name = is.is_name;
@@ -338,7 +333,7 @@ module _ (sights : Sights) (config : Config) where
         is_need = with_need_old before.needs need passes.need passes.is_need;
       })
 
-  of_on : (before after : Gathered) (need : Need) → Leaves before after → IsOf before need → IsOf after need
+  of_on : (before after : Gathered) (need : Need) → LeavesTables before after → IsOf before need → IsOf after need
   of_on before after need leaves is = record {
     referrer = is.referrer;
     visited = subst (λ ms. IsVisited ms is.referrer) (sym leaves.modules) is.visited;
@@ -352,14 +347,14 @@ module _ (sights : Sights) (config : Config) where
     is_name = is.is_name;
   }
 
-  spelled_on : (before after : Gathered) → Leaves before after
+  spelled_on : (before after : Gathered) → LeavesTables before after
       → AreSpelled sights config before.needs before.spellings
       → AreSpelled sights config after.needs after.spellings
   spelled_on before after leaves spelled =
       subst (λ ns. AreSpelled sights config ns after.spellings) (sym leaves.needs)
       (subst (λ ss. AreSpelled sights config before.needs ss) (sym leaves.spellings) spelled)
 
-  stand_on : (before after : Gathered) → Leaves before after → Stands before → Stands after
+  stand_on : (before after : Gathered) → LeavesTables before after → Stands before → Stands after
   stand_on before after leaves stands = record {
     each = λ need c. of_on before after need leaves (stands.each need (subst (λ ns. Contains ns need) leaves.needs c));
     spelled = spelled_on before after leaves stands.spelled;
@@ -368,7 +363,7 @@ module _ (sights : Sights) (config : Config) where
     few_requests = subst (λ n. n ≤ limit_number Requests) (sym leaves.requests) stands.few_requests;
   }
 
-  pass_on : (before after : Gathered) (referrer : Referrer Module) (specifier : List ℕ) → Leaves before after
+  pass_on : (before after : Gathered) (referrer : Referrer Module) (specifier : List ℕ) → LeavesTables before after
       → Passes sights config before referrer specifier → Passes sights config after referrer specifier
   pass_on before after referrer specifier leaves passes = record {
     need = passes.need;

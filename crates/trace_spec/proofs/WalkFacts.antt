@@ -16,6 +16,11 @@ abbrev pub IsVisited : {M : Type 0} → List M → Referrer M → Type 0
 IsVisited modules the_page = Unit {0}
 IsVisited modules (a_module m) = Contains modules m
 
+pub visited_still : {M : Type 0} (referrer : Referrer M) (modules more : List M) → IsVisited modules referrer
+    → IsVisited (modules ++ more) referrer
+visited_still the_page modules more is = tt
+visited_still (a_module m) modules more is = Contains-append_left modules more m is
+
 module _ {M B R Q : Type 0} {A : Q → Type 0} (answers : (question : Q) → A question) (rules : Rules M B R Q A)
     (specifiers : Referrer M → List (List ℕ)) (leads : Referrer M → List ℕ → Option M)
     (by : LeadsBy answers rules specifiers leads)
@@ -47,11 +52,6 @@ module _ {M B R Q : Type 0} {A : Q → Type 0} (answers : (question : Q) → A q
     abbrev pub AreRequests : Referrer M → List (List ℕ) → Type 0
     AreRequests referrer some =
         (specifier : List ℕ) → Contains some specifier → Contains (specifiers referrer) specifier
-
-    visited_still : (referrer : Referrer M) (modules more : List M) → IsVisited modules referrer
-        → IsVisited (modules ++ more) referrer
-    visited_still the_page modules more is = tt
-    visited_still (a_module m) modules more is = Contains-append_left modules more m is
 
     pub followed_later : (referrer : Referrer M) (some : List (List ℕ)) (before after : B)
         → IsVisited (rules.modules before) referrer → AreRequests referrer some

@@ -7,7 +7,7 @@ use Rattle.asking_spec.specs.Evaluation.{Ended, ends, stopped, evaluated, Asked,
 use Rattle.asking_spec.specs.Laws.{AgreesOn}
 use Rattle.tree_spec.specs.declared.Entry.TheVariants.{Stored}
 use Rattle.tree_spec.specs.declared.LimitName.{LimitName}
-use Rattle.tree_spec.specs.declared.LimitName.TheVariants.{Modules, Requests, Brackets, ModuleRequests}
+use Rattle.tree_spec.specs.declared.LimitName.TheVariants.{Modules, Requests, Brackets, ModuleRequests, Specifier}
 use Rattle.tree_spec.specs.Limits.{limit_number}
 use Rattle.tree_spec.specs.LookAskings.{Sights, looks, footprint}
 use Rattle.tree_spec.specs.LookLimits.{Trail, no_trail, begun, look_limits, limited, IsFirstLimit, new_size}
@@ -349,6 +349,7 @@ pub record LeadsFor (sights : Sights) (config : Config) (referrer : Referrer Mod
   pub named : web_name config referrer ≡ Some need.referrer
   pub shown_so : spelling.referrer ≡ shown config referrer
   pub is_request : Contains (specifiers sights config referrer) spelling.specifier
+  pub short : length spelling.specifier ≤ limit_number Specifier
   pub asks : AsksFor need.referrer spelling.specifier need.asked
   pub leads_there : leads sights config referrer spelling.specifier ≡ Some spelling.target
   pub is_name : file_name config spelling.target ≡ Some need.target
