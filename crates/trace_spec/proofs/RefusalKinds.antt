@@ -32,7 +32,8 @@ use Rattle.asking_spec.proofs.AskingLemmas.{outcome_then}
 use Rattle.trace_spec.specs.declared.AskCause.{AskCause}
 use Rattle.trace_spec.specs.declared.AskCause.TheVariants.{TrailingSlash}
 use Rattle.trace_spec.specs.declared.TraceFault.{TraceFault}
-use Rattle.trace_spec.specs.declared.TraceFault.TheVariants.{Limit}
+use Rattle.trace_spec.specs.declared.TraceFault.TheVariants.{Unservable, Refused, Clash, NotModule, Limit, ReadFault}
+use Rattle.trace_spec.specs.declared.TraceFault.TheVariants.{Memory}
 use Rattle.trace_spec.specs.Walking.{Referrer, the_page, a_module}
 use Rattle.trace_spec.specs.Modules.{Config, Module, served_at, shown}
 use Rattle.trace_spec.specs.Questions.{Source, NoSource, not_module, above, Question, of_module, Answer, by_outline}
@@ -40,11 +41,12 @@ use Rattle.trace_spec.specs.Questions.{by_bytes, by_entry, by_format, put, answe
 use Rattle.trace_spec.specs.Checks.{Gathered, Spelling, page_opened, module_opened, opens, Wanted, wanted, refused_by}
 use Rattle.trace_spec.specs.Checks.{wants, checked, clashing, clash_with, with_request, has_room, with_room, needed}
 use Rattle.trace_spec.specs.Checks.{named, led, followed_by, follows}
-use Rattle.trace_spec.specs.Traces.{result_of, resolution}
+use Rattle.trace_spec.specs.Traces.{result_of, traced, resolution}
 use Rattle.trace_spec.specs.Kinds.{IsTraceLimit, IsOfTrace}
 use Rattle.trace_spec.specs.Laws.{ComesTo, RefusedAt, at_opening, at_request, RefusesByKind}
 use Rattle.trace_spec.proofs.Steps.{answers_always}
 use Rattle.trace_spec.proofs.RefusalOrder.{refused_in_order}
+use Rattle.trace_spec.proofs.Clashes.{clashes_are_of_requests}
 
 -- ---- limits of looks
 
@@ -136,10 +138,20 @@ source_fine sights path =
 
 -- ---- checks
 
+-- what one step refuses; how long the specifiers of a clash are, the law of clashes says
+abbrev IsOfStep : Config → TraceFault → Type 0
+IsOfStep config (Unservable path url) = IsOfTrace config (Unservable path url)
+IsOfStep config (Refused referrer specifier cause) = IsOfTrace config (Refused referrer specifier cause)
+IsOfStep config (Clash referrer first first_to second second_to) = ⊤
+IsOfStep config (NotModule path reason) = ⊤
+IsOfStep config (Limit which) = IsTraceLimit which
+IsOfStep config ReadFault = ⊥
+IsOfStep config Memory = ⊥
+
 -- a refusal of such a kind, or none
 abbrev OfKind : {X : Type 0} → Config → Result X TraceFault → Type 0
 OfKind config (Ok value) = ⊤
-OfKind config (Err refusal) = IsOfTrace config refusal
+OfKind config (Err refusal) = IsOfStep config refusal
 
 abbrev IsShort : List ℕ → Type 0
 IsShort specifier = length specifier ≤ limit_number Specifier
@@ -147,7 +159,7 @@ IsShort specifier = length specifier ≤ limit_number Specifier
 -- what is checked before Node is asked; where that passes, the specifier isn't too long
 abbrev OfCheck : Config → List ℕ → Result Wanted TraceFault → Type 0
 OfCheck config specifier (Ok want) = IsShort specifier
-OfCheck config specifier (Err refusal) = IsOfTrace config refusal
+OfCheck config specifier (Err refusal) = IsOfStep config refusal
 
 module _ (sights : Sights) (config : Config) where
   page_kind : (before : Gathered) (name : Option (List ℕ)) → served_at config the_page ≡ name
@@ -198,13 +210,13 @@ module _ (sights : Sights) (config : Config) where
       by false = tt
 
   needed_kind : (before : Gathered) (referrer : Referrer Module) (need : Need) (spelling : Spelling)
-      → IsShort spelling.specifier → OfKind config (needed config before referrer need spelling)
-  needed_kind before referrer need spelling short = by (list_any (clashes need) before.needs)
+      → OfKind config (needed config before referrer need spelling)
+  needed_kind before referrer need spelling = by (list_any (clashes need) before.needs)
     where
       by : (clash : Bool) → OfKind config (if clash
           then Err (clash_with config referrer (clashing need before.needs before.spellings) spelling)
           else with_room before need spelling)
-      by true = short
+      by true = tt
       by false = with_room_kind before need spelling
 
   named_kind : (before : Gathered) (referrer : Referrer Module) (want : Wanted) (spelling : Spelling)
@@ -219,7 +231,7 @@ module _ (sights : Sights) (config : Config) where
           else needed config before referrer (record { referrer = want.referrer; asked = want.asked; target = url })
           spelling)
       by true = short
-      by false = needed_kind before referrer _ spelling short
+      by false = needed_kind before referrer _ spelling
 
   led_kind : (before : Gathered) (referrer : Referrer Module) (specifier : List ℕ) (want : Wanted) → IsShort specifier
       → (found : Result Module Refusal) → OfKind config (led config before referrer specifier want found)
@@ -248,24 +260,24 @@ module _ (sights : Sights) (config : Config) where
   result_kind : {X : Type 0} (asking : Asking Question Answer (Result X TraceFault)) (before : Trail)
       (refusal : TraceFault) → OfKind config (outcome (always sights) asking)
       → (end : Ended (Result X TraceFault) Trail LimitName)
-      → evaluated (answers sights) before asking ≡ end → result_of end ≡ Err refusal → IsOfTrace config refusal
+      → evaluated (answers sights) before asking ≡ end → result_of end ≡ Err refusal → IsOfStep config refusal
   result_kind asking before refusal kind (ends result trail) is e =
       let outcome_is =
       ends_outcome (answers sights) (always sights) (answers_always sights) before trail asking result is in
       subst (OfKind config) (sym outcome_is ∙ e) kind
   result_kind asking before refusal kind (stopped limit trail) is e =
       let same : Limit limit ≡ refusal = cc in
-      subst (IsOfTrace config) same (answers_stopped asking before trail limit is)
+      subst (IsOfStep config) same (answers_stopped asking before trail limit is)
 
   comes_kind : {X : Type 0} (asking : Asking Question Answer (Result X TraceFault)) (before : Trail)
       (refusal : TraceFault) → OfKind config (outcome (always sights) asking)
-      → ComesTo sights before asking (Err refusal) → IsOfTrace config refusal
+      → ComesTo sights before asking (Err refusal) → IsOfStep config refusal
   comes_kind asking before refusal kind comes =
       result_kind asking before refusal kind (evaluated (answers sights) before asking) refl comes
 
   refused_at_kind : (before : Gathered) (trail : Trail) (referrer : Referrer Module) (refusal : TraceFault)
       (asked : List Question) → RefusedAt sights config before trail referrer refusal asked
-      → IsOfTrace config refusal
+      → IsOfStep config refusal
   refused_at_kind before trail referrer refusal _ (at_opening refuses) =
       comes_kind (opens config before referrer) trail refusal (opens_kind before referrer) refuses
   refused_at_kind before trail referrer refusal _ (at_request front specifier is) =
@@ -273,7 +285,20 @@ module _ (sights : Sights) (config : Config) where
       (followed_kind is.tables referrer specifier (checked config is.tables referrer specifier)
       (checked_kind is.tables referrer specifier)) is.refused
 
+kind_of : (sights : Sights) (config : Config) (refusal : TraceFault) → traced sights config ≡ Err refusal
+    → IsOfStep config refusal → IsOfTrace config refusal
+kind_of sights config (Unservable path url) e is = is
+kind_of sights config (Refused referrer specifier cause) e is = is
+kind_of sights config (Clash referrer first first_to second second_to) e is =
+    let clash = clashes_are_of_requests sights config referrer first first_to second second_to e in
+    (subst (λ s. length s ≤ limit_number Specifier) (sym clash.shown_first) clash.one.short, clash.two.short)
+kind_of sights config (NotModule path reason) e is = tt
+kind_of sights config (Limit which) e is = is
+kind_of sights config ReadFault e is = is
+kind_of sights config Memory e is = is
+
 pub refuses_by_kind : RefusesByKind
 refuses_by_kind sights config refusal e =
     let at = refused_in_order sights config refusal e in
-    refused_at_kind sights config at.before at.trail at.referrer refusal at.asked_last at.refused
+    kind_of sights config refusal e
+    (refused_at_kind sights config at.before at.trail at.referrer refusal at.asked_last at.refused)

@@ -1,5 +1,7 @@
 -- What can be refused whatever the tree holds.
---     IsOfTrace config fault      a trace of this config can end so
+--     IsTraceLimit limit               a trace can pass this limit
+--     IsUnservable config path url     what isn't served at its web name, as shown, with that name
+--     IsOfTrace config fault           a trace of this config can end so
 use Rattle.std.specs.Prelude.{◌≡◌, ◌≤◌, ⊤, ℕ, List, length, Option, None}
 use Rattle.tree_spec.specs.declared.LimitName.{LimitName}
 use Rattle.tree_spec.specs.declared.LimitName.TheVariants as limit
@@ -37,7 +39,8 @@ pub record IsUnservable (config : Config) (path : List ℕ) (url : Option (List 
 abbrev pub IsOfTrace : Config → TraceFault → Type 0
 IsOfTrace config (Refused referrer specifier why) = length specifier ≤ limit_number limit.Specifier
 IsOfTrace config (Unservable path url) = IsUnservable config path url
-IsOfTrace config (Clash referrer first first_to second second_to) = length second ≤ limit_number limit.Specifier
+IsOfTrace config (Clash referrer first first_to second second_to) =
+    (length first ≤ limit_number limit.Specifier) × (length second ≤ limit_number limit.Specifier)
 IsOfTrace config (NotModule path reason) = ⊤
 IsOfTrace config (Limit which) = IsTraceLimit which
 IsOfTrace config ReadFault = ⊥

@@ -1,5 +1,7 @@
 //! The refusals of a walk, with what is shown of them.
 ghost use Rattle.std.specs.Prelude.{◌≡◌, ◌++◌, IfOk};
+ghost use Rattle.trace_spec.specs.Modules.{Config};
+ghost use Rattle.trace_walk.specs.Kinds.{IsOfWalk};
 ghost use Rattle.trace_walk.specs.Refusing.{no_source_fault};
 
 use crate::module::Module;
@@ -79,9 +81,10 @@ pub fn clash(
     first: &Spelling,
     second: &Spelling,
 ) -> Result<TraceFault, Memory>
-    ensures { IfOk result (λ fault. fault ≡ TraceFault.Clash referrer.now.shown
+    ensures clash { IfOk result (λ fault. fault ≡ TraceFault.Clash referrer.now.shown
         first.now.specifier (first.now.target.path ++ first.now.target.suffix)
         second.now.specifier (second.now.target.path ++ second.now.target.suffix)) }
+    ensures kind { IfOk result (λ fault. (config : Config) → IsOfWalk config fault) }
 {
     Ok(TraceFault::Clash {
         referrer: referrer.shown.copy(alloc)?,

@@ -1,10 +1,13 @@
-ghost use Rattle.std.specs.Prelude.{◌≡◌};
+ghost use Rattle.std.specs.Prelude.{◌≡◌, ◌≤◌, length};
+ghost use Rattle.tree_spec.specs.declared.LimitName.TheVariants as limit;
+ghost use Rattle.tree_spec.specs.Limits.{limit_number};
 
 use crate::module::Module;
 use primitives::Text;
 use std::marker::Model;
 
-/// How a need is first spelled: who asks, as shown to a user, the specifier, and the module that it leads to.
+/// How a need is first spelled: who asks, as shown to a user, the specifier, which isn't too long, and the module that
+/// it leads to.
 #[derive(Drop)]
 pub struct Spelling {
     referrer: Text,
@@ -13,15 +16,21 @@ pub struct Spelling {
 }
 
 impl Model for Spelling {
+    ghost use Rattle.std.specs.Prelude.{◌≤◌, length};
+    ghost use Rattle.tree_spec.specs.declared.LimitName.TheVariants as limit;
+    ghost use Rattle.tree_spec.specs.Limits.{limit_number};
     ghost use Rattle.trace_spec.specs.Checks as spec;
 
     ghost Value = { spec.Spelling };
 
     ghost view = { λ s. record { referrer = s.referrer; specifier = s.specifier; target = s.target } };
+
+    ghost invariant = { λ s. length s.specifier ≤ limit_number limit.Specifier };
 }
 
 impl Spelling {
     pub(crate) fn new(referrer: Text, specifier: Text, target: Module) -> Spelling
+        requires short { length specifier ≤ limit_number limit.Specifier }
         ensures referrer { result.referrer ≡ referrer }
         ensures specifier { result.specifier ≡ specifier }
         ensures target { result.target ≡ target }
@@ -40,7 +49,8 @@ impl Spelling {
     }
 
     pub fn specifier(&self) -> &Text
-        ensures { result.now ≡ self.now.specifier }
+        ensures specifier { result.now ≡ self.now.specifier }
+        ensures short { length result.now ≤ limit_number limit.Specifier }
     {
         &self.specifier
     }

@@ -186,6 +186,7 @@ fn spelling_of(
     specifier: &Text,
     target: &Module,
 ) -> Result<Spelling, Memory>
+    requires short { length specifier.now ≤ limit_number Specifier }
     ensures { IfOk result (λ spelling. spelling
         ≡ record { referrer = referrer.now.shown; specifier = specifier.now; target = target.now }) }
 {
@@ -272,6 +273,7 @@ fn put_need(
     ensures added { OnOk result (IsAdded needs.old spellings.old.items need spelling needs.new spellings.new.items) }
     ensures clash { IfErr result (λ fault. fault ≢ TraceFault.Memory
         → IsClash referrer.now needs.old need spellings.old.items spelling fault) }
+    ensures kind { IfErr result (λ fault. (config : spec.Config) → IsOfWalk config fault) }
 {
     match needs.add(need) {
         Ok(Added::New) => {
