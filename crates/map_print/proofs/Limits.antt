@@ -1,7 +1,5 @@
 -- What is counted is the length of the map's text.
-use Rattle.std.proofs.Common.{◌≡◌, ℕ, ◌<◌, ◌≤◌, List, [], ◌∷◌, length, sym, ap, ◌∙◌, subst, arith}
-use Rattle.std.specs.Prelude.{◌↔◌, Bool, true, false, IsTrue}
-use Rattle.std.proofs.lemmas.Bool.{true≢false}
+use Rattle.std.proofs.Common.{◌≡◌, ℕ, ◌<◌, ◌≤◌, List, [], ◌∷◌, length, sym, ap, ◌∙◌, subst}
 use Rattle.tree_spec.specs.Limits.{limit_number}
 use Rattle.tree_spec.specs.declared.LimitName.TheVariants.{Map}
 use Rattle.json_spec.specs.PrintedValue.{printed}
@@ -17,11 +15,8 @@ use Rattle.map_print.specs.Sizes.{map_size}
 text_length : (layout : Layout) (integrity : List (List ℕ × List ℕ)) (m : ParsedMap) → Lists layout integrity m → length (map_text m) ≡ map_size layout integrity
 text_length layout integrity m l = ap length (sym (lists_text layout integrity m l)) ∙ map_length layout integrity
 
-pub above_limit : (layout : Layout) (integrity : List (List ℕ × List ℕ)) (m : ParsedMap) → (map_size layout integrity ≤ limit_number Map → ⊥) → Lists layout integrity m → limit_number Map < length (map_text m)
-above_limit layout integrity m above l = let size = text_length layout integrity m l in subst (λ n. limit_number Map < n) (sym size) (omega arith)
-
-pub not_within : (test : Bool) {P : Type 0} → (IsTrue test ↔ P) → test ≡ false → P → ⊥
-not_within test told fails p = true≢false (sym (told.1 p) ∙ fails)
+pub above_limit : (layout : Layout) (integrity : List (List ℕ × List ℕ)) (m : ParsedMap) → limit_number Map < map_size layout integrity → Lists layout integrity m → limit_number Map < length (map_text m)
+above_limit layout integrity m above l = subst (λ n. limit_number Map < n) (sym (text_length layout integrity m l)) above
 
 pub printed_within : (layout : Layout) (integrity : List (List ℕ × List ℕ)) (bytes : List ℕ) → map_size layout integrity ≤ limit_number Map → bytes ≡ printed 0 (layout_value layout integrity) (10 ∷ []) → length bytes ≤ limit_number Map
 printed_within layout integrity bytes within is = subst (λ n. n ≤ limit_number Map) (sym (ap length is ∙ map_length layout integrity)) within

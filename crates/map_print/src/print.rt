@@ -1,4 +1,4 @@
-ghost use Rattle.std.specs.Prelude.{◌≡◌, ◌<◌, ◌≤◌, ◌∷◌, ◌++◌, length, Err, IfOk, OnOk, MatchOption, codes};
+ghost use Rattle.std.specs.Prelude.{◌≡◌, ◌<◌, ◌≤◌, ◌∷◌, ◌++◌, [], length, Err, IfOk, OnOk, MatchOption, codes};
 ghost use Rattle.tree_spec.specs.Limits.{limit_number};
 ghost use Rattle.tree_spec.specs.declared.LimitName.TheVariants.{Map};
 ghost use Rattle.map_print.specs.Sizes as sizes;
@@ -50,9 +50,24 @@ pub fn print_map(
     ensures too_large { result ≡ Err PrintFault.MapTooLarge
         → (m : ParsedMap) → Lists layout.now integrity.now m → limit_number Map < length (map_text m) }
 {
-    let Some(size) = size_within_limit(layout, integrity) else {
-        return Err(PrintFault::MapTooLarge);
-    };
+    match size_within_limit(layout, integrity) {
+        None => Err(PrintFault::MapTooLarge),
+        Some(size) => {
+            let bytes = sized_text(alloc, size, layout, integrity)?;
+            Ok(bytes)
+        }
+    }
+}
+
+// The text, for which room for so many bytes is made at once.
+fn sized_text(
+    alloc: Global,
+    size: usize,
+    layout: &Layout,
+    integrity: &Mappings,
+) -> Result<Vec<u8>, Memory>
+    ensures { IfOk result (λ bytes. bytes.items ≡ printed 0 (layout_value layout.now integrity.now) (10 ∷ [])) }
+{
     let mut out = Vec::with_capacity(alloc, size)?;
     push_map(&mut out, layout, integrity)?;
     Ok(out)
