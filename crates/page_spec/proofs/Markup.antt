@@ -24,7 +24,8 @@ cut_by : (state : State) (b : ℕ) (bytes rest : List ℕ) (c : Bool) → is_las
 cut_by state b bytes rest true l e go = record { text = b ∷ []; whole = last l; cut = ap (λ r. b ∷ r) (same_Some _ _ e) }
 cut_by state b bytes rest false l e go = let w = go e in record { text = b ∷ w.text; whole = more l w.whole; cut = ap (λ r. b ∷ r) w.cut }
 
-pub markup_cut : (state : State) (bytes rest : List ℕ) → behind_markup state bytes ≡ Some rest → MarkupCut state bytes rest
+pub markup_cut : (state : State) (bytes rest : List ℕ) → behind_markup state bytes ≡ Some rest
+    → MarkupCut state bytes rest
 markup_cut state [] rest e = absurd (cc)
 markup_cut state (b ∷ bytes) rest e = cut_by state b bytes rest (is_last state b) refl e (λ f. markup_cut (next_state state b) bytes rest f)
 

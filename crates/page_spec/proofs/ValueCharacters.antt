@@ -95,7 +95,8 @@ behind_cut tail (b ∷ rest) t u = by_equals (b == 61) refl where
   by_equals true e = let l = eqb-true b 61 e in value_cut (skip_whitespace rest) (skipped_utf8 rest (behind_ascii b rest (omega (arith, l)) u))
   by_equals false e = empty_cut tail t
 
-attribute_cut : (front : List ℕ) (b : ℕ) (rest : List ℕ) → IsUtf8 (front ++ b ∷ rest) → ValueCut (attribute_at b rest).value
+attribute_cut : (front : List ℕ) (b : ℕ) (rest : List ℕ) → IsUtf8 (front ++ b ∷ rest)
+    → ValueCut (attribute_at b rest).value
 attribute_cut front b rest u =
     let tail = behind ends_attribute_name rest in
     let name = b ∷ before ends_attribute_name rest in
