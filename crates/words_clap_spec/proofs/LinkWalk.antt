@@ -3,8 +3,8 @@ use Rattle.clap.proofs.OnLiterals.{clap_on_literals}
 use Rattle.clap.specs.Takes.{level_passes, turn_passes}
 use Rattle.clap.specs.Walk.{Held, Walk, finished, nothing_held, rows_after, settled, walked}
 use Rattle.clap.specs.Words.{Row, Text}
-use Rattle.std.specs.List.{All, fold}
-use Rattle.std.proofs.Common.{◌≡◌, ◌≢◌, ◌&&◌, ℕ, List, [], ◌∷◌, ◌++◌, codes, find, true, false, option_map, refl, ap, ap₂, ◌∙◌}
+use Rattle.std.specs.List.{All}
+use Rattle.std.proofs.Common.{◌≡◌, ◌≢◌, ◌&&◌, ℕ, List, [], ◌∷◌, ◌++◌, codes, find, true, false, option_map, refl, ap₂, ◌∙◌}
 use Rattle.std.proofs.lemmas.List.Elements.{All-head}
 use Rattle.words_spec.specs.declared.LinkOption.{LinkOption}
 use Rattle.words_spec.specs.declared.LinkOption.TheVariants.{Base, Page, Conditions}
