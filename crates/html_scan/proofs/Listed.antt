@@ -10,6 +10,7 @@ use Rattle.page_spec.specs.Pieces.Pieces.{none}
 use Rattle.page_spec.specs.ImportMaps.{is_broken}
 use Rattle.page_spec.specs.Places.{span, spans, broken_at, Reaches}
 use Rattle.page_spec.proofs.Existence.{size, smaller, some_pieces_within}
+use Rattle.page_spec.proofs.Putting.{longer}
 use Rattle.page_spec.proofs.Reading.{nothing_read, read_further, one_more_page}
 use Rattle.html_scan.specs.Steps.{Stepped}
 use Rattle.html_scan.specs.Listing.{Lists, Breaks}
@@ -62,9 +63,10 @@ fault_found page view pieces found after left l s k =
 
 spans-append : (n : ℕ) (xs : List Part) (p : Part) → spans n (xs ++ p ∷ []) ≡ spans n xs ++ span (n + length (page_of xs)) p ∷ []
 spans-append n [] p = ap (λ m. span m p ∷ []) (omega arith)
-spans-append n (x ∷ xs) p = ap (λ r. span n x ∷ r) (spans-append (n + length x.text) xs p ∙ ap (λ m. spans (n + length x.text) xs ++ span m p ∷ []) (longer n x.text (page_of xs))) where
-  longer : (n : ℕ) (a b : List ℕ) → (n + length a) + length b ≡ n + length (a ++ b)
-  longer n a b = let l = length-append a b in omega (arith, l)
+spans-append n (x ∷ xs) p =
+    let further = spans-append (n + length x.text) xs p in
+    let seam = longer n x.text (page_of xs) in
+    ap (λ r. span n x ∷ r) (further ∙ ap (λ m. spans (n + length x.text) xs ++ span m p ∷ []) seam)
 
 found_span : (page : List ℕ) (view : List ℕ × (Option RawElement × List ℕ)) (pieces : List Piece) (found : Piece) (after : Option RawElement) (left : List ℕ) → (l : Listing page view pieces) → (s : Stepped view.0 view.1.0 view.1.1 found after left) → found ≡ span (0 + length (page_of l.before)) (part found.kind s.text)
 found_span page view pieces found after left l s =

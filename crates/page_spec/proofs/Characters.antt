@@ -29,8 +29,8 @@ at_end xs u = record { first = subst IsUtf8 (append-nil xs) u; second = IsUtf8-n
 before_markup : (xs ys : List ℕ) → IsUtf8 (xs ++ 60 ∷ ys) → Both xs (60 ∷ ys)
 before_markup xs ys u = at_seam xs (60 ∷ ys) u (IsCharBoundary-before_ascii (xs ++ 60 ∷ ys) (length xs) (let l = length-append xs (60 ∷ ys) in omega (arith, l)) (let e = get_or-append_seam xs 60 ys 0 in omega (arith, e)))
 
-behind_markup : (xs ys : List ℕ) → IsUtf8 ((xs ++ 62 ∷ []) ++ ys) → Both (xs ++ 62 ∷ []) ys
-behind_markup xs ys u =
+behind_tag_utf8 : (xs ys : List ℕ) → IsUtf8 ((xs ++ 62 ∷ []) ++ ys) → Both (xs ++ 62 ∷ []) ys
+behind_tag_utf8 xs ys u =
     let same : (xs ++ 62 ∷ []) ++ ys ≡ xs ++ 62 ∷ ys = append_assoc xs (62 ∷ []) ys in
     let b : IsCharBoundary (xs ++ 62 ∷ ys) (length xs + 1) = IsCharBoundary-after_ascii (xs ++ 62 ∷ ys) (length xs) (subst IsUtf8 same u) (let l = length-append xs (62 ∷ ys) in omega (arith, l)) (let e = get_or-append_seam xs 62 ys 0 in omega (arith, e)) in
     at_seam (xs ++ 62 ∷ []) ys u (subst (λ bytes. IsCharBoundary bytes (length (xs ++ 62 ∷ []))) (sym same) (subst (λ n. IsCharBoundary (xs ++ 62 ∷ ys) n) (sym (length-append xs (62 ∷ []))) b))
@@ -52,7 +52,7 @@ at_markup : (bytes t rest text : List ℕ) → bytes ≡ 60 ∷ (t ++ rest) → 
 at_markup bytes t rest text e w v d =
     let l = ends_so TagOpen t w in
     let same : text ≡ 60 ∷ (l.front ++ 62 ∷ []) = append_cancel_right text (60 ∷ t) rest (sym d ∙ e) ∙ ap (λ t. 60 ∷ t) l.is in
-    subst (λ x. IsUtf8 (x ++ rest) → Both x rest) (sym same) (behind_markup (60 ∷ l.front) rest) (subst IsUtf8 d v)
+    subst (λ x. IsUtf8 (x ++ rest) → Both x rest) (sym same) (behind_tag_utf8 (60 ∷ l.front) rest) (subst IsUtf8 d v)
 
 cut_at : (within : Option RawElement) (bytes : List ℕ) (f : Front) → Shape within bytes f → IsUtf8 bytes → (text : List ℕ) → bytes ≡ text ++ f.rest → Both text f.rest
 cut_at within bytes f (raw_text {element} u e r c) v text d = before_end_tag element text f.rest c (subst IsUtf8 d v)

@@ -14,7 +14,7 @@ use Rattle.page_spec.specs.Faults.{holds_ampersand, is_unclear, begins_with, com
 pub record Fine (seen : Bool) (p : Part) (parts : List Part) : Type 0 where
   pub clear : is_unclear p parts ≡ false
   pub single : (seen && begins_map p parts) ≡ false
-  pub plain : is_script p ≡ true → (raw : List ℕ) → raw_behind parts ≡ Some raw → comment_at 0 raw ≡ None
+  pub uncommented : is_script p ≡ true → (raw : List ℕ) → raw_behind parts ≡ Some raw → comment_at 0 raw ≡ None
 
 pub data Clean : Bool → List Part → Type 0 where
   no_more : {seen : Bool} → Clean seen []
@@ -22,16 +22,16 @@ pub data Clean : Bool → List Part → Type 0 where
 
 -- ---- from a page without a fault, and back
 
-record Parted (u c t : Bool) (o : Option InjectFault) : Type 0 where
+record Unfaulted (u c t : Bool) (o : Option InjectFault) : Type 0 where
   first : u ≡ false
   second : c ≡ false
   third : t ≡ true → o ≡ None
 
-parted : (u c t : Bool) (o : Option InjectFault) (f g : InjectFault) → (if u then Some f else if c then Some g else if t then o else None) ≡ None → Parted u c t o
-parted true c t o f g e = absurd (cc)
-parted false true t o f g e = absurd (cc)
-parted false false true o f g e = record { first = refl; second = refl; third = λ t. e }
-parted false false false o f g e = record { first = refl; second = refl; third = λ t. absurd (cc) }
+unfaulted : (u c t : Bool) (o : Option InjectFault) (f g : InjectFault) → (if u then Some f else if c then Some g else if t then o else None) ≡ None → Unfaulted u c t o
+unfaulted true c t o f g e = absurd (cc)
+unfaulted false true t o f g e = absurd (cc)
+unfaulted false false true o f g e = record { first = refl; second = refl; third = λ t. e }
+unfaulted false false false o f g e = record { first = refl; second = refl; third = λ t. absurd (cc) }
 
 comment_moved : (m n : ℕ) (bytes : List ℕ) → comment_at m bytes ≡ None → comment_at n bytes ≡ None
 comment_moved m n [] e = refl
@@ -40,17 +40,17 @@ comment_moved m n (b ∷ rest) e = by_test (begins_with (codes "<!--") (b ∷ re
   by_test true e go = absurd (cc)
   by_test false e go = go e
 
-raw_plain : (n : ℕ) (o : Option (List ℕ)) → raw_fault n o ≡ None → (raw : List ℕ) → o ≡ Some raw → comment_at 0 raw ≡ None
-raw_plain n None e raw f = absurd (cc)
-raw_plain n (Some r) e raw f = subst (λ r. comment_at 0 r ≡ None) (same_Some _ _ f) (comment_moved n 0 r (unmapped (comment_at n r) e)) where
+raw_uncommented : (n : ℕ) (o : Option (List ℕ)) → raw_fault n o ≡ None → (raw : List ℕ) → o ≡ Some raw → comment_at 0 raw ≡ None
+raw_uncommented n None e raw f = absurd (cc)
+raw_uncommented n (Some r) e raw f = subst (λ r. comment_at 0 r ≡ None) (same_Some _ _ f) (comment_moved n 0 r (unmapped (comment_at n r) e)) where
   unmapped : (o : Option ℕ) → option_map PageUnclear o ≡ None → o ≡ None
   unmapped None e = refl
   unmapped (Some k) e = absurd (cc)
 
 fine_from : (n : ℕ) (seen : Bool) (p : Part) (parts : List Part) → fault_at n seen p parts ≡ None → Fine seen p parts
 fine_from n seen p parts e =
-    let w = parted (is_unclear p parts) (seen && begins_map p parts) (is_script p) (raw_fault (n + length p.text) (raw_behind parts)) (PageUnclear n) (TwoMaps n) e in
-    record { clear = w.first; single = w.second; plain = λ s. raw_plain (n + length p.text) (raw_behind parts) (w.third s) }
+    let w = unfaulted (is_unclear p parts) (seen && begins_map p parts) (is_script p) (raw_fault (n + length p.text) (raw_behind parts)) (PageUnclear n) (TwoMaps n) e in
+    record { clear = w.first; single = w.second; uncommented = λ s. raw_uncommented (n + length p.text) (raw_behind parts) (w.third s) }
 
 record Neither (a b : Option InjectFault) : Type 0 where
   first : a ≡ None
@@ -72,7 +72,7 @@ no_raw_fault n None go = refl
 no_raw_fault n (Some raw) go = ap (λ o. option_map PageUnclear o) (comment_moved 0 n raw (go raw refl))
 
 no_fault : (n : ℕ) (seen : Bool) (p : Part) (parts : List Part) → Fine seen p parts → fault_at n seen p parts ≡ None
-no_fault n seen p parts f = joined (is_unclear p parts) (seen && begins_map p parts) (is_script p) (raw_fault (n + length p.text) (raw_behind parts)) (PageUnclear n) (TwoMaps n) f.clear f.single (λ s. no_raw_fault (n + length p.text) (raw_behind parts) (f.plain s)) where
+no_fault n seen p parts f = joined (is_unclear p parts) (seen && begins_map p parts) (is_script p) (raw_fault (n + length p.text) (raw_behind parts)) (PageUnclear n) (TwoMaps n) f.clear f.single (λ s. no_raw_fault (n + length p.text) (raw_behind parts) (f.uncommented s)) where
   joined : (u c t : Bool) (o : Option InjectFault) (f g : InjectFault) → u ≡ false → c ≡ false → (t ≡ true → o ≡ None) → (if u then Some f else if c then Some g else if t then o else None) ≡ None
   joined true c t o f g e d go = absurd (cc)
   joined false true t o f g e d go = absurd (cc)
@@ -93,12 +93,12 @@ whole_piece seen p parts f = first_of (is_broken p.kind) (is_start_of (codes "ba
 
 -- the parts behind it may be others that begin an import map element as well, and hide no comment in a script
 pub fine_moved : (seen : Bool) (p : Part) (parts others : List Part) → begins_map p parts ≡ begins_map p others → ((raw : List ℕ) → is_script p ≡ true → raw_behind others ≡ Some raw → comment_at 0 raw ≡ None) → Fine seen p parts → Fine seen p others
-fine_moved seen p parts others e plain f = record {
+fine_moved seen p parts others e uncommented f = record {
   clear = subst (λ c. (is_broken p.kind || is_start_of (codes "base") p || is_script p && holds_ampersand (attribute_text (codes "type") p.text) || c && is_some (attribute_text (codes "src") p.text)) ≡ false) e f.clear;
   single = subst (λ c. (seen && c) ≡ false) e f.single;
-  plain = λ s raw r. plain raw s r;
+  uncommented = λ s raw r. uncommented raw s r;
 }
 
 -- an import map element that came before makes no fault of a piece that begins none
 pub fine_seen : (seen more : Bool) (p : Part) (parts : List Part) → begins_map p parts ≡ false → Fine seen p parts → Fine more p parts
-fine_seen seen more p parts n f = record { clear = f.clear; single = ap (λ c. more && c) n ∙ and-false more; plain = f.plain }
+fine_seen seen more p parts n f = record { clear = f.clear; single = ap (λ c. more && c) n ∙ and-false more; uncommented = f.uncommented }

@@ -31,7 +31,7 @@ raw_begins_none text parts = ap is_some (no_start (part Raw text) parts (raw_is_
 raw_fine : (seen : Bool) (text : List ℕ) (parts : List Part) → Fine seen (part Raw text) parts
 raw_fine seen text parts =
     let n = raw_begins_none text parts in
-    record { clear = ap (λ c. c && is_some (attribute_text (codes "src") text)) n; single = ap (λ c. seen && c) n ∙ and-false seen; plain = λ s. absurd (cc) }
+    record { clear = ap (λ c. c && is_some (attribute_text (codes "src") text)) n; single = ap (λ c. seen && c) n ∙ and-false seen; uncommented = λ s. absurd (cc) }
 
 raw_part_behind : (q : Part) (parts : List Part) → is_raw q.kind ≡ true → raw_behind (q ∷ parts) ≡ Some q.text
 raw_part_behind q parts k = rw k refl
@@ -39,14 +39,14 @@ raw_part_behind q parts k = rw k refl
 pub replaced_clean : (text : List ℕ) (seen : Bool) (parts others : List Part) → All (λ b. (b == 60) ≡ false) text → Clean seen parts → Replaced text parts others → Clean seen others
 replaced_clean text seen parts others a no_more r = elim r [ ]
 replaced_clean text seen parts others a (fine {p} f (fine {p = q} {parts = left} g l)) (here m k) =
-    let alike : begins_map p (q ∷ left) ≡ begins_map p (part Raw text ∷ left) = begins_alike p (q ∷ left) (part Raw text ∷ left) (ap is_some (raw_part_behind q left k)) in
+    let begins_same : begins_map p (q ∷ left) ≡ begins_map p (part Raw text ∷ left) = begins_alike p (q ∷ left) (part Raw text ∷ left) (ap is_some (raw_part_behind q left k)) in
     let old : begins_map q left ≡ false = ap is_some (no_start q left (raw_is_no_start q k)) in
-    let same : ((seen || begins_map p (q ∷ left)) || begins_map q left) ≡ ((seen || begins_map p (part Raw text ∷ left)) || begins_map (part Raw text) left) = ap (λ c. (seen || c) || begins_map q left) alike ∙ ap (λ c. (seen || begins_map p (part Raw text ∷ left)) || c) (old ∙ sym (raw_begins_none text left)) in
-    fine (fine_moved seen p (q ∷ left) (part Raw text ∷ left) alike (λ raw s e. subst (λ r. comment_at 0 r ≡ None) (same_Some _ _ e) (no_comment 0 text a)) f) (fine (raw_fine (seen || begins_map p (part Raw text ∷ left)) text left) (subst (λ s. Clean s left) same l))
+    let same : ((seen || begins_map p (q ∷ left)) || begins_map q left) ≡ ((seen || begins_map p (part Raw text ∷ left)) || begins_map (part Raw text) left) = ap (λ c. (seen || c) || begins_map q left) begins_same ∙ ap (λ c. (seen || begins_map p (part Raw text ∷ left)) || c) (old ∙ sym (raw_begins_none text left)) in
+    fine (fine_moved seen p (q ∷ left) (part Raw text ∷ left) begins_same (λ raw s e. subst (λ r. comment_at 0 r ≡ None) (same_Some _ _ e) (no_comment 0 text a)) f) (fine (raw_fine (seen || begins_map p (part Raw text ∷ left)) text left) (subst (λ s. Clean s left) same l))
 replaced_clean text seen parts others a (fine {p} {parts = left} f l) (later {others = right} n r) =
     let e = replaced_raw text left right r in
-    let alike = ap is_some (map_of_alike p left right e) in
-    fine (fine_moved seen p left right alike (λ raw s x. f.plain s raw (e ∙ x)) f) (replaced_clean text (seen || begins_map p right) left right a (subst (λ c. Clean (seen || c) left) alike l) r)
+    let begins_same = ap is_some (map_of_alike p left right e) in
+    fine (fine_moved seen p left right begins_same (λ raw s x. f.uncommented s raw (e ∙ x)) f) (replaced_clean text (seen || begins_map p right) left right a (subst (λ c. Clean (seen || c) left) begins_same l) r)
 
 -- ---- a new element
 
@@ -68,26 +68,26 @@ text_begins_none text parts = refl
 
 start_fine : (text : List ℕ) (parts : List Part) → All (λ b. (b == 60) ≡ false) text → Fine false (part Start start_tag) (part Raw text ∷ parts)
 unfolding is_map_start attribute
-start_fine text parts a = record { clear = refl; single = refl; plain = λ s raw e. subst (λ r. comment_at 0 r ≡ None) (same_Some _ _ e) (no_comment 0 text a) }
+start_fine text parts a = record { clear = refl; single = refl; uncommented = λ s raw e. subst (λ r. comment_at 0 r ≡ None) (same_Some _ _ e) (no_comment 0 text a) }
 
 end_fine : (seen : Bool) (parts : List Part) → Fine seen (part End end_tag) parts
 unfolding is_map_start
-end_fine true parts = record { clear = refl; single = refl; plain = λ s. absurd (cc) }
-end_fine false parts = record { clear = refl; single = refl; plain = λ s. absurd (cc) }
+end_fine true parts = record { clear = refl; single = refl; uncommented = λ s. absurd (cc) }
+end_fine false parts = record { clear = refl; single = refl; uncommented = λ s. absurd (cc) }
 
 text_fine : (seen : Bool) (text : List ℕ) (parts : List Part) → Fine seen (part Text text) parts
 unfolding is_map_start
-text_fine true text parts = record { clear = refl; single = refl; plain = λ s. absurd (cc) }
-text_fine false text parts = record { clear = refl; single = refl; plain = λ s. absurd (cc) }
+text_fine true text parts = record { clear = refl; single = refl; uncommented = λ s. absurd (cc) }
+text_fine false text parts = record { clear = refl; single = refl; uncommented = λ s. absurd (cc) }
 
 pub inserted_clean : (text : List ℕ) (parts others : List Part) → All (λ b. (b == 60) ≡ false) text → NoMaps parts → Clean false parts → Inserted text parts others → Clean false others
 inserted_clean text parts others a n c (before {p} {parts = left} i) =
     fine (start_fine text _ a) (fine (raw_fine _ text _) (fine (end_fine _ _) (fine (text_fine _ (10 ∷ []) _) (seen_clean false _ (p ∷ left) n c))))
 inserted_clean text parts others a (another {p} e n) (fine {parts = left} f l) (behind {others = right} i r) =
     let raw = inserted_raw text left right r in
-    let alike = ap is_some (map_of_alike p left right raw) in
-    let none : begins_map p right ≡ false = sym alike ∙ ap is_some e in
-    fine (fine_moved false p left right alike (λ raw_text s x. f.plain s raw_text (raw ∙ x)) f) (subst (λ c. Clean c right) (sym none) (inserted_clean text left right a n (subst (λ c. Clean c left) (ap is_some e) l) r))
+    let begins_same = ap is_some (map_of_alike p left right raw) in
+    let none : begins_map p right ≡ false = sym begins_same ∙ ap is_some e in
+    fine (fine_moved false p left right begins_same (λ raw_text s x. f.uncommented s raw_text (raw ∙ x)) f) (subst (λ c. Clean c right) (sym none) (inserted_clean text left right a n (subst (λ c. Clean c left) (ap is_some e) l) r))
 
 -- ---- the one import map element
 

@@ -21,11 +21,11 @@ opening_joined (a ∷ c ∷ u) r s (markup_comes m n) = refl
 pub ends_text_joined : (b : ℕ) (u r s : List ℕ) → Joins r s → ends_text (b ∷ (u ++ r)) ≡ ends_text (b ∷ (u ++ s))
 ends_text_joined b u r s j = ap (λ o. b == 60 && is_some o) (opening_joined u r s j)
 
-longer : (b : ℕ) (u r : List ℕ) → b ∷ (u ++ r) ≡ r → ⊥
-longer b u r e = absurd (let p : b ∷ u ≡ [] = append_cancel_right (b ∷ u) [] r e in cc)
+longer_differs : (b : ℕ) (u r : List ℕ) → b ∷ (u ++ r) ≡ r → ⊥
+longer_differs b u r e = absurd (let p : b ∷ u ≡ [] = append_cancel_right (b ∷ u) [] r e in cc)
 
 text_by : (c : Bool) (b : ℕ) (u r s : List ℕ) → (if c then b ∷ (u ++ r) else behind_text (u ++ r)) ≡ r → (behind_text (u ++ r) ≡ r → behind_text (u ++ s) ≡ s) → (if c then b ∷ (u ++ s) else behind_text (u ++ s)) ≡ s
-text_by true b u r s e go = absurd (longer b u r e)
+text_by true b u r s e go = absurd (longer_differs b u r e)
 text_by false b u r s e go = go e
 
 text_stays : (r s : List ℕ) → Joins r s → behind_text s ≡ s
@@ -49,7 +49,7 @@ closes_joined element b [] x y = refl
 closes_joined element b (c ∷ v) x y = ap (λ n. b == 60 && c == 47 && is_name (name_of element) n) (name_joined v x y)
 
 raw_by : (element : RawElement) (c : Bool) (b : ℕ) (u r s : List ℕ) → (if c then Some (b ∷ (u ++ r)) else behind_raw element (u ++ r)) ≡ Some r → (behind_raw element (u ++ r) ≡ Some r → behind_raw element (u ++ s) ≡ Some s) → (if c then Some (b ∷ (u ++ s)) else behind_raw element (u ++ s)) ≡ Some s
-raw_by element true b u r s e go = absurd (longer b u r (same_Some _ _ e))
+raw_by element true b u r s e go = absurd (longer_differs b u r (same_Some _ _ e))
 raw_by element false b u r s e go = go e
 
 pub raw_moved : (element : RawElement) (u r s : List ℕ) → RawJoins element r s → behind_raw element (u ++ r) ≡ Some r → behind_raw element (u ++ s) ≡ Some s

@@ -15,16 +15,17 @@ pub data Whole : State → List ℕ → Type 0 where
   last : {state : State} {b : ℕ} → is_last state b ≡ true → Whole state (b ∷ [])
   more : {state : State} {b : ℕ} {text : List ℕ} → is_last state b ≡ false → Whole (next_state state b) text → Whole state (b ∷ text)
 
-pub record Cut (state : State) (bytes rest : List ℕ) : Type 0 where
+pub record MarkupCut (state : State) (bytes rest : List ℕ) : Type 0 where
   pub text : List ℕ
   pub whole : Whole state text
   pub cut : bytes ≡ text ++ rest
 
-cut_by : (state : State) (b : ℕ) (bytes rest : List ℕ) (c : Bool) → is_last state b ≡ c → (if c then Some bytes else behind_markup (next_state state b) bytes) ≡ Some rest → (behind_markup (next_state state b) bytes ≡ Some rest → Cut (next_state state b) bytes rest) → Cut state (b ∷ bytes) rest
+cut_by : (state : State) (b : ℕ) (bytes rest : List ℕ) (c : Bool) → is_last state b ≡ c → (if c then Some bytes else behind_markup (next_state state b) bytes) ≡ Some rest → (behind_markup (next_state state b) bytes ≡ Some rest → MarkupCut (next_state state b) bytes rest) → MarkupCut state (b ∷ bytes) rest
 cut_by state b bytes rest true l e go = record { text = b ∷ []; whole = last l; cut = ap (λ r. b ∷ r) (same_Some _ _ e) }
 cut_by state b bytes rest false l e go = let w = go e in record { text = b ∷ w.text; whole = more l w.whole; cut = ap (λ r. b ∷ r) w.cut }
 
-pub markup_cut : (state : State) (bytes rest : List ℕ) → behind_markup state bytes ≡ Some rest → Cut state bytes rest
+pub markup_cut : (state : State) (bytes rest : List ℕ) → behind_markup state bytes ≡ Some rest
+    → MarkupCut state bytes rest
 markup_cut state [] rest e = absurd (cc)
 markup_cut state (b ∷ bytes) rest e = cut_by state b bytes rest (is_last state b) refl e (λ f. markup_cut (next_state state b) bytes rest f)
 

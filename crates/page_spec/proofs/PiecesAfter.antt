@@ -32,14 +32,14 @@ use Rattle.page_spec.proofs.Putting.Inserted.{before, behind}
 
 pub record Moved (within : Option RawElement) (bytes : List ℕ) (others : List Part) : Type 0 where
   pub pieces : Pieces within (page_of others) others
-  pub alike : within ≡ None → Alike bytes (page_of others)
+  pub page_alike : within ≡ None → Alike bytes (page_of others)
 
 -- ---- a piece before the map
 
 stays_piece : (within next : Option RawElement) (bytes rest text : List ℕ) (p : Part) (parts : List Part) → p.text ≡ text → Stays within bytes text (front p.kind next rest) (page_of parts) → Pieces next (page_of parts) parts → Moved within bytes (p ∷ parts)
 stays_piece within next bytes rest text p parts e s x =
     let t = subst (λ t. Stays within bytes t (front p.kind next rest) (page_of parts)) (sym e) s in
-    record { pieces = piece {rest = page_of parts} refl t.again x; alike = t.alike }
+    record { pieces = piece {rest = page_of parts} refl t.again x; page_alike = t.alike }
 
 moved_behind : (within next : Option RawElement) (bytes rest : List ℕ) (p : Part) (parts : List Part) → bytes ≡ p.text ++ rest → first_piece within bytes ≡ Some (front p.kind next rest) → is_broken p.kind ≡ false → Pieces next (page_of parts) parts → (next ≡ None → Alike rest (page_of parts)) → Moved within bytes (p ∷ parts)
 moved_behind within next bytes rest p parts c e b x a =
@@ -97,7 +97,7 @@ replaced_moved text within bytes seen parts others a (piece {next} {rest} {p} c 
     moved_behind within next bytes rest p (part Raw text ∷ left) c e (whole_piece seen p _ f) (map_pieces next text (front q.kind last_next last_rest) left a r x) (λ n. absurd (some_is_not_none r.is n))
 replaced_moved text within bytes seen parts others a (piece {next} {rest} {p} {parts = left} c e x) (fine f l) (later {others = right} n r) =
     let tail = replaced_moved text next rest _ left right a x l r in
-    moved_behind within next bytes rest p right c e (whole_piece seen p left f) tail.pieces tail.alike
+    moved_behind within next bytes rest p right c e (whole_piece seen p left f) tail.pieces tail.page_alike
 
 -- ---- the place of a new element
 
@@ -187,7 +187,7 @@ inserted_moved text within bytes seen parts others a (piece {next} {rest} {p} {p
     let z : Pieces None (page_of (p ∷ left)) (p ∷ left) = subst (λ w. Pieces w (page_of (p ∷ left)) (p ∷ left)) site.outside (subst (λ b. Pieces within b (p ∷ left)) whole (piece {rest = rest} c e x)) in
     let s : ends_text (page_of (p ∷ left)) ≡ true = ap ends_text (sym whole ∙ site.is) ∙ site.stopped in
     let y = element_pieces text (p ∷ left) a s z in
-    record { pieces = subst (λ w. Pieces w (page_of (map_element text ++ p ∷ left)) (map_element text ++ p ∷ left)) (sym site.outside) y; alike = λ n. alike_place bytes _ within site refl }
+    record { pieces = subst (λ w. Pieces w (page_of (map_element text ++ p ∷ left)) (map_element text ++ p ∷ left)) (sym site.outside) y; page_alike = λ n. alike_place bytes _ within site refl }
 inserted_moved text within bytes seen parts others a (piece {next} {rest} {p} {parts = left} c e x) (fine f l) (behind {others = right} i r) =
     let tail = inserted_moved text next rest _ left right a x l r in
-    moved_behind within next bytes rest p right c e (whole_piece seen p left f) tail.pieces tail.alike
+    moved_behind within next bytes rest p right c e (whole_piece seen p left f) tail.pieces tail.page_alike

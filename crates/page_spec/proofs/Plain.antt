@@ -17,12 +17,12 @@ is_plain (b ∷ text) = is_plain_byte b && is_plain text
 one_byte : (b : ℕ) → b < 128 → IsUtf8 (b ∷ [])
 one_byte b l = subst IsUtf8 (encode_ascii b l) (IsUtf8-encode b (search (rules, arith, l)))
 
-pub plain : (text : List ℕ) → is_plain text ≡ true → IsPlainMap text
-plain [] e = record { utf8 = IsUtf8-nil; no_markup = All-nil (λ b. (b == 60) ≡ false) }
-plain (b ∷ text) e =
+pub plain_map : (text : List ℕ) → is_plain text ≡ true → IsPlainMap text
+plain_map [] e = record { utf8 = IsUtf8-nil; no_markup = All-nil (λ b. (b == 60) ≡ false) }
+plain_map (b ∷ text) e =
     let p = and_parts (is_plain_byte b) (is_plain text) e in
     let q = and_parts (nat_lt b 128) (not (b == 60)) p.0 in
-    let rest = plain text p.1 in
+    let rest = plain_map text p.1 in
     record { utf8 = IsUtf8-append (b ∷ []) text (one_byte b (below b q.0)) rest.utf8; no_markup = All-cons (λ b. (b == 60) ≡ false) b text (other b q.1) rest.no_markup } where
       below : (b : ℕ) → nat_lt b 128 ≡ true → b < 128
       below b e = grind (arith, nat_tests)

@@ -68,7 +68,8 @@ pub record Site (text : List ℕ) (n : ℕ) (parts others : List Part) : Type 0 
   pub was : page_of parts ≡ front ++ (old ++ back)
   pub now : page_of others ≡ front ++ (text ++ back)
 
-longer : (n : ℕ) (xs ys : List ℕ) → (n + length xs) + length ys ≡ n + length (xs ++ ys)
+-- an offset behind two texts, one after the other, and behind both as one
+pub longer : (n : ℕ) (xs ys : List ℕ) → (n + length xs) + length ys ≡ n + length (xs ++ ys)
 longer n xs ys = let l = length-append xs ys in omega (arith, l)
 
 pub replaced_site : (text : List ℕ) (n : ℕ) (parts others : List Part) → Replaced text parts others → Site text n parts others

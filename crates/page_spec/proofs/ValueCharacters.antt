@@ -43,9 +43,9 @@ before_ascii xs ys b l u = at_seam xs (b ∷ ys) u (IsCharBoundary-before_ascii 
 behind_ascii : (b : ℕ) (ys : List ℕ) → b < 128 → IsUtf8 (b ∷ ys) → IsUtf8 ys
 behind_ascii b ys l u = (at_seam (b ∷ []) ys u (IsCharBoundary-after_ascii (b ∷ ys) 0 u (omega arith) l)).second
 
-ends_so : (is_end : ℕ → Bool) → IsAscii is_end → (xs bytes : List ℕ) → IsUtf8 (xs ++ behind is_end bytes) → Both xs (behind is_end bytes)
-ends_so is_end a xs [] u = at_end xs u
-ends_so is_end a xs (b ∷ rest) u = by_test (is_end b) refl (ends_so is_end a xs rest) u where
+cut_utf8 : (is_end : ℕ → Bool) → IsAscii is_end → (xs bytes : List ℕ) → IsUtf8 (xs ++ behind is_end bytes) → Both xs (behind is_end bytes)
+cut_utf8 is_end a xs [] u = at_end xs u
+cut_utf8 is_end a xs (b ∷ rest) u = by_test (is_end b) refl (cut_utf8 is_end a xs rest) u where
   by_test : (c : Bool) → is_end b ≡ c → (IsUtf8 (xs ++ behind is_end rest) → Both xs (behind is_end rest)) → IsUtf8 (xs ++ (if c then b ∷ rest else behind is_end rest)) → Both xs (if c then b ∷ rest else behind is_end rest)
   by_test true e go u = before_ascii xs rest b (a b e) u
   by_test false e go u = go u
@@ -53,19 +53,19 @@ ends_so is_end a xs (b ∷ rest) u = by_test (is_end b) refl (ends_so is_end a x
 -- ---- the parts of an attribute
 
 -- the value's text, and what is behind it in the tail
-record Cut (v : Value) : Type 0 where
+record ValueCut (v : Value) : Type 0 where
   back : List ℕ
   begins : v.tail ≡ v.text ++ back
   text : IsUtf8 v.text
   behind : IsUtf8 back
   tail : IsUtf8 v.tail
 
-ended_cut : (is_end : ℕ → Bool) → IsAscii is_end → (bytes : List ℕ) → IsUtf8 bytes → Cut (value (before is_end bytes) bytes)
+ended_cut : (is_end : ℕ → Bool) → IsAscii is_end → (bytes : List ℕ) → IsUtf8 bytes → ValueCut (value (before is_end bytes) bytes)
 ended_cut is_end a bytes u =
-    let b = ends_so is_end a (before is_end bytes) bytes (subst IsUtf8 (parted is_end bytes) u) in
+    let b = cut_utf8 is_end a (before is_end bytes) bytes (subst IsUtf8 (parted is_end bytes) u) in
     record { back = behind is_end bytes; begins = parted is_end bytes; text = b.first; behind = b.second; tail = u }
 
-empty_cut : (bytes : List ℕ) → IsUtf8 bytes → Cut (value [] bytes)
+empty_cut : (bytes : List ℕ) → IsUtf8 bytes → ValueCut (value [] bytes)
 empty_cut bytes u = record { back = bytes; begins = refl; text = IsUtf8-nil; behind = u; tail = u }
 
 skipped_utf8 : (bytes : List ℕ) → IsUtf8 bytes → IsUtf8 (skip_whitespace bytes)
@@ -81,41 +81,42 @@ quote_ascii b e = grind (arith, nat_tests)
 same_ascii : (b : ℕ) → b < 128 → IsAscii (λ c. c == b)
 same_ascii b l c e = let p = eqb-true c b e in omega (arith, p, l)
 
-value_cut : (bytes : List ℕ) → IsUtf8 bytes → Cut (value_at bytes)
+value_cut : (bytes : List ℕ) → IsUtf8 bytes → ValueCut (value_at bytes)
 value_cut [] u = empty_cut [] u
 value_cut (b ∷ rest) u = by_quote (b == 34 || b == 39) refl where
-  by_quote : (c : Bool) → (b == 34 || b == 39) ≡ c → Cut (if c then value (before (λ c. c == b) rest) rest else value (before ends_unquoted (b ∷ rest)) (b ∷ rest))
+  by_quote : (c : Bool) → (b == 34 || b == 39) ≡ c → ValueCut (if c then value (before (λ c. c == b) rest) rest else value (before ends_unquoted (b ∷ rest)) (b ∷ rest))
   by_quote true e = let l = quote_ascii b e in ended_cut (λ c. c == b) (same_ascii b l) rest (behind_ascii b rest l u)
   by_quote false e = ended_cut ends_unquoted unquoted_ascii (b ∷ rest) u
 
-behind_cut : (tail bytes : List ℕ) → IsUtf8 tail → IsUtf8 bytes → Cut (value_behind tail bytes)
+behind_cut : (tail bytes : List ℕ) → IsUtf8 tail → IsUtf8 bytes → ValueCut (value_behind tail bytes)
 behind_cut tail [] t u = empty_cut tail t
 behind_cut tail (b ∷ rest) t u = by_equals (b == 61) refl where
-  by_equals : (c : Bool) → (b == 61) ≡ c → Cut (if c then value_at (skip_whitespace rest) else value [] tail)
+  by_equals : (c : Bool) → (b == 61) ≡ c → ValueCut (if c then value_at (skip_whitespace rest) else value [] tail)
   by_equals true e = let l = eqb-true b 61 e in value_cut (skip_whitespace rest) (skipped_utf8 rest (behind_ascii b rest (omega (arith, l)) u))
   by_equals false e = empty_cut tail t
 
-attribute_cut : (front : List ℕ) (b : ℕ) (rest : List ℕ) → IsUtf8 (front ++ b ∷ rest) → Cut (attribute_at b rest).value
+attribute_cut : (front : List ℕ) (b : ℕ) (rest : List ℕ) → IsUtf8 (front ++ b ∷ rest)
+    → ValueCut (attribute_at b rest).value
 attribute_cut front b rest u =
     let tail = behind ends_attribute_name rest in
     let name = b ∷ before ends_attribute_name rest in
     let same : front ++ b ∷ rest ≡ (front ++ name) ++ tail = ap (λ r. front ++ b ∷ r) (parted ends_attribute_name rest) ∙ sym (append_assoc front name tail) in
-    let t = (ends_so ends_attribute_name name_ascii (front ++ name) rest (subst IsUtf8 same u)).second in
+    let t = (cut_utf8 ends_attribute_name name_ascii (front ++ name) rest (subst IsUtf8 same u)).second in
     behind_cut tail (skip_whitespace tail) t (skipped_utf8 tail t)
 
-first_cut : (name : List ℕ) (front : List ℕ) (b : ℕ) (rest : List ℕ) (c : Bool) (v : Value) (more : List Attribute) → IsUtf8 (front ++ b ∷ rest) → (if c then Some (attribute_at b rest).value else first_named name more) ≡ Some v → (first_named name more ≡ Some v → Cut v) → Cut v
-first_cut name front b rest true v more u e go = subst Cut (same_Some _ _ e) (attribute_cut front b rest u)
-first_cut name front b rest false v more u e go = go e
+first_value_cut : (name : List ℕ) (front : List ℕ) (b : ℕ) (rest : List ℕ) (c : Bool) (v : Value) (more : List Attribute) → IsUtf8 (front ++ b ∷ rest) → (if c then Some (attribute_at b rest).value else first_named name more) ≡ Some v → (first_named name more ≡ Some v → ValueCut v) → ValueCut v
+first_value_cut name front b rest true v more u e go = subst ValueCut (same_Some _ _ e) (attribute_cut front b rest u)
+first_value_cut name front b rest false v more u e go = go e
 
-named_cut : (name : List ℕ) (state : State) (front bytes : List ℕ) (v : Value) → IsUtf8 (front ++ bytes) → first_named name (attributes state bytes) ≡ Some v → Cut v
+named_cut : (name : List ℕ) (state : State) (front bytes : List ℕ) (v : Value) → IsUtf8 (front ++ bytes) → first_named name (attributes state bytes) ≡ Some v → ValueCut v
 named_cut name state front [] v u e = absurd (cc)
 named_cut name state front (b ∷ rest) v u e = by_state (is_last state b) (begins_attribute state b) e (λ f. named_cut name (next_state state b) (front ++ b ∷ []) rest v (subst IsUtf8 (sym (append_assoc front (b ∷ []) rest)) u) f) where
-  by_state : (l c : Bool) → first_named name (if l then [] else if c then attribute_at b rest ∷ attributes (next_state state b) rest else attributes (next_state state b) rest) ≡ Some v → (first_named name (attributes (next_state state b) rest) ≡ Some v → Cut v) → Cut v
+  by_state : (l c : Bool) → first_named name (if l then [] else if c then attribute_at b rest ∷ attributes (next_state state b) rest else attributes (next_state state b) rest) ≡ Some v → (first_named name (attributes (next_state state b) rest) ≡ Some v → ValueCut v) → ValueCut v
   by_state true c e go = absurd (cc)
-  by_state false true e go = first_cut name front b rest (bytes_eq (lowered (attribute_at b rest).name) (lowered name)) v (attributes (next_state state b) rest) u e go
+  by_state false true e go = first_value_cut name front b rest (bytes_eq (lowered (attribute_at b rest).name) (lowered name)) v (attributes (next_state state b) rest) u e go
   by_state false false e go = go e
 
-value_of_tag : (name tag : List ℕ) (v : Value) → IsUtf8 tag → attribute name tag ≡ Some v → Cut v
+value_of_tag : (name tag : List ℕ) (v : Value) → IsUtf8 tag → attribute name tag ≡ Some v → ValueCut v
 unfolding attribute
 value_of_tag name [] v u e = absurd (cc)
 value_of_tag name (b ∷ rest) v u e = named_cut name TagOpen (b ∷ []) rest v u e
@@ -126,7 +127,7 @@ front_utf8 : (parts : List Part) (p : Part) (behind : List Part) → All (λ p. 
 front_utf8 [] p behind a = a
 front_utf8 (q ∷ parts) p behind a = front_utf8 parts p behind (All-tail (λ p. IsUtf8 p.text) q (parts ++ p ∷ behind) a)
 
-at_value : (page xs tag ys : List ℕ) (n : ℕ) (v : Value) → page ≡ xs ++ (tag ++ ys) → n ≡ length xs + length tag → IsUtf8 ys → StandsIn tag v → Cut v → AtBoundaries page (span_of n v).0 (span_of n v).1
+at_value : (page xs tag ys : List ℕ) (n : ℕ) (v : Value) → page ≡ xs ++ (tag ++ ys) → n ≡ length xs + length tag → IsUtf8 ys → StandsIn tag v → ValueCut v → AtBoundaries page (span_of n v).0 (span_of n v).1
 at_value page xs tag ys n v e l u s c =
     let first : page ≡ (xs ++ s.front) ++ (v.tail ++ ys) = e ∙ (ap (λ t. xs ++ (t ++ ys)) s.ends ∙ (ap (λ r. xs ++ r) (append_assoc s.front v.tail ys) ∙ sym (append_assoc xs s.front (v.tail ++ ys)))) in
     let second : page ≡ ((xs ++ s.front) ++ v.text) ++ (c.back ++ ys) = first ∙ (ap (λ t. (xs ++ s.front) ++ (t ++ ys)) c.begins ∙ (ap (λ r. (xs ++ s.front) ++ r) (append_assoc v.text c.back ys) ∙ sym (append_assoc (xs ++ s.front) v.text (c.back ++ ys)))) in

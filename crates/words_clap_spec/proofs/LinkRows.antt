@@ -9,7 +9,8 @@ use Rattle.words_spec.specs.declared.LinkOption.{LinkOption}
 use Rattle.words_spec.specs.declared.LinkOption.TheVariants.{Base, Page, Conditions}
 use Rattle.words_spec.specs.PlainWords.{LinkOptions, value_of, with_value}
 use Rattle.words_clap_spec.specs.Holding.{as_text, is_row, option_name, row}
-use Rattle.words_clap_spec.proofs.LinkTurns.{after_joined, after_value, put_value, rules, value_settled, value_settles}
+use Rattle.words_clap_spec.proofs.LinkTurns.{after_joined, after_value, link_rules, put_value}
+use Rattle.words_clap_spec.proofs.LinkTurns.{value_settled, value_settles}
 use Rattle.words_clap_spec.proofs.Rows.{at_row-none, find-append, option_or-none, has_row-none}
 
 -- the row of each option is that of its value
@@ -19,11 +20,11 @@ OptionRows options rows =
 
 -- what is held once these options have come
 pub record HoldsOptions (options : LinkOptions) (held : Held) : Type 0 where
-  pub rows : OptionRows options (settled rules held).rows
-  pub no_entries : find (is_row (codes "entries")) (settled rules held).rows ≡ None
-  pub passes : settle_passes rules false held ≡ true
+  pub rows : OptionRows options (settled link_rules held).rows
+  pub no_entries : find (is_row (codes "entries")) (settled link_rules held).rows ≡ None
+  pub settles : settle_passes link_rules false held ≡ true
 
-pub free_row : (options : LinkOptions) (held : Held) (o : LinkOption) → HoldsOptions options held → value_of o options ≡ None → find (is_row (option_name o)) (settled rules held).rows ≡ None
+pub free_row : (options : LinkOptions) (held : Held) (o : LinkOption) → HoldsOptions options held → value_of o options ≡ None → find (is_row (option_name o)) (settled link_rules held).rows ≡ None
 free_row options held o has free = has.rows o ∙ ap (option_map (λ value. row (option_name o) (value ∷ []))) free
 
 put_last : (o : LinkOption) (value : Text) (rows : List Row) → find (is_row (option_name o)) rows ≡ None → put_value o value rows ≡ rows ++ row (option_name o) (value ∷ []) ∷ []
@@ -67,22 +68,22 @@ options_beside options rows entries has Conditions = other_row (codes "condition
 pub entries_found : (rows : List Row) (entries : List Text) → find (is_row (codes "entries")) rows ≡ None → find (is_row (codes "entries")) (rows ++ row (codes "entries") entries ∷ []) ≡ Some (row (codes "entries") entries)
 entries_found rows entries none = own_row (codes "entries") rows _ (row (codes "entries") entries) refl none refl
 
-pub holds_value : (options : LinkOptions) (held : Held) (o : LinkOption) (value : Text) → HoldsOptions options held → value_of o options ≡ None → HoldsOptions (with_value o value options) (after_value o value (settled rules held))
+pub holds_value : (options : LinkOptions) (held : Held) (o : LinkOption) (value : Text) → HoldsOptions options held → value_of o options ≡ None → HoldsOptions (with_value o value options) (after_value o value (settled link_rules held))
 holds_value options held o value has free =
     let none = free_row options held o has free in
-    let is = value_settled o held value ∙ put_last o value (settled rules held).rows none in
+    let is = value_settled o held value ∙ put_last o value (settled link_rules held).rows none in
     record {
-      rows = one_more_row options (settled rules held).rows _ o value has.rows none is;
-      no_entries = no_entries_still (settled rules held).rows _ o value has.no_entries is;
-      passes = value_settles o held value (has_row-none (option_name o) (settled rules held).rows none);
+      rows = one_more_row options (settled link_rules held).rows _ o value has.rows none is;
+      no_entries = no_entries_still (settled link_rules held).rows _ o value has.no_entries is;
+      settles = value_settles o held value (has_row-none (option_name o) (settled link_rules held).rows none);
     }
 
 pub holds_joined : (options : LinkOptions) (held : Held) (o : LinkOption) (value : Text) → HoldsOptions options held → value_of o options ≡ None → HoldsOptions (with_value o value options) (after_joined o value held)
 holds_joined options held o value has free =
     let none = free_row options held o has free in
-    let is = put_last o value (settled rules held).rows none in
+    let is = put_last o value (settled link_rules held).rows none in
     record {
-      rows = one_more_row options (settled rules held).rows _ o value has.rows none is;
-      no_entries = no_entries_still (settled rules held).rows _ o value has.no_entries is;
-      passes = refl;
+      rows = one_more_row options (settled link_rules held).rows _ o value has.rows none is;
+      no_entries = no_entries_still (settled link_rules held).rows _ o value has.no_entries is;
+      settles = refl;
     }

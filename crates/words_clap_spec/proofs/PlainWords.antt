@@ -66,7 +66,7 @@ rows_below name rest is = ap (λ w. entered whole w.stopped) is
 -- ---- each command
 
 record Taken (words : List Text) (asked : Asked) : Type 0 where
-  pub passes : takes program words ≡ true
+  pub is_taken : takes program words ≡ true
   pub held : Holds asked (subcommand_of program words)
 
 holds_link : (asked : Asked) (options : LinkOptions) (entries : List Text) (rows : List Row) (found : Option (Text × List Row)) → asked ≡ linking options entries → found ≡ Some (codes "link", rows) → HoldsLink options entries rows → Holds asked found
@@ -77,7 +77,7 @@ unfolding clap_on_literals
 link_taken rest asked plain =
     let e = link_words_end plain in
     record {
-      passes = above_passes (codes "link") rest (link_stops rest) (stop_passes (codes "link") [] rest) (link_level rest asked e) refl;
+      is_taken = above_passes (codes "link") rest (link_stops rest) (stop_passes (codes "link") [] rest) (link_level rest asked e) refl;
       held = holds_link asked e.options e.entries e.rows _ e.is
           (rows_below (codes "link") rest (link_stops rest) ∙ ap (λ rows. Some (codes "link", rows)) (link_rows rest asked e)) e.holds;
     }
@@ -85,7 +85,7 @@ link_taken rest asked plain =
 unlink_taken : (word : Text) (words : List Text) → All IsValue (word ∷ words) → Taken (codes "unlink" ∷ word ∷ words) (unlinking (word ∷ words))
 unfolding clap_on_literals
 unlink_taken word words all = record {
-  passes = above_passes (codes "unlink") (word ∷ words) (unlink_stops (word ∷ words)) (stop_passes (codes "unlink") [] (word ∷ words)) (unlink_level word words all) refl;
+  is_taken = above_passes (codes "unlink") (word ∷ words) (unlink_stops (word ∷ words)) (stop_passes (codes "unlink") [] (word ∷ words)) (unlink_level word words all) refl;
   held = rows_below (codes "unlink") (word ∷ words) (unlink_stops (word ∷ words))
       ∙ ap (λ rows. Some (codes "unlink", rows)) (unlink_rows word words all);
 }
@@ -93,7 +93,7 @@ unlink_taken word words all = record {
 number_taken : (number : ℕ) (b : ℕ) (bs : List ℕ) → decimal number ≡ b ∷ bs → b ≢ 45 → Taken (codes "measure" ∷ (b ∷ bs) ∷ []) (measuring number)
 unfolding clap_on_literals
 number_taken number b bs is ne = record {
-  passes = above_passes (codes "measure") ((b ∷ bs) ∷ []) (measure_stops ((b ∷ bs) ∷ [])) (stop_passes (codes "measure") [] ((b ∷ bs) ∷ [])) (measure_level b bs ne) refl;
+  is_taken = above_passes (codes "measure") ((b ∷ bs) ∷ []) (measure_stops ((b ∷ bs) ∷ [])) (stop_passes (codes "measure") [] ((b ∷ bs) ∷ [])) (measure_level b bs ne) refl;
   held = rows_below (codes "measure") ((b ∷ bs) ∷ []) (measure_stops ((b ∷ bs) ∷ []))
       ∙ ap (λ rows. Some (codes "measure", rows)) (measure_rows b bs ne)
       ∙ ap (λ text. Some (codes "measure", row (codes "number") (text ∷ []) ∷ [])) (sym is);
@@ -110,16 +110,16 @@ taken : {words : List Text} {asked : Asked} → Asks words asked → Taken words
 unfolding clap_on_literals
 taken (link plain) = link_taken _ _ plain
 taken (unlink word words all) = unlink_taken word words all
-taken refresh = record { passes = refl; held = refl }
-taken check = record { passes = refl; held = refl }
-taken list = record { passes = refl; held = refl }
-taken inject = record { passes = refl; held = refl }
-taken session = record { passes = refl; held = refl }
+taken refresh = record { is_taken = refl; held = refl }
+taken check = record { is_taken = refl; held = refl }
+taken list = record { is_taken = refl; held = refl }
+taken inject = record { is_taken = refl; held = refl }
+taken session = record { is_taken = refl; held = refl }
 taken (measure number least most) =
     measure_taken number (decimal number) (digits_of 10 number) refl (decimal-digits_of number least (omega arith)) (decimal_nonempty number (omega arith))
 
 pub plain_words_pass : PlainWordsPass
-plain_words_pass words asked plain = (taken plain).passes
+plain_words_pass words asked plain = (taken plain).is_taken
 
 pub plain_words_are_held : PlainWordsAreHeld
 plain_words_are_held words asked plain = (taken plain).held

@@ -1,8 +1,10 @@
 -- Rows of matches, found by the argument's name and added.
-use Rattle.clap.specs.Walk.{at_row, has_row}
-use Rattle.clap.specs.Words.{Row, Text}
-use Rattle.std.proofs.Common.{◌≡◌, ◌||◌, List, [], ◌∷◌, ◌++◌, Option, Some, None, is_some, find, Bool, true, false, if◌then◌else◌, refl, ap}
+use Rattle.clap.specs.Walk.{at_row, default_rows, has_row, reading_by, with_default}
+use Rattle.clap.specs.Words.{Row, Rule, Text}
+use Rattle.std.proofs.Common.{◌≡◌, ◌||◌, List, [], ◌∷◌, ◌++◌, Option, Some, None, is_some, find, Bool, true, false, if◌then◌else◌, refl, ap, ◌∙◌}
+use Rattle.std.specs.List.{fold, list_all}
 use Rattle.std.specs.Option.{option_or}
+use Rattle.std.proofs.lemmas.Bool.{and_parts}
 use Rattle.words_clap_spec.specs.Holding.{is_row}
 
 pub option_or-none : {X : Type 0} (found : Option X) → option_or found None ≡ found
@@ -51,3 +53,27 @@ has_row-none id (r ∷ rows) none = by_test (is_row id r) (has_row-none id rows)
         → (if test then Some r else find (is_row id) rows) ≡ None → (test || has_row id rows) ≡ false
     by_test true below none = absurd (let bad : true ≡ false = ap is_some none in cc)
     by_test false below none = below none
+
+-- ---- defaults
+
+abbrev pub no_texts : List Text → Bool
+no_texts [] = true
+no_texts (text ∷ texts) = false
+
+abbrev pub has_no_default : Rule → Bool
+has_no_default a = no_texts a.defaults
+
+-- where no argument has a default, no row comes to those that are there
+pub no_defaults : (rules : List Rule) (rows : List Row) → list_all has_no_default rules ≡ true
+    → fold with_default rows rules ≡ rows
+no_defaults [] rows none = refl
+no_defaults (a ∷ rules) rows none =
+    let both = and_parts (has_no_default a) (list_all has_no_default rules) none in
+    ap (λ r. fold with_default r rules) (by_test (has_row a.id rows) a.defaults both.0)
+    ∙ no_defaults rules rows both.1
+  where
+    by_test : (test : Bool) (texts : List Text) → no_texts texts ≡ true
+        → (if test then rows else default_rows a.id (reading_by a) texts rows) ≡ rows
+    by_test true texts empty = refl
+    by_test false [] empty = refl
+    by_test false (text ∷ texts) empty = absurd (let bad : false ≡ true = empty in cc)
