@@ -6,4 +6,4 @@ pub mod Entries
 pub mod TwoConditions
 pub mod ConfigsFit
 pub mod FaultsOfWords
-pub mod Examples
+pub mod examples

@@ -2,10 +2,11 @@
 --     own_file command config      the path of the file that the command needs before its trace
 --     AsksOwn own old after      the folder was asked for these paths, or for nothing
 --     AsksFew config holds own old after      and then for further paths, for none of them twice, which in a told tree
---                              are of the generation's footprint
+--                              are of the generation's footprint, taken without the limits of looks: a generation
+--                              that a limit ends asks for no path behind it, which isn't said here
 --     IsConfigAt words command config state      a told tree gives the words this config; whatever is told, they can
 --                              have it
---     AsksInOrder words before old after      what the folder is asked for in the whole run
+--     AsksInOrder words before old after      what the folder is asked for in the whole run, at most
 use Rattle.std.specs.Prelude.{◌≡◌, ◌⊎◌, ◌++◌, [], ◌∷◌, ℕ, List, bytes_eq, All, Contains, Option, Some, IfSome}
 use Rattle.std.specs.FinMap.{get}
 use Rattle.std.specs.List.{IsDistinct}
@@ -45,8 +46,8 @@ pub record IsConfigAt (words : List (List ℕ)) (command : Command) (config : Co
   pub told : IfSome state.holds (λ tree. IsConfigOf words tree command config)
   pub can : IsConfigFor words command config
 
--- own: the folder is asked for nothing; or for the project's path, or nothing yet, and where there is a config, for
--- what its command and the generation need
+-- own: the folder is asked for the project's path, or for nothing; and where there is a config, behind that for what its
+-- command and the generation need
 pub data AsksInOrder (words : List (List ℕ)) (before : FolderState) (old : List (List ℕ))
     (after : FolderState) : Type 0 where
   own : AsksOwn (project_path ∷ []) old after → AsksInOrder words before old after

@@ -415,8 +415,8 @@ number_least number back is =
     fewer (length number) _ _ (omega (arith, ap length is.parts, length-append is.minus (is.int ++ is.tail), length-append is.int is.tail))
     (subst (λ bytes. AtLeast (length is.minus + (length is.int + length is.tail)) (number_at bytes)) (sym same) (number_parts is.minus is.int is.tail back is.is_minus is.is_int is.is_tail))
 
-same_piece : (out : Read (List ℕ)) (piece rest other left : List ℕ) → out ≡ taken piece rest → out ≡ taken other left → piece ≡ other
-same_piece out piece rest other left e f = let both : ◌≡◌ {A = Read (List ℕ)} (taken piece rest) (taken other left) = sym e ∙ f in cc
+one_piece : (out : Read (List ℕ)) (piece rest other left : List ℕ) → out ≡ taken piece rest → out ≡ taken other left → piece ≡ other
+one_piece out piece rest other left e f = let both : ◌≡◌ {A = Read (List ℕ)} (taken piece rest) (taken other left) = sym e ∙ f in cc
 
 pub longest_number : LongestNumber
 longest_number = record {
@@ -424,7 +424,7 @@ longest_number = record {
   longest = λ bytes number rest front back e split is.
       let least = number_least front back is in
       let took : number_at bytes ≡ taken least.piece least.rest = ap number_at split ∙ least.took in
-      let same = same_piece (number_at bytes) number rest least.piece least.rest e took in
+      let same = one_piece (number_at bytes) number rest least.piece least.rest e took in
       let long = least.long in
       omega (arith, ap length same);
   none = λ bytes front back e split is.

@@ -3,7 +3,7 @@ ghost use Rattle.std.specs.FinMap.{get};
 ghost use Rattle.url_spec.specs.Parsing.{IsUrl};
 ghost use Rattle.import_map_spec.specs.Parsing as definition;
 ghost use Rattle.import_map_spec.specs.Parsing.{normalized_addresses, with_address, fitting};
-ghost use Rattle.url_spec.specs.Specifiers.{as_url, ends_in_slash, normalized};
+ghost use Rattle.url_spec.specs.Specifiers.{as_url, normalized};
 ghost use Rattle.ordered_json.specs.Lists.{pairs_of};
 ghost use Rattle.ordered_json.specs.Shown.{json_of, members_of};
 
@@ -13,7 +13,7 @@ use ordered_json::{Members, Value};
 use primitives::{Memory, Text};
 use std::alloc::Global;
 use std::marker::Model;
-use web_url::{WebUrl, as_url, normalized};
+use web_url::{WebUrl, as_url, ends_in_slash, normalized};
 
 /// A module specifier map: keys with their addresses, some of which are null.
 #[derive(Drop)]
@@ -148,11 +148,4 @@ fn url_for(alloc: Global, base: &WebUrl, key: &str, text: &Text) -> Result<Optio
             }
         }
     }
-}
-
-#[tactic(auto, using(std::proofs::lemmas::Str::Pattern::ends_text))]
-fn ends_in_slash(text: &str) -> bool
-    ensures { result ≡ ends_in_slash text.now }
-{
-    text.ends_with("/")
 }

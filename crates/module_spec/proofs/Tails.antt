@@ -78,13 +78,13 @@ if_bounds : (c : Bool) {x y : Option (List ℕ)} → (c ≡ true → Bounds x) �
 if_bounds true a b = a refl
 if_bounds false a b = b
 
-if_part : (c : Bool) {x y : Option (Bool × List ℕ)} → (c ≡ true → PartBounds x) → PartBounds y → PartBounds (if c then x else y)
-if_part true a b = a refl
-if_part false a b = b
+if_part_bounds : (c : Bool) {x y : Option (Bool × List ℕ)} → (c ≡ true → PartBounds x) → PartBounds y → PartBounds (if c then x else y)
+if_part_bounds true a b = a refl
+if_part_bounds false a b = b
 
-if_piece : (c : Bool) {x y : Piece} → (c ≡ true → PieceBounds x) → PieceBounds y → PieceBounds (if c then x else y)
-if_piece true a b = a refl
-if_piece false a b = b
+if_piece_bounds : (c : Bool) {x y : Piece} → (c ≡ true → PieceBounds x) → PieceBounds y → PieceBounds (if c then x else y)
+if_piece_bounds true a b = a refl
+if_piece_bounds false a b = b
 
 if_tail : (c : Bool) {x y : List ℕ} → (c ≡ true → Tail 0 x) → (c ≡ false → Tail 0 y) → Tail 0 (if c then x else y)
 if_tail true a b = a refl
@@ -170,8 +170,8 @@ text_bounds quote n bytes l t = let more = passed_any (text_size quote) 0 n byte
 part_bounds : (n : ℕ) (bytes : List ℕ) → Tail n bytes → PartBounds (part_rest bytes)
 part_bounds n [] t = no_part
 part_bounds n (b ∷ rest) t =
-    if_part (b == 96) (λ e. a_part {closed = true} (past_low (byte_low b 96 (omega arith) e) t))
-    (if_part (begins_substitution (b ∷ rest)) (λ e. a_part {closed = false} (two_tail b 36 123 rest (omega arith) (omega arith) e t)) no_part)
+    if_part_bounds (b == 96) (λ e. a_part {closed = true} (past_low (byte_low b 96 (omega arith) e) t))
+    (if_part_bounds (begins_substitution (b ∷ rest)) (λ e. a_part {closed = false} (two_tail b 36 123 rest (omega arith) (omega arith) e t)) no_part)
 
 template_bounds : (n : ℕ) (bytes : List ℕ) → Tail n bytes → PartBounds (template_rest bytes)
 template_bounds n bytes t = let more = passed_any template_size 0 n bytes t in part_bounds more.left (passed template_size 0 bytes) more.rest
@@ -335,15 +335,15 @@ data MarkBounds (bytes : List ℕ) : Option (Mark × ℕ) → Type 0 where
   no_mark : MarkBounds bytes None
   a_mark : {mark : Mark} {n : ℕ} → Tail 0 (drop n bytes) → MarkBounds bytes (Some (mark, n))
 
-if_mark : (c : Bool) (bytes : List ℕ) {x y : Option (Mark × ℕ)} → (c ≡ true → MarkBounds bytes x) → MarkBounds bytes y → MarkBounds bytes (if c then x else y)
-if_mark true bytes a b = a refl
-if_mark false bytes a b = b
+if_mark_bounds : (c : Bool) (bytes : List ℕ) {x y : Option (Mark × ℕ)} → (c ≡ true → MarkBounds bytes x) → MarkBounds bytes y → MarkBounds bytes (if c then x else y)
+if_mark_bounds true bytes a b = a refl
+if_mark_bounds false bytes a b = b
 
 table_bounds : (table : List (List ℕ × Mark)) (bytes : List ℕ) → table_low table ≡ true → Tail 0 bytes → MarkBounds bytes (first_of table bytes)
 table_bounds [] bytes a t = no_mark
 table_bounds (row ∷ table) bytes a t =
     let lows = and_parts (all_low row.0) (table_low table) a in
-    if_mark (begins_with row.0 bytes) bytes (λ e. a_mark (begun_tail row.0 bytes lows.0 e t)) (table_bounds table bytes lows.1 t)
+    if_mark_bounds (begins_with row.0 bytes) bytes (λ e. a_mark (begun_tail row.0 bytes lows.0 e t)) (table_bounds table bytes lows.1 t)
 
 question_tail : (bytes : List ℕ) → begins_with (codes "?.") bytes ≡ true → Tail 0 bytes → Tail 0 (drop 1 bytes)
 question_tail [] e t = t
@@ -351,47 +351,47 @@ question_tail (b ∷ bytes) e t = past_low (let f = eqb-true 63 b (and_parts (63
 
 mark_bounds : (bytes : List ℕ) → Tail 0 bytes → MarkBounds bytes (punctuator bytes)
 mark_bounds bytes t =
-    if_mark (is_question_before_number bytes) bytes (λ e. a_mark (question_tail bytes (and_parts (begins_with (codes "?.") bytes) (begins_digit (drop 2 bytes)) e).0 t)) (table_bounds punctuators bytes refl t)
+    if_mark_bounds (is_question_before_number bytes) bytes (λ e. a_mark (question_tail bytes (and_parts (begins_with (codes "?.") bytes) (begins_digit (drop 2 bytes)) e).0 t)) (table_bounds punctuators bytes refl t)
 
 -- ---- tokens
 
-text_piece : {out : Option (List ℕ)} (sort : Sort) → Bounds out → PieceBounds (as_piece sort out)
-text_piece sort nothing = no_piece
-text_piece sort (something t) = a_piece t
+text_piece_bounds : {out : Option (List ℕ)} (sort : Sort) → Bounds out → PieceBounds (as_piece sort out)
+text_piece_bounds sort nothing = no_piece
+text_piece_bounds sort (something t) = a_piece t
 
-first_piece : {out : Option (Bool × List ℕ)} → PartBounds out → PieceBounds (first_part out)
-first_piece no_part = no_piece
-first_piece (a_part t) = a_piece t
+first_piece_bounds : {out : Option (Bool × List ℕ)} → PartBounds out → PieceBounds (first_part out)
+first_piece_bounds no_part = no_piece
+first_piece_bounds (a_part t) = a_piece t
 
-later_piece : {out : Option (Bool × List ℕ)} → PartBounds out → PieceBounds (later_part out)
-later_piece no_part = no_piece
-later_piece (a_part t) = a_piece t
+later_piece_bounds : {out : Option (Bool × List ℕ)} → PartBounds out → PieceBounds (later_part out)
+later_piece_bounds no_part = no_piece
+later_piece_bounds (a_part t) = a_piece t
 
-regex_flags : {out : Option (List ℕ)} → Bounds out → PieceBounds (regex_piece out)
-regex_flags nothing = no_piece
-regex_flags (something {rest} t) = a_piece (passed_tail (λ bytes. name_size bytes) name_tail 0 rest t)
+regex_flags_bounds : {out : Option (List ℕ)} → Bounds out → PieceBounds (regex_piece out)
+regex_flags_bounds nothing = no_piece
+regex_flags_bounds (something {rest} t) = a_piece (passed_tail (λ bytes. name_size bytes) name_tail 0 rest t)
 
-mark_piece : {found : Option (Mark × ℕ)} (bytes : List ℕ) → MarkBounds bytes found → PieceBounds (punctuator_piece bytes found)
-mark_piece bytes no_mark = no_piece
-mark_piece bytes (a_mark t) = a_piece t
+mark_piece_bounds : {found : Option (Mark × ℕ)} (bytes : List ℕ) → MarkBounds bytes found → PieceBounds (punctuator_piece bytes found)
+mark_piece_bounds bytes no_mark = no_piece
+mark_piece_bounds bytes (a_mark t) = a_piece t
 
 slash_piece_bounds : (regex : Bool) (rest : List ℕ) → Tail 0 rest → Tail 0 (47 ∷ rest) → PieceBounds (slash_piece regex rest)
-slash_piece_bounds regex [] t all = if_piece regex (λ e. no_piece) (mark_piece (47 ∷ []) (mark_bounds (47 ∷ []) all))
+slash_piece_bounds regex [] t all = if_piece_bounds regex (λ e. no_piece) (mark_piece_bounds (47 ∷ []) (mark_bounds (47 ∷ []) all))
 slash_piece_bounds regex (b ∷ rest) t all =
-    if_piece (b == 42) (λ e. no_piece) (if_piece regex (λ e. regex_flags (regex_bounds 0 false false (b ∷ rest) t)) (mark_piece (47 ∷ b ∷ rest) (mark_bounds (47 ∷ b ∷ rest) all)))
+    if_piece_bounds (b == 42) (λ e. no_piece) (if_piece_bounds regex (λ e. regex_flags_bounds (regex_bounds 0 false false (b ∷ rest) t)) (mark_piece_bounds (47 ∷ b ∷ rest) (mark_bounds (47 ∷ b ∷ rest) all)))
 
 private_bounds : (rest : List ℕ) → Tail 0 rest → PieceBounds (private_piece rest)
-private_bounds rest t = if_piece (begins_name rest) (λ e. a_piece (passed_tail (λ bytes. name_size bytes) name_tail 0 rest t)) no_piece
+private_bounds rest t = if_piece_bounds (begins_name rest) (λ e. a_piece (passed_tail (λ bytes. name_size bytes) name_tail 0 rest t)) no_piece
 
 pub piece_bounds : (regex part : Bool) (bytes : List ℕ) → Tail 0 bytes → PieceBounds (piece regex part bytes)
 unfolding piece
 piece_bounds regex part [] t = no_piece
 piece_bounds regex part (b ∷ rest) t =
-    if_piece (begins_number (b ∷ rest)) (λ e. let exponent = not (has_base_letter (b ∷ rest)) in a_piece (passed_tail (number_size exponent) (number_tail exponent) 0 (b ∷ rest) t))
-    (if_piece (begins_name (b ∷ rest)) (λ e. a_piece (passed_tail name_size name_tail 0 (b ∷ rest) t))
-    (if_piece (b == 35) (λ e. private_bounds rest (past_low (byte_low b 35 (omega arith) e) t))
-    (if_piece (b == 34 || b == 39) (λ e. let l = either_low b 34 39 (omega arith) (omega arith) e in text_piece Text (text_bounds b 0 rest l (past_low l t)))
-    (if_piece (b == 96) (λ e. first_piece (template_bounds 0 rest (past_low (byte_low b 96 (omega arith) e) t)))
-    (if_piece (b == 125 && part) (λ e. later_piece (template_bounds 0 rest (past_low (first_low b 125 part (omega arith) e) t)))
-    (if_piece (b == 47) (λ e. let f = eqb-true b 47 e in slash_piece_bounds regex rest (past_low (byte_low b 47 (omega arith) e) t) (subst (λ c. Tail 0 (c ∷ rest)) f t))
-    (mark_piece (b ∷ rest) (mark_bounds (b ∷ rest) t))))))))
+    if_piece_bounds (begins_number (b ∷ rest)) (λ e. let exponent = not (has_base_letter (b ∷ rest)) in a_piece (passed_tail (number_size exponent) (number_tail exponent) 0 (b ∷ rest) t))
+    (if_piece_bounds (begins_name (b ∷ rest)) (λ e. a_piece (passed_tail name_size name_tail 0 (b ∷ rest) t))
+    (if_piece_bounds (b == 35) (λ e. private_bounds rest (past_low (byte_low b 35 (omega arith) e) t))
+    (if_piece_bounds (b == 34 || b == 39) (λ e. let l = either_low b 34 39 (omega arith) (omega arith) e in text_piece_bounds Text (text_bounds b 0 rest l (past_low l t)))
+    (if_piece_bounds (b == 96) (λ e. first_piece_bounds (template_bounds 0 rest (past_low (byte_low b 96 (omega arith) e) t)))
+    (if_piece_bounds (b == 125 && part) (λ e. later_piece_bounds (template_bounds 0 rest (past_low (first_low b 125 part (omega arith) e) t)))
+    (if_piece_bounds (b == 47) (λ e. let f = eqb-true b 47 e in slash_piece_bounds regex rest (past_low (byte_low b 47 (omega arith) e) t) (subst (λ c. Tail 0 (c ∷ rest)) f t))
+    (mark_piece_bounds (b ∷ rest) (mark_bounds (b ∷ rest) t))))))))

@@ -116,13 +116,13 @@ one_more : {t : Lexeme} {a b : List Lexeme} {r s after : List ℕ} → IsNext a 
 one_more {t} {a} {b} {r} {s} {after} n o (inl e) = inr (on (subst (λ z. Onward z s a r) e.lexemes (subst (λ z. Onward a z a r) e.rests here)) n)
 one_more n o (inr f) = inl (stepped n f.given f.then_on)
 
-further : {t : Lexeme} {a b : List Lexeme} {r s after : List ℕ} → IsNext a r (Gives t after) → Onward a r b s ⊎ Onward b s a r → Onward (t ∷ a) after b s ⊎ Onward b s (t ∷ a) after
-further {t} {a} {b} {r} {s} n (inl o) = one_more n o (from_front a b r s o)
-further n (inr o) = inr (on o n)
+one_further : {t : Lexeme} {a b : List Lexeme} {r s after : List ℕ} → IsNext a r (Gives t after) → Onward a r b s ⊎ Onward b s a r → Onward (t ∷ a) after b s ⊎ Onward b s (t ∷ a) after
+one_further {t} {a} {b} {r} {s} n (inl o) = one_more n o (from_front a b r s o)
+one_further n (inr o) = inr (on o n)
 
 linear : (text : List ℕ) (a b : List Lexeme) (r s : List ℕ) → Reaches text a r → Reaches text b s → Onward a r b s ⊎ Onward b s a r
 linear text a b r s (begin e) y = inl (from_start text b r s e y)
-linear text a b r s (go {before} {rest} x n) y = further n (linear text before b rest s x y)
+linear text a b r s (go {before} {rest} x n) y = one_further n (linear text before b rest s x y)
 
 -- ---- a run that came to an end is the only one
 

@@ -34,27 +34,27 @@ json_of_bool b = search (rules, the_lemmas)
 pub json_of_number : (number : List ℕ) → json_of (value.Number number) ≡ a_number number
 json_of_number number = search (rules, the_lemmas)
 
-rolled : (v : Value) (layer : Value-F Kept Place Value Items Members) → out-Value v ≡ layer → v ≡ roll-Value layer
-rolled v layer e = let same : roll-Value (out-Value v) ≡ roll-Value layer = ap roll-Value e in search (rules, the_lemmas, same)
+rolled_back : (v : Value) (layer : Value-F Kept Place Value Items Members) → out-Value v ≡ layer → v ≡ roll-Value layer
+rolled_back v layer e = let same : roll-Value (out-Value v) ≡ roll-Value layer = ap roll-Value e in search (rules, the_lemmas, same)
 
 layer_from : (v : Value) (layer : Value-F Kept Place Value Items Members) → out-Value v ≡ layer → Layer v (json_of v)
 layer_from v Value-F.Null e =
-    let is : v ≡ value.Null = search (rules, the_lemmas, rolled v Value-F.Null e) in
+    let is : v ≡ value.Null = search (rules, the_lemmas, rolled_back v Value-F.Null e) in
     subst (Layer v) (sym (ap json_of is ∙ json_of_null)) (of_null is)
 layer_from v (Value-F.Bool b) e =
-    let is : v ≡ value.Bool b = search (rules, the_lemmas, rolled v (Value-F.Bool b) e) in
+    let is : v ≡ value.Bool b = search (rules, the_lemmas, rolled_back v (Value-F.Bool b) e) in
     subst (Layer v) (sym (ap json_of is ∙ json_of_bool b)) (of_bool b is)
 layer_from v (Value-F.Number number) e =
-    let is : v ≡ value.Number number = search (rules, the_lemmas, rolled v (Value-F.Number number) e) in
+    let is : v ≡ value.Number number = search (rules, the_lemmas, rolled_back v (Value-F.Number number) e) in
     subst (Layer v) (sym (ap json_of is ∙ json_of_number number)) (of_number number is)
 layer_from v (Value-F.Text text) e =
-    let is : v ≡ value.Text text = search (rules, the_lemmas, rolled v (Value-F.Text text) e) in
+    let is : v ≡ value.Text text = search (rules, the_lemmas, rolled_back v (Value-F.Text text) e) in
     subst (Layer v) (sym (ap json_of is ∙ json_of_text text)) (of_text text is)
 layer_from v (Value-F.List list) e =
-    let is : v ≡ value.List list = search (rules, the_lemmas, rolled v (Value-F.List list) e) in
+    let is : v ≡ value.List list = search (rules, the_lemmas, rolled_back v (Value-F.List list) e) in
     subst (Layer v) (sym (ap json_of is ∙ json_of_list list)) (of_list list (items_of (values_of list)) is refl)
 layer_from v (Value-F.Object object) e =
-    let is : v ≡ value.Object object = search (rules, the_lemmas, rolled v (Value-F.Object object) e) in
+    let is : v ≡ value.Object object = search (rules, the_lemmas, rolled_back v (Value-F.Object object) e) in
     subst (Layer v) (sym (ap json_of is ∙ json_of_object object)) (of_object object (members_of (pairs_of object)) is refl)
 
 layer_of : (v : Value) (j : Json) → json_of v ≡ j → Layer v j

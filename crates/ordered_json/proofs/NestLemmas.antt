@@ -86,8 +86,8 @@ nothing_added forest = record {
   deeper = omega arith;
 }
 
-value_added : {now next : Forest} {Is : Json → Type 0} {levels : List (List Json)} (p : PutsOn now next Is) → IsOpen now levels [] → IsOpen next levels (p.value ∷ [])
-value_added p o = record { lists = o.lists; items = o.items; shows = p.puts o.lists o.items (same_shows refl (append-nil o.items) o.shows); are = o.are }
+nest_value_added : {now next : Forest} {Is : Json → Type 0} {levels : List (List Json)} (p : PutsOn now next Is) → IsOpen now levels [] → IsOpen next levels (p.value ∷ [])
+nest_value_added p o = record { lists = o.lists; items = o.items; shows = p.puts o.lists o.items (same_shows refl (append-nil o.items) o.shows); are = o.are }
 
 list_added : {now next : Forest} {levels : List (List Json)} → OpensList now next → IsOpen now levels [] → IsOpen next (levels ++ [] ∷ []) []
 list_added {levels = levels} p o = record { lists = levels; items = []; shows = same_shows o.are refl (p.opens o.lists o.items (same_shows refl (append-nil o.items) o.shows)); are = refl }
@@ -187,7 +187,7 @@ module _ {depth : ℕ} {bytes rest : List ℕ} {before now : Forest} (a : Awaits
     item = p.on.value;
     within = a.within;
     here = rw (← l) p.on.is;
-    added = record { adds = λ lists items shown. value_added p.on (a.added.adds lists items shown); deeper = p.level ∙ a.added.deeper };
+    added = record { adds = λ lists items shown. nest_value_added p.on (a.added.adds lists items shown); deeper = p.level ∙ a.added.deeper };
     deep = a.deep;
     shorter = omega (arith, s, a.shorter);
   }

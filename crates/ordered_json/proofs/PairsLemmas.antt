@@ -84,12 +84,12 @@ pushed_same name value (pair ∷ pairs) e =
     let p = nowhere_cons (bytes_eq name pair.0) (place_of name pairs) e in
     cond-false (bytes_eq name pair.0) _ _ p.0 ∙ ap (option_map suc) (pushed_same name value pairs p.1)
 
-turned : (name other : List ℕ) → bytes_eq name other ≡ false → bytes_eq other name ≡ false
-turned name other e = false_from_ne_true _ (λ t. let same : bytes_eq name other ≡ true = (bytes_eq-Decides name other).1 (sym ((bytes_eq-Decides other name).0 t)) in absurd (cc))
+differs_back : (name other : List ℕ) → bytes_eq name other ≡ false → bytes_eq other name ≡ false
+differs_back name other e = false_from_ne_true _ (λ t. let same : bytes_eq name other ≡ true = (bytes_eq-Decides name other).1 (sym ((bytes_eq-Decides other name).0 t)) in absurd (cc))
 
 place_pushed : (name other : List ℕ) (value : Value) (pairs : List (List ℕ × Value)) → place_of name pairs ≡ None → (b : Bool) → bytes_eq name other ≡ b → place_of other (pairs ++ (name, value) ∷ []) ≡ cond b (Some (length pairs)) (place_of other pairs)
 place_pushed name other value pairs none true e = subst (λ (n : List ℕ). place_of n (pairs ++ (name, value) ∷ []) ≡ Some (length pairs)) ((bytes_eq-Decides name other).0 e) (pushed_same name value pairs none)
-place_pushed name other value pairs none false e = pushed_other other name value pairs (turned name other e)
+place_pushed name other value pairs none false e = pushed_other other name value pairs (differs_back name other e)
 
 pub nothing_indexed : (places : BTreeMap (List ℕ) ℕ) → places.entries ≡ [] → IsIndexed places []
 nothing_indexed places e name = rw e refl
@@ -107,12 +107,12 @@ indexed_pushed places after pairs now name key value place i none u k p e =
     let at_place : Updates (slice_cmp nat_cmp) places after name (Some (length pairs)) = subst (λ n. Updates (slice_cmp nat_cmp) places after name (Some n)) p at_name in
     subst (λ ps. IsIndexed after ps) (sym e) (indexed_push places after pairs name value i none at_place)
 
-put_behind : (name : List ℕ) (value : Value) (pairs : List (List ℕ × Value)) → IsNowhere name pairs → members_of (pairs ++ (name, value) ∷ []) ≡ put name (json_of value) (members_of pairs)
-put_behind name value [] n = refl
-put_behind name value (pair ∷ pairs) n = ap (a_member pair.0 (json_of pair.1)) (put_behind name value pairs n.1) ∙ sym (cond-false (bytes_eq name pair.0) _ _ n.0)
+pair_put_behind : (name : List ℕ) (value : Value) (pairs : List (List ℕ × Value)) → IsNowhere name pairs → members_of (pairs ++ (name, value) ∷ []) ≡ put name (json_of value) (members_of pairs)
+pair_put_behind name value [] n = refl
+pair_put_behind name value (pair ∷ pairs) n = ap (a_member pair.0 (json_of pair.1)) (pair_put_behind name value pairs n.1) ∙ sym (cond-false (bytes_eq name pair.0) _ _ n.0)
 
 pub put_pushed : (name : List ℕ) (value : Value) (pairs : List (List ℕ × Value)) → place_of name pairs ≡ None → members_of (pairs ++ (name, value) ∷ []) ≡ put name (json_of value) (members_of pairs)
-put_pushed name value pairs none = put_behind name value pairs (nowhere_from name pairs none)
+put_pushed name value pairs none = pair_put_behind name value pairs (nowhere_from name pairs none)
 
 -- ---- another value in its place
 

@@ -16,4 +16,4 @@ pub mod PiecesAfter
 pub mod CleanAfter
 pub mod Injections
 pub mod KeptOut
-pub mod Examples
+pub mod examples

@@ -25,9 +25,9 @@ pub all_strings : (texts : List (List ℕ)) → behind texts no_items ≡ string
 all_strings [] = refl
 all_strings (text ∷ texts) = ap (an_item (a_text text)) (all_strings texts)
 
-one_more : (texts : List (List ℕ)) (text : List ℕ) (items : Items) → behind (texts ++ text ∷ []) items ≡ behind texts (an_item (a_text text) items)
-one_more [] text items = refl
-one_more (first ∷ texts) text items = ap (an_item (a_text first)) (one_more texts text items)
+one_more_behind : (texts : List (List ℕ)) (text : List ℕ) (items : Items) → behind (texts ++ text ∷ []) items ≡ behind texts (an_item (a_text text) items)
+one_more_behind [] text items = refl
+one_more_behind (first ∷ texts) text items = ap (an_item (a_text first)) (one_more_behind texts text items)
 
 is_string : (texts : List (List ℕ)) (value : Json) (items : Items) (all : List (List ℕ)) → behind texts (an_item value items) ≡ strings all → (text : List ℕ) × (value ≡ a_text text)
 is_string [] value items [] e = absurd (cc)
@@ -42,7 +42,7 @@ taken_next values i texts next text copy here put same so_far =
     let split = ap items_of (drop_at values i here.value here.at) ∙ ap (λ j. an_item j (items_of (drop (i + 1) values))) here.is in
     so_far
     ∙ (ap (behind texts) split
-    ∙ (sym (one_more texts text (items_of (drop (i + 1) values)))
+    ∙ (sym (one_more_behind texts text (items_of (drop (i + 1) values)))
     ∙ ap (λ ts. behind ts (items_of (drop (i + 1) values))) (sym (put ∙ ap (λ t. texts ++ t ∷ []) same))))
 
 pub taken_all : (values : List Value) (i : ℕ) (texts : List (List ℕ)) → length values ≤ i → items_of values ≡ behind texts (items_of (drop i values)) → items_of values ≡ strings texts

@@ -31,9 +31,9 @@ here name key value found more key_is found_is = record {
   fewer = refl;
 }
 
--- a member that both have first
-both : (other key : List ℕ) (value : Json) (some more : Members) → member other some ≡ member other more → member other (a_member key value some) ≡ member other (a_member key value more)
-both other key value some more e =
+-- a member that both_members have first
+both_members : (other key : List ℕ) (value : Json) (some more : Members) → member other some ≡ member other more → member other (a_member key value some) ≡ member other (a_member key value more)
+both_members other key value some more e =
     ⊎_elim (λ yes. cond-true _ _ _ yes ∙ sym (cond-true _ _ _ yes)) (λ no. cond-false _ _ _ no ∙ (e ∙ sym (cond-false _ _ _ no)))
     (cases_Bool (bytes_eq other key))
 
@@ -47,7 +47,7 @@ later name key value found more w =
           IsPermutation-trans (first ∷ pairs_of more) (first ∷ taken ∷ pairs_of w.rest) (taken ∷ first ∷ pairs_of w.rest)
           (IsPermutation-cons first (pairs_of more) (taken ∷ pairs_of w.rest) w.moved)
           (IsPermutation-middle (first ∷ []) taken (pairs_of w.rest));
-      others = λ other differ. both other key found w.rest more (w.others other differ);
+      others = λ other differ. both_members other key found w.rest more (w.others other differ);
       fewer = ap suc w.fewer;
     }
 

@@ -22,16 +22,16 @@ or_held true b e = refl
 or_held false true e = sym (e refl)
 or_held false false e = refl
 
-seen_again : (path other : List ℕ) (paths : List (List ℕ)) → is_seen other paths ≡ true → bytes_eq other path ≡ true
+seen_by_same : (path other : List ℕ) (paths : List (List ℕ)) → is_seen other paths ≡ true → bytes_eq other path ≡ true
     → is_seen path paths ≡ true
-seen_again path other paths held same = ap (λ p. is_seen p paths) (sym ((bytes_eq-Decides other path).0 same)) ∙ held
+seen_by_same path other paths held same = ap (λ p. is_seen p paths) (sym ((bytes_eq-Decides other path).0 same)) ∙ held
 
 seen_with : (path other : List ℕ) (paths : List (List ℕ))
     → is_seen path (with_seen paths other) ≡ (is_seen path paths || bytes_eq other path)
 seen_with path other paths =
     cond_both (is_seen other paths) paths (paths ++ other ∷ [])
     (λ ps. is_seen path ps ≡ (is_seen path paths || bytes_eq other path))
-    (λ held. sym (or_held (is_seen path paths) (bytes_eq other path) (seen_again path other paths held)))
+    (λ held. sym (or_held (is_seen path paths) (bytes_eq other path) (seen_by_same path other paths held)))
     (λ new. list_any-append (λ seen. bytes_eq seen path) paths (other ∷ [])
     ∙ ap (λ b. is_seen path paths || b) (or-false (bytes_eq other path)))
 

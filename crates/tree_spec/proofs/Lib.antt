@@ -9,7 +9,7 @@ pub mod DecidedTrees
 pub mod Footprints
 pub mod LimitedLooks
 pub mod FolderLemmas
-pub mod LookExamples
+pub mod examples
 pub mod FootprintSets
 pub mod ToldStates
 pub mod Fronts

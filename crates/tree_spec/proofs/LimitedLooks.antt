@@ -14,21 +14,21 @@ use Rattle.tree_spec.specs.declared.Entry.{Entry}
 use Rattle.tree_spec.specs.declared.LimitName.{LimitName}
 use Rattle.tree_spec.specs.declared.LimitName.TheVariants.{Looks, File, Bytes}
 
-abbrev Ends : Type 0 → Type 0
-Ends X = Ended X Trail LimitName
+abbrev LookEnd : Type 0 → Type 0
+LookEnd X = Ended X Trail LimitName
 
 -- the same end with this value
-abbrev pub with_value : {X Y : Type 0} → X → Ends Y → Ends X
+abbrev pub with_value : {X Y : Type 0} → X → LookEnd Y → LookEnd X
 with_value value (ends other after) = ends value after
 with_value value (stopped name before) = stopped name before
 
-abbrev pub visited : LookLimits → Sights → Trail → List (List ℕ) → Ends (Unit {0})
+abbrev pub visited : LookLimits → Sights → Trail → List (List ℕ) → LookEnd (Unit {0})
 visited limits sights trail paths = evaluated (limited limits sights) trail (look_at_each paths)
 
 -- ---- what an asking comes to is its outcome, where its looks pass no limit
 
 value_by : {X : Type 0} (value : X) (found : Option Entry) (before : Trail) (c : Result Trail LimitName)
-    (first : Option Entry → Trail → Ends X) (rest : Option Entry → Trail → Ends (Unit {0}))
+    (first : Option Entry → Trail → LookEnd X) (rest : Option Entry → Trail → LookEnd (Unit {0}))
     → ((after : Trail) → first found after ≡ with_value value (rest found after))
     → then_ended (told found before c) first ≡ with_value value (then_ended (told found before c) rest)
 value_by value found before (Ok after) first rest same = same after
@@ -47,7 +47,7 @@ limited_is limits sights trail (ask path next) =
 -- ---- sights that agree on the looks
 
 told_same : {X : Type 0} (found : Option Entry) (before : Trail) (c : Result Trail LimitName)
-    (one other : Option Entry → Trail → Ends X) → ((after : Trail) → one found after ≡ other found after)
+    (one other : Option Entry → Trail → LookEnd X) → ((after : Trail) → one found after ≡ other found after)
     → then_ended (told found before c) one ≡ then_ended (told found before c) other
 told_same found before (Ok after) one other same = same after
 told_same found before (Err name) one other same = refl
@@ -59,7 +59,7 @@ same_limited limits one other trail (answered value) agrees = refl
 same_limited {X} limits one other trail (ask path next) agrees =
     let Same : List ℕ → Type 0 = λ p. one p ≡ other p in
     let paths : List (List ℕ) = looks one (next (one path)) in
-    let go : Sights → Option Entry → Trail → Ends X = λ sights found after. evaluated (limited limits sights) after (next found) in
+    let go : Sights → Option Entry → Trail → LookEnd X = λ sights found after. evaluated (limited limits sights) after (next found) in
     let first : one path ≡ other path = All-head Same path paths agrees.each in
     told_same (one path) trail (counted limits trail path (one path)) (go one) (go other)
     (λ after. same_limited limits one other after (next (one path)) (record { each = All-tail Same path paths agrees.each }))
@@ -111,7 +111,7 @@ module _ (limits : LookLimits) (sights : Sights) where
       (λ after. first_limit after more name before) e
 
   behind_by : (found : Option Entry) (trail : Trail) (c : Result Trail LimitName)
-      (first last both : Option Entry → Trail → Ends (Unit {0}))
+      (first last both : Option Entry → Trail → LookEnd (Unit {0}))
       → ((after : Trail) → both found after ≡ then_ended (first found after) (λ value later. last found later))
       → then_ended (told found trail c) both
       ≡ then_ended (then_ended (told found trail c) first) (λ value later. last found later)
@@ -136,7 +136,7 @@ module _ (limits : LookLimits) (sights : Sights) where
       ∙ ap (λ r. then_ended (told (sights first.path) before r) (λ found after. visited limits sights after first.back))
       first.limit))
 
-stopped_from : {X : Type 0} (value : X) (end : Ends (Unit {0})) (name : LimitName) (before : Trail)
+stopped_from : {X : Type 0} (value : X) (end : LookEnd (Unit {0})) (name : LimitName) (before : Trail)
     → with_value value end ≡ stopped name before → end ≡ stopped name before
 stopped_from value (ends other after) name before e = absurd (cc)
 stopped_from value (stopped other after) name before e =
@@ -229,7 +229,7 @@ visited_counts limits sights before (path ∷ more) after e =
     (λ middle. visited_counts limits sights middle more after) e
 
 ends_from : {X : Type 0} (sights : Sights) (before : Trail) (asking : LookAsking X) (value : X) (after : Trail)
-    (end : Ends (Unit {0})) → ((later : Trail) → end ≡ ends tt later → Counts sights before (looks sights asking) later)
+    (end : LookEnd (Unit {0})) → ((later : Trail) → end ≡ ends tt later → Counts sights before (looks sights asking) later)
     → with_value (outcome sights asking) end ≡ ends value after → IsCounted sights before asking value after
 ends_from sights before asking value after (stopped name other) counts e = absurd (cc)
 ends_from sights before asking value after (ends unit later) counts e =

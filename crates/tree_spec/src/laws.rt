@@ -70,7 +70,7 @@ pub fn folder_is_parent()
 {}
 
 /// Worked examples of looks with limits, and of folders.
-#[tactic(auto, using(crate::proofs::LookExamples::look_examples))]
+#[tactic(auto, using(crate::proofs::examples::LookExamples::look_examples))]
 pub fn look_examples()
     ensures { LookExamples }
 {}

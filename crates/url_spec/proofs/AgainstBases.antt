@@ -62,9 +62,9 @@ has_tail : (scheme : List ℕ) (test : Bool) (url other : Parts) (query fragment
 has_tail scheme true url other query fragment h k = k
 has_tail scheme false url other query fragment h k = h
 
-has_parts : (scheme body : List ℕ) (query fragment : Option (List ℕ)) → is_special (scheme_type scheme) ≡ true → Gives (Has scheme) (parse_parts scheme None body query fragment)
+parts_given : (scheme body : List ℕ) (query fragment : Option (List ℕ)) → is_special (scheme_type scheme) ≡ true → Gives (Has scheme) (parse_parts scheme None body query fragment)
 unfolding parse_parts
-has_parts scheme body query fragment special =
+parts_given scheme body query fragment special =
     and_gives (parse_body scheme None body) (has_body scheme body special) (λ head h. record { holds = has_tail scheme (not (is_special (kind_of head)) && (is_some query || is_some fragment)) head (with_path head (escape_end head.path)) query fragment h h })
 
 -- its text is the scheme, `://` and the rest
@@ -203,7 +203,7 @@ same_by_scheme (Some split) base query fragment url text found parsed e =
     let both = and_parts (is_special (kind_of base)) (bytes_eq base.scheme scheme) test in
     let same = (bytes_eq-Decides base.scheme scheme).0 both.1 in
     let special : is_special (scheme_type scheme) ≡ true = subst (λ s. is_special (scheme_type s) ≡ true) same both.0 in
-    let has = gives_at (parse_parts scheme None split.1 query fragment) url (has_parts scheme split.1 query fragment special) parsed in
+    let has = gives_at (parse_parts scheme None split.1 query fragment) url (parts_given scheme split.1 query fragment special) parsed in
     let is = is_front (before_marks text) split found in
     let before = head_before scheme text is (subst (Spells (head_of scheme)) e (has_text scheme url has)) in
     let own : ◌≡◌ {A = Option (List ℕ × List ℕ)} (Some split) (Some (scheme, 47 ∷ 47 ∷ before.rest)) = sym found ∙ own_split scheme (before_marks text) is before in

@@ -17,6 +17,8 @@ mod web_url;
 pub use base::{Base, BaseFault};
 pub use file::{FileFault, FileUrl, Place, file_join, file_of, file_url, place_of};
 pub use names::{WebFault, served, web_of};
-pub use specifier::{AskFault, Asked, Scheme, as_url, ask, is_relative, normalized, scheme_of};
+pub use specifier::{
+    AskFault, Asked, Scheme, as_url, ask, ends_in_slash, is_relative, normalized, scheme_of,
+};
 pub use suffix::Suffix;
 pub use web_url::WebUrl;

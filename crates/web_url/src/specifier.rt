@@ -1,7 +1,7 @@
 //! Specifiers as URLs.
 ghost use Rattle.std.specs.Prelude.{◌≡◌, IfOk, IfErr, true};
 ghost use Rattle.url_spec.specs.Schemes.{scheme_of};
-ghost use Rattle.url_spec.specs.Specifiers.{is_relative, as_url, normalized};
+ghost use Rattle.url_spec.specs.Specifiers.{is_relative, as_url, ends_in_slash, normalized};
 ghost use Rattle.web_url.specs.Asking.{IsAsked, IsAskFault, scheme_named};
 
 use crate::web_url::WebUrl;
@@ -96,6 +96,14 @@ pub fn normalized(alloc: Global, specifier: &str, base: &WebUrl) -> Result<Text,
         Some(url) => url.into_text(alloc),
         None => Text::of(alloc, specifier),
     }
+}
+
+/// Whether a text ends in `/`, as the URL of a folder does.
+#[tactic(auto, using(std::proofs::lemmas::Str::Pattern::ends_text))]
+pub fn ends_in_slash(text: &str) -> bool
+    ensures { result ≡ ends_in_slash text.now }
+{
+    text.ends_with("/")
 }
 
 /// What a specifier of a referrer asks for. A relative one is refused where a map couldn't have its

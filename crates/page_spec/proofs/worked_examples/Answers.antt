@@ -1,4 +1,4 @@
-use Rattle.page_spec.proofs.Examples.{worked_examples}
+use Rattle.page_spec.proofs.examples.WorkedExamples.{worked_examples}
 use Rattle.page_spec.proofs.worked_examples.Goals as goal
 
 pub returns : goal.returns
