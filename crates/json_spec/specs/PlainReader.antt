@@ -43,6 +43,7 @@ abbrev pub checked : Bool → List ℕ → List ℕ → Read (List ℕ)
 checked true text rest = taken text rest
 checked false text rest = refused tt
 
+-- a string that was read, refused where its text isn't UTF-8
 abbrev pub string_of : Read (List ℕ) → Read (List ℕ)
 string_of (taken text rest) = checked (is_utf8 text) text rest
 string_of (refused e) = refused e
@@ -66,6 +67,7 @@ read_name n (b ∷ bytes) = name_at n b bytes (b == 34)
 abbrev pub read_member : (List ℕ → Reading Json) → ℕ → List ℕ → Reading Member
 read_member value n bytes = and_then (read_name n bytes) (λ name middle. paired name (value (after_space middle)))
 
+-- a pair, and the members behind it
 abbrev pub behind_pair : Member → Reading Members → Reading Members
 behind_pair (a_pair name value) out = behind_member name value out
 
@@ -146,10 +148,12 @@ abbrev pub value_text :
 value_text n items members b bytes true = as_text bytes (read_string n bytes)
 value_text n items members b bytes false = value_list items members b bytes (b == 91)
 
+-- the value at the front, by what reads the values of a list and the members of an object
 abbrev pub read_with : ℕ → (List ℕ → Reading Items) → (List ℕ → Reading Members) → List ℕ → Reading Json
 read_with n items members [] = fault_here []
 read_with n items members (b ∷ bytes) = value_text n items members b bytes (b == 34)
 
+-- one more bracket than may be open, in place of what stands behind it
 abbrev pub too_deep : {A : Type 0} → List ℕ → Reading A
 too_deep bytes = refused (TooDeep (suc (length bytes)))
 

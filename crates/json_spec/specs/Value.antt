@@ -31,6 +31,7 @@ abbrev pub put : List ℕ → Json → Members → Members
 put key value no_members = a_member key value no_members
 put key value (a_member k v more) = if bytes_eq key k then a_member k value more else a_member k v (put key value more)
 
+-- own: the members, and behind them those that are written on, each put in its turn
 abbrev pub settled_onto : Members → Members → Members
 settled_onto ms no_members = ms
 settled_onto ms (a_member key value more) = settled_onto (put key value ms) more

@@ -12,6 +12,7 @@ abbrev pub names_in : List ℕ → List (List ℕ)
 names_in [] = []
 names_in (b ∷ text) = slice_split (λ c. c == 44) (b ∷ text)
 
+-- own: a byte that a condition's name may hold
 abbrev pub is_name_byte : ℕ → Bool
 is_name_byte b = is_ascii_alphanumeric b || b == 45 || b == 95
 

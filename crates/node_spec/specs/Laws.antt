@@ -1,5 +1,5 @@
--- The laws of Node's side. Each is the contract of a function of this crate. The first ones are of records, targets
--- and keys, the others of the rules as askings.
+-- The laws of Node's side. Each is the contract of a function of this crate. The first ones are of relative specifiers,
+-- records, targets and keys, the others of the rules as askings.
 --     NamesAreDistinctIn outcome      no object in `exports` and `imports` of the record holds a name twice
 --     BeginsWithDotSlash out      a place begins with `./`
 --     under_conditions conditions rules      the same rules under other conditions
@@ -7,7 +7,8 @@
 --     PartStands asked base trailer      a part that isn't empty stands between the base and the trailer
 --     IsPatternMatch asked key from to      the pattern match is the slice of the asked text between the key's base
 --         and trailer
---     LooksLastAtFile sights conditions parent specifier path      the last look is at this path, and a file stands there
+--     LooksLastAtFile sights conditions parent specifier path      the last look is at this path, and a file stands
+--         there
 --     IsRelativeNode sights conditions parent specifier      a relative specifier is answered as the asking for it is
 --     IsTargetOutcome sights bares rules target came      the target comes to this by calls that are answered as its
 --         bare texts are
@@ -95,7 +96,7 @@ AnswersDetermine =
     → ResolvesTarget rules target asked some → ResolvesTarget rules target others other
     → answers_of asked ≡ answers_of others → IsSame asked others some other
 
--- own law: under a map from texts to answers a target comes to one outcome
+-- own law: under a map from texts to answers a target comes to one outcome at most
 abbrev pub OneUnder : Type 0
 OneUnder =
     (answers : Answers) (rules : Rules) (target : Json) (some other : Outcome) → ResolvesUnder answers rules target some
@@ -112,7 +113,7 @@ BeginsWithDotSlash InvalidTarget = ⊤
 BeginsWithDotSlash InvalidSpecifier = ⊤
 BeginsWithDotSlash InvalidConfig = ⊤
 
--- own law: the deciding call is the last one: no text is asked for behind one that was found or refused
+-- own law: the deciding call is the last one: no text is asked for behind one that was found or that stops the choice
 abbrev pub DecidingCallIsLast : Type 0
 DecidingCallIsLast =
     (rules : Rules) (target : Json) (asked : List Call) (out : Outcome) → ResolvesTarget rules target asked out
@@ -253,7 +254,7 @@ SameNode =
     → AgreesOn one other (footprint one (node conditions parent specifier))
     → IsSameAsking one other (node conditions parent specifier)
 
--- own law: the same of the format of a file
+-- own law: the same of what is known of a file's format before its text is read
 abbrev pub SameFormat : Type 0
 SameFormat =
     (path : List ℕ) (one other : Sights) → AgreesOn one other (footprint one (file_format path))
@@ -366,7 +367,7 @@ FollowsTarget T S X =
     → (now : T) (last : Option X) (end : Ended (Option X) T S) → Followed answers bares now last asked end
     → evaluated answers now (target_comes bares rules target last) ≡ brings out end
 
--- PACKAGE_TARGET_RESOLVE: the same by what an object keeps that answers the calls
+-- PACKAGE_TARGET_RESOLVE: the same by what an object keeps that answers the calls, where it lost no answer
 abbrev pub TargetAnswered : Type 0 → Type 0 → Type 0 → Type 0
 TargetAnswered T S X =
     (answers : LookAnswers T S) (bares : Bares X) (rules : Rules) (target : Json) (before : Answerer T S X)

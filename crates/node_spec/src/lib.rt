@@ -156,7 +156,7 @@ pub fn one_under()
     ensures { OneUnder }
 {}
 
-/// No text is asked for behind one that was found or refused: the call that decides is the last one.
+/// No text is asked for behind one that was found or that stops the choice: the call that decides is the last one.
 #[tactic(auto, using(crate::proofs::DecidingCall::deciding_call_is_last))]
 pub fn deciding_call_is_last()
     ensures { DecidingCallIsLast }
@@ -270,7 +270,7 @@ pub fn same_node()
     ensures { SameNode }
 {}
 
-/// What stands at the paths of its footprint decides the format of a file.
+/// What stands at the paths of its footprint decides what is known of a file's format before its text is read.
 pub fn same_format()
     ensures { SameFormat }
 {}
@@ -338,7 +338,7 @@ pub fn follows_target<T, S, X>()
     ensures { FollowsTarget T S X }
 {}
 
-/// An object that was asked for a target's bare texts keeps what the target comes to as an asking.
+/// An object that was asked for a target's bare texts, and lost no answer, keeps what the target comes to as an asking.
 pub fn target_answered<T, S, X>()
     ensures { TargetAnswered T S X }
 {}
