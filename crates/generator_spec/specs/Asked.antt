@@ -46,8 +46,8 @@ pub record IsConfigAt (words : List (List ℕ)) (command : Command) (config : Co
   pub told : IfSome state.holds (λ tree. IsConfigOf words tree command config)
   pub can : IsConfigFor words command config
 
--- own: the folder is asked for the project's path, or for nothing; and where there is a config, behind that for what its
--- command and the generation need
+-- own: the folder is asked for the project's path, or for nothing; and where there is a config, behind that for what
+-- its command and the generation need
 pub data AsksInOrder (words : List (List ℕ)) (before : FolderState) (old : List (List ℕ))
     (after : FolderState) : Type 0 where
   own : AsksOwn (project_path ∷ []) old after → AsksInOrder words before old after

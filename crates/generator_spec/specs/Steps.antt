@@ -1,6 +1,6 @@
 -- How many steps a run takes. own: no public standard speaks of it.
---     SpendsFew out out_after before after      where the output tells what it took: the line of a map went out, with so
---                                               many modules and requests that they are no fewer than the steps
+--     SpendsFew out out_after before after      where the output tells what it took: the line of a map went out, with
+--                                               so many modules and requests that they are no fewer than the steps
 use Rattle.std.specs.Prelude.{◌≡◌, ◌≤◌, ◌+◌, ◌++◌, ℕ, option_map}
 use Rattle.tree_spec.specs.States.{SinkState}
 use Rattle.generator_spec.specs.Lines.{counts_line}
