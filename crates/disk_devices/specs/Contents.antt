@@ -1,4 +1,5 @@
 -- What a look at a file answers.
+--     IsContent bytes limit look      what a look at a file of these bytes answers
 use Rattle.std.specs.Prelude.{◌≡◌, ◌≤◌, ◌<◌, ℕ, List, length}
 use Rattle.tree_spec.specs.declared.Look.{Look}
 use Rattle.tree_spec.specs.declared.Look.TheVariants.{Absent, Folder, File, TooLarge}

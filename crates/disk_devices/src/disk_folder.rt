@@ -1,7 +1,7 @@
 //! A folder of the disk.
-ghost use Rattle.std.specs.Prelude.{◌≡◌, ◌≢◌, ◌≤◌, ◌<◌, ◌-◌, ◌^◌, ℕ, None, IfOk, IfSome, length};
-ghost use Rattle.tree_spec.specs.Counts.{Rose};
+ghost use Rattle.std.specs.Prelude.{◌≡◌, ◌≤◌, ◌<◌, ◌-◌, ◌^◌, ℕ, None, IfOk, IfSome, length};
 ghost use Rattle.disk_devices.specs.Contents.{IsContent};
+ghost use Rattle.disk_devices.specs.Counting.{IsFaultCounted};
 
 use crate::faults::one_more;
 use crate::trouble::{Obstacle, Trouble};
@@ -51,9 +51,7 @@ impl<'a, R> DiskFolder<'a, R> {
 
     /// The fault of a look that an obstacle makes, kept and counted where it isn't want of memory.
     fn look_fault(&mut self, path: &str, obstacle: Obstacle) -> LookFault
-        ensures failed { result ≡ LookFault.Failed → Rose self.old.look_faults self.new.look_faults }
-        ensures quiet { result ≢ LookFault.Failed → self.new.look_faults ≡ self.old.look_faults }
-        ensures later { self.old.look_faults ≤ self.new.look_faults }
+        ensures counted { IsFaultCounted self.old.look_faults result self.new.look_faults }
         ensures writes { self.new.write_faults ≡ self.old.write_faults }
     {
         if let Obstacle::System { error } = &obstacle {

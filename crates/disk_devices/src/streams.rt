@@ -1,7 +1,8 @@
 //! The streams of the process.
-ghost use Rattle.std.specs.Prelude.{◌≡◌, ◌≤◌, ℕ, length, None, take, drop, IfOk, OnOk, OnErr};
-ghost use Rattle.std.specs.Io.KnownBytes.{Appends, Consumes};
-ghost use Rattle.tree_spec.specs.Counts.{Rose};
+ghost use Rattle.std.specs.Prelude.{◌≡◌, None, OnOk};
+ghost use Rattle.std.specs.Io.KnownBytes.{Appends};
+ghost use Rattle.disk_devices.specs.Counting.{IsCounted};
+ghost use Rattle.disk_devices.specs.Reading.{IsReadInto};
 
 use crate::faults::one_more;
 use std::io;
@@ -32,14 +33,8 @@ impl<R: Read> Source for StdSource<R> {
     ghost state = { λ source. record { left = None; faults = source.faults } };
 
     fn take(&mut self, into: &mut [u8]) -> Result<usize, Failed>
-        ensures taken { IfOk result
-            (λ count. Consumes (R.remaining self.old.input) (R.remaining self.new.input) (take count into.new)) }
-        ensures within { IfOk result (λ count. count ≤ length into.old) }
-        ensures behind { IfOk result (λ count. drop count into.new ≡ drop count into.old) }
-        ensures untouched { OnErr result (into.new ≡ into.old) }
-        ensures failed { OnErr result (Rose self.old.faults self.new.faults) }
-        ensures quiet { OnOk result (self.new.faults ≡ self.old.faults) }
-        ensures later { self.old.faults ≤ self.new.faults }
+        ensures read { IsReadInto (R.remaining self.old.input) into.old into.new result (R.remaining self.new.input) }
+        ensures counted { IsCounted self.old.faults result self.new.faults }
     {
         // A reader may leave anything behind the bytes that it counts, and `into` may not change there.
         let mut part = [0u8; PART];
@@ -80,9 +75,7 @@ impl<W: Write> Sink for StdSink<W> {
 
     fn give(&mut self, bytes: &[u8]) -> Result<(), Failed>
         ensures sent { OnOk result (Appends (W.contents self.old.output) (W.contents self.new.output) bytes.now) }
-        ensures failed { OnErr result (Rose self.old.faults self.new.faults) }
-        ensures quiet { OnOk result (self.new.faults ≡ self.old.faults) }
-        ensures later { self.old.faults ≤ self.new.faults }
+        ensures counted { IsCounted self.old.faults result self.new.faults }
     {
         match send(&mut self.output, bytes) {
             Ok(()) => Ok(()),

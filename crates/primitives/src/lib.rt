@@ -1,9 +1,7 @@
-//! The types that every layer shares: texts seen as their bytes, lists, lists of pairs, want of
-//! memory, and a counter of steps.
+//! The types that every layer shares: texts seen as their bytes, lists, want of memory, and a counter of steps.
 #![tactic(auto)]
 
 mod listed;
-mod pairs;
 mod short;
 mod step_count;
 #[cfg(test)]
@@ -11,7 +9,6 @@ mod tests;
 mod text;
 
 pub use listed::Listed;
-pub use pairs::Pairs;
 pub use step_count::Steps;
 pub use text::Text;
 

@@ -25,16 +25,16 @@ static TEXTS: [&str; 16] = [
 fn texts_and_lists_keep_what_they_are_given(rt: HostRuntime) -> Result<(), Fail> {
     let alloc = rt.alloc();
     let mut list = Listed::new(alloc);
-    let mut pairs = Pairs::new(alloc);
+    let mut copies = Listed::new(alloc);
     for text in &TEXTS {
         list.push(Text::of(alloc, text)?)?;
-        pairs.push(text.len(), Text::of(alloc, text)?.copy(alloc)?)?;
+        copies.push(Text::of(alloc, text)?.copy(alloc)?)?;
     }
     for i in 0..TEXTS.len() {
         for j in 0..TEXTS.len() {
             let first = list.at(i).ok_or("no item")?;
-            let (length, second) = pairs.at(j).ok_or("no pair")?;
-            assert_eq!(rt; *length, second.len());
+            let second = copies.at(j).ok_or("no copy")?;
+            assert_eq!(rt; second.len(), TEXTS[j].len());
             assert_eq!(rt; first.as_str(), TEXTS[i]);
             assert!(rt;
                 first.cmp(second) == i.cmp(&j) && (first == second) == (i == j),

@@ -11,6 +11,7 @@ use Rattle.tree_spec.specs.declared.LimitName.{LimitName}
 use Rattle.tree_spec.specs.declared.LimitName.TheVariants.{File, Looks, Bytes}
 use Rattle.tree_spec.specs.LookAskings.{Sights, LookAsking, looks, with_seen}
 use Rattle.tree_spec.specs.LookLimits.{Trail, no_trail, begun, look_limits, size_at, told, limited, new_size}
+use Rattle.tree_spec.proofs.FootprintSets.{trail_of}
 use Rattle.tree_spec.proofs.LimitedLooks.{ends_counted, first_limit_stops, same_limited_law}
 use Rattle.trace_spec.specs.declared.TraceFault.{TraceFault}
 use Rattle.trace_spec.specs.Modules.{Config}
@@ -31,9 +32,6 @@ from_zero : (n : ℕ) → 0 + n ≡ n
 from_zero n = omega arith
 
 -- ---- trails that differ in the paths of the last question alone
-
-abbrev trail_of : List (List ℕ) → ℕ → List (List ℕ) → Trail
-trail_of paths size question = record { paths = paths; size = size; question = question }
 
 respelled : (one other : Trail) → begun one ≡ begun other → other ≡ trail_of one.paths one.size other.question
 respelled one other same =

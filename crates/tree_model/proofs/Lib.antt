@@ -1,3 +1,4 @@
 pub mod Segments
 pub mod EntriesLemmas
 pub mod Placings
+pub mod FolderLemmas

@@ -15,7 +15,7 @@ use Rattle.tree_spec.specs.Trees.{Tree, IsTree, Places}
 use Rattle.tree_spec.proofs.Insertion.{get_inserted, get_here, get_other, same_tree}
 use Rattle.tree_spec.proofs.PathsAbove.{above_other, above_by_parent, parent_above}
 use Rattle.tree_spec.proofs.Placings.{inserted_places, folders_above, placed_tree}
-use Rattle.tree_model.specs.Entries.{IsSettled, IsBelowFile, IsBarred}
+use Rattle.tree_model.specs.Entries.{IsSettled, IsBelowFile, IsBarred, IsPlaced}
 
 pub settled_tree : (tree : Tree) (path : List ℕ) → IsTree tree → IsSettled tree path
 settled_tree tree path t = record { root = t.root; parents = λ parent above entry up some q. t.parents parent above entry some q }
@@ -97,15 +97,15 @@ pub taken_back : (tree after between last : Tree) (path : List ℕ) (entry : Ent
 taken_back tree after between last path entry none e f g = g ∙ ap (λ x. remove x path) (f ∙ e) ∙ undone tree path entry none
 
 kept_by : (result : Result Bool AllocError) (tree after : Tree) (path : List ℕ) (entry : Entry) → IsTree tree → IsPath path → get tree path ≢ Some Directory
-    → (result ≡ Ok true → Places tree path entry after) → (result ≢ Ok true → after ≡ tree) → IsTree after
-kept_by (Ok true) tree after path entry t is free p e = placed_tree tree path entry after t is free (p refl)
-kept_by (Ok false) tree after path entry t is free p e = let P : Tree → Type 0 = λ x. IsTree x in subst P (sym (e (λ ok. cc))) t
-kept_by (Err fault) tree after path entry t is free p e = let P : Tree → Type 0 = λ x. IsTree x in subst P (sym (e (λ ok. cc))) t
+    → IsPlaced tree path entry result after → IsTree after
+kept_by (Ok true) tree after path entry t is free p = placed_tree tree path entry after t is free (p.placed refl)
+kept_by (Ok false) tree after path entry t is free p = let P : Tree → Type 0 = λ x. IsTree x in subst P (sym (p.same (λ ok. cc))) t
+kept_by (Err fault) tree after path entry t is free p = let P : Tree → Type 0 = λ x. IsTree x in subst P (sym (p.same (λ ok. cc))) t
 
 -- what a placing, or none, leaves of a tree
 pub kept_tree : (result : Result Bool AllocError) (tree after : Tree) (path : List ℕ) (entry : Entry) → IsTree tree → IsPath path → None ≡ get tree path
-    → (result ≡ Ok true → Places tree path entry after) → (result ≢ Ok true → after ≡ tree) → IsTree after
-kept_tree result tree after path entry t is none p e = kept_by result tree after path entry t is (λ some. let wrong : None ≡ Some Directory = none ∙ some in cc) p e
+    → IsPlaced tree path entry result after → IsTree after
+kept_tree result tree after path entry t is none p = kept_by result tree after path entry t is (λ some. let wrong : None ≡ Some Directory = none ∙ some in cc) p
 
 pub over_tree : (tree after : Tree) (path bytes : List ℕ) (old entry : Entry) → IsTree tree → IsPath path → Some old ≡ get tree path → old ≡ Stored bytes → after ≡ insert tree path entry → IsTree after
 over_tree tree after path bytes old entry t is was e f =

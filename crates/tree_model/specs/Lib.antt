@@ -1,2 +1,5 @@
 pub mod Below
 pub mod Entries
+pub mod Filling
+pub mod Folders
+pub mod Streams

@@ -1,10 +1,9 @@
-ghost use Rattle.std.specs.Prelude.{◌≡◌, ◌≢◌, Option, Some, None, true, false, option_copied, IfOk, OnOk, OnErr};
+ghost use Rattle.std.specs.Prelude.{◌≡◌, Option, None, option_copied, IfOk, OnOk, OnErr};
 ghost use Rattle.std.specs.FinMap.{get, insert, remove};
-ghost use Rattle.tree_spec.specs.declared.Entry.TheVariants.{Stored, Directory};
 ghost use Rattle.tree_spec.specs.Paths.{IsPath};
-ghost use Rattle.tree_spec.specs.Trees.{IsTree, Places, bare_tree};
+ghost use Rattle.tree_spec.specs.Trees.{IsTree, bare_tree};
 ghost use Rattle.tree_spec.specs.Looks.{IsLook};
-ghost use Rattle.tree_model.specs.Entries.{tree_of, IsSettled, IsBelowFile, IsFree, IsBarred};
+ghost use Rattle.tree_model.specs.Entries.{tree_of, IsSettled, IsPlaced, IsPutNew, IsPutFile};
 
 use crate::Path;
 use primitives::{Bytes, Memory};
@@ -78,9 +77,7 @@ fn take_away(entries: &mut Entries, path: &Path)
 fn place(alloc: Global, entries: &mut Entries, path: &Path, entry: Entry) -> Result<bool, Memory>
     requires absent { get (tree_of entries.old) path.now ≡ None }
     requires settled { IsSettled (tree_of entries.old) path.now }
-    ensures placed { result ≡ Ok true → Places (tree_of entries.old) path.now entry (tree_of entries.new) }
-    ensures barred { result ≡ Ok false → IsBelowFile (tree_of entries.old) path.now }
-    ensures same { result ≢ Ok true → tree_of entries.new ≡ tree_of entries.old }
+    ensures placed { IsPlaced (tree_of entries.old) path.now entry result (tree_of entries.new) }
     ensures is_path { IsPath path.now }
 {
     let Some(parent) = path.parent(alloc)? else {
@@ -117,10 +114,7 @@ pub(crate) fn put_new(
     entry: Entry,
 ) -> Result<bool, Memory>
     requires { IsTree (tree_of entries.old) }
-    ensures placed { result ≡ Ok true → Places (tree_of entries.old) path.now entry (tree_of entries.new) }
-    ensures free { result ≡ Ok true → IsFree (tree_of entries.old) path.now }
-    ensures taken { result ≡ Ok false → IsFree (tree_of entries.old) path.now → ⊥ }
-    ensures same { result ≢ Ok true → tree_of entries.new ≡ tree_of entries.old }
+    ensures put { IsPutNew (tree_of entries.old) path.now entry result (tree_of entries.new) }
     ensures tree { IsTree (tree_of entries.new) }
 {
     match entry_at(entries, path) {
@@ -137,10 +131,7 @@ pub(crate) fn put_file(
     bytes: &[u8],
 ) -> Result<bool, Memory>
     requires { IsTree (tree_of entries.old) }
-    ensures placed { result ≡ Ok true → Places (tree_of entries.old) path.now (Stored bytes.now) (tree_of entries.new) }
-    ensures free { result ≡ Ok true → IsBarred (tree_of entries.old) path.now → ⊥ }
-    ensures barred { result ≡ Ok false → IsBarred (tree_of entries.old) path.now }
-    ensures same { result ≢ Ok true → tree_of entries.new ≡ tree_of entries.old }
+    ensures put { IsPutFile (tree_of entries.old) path.now bytes.now result (tree_of entries.new) }
     ensures tree { IsTree (tree_of entries.new) }
 {
     match entry_at(entries, path) {

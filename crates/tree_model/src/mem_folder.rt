@@ -1,12 +1,7 @@
-ghost use Rattle.std.specs.Prelude.{◌≡◌, ◌≢◌, ◌≤◌, ◌↔◌, ◌++◌, [], ◌∷◌, if◌then◌else◌, Option, Some, None, true, false};
-ghost use Rattle.std.specs.Prelude.{is_ok, option_copied, IfOk, OnOk, OnErr, IsErr, IsErrOf};
-ghost use Rattle.std.specs.List.{Contains};
+ghost use Rattle.std.specs.Prelude.{◌≡◌, Option, Some, option_copied, IfOk};
 ghost use Rattle.std.specs.FinMap.{get};
-ghost use Rattle.tree_spec.specs.Counts.{following};
-ghost use Rattle.tree_spec.specs.Trees.{Tree, IsTree, Places, bare_tree};
-ghost use Rattle.tree_spec.specs.Looks.{IsLook};
-ghost use Rattle.tree_spec.specs.declared.Entry.TheVariants.{Stored, Directory};
-ghost use Rattle.tree_model.specs.Entries.{tree_of, IsFree, IsBarred, entry_for, file_of};
+ghost use Rattle.tree_spec.specs.Trees.{IsTree};
+ghost use Rattle.tree_model.specs.Entries.{tree_of, entry_for, file_of};
 
 use crate::entries::{Entries, entry_at, look_in, put_file, put_new, start};
 use crate::numbers::is_listed;
@@ -31,14 +26,11 @@ pub struct MemFolder {
 }
 
 impl MemFolder {
+    ghost use Rattle.tree_model.specs.Folders.{IsEmptyFolder, IsPutInto};
+
     /// A folder that holds the root alone, of which the looks and writes with these numbers fail.
     pub fn new(alloc: Global, looks: &[u64], writes: &[u64]) -> Result<MemFolder, Memory>
-        ensures tree { IfOk result (λ folder. tree_of folder.entries ≡ bare_tree) }
-        ensures asked { IfOk result (λ folder. folder.asked ≡ []) }
-        ensures calls { IfOk result (λ folder. (folder.looks ≡ 0) × (folder.writes ≡ 0)) }
-        ensures faults { IfOk result (λ folder. (folder.look_faults ≡ 0) × (folder.write_faults ≡ 0)) }
-        ensures failing { IfOk result (λ folder. (folder.failing_looks ≡ looks.now)
-            × (folder.failing_writes ≡ writes.now)) }
+        ensures { IfOk result (λ folder. IsEmptyFolder folder looks.now writes.now) }
     {
         Ok(MemFolder {
             alloc,
@@ -56,17 +48,7 @@ impl MemFolder {
     /// Makes a file of these bytes, or a folder, with the missing folders above it. It is no numbered call.
     /// False where something stands at the path or a file stands above it.
     pub fn put(&mut self, path: &Path, file: Option<&[u8]>) -> Result<bool, Memory>
-        ensures placed { result ≡ Ok true → Places (tree_of self.old.entries) path.now (entry_for file.entry)
-            (tree_of self.new.entries) }
-        ensures free { result ≡ Ok true → IsFree (tree_of self.old.entries) path.now }
-        ensures taken { result ≡ Ok false → IsFree (tree_of self.old.entries) path.now → ⊥ }
-        ensures same { result ≢ Ok true → tree_of self.new.entries ≡ tree_of self.old.entries }
-        ensures asked { self.new.asked ≡ self.old.asked }
-        ensures calls { (self.new.looks ≡ self.old.looks) × (self.new.writes ≡ self.old.writes) }
-        ensures faults { (self.new.look_faults ≡ self.old.look_faults)
-            × (self.new.write_faults ≡ self.old.write_faults) }
-        ensures failing { (self.new.failing_looks ≡ self.old.failing_looks)
-            × (self.new.failing_writes ≡ self.old.failing_writes) }
+        ensures { IsPutInto self.old path.now (entry_for file.entry) result self.new }
     {
         let entry = match file {
             None => Entry::Directory,
@@ -89,28 +71,14 @@ impl MemFolder {
 
 impl Folder for MemFolder {
     ghost use Rattle.tree_spec.proofs.DecidedTrees.{known_tree};
+    ghost use Rattle.tree_model.specs.Folders.{state_of, IsLookOf, IsWriteOf};
 
-    ghost state = { λ folder. record {
-      holds = Some (tree_of folder.entries);
-      asked = Some folder.asked;
-      look_faults = folder.look_faults;
-      write_faults = folder.write_faults;
-    } };
+    ghost state = { state_of };
 
     ghost told = { λ folder. known_tree (tree_of folder.entries) folder.tree };
 
     fn look(&mut self, alloc: Global, path: &Path, limit: u64) -> Result<Look, LookFault>
-        ensures entry { IfOk result (λ look. IsLook (tree_of self.old.entries) path.now limit look) }
-        ensures tree { tree_of self.new.entries ≡ tree_of self.old.entries }
-        ensures asked { self.new.asked ≡ (if is_ok result then self.old.asked ++ path.now ∷ [] else self.old.asked) }
-        ensures number { self.new.looks ≡ following self.old.looks }
-        ensures listed { IsErrOf result LookFault.Failed ↔ Contains self.old.failing_looks (following self.old.looks) }
-        ensures failed { IsErrOf result LookFault.Failed → self.new.look_faults ≡ following self.old.look_faults }
-        ensures quiet { result ≢ Err LookFault.Failed → self.new.look_faults ≡ self.old.look_faults }
-        ensures later { self.old.look_faults ≤ self.new.look_faults }
-        ensures writes { (self.new.writes ≡ self.old.writes) × (self.new.write_faults ≡ self.old.write_faults) }
-        ensures failing { (self.new.failing_looks ≡ self.old.failing_looks)
-            × (self.new.failing_writes ≡ self.old.failing_writes) }
+        ensures { IsLookOf self.old path.now limit result self.new }
     {
         self.looks = self.looks.saturating_add(1);
         if is_listed(self.failing_looks.as_slice(), self.looks) {
@@ -123,19 +91,7 @@ impl Folder for MemFolder {
     }
 
     fn write(&mut self, path: &Path, bytes: &[u8]) -> Result<(), Failed>
-        ensures written { OnOk result ((after : Tree) × (Some (tree_of self.new.entries) ≡ Some after)
-            × Places (tree_of self.old.entries) path.now (Stored bytes.now) after) }
-        ensures tree { OnErr result (tree_of self.new.entries ≡ tree_of self.old.entries) }
-        ensures asked { self.new.asked ≡ self.old.asked }
-        ensures number { self.new.writes ≡ following self.old.writes }
-        ensures listed { Contains self.old.failing_writes (following self.old.writes) → IsErr result }
-        ensures barred { IsBarred (tree_of self.old.entries) path.now → IsErr result }
-        ensures failed { OnErr result (self.new.write_faults ≡ following self.old.write_faults) }
-        ensures quiet { OnOk result (self.new.write_faults ≡ self.old.write_faults) }
-        ensures later { self.old.write_faults ≤ self.new.write_faults }
-        ensures looks { (self.new.looks ≡ self.old.looks) × (self.new.look_faults ≡ self.old.look_faults) }
-        ensures failing { (self.new.failing_looks ≡ self.old.failing_looks)
-            × (self.new.failing_writes ≡ self.old.failing_writes) }
+        ensures { IsWriteOf self.old path.now bytes.now result self.new }
     {
         self.writes = self.writes.saturating_add(1);
         if is_listed(self.failing_writes.as_slice(), self.writes) {

@@ -1,6 +1,5 @@
-ghost use Rattle.std.specs.Prelude.{◌≡◌, ◌≤◌, ◌++◌, [], ℕ, Some, take, IfOk, OnOk, OnErr, IsErr};
-ghost use Rattle.std.specs.List.{Contains};
-ghost use Rattle.tree_spec.specs.Counts.{following};
+ghost use Rattle.std.specs.Prelude.{◌≡◌, Some, IfOk};
+ghost use Rattle.tree_model.specs.Streams.{IsEmptySink, IsGiveOf};
 
 use crate::numbers::is_listed;
 use crate::{Failed, Sink};
@@ -19,9 +18,7 @@ pub struct MemSink {
 impl MemSink {
     /// A sink that took nothing yet, of which the calls with these numbers fail.
     pub fn new(alloc: Global, gives: &[u64]) -> Result<MemSink, Memory>
-        ensures got { IfOk result (λ sink. sink.bytes.items ≡ []) }
-        ensures calls { IfOk result (λ sink. (sink.gives ≡ 0) × (sink.faults ≡ 0)) }
-        ensures failing { IfOk result (λ sink. sink.failing ≡ gives.now) }
+        ensures { IfOk result (λ sink. IsEmptySink sink gives.now) }
     {
         Ok(MemSink {
             bytes: Vec::new(alloc),
@@ -43,16 +40,7 @@ impl Sink for MemSink {
     ghost state = { λ sink. record { got = Some sink.bytes.items; faults = sink.faults } };
 
     fn give(&mut self, bytes: &[u8]) -> Result<(), Failed>
-        ensures given { OnOk result (self.new.bytes.items ≡ self.old.bytes.items ++ bytes.now) }
-        ensures part { OnErr result ((count : ℕ)
-            × (Some self.new.bytes.items ≡ Some (self.old.bytes.items ++ take count bytes.now))) }
-        ensures kept { OnErr result (self.new.bytes.items ≡ self.old.bytes.items) }
-        ensures number { self.new.gives ≡ following self.old.gives }
-        ensures listed { Contains self.old.failing (following self.old.gives) → IsErr result }
-        ensures failed { OnErr result (self.new.faults ≡ following self.old.faults) }
-        ensures quiet { OnOk result (self.new.faults ≡ self.old.faults) }
-        ensures later { self.old.faults ≤ self.new.faults }
-        ensures failing { self.new.failing ≡ self.old.failing }
+        ensures { IsGiveOf self.old bytes.now result self.new }
     {
         self.gives = self.gives.saturating_add(1);
         if is_listed(self.failing.as_slice(), self.gives) {

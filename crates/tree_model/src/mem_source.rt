@@ -1,6 +1,5 @@
-ghost use Rattle.std.specs.Prelude.{◌≡◌, ◌≤◌, ◌<◌, ◌↔◌, [], Some, length, take, drop, min, IfOk, OnOk, OnErr, IsErr};
-ghost use Rattle.std.specs.List.{Contains};
-ghost use Rattle.tree_spec.specs.Counts.{following};
+ghost use Rattle.std.specs.Prelude.{◌≤◌, Some, length, drop, IfOk};
+ghost use Rattle.tree_model.specs.Filling.{IsFilled};
 
 use crate::numbers::is_listed;
 use crate::{Failed, Source};
@@ -19,11 +18,11 @@ pub struct MemSource {
 }
 
 impl MemSource {
+    ghost use Rattle.tree_model.specs.Streams.{IsFreshSource};
+
     /// A source of these bytes, of which the calls with these numbers fail.
     pub fn new(alloc: Global, bytes: &[u8], takes: &[u64]) -> Result<MemSource, Memory>
-        ensures left { IfOk result (λ source. drop source.at source.bytes ≡ bytes.now) }
-        ensures calls { IfOk result (λ source. (source.takes ≡ 0) × (source.faults ≡ 0)) }
-        ensures failing { IfOk result (λ source. source.failing ≡ takes.now) }
+        ensures { IfOk result (λ source. IsFreshSource source bytes.now takes.now) }
     {
         Ok(MemSource {
             bytes: Bytes::of(alloc, bytes)?,
@@ -36,24 +35,12 @@ impl MemSource {
 }
 
 impl Source for MemSource {
+    ghost use Rattle.tree_model.specs.Streams.{IsTakeOf};
+
     ghost state = { λ source. record { left = Some (drop source.at source.bytes); faults = source.faults } };
 
     fn take(&mut self, into: &mut [u8]) -> Result<usize, Failed>
-        ensures within { IfOk result (λ count. count ≤ length into.old) }
-        ensures most { IfOk result (λ count. count ≡ min (length (drop self.old.at self.old.bytes)) (length into.old)) }
-        ensures bytes { IfOk result (λ count. (count ≤ length (drop self.old.at self.old.bytes))
-            × (take count into.new ≡ take count (drop self.old.at self.old.bytes))
-            × (Some (drop self.new.at self.new.bytes) ≡ Some (drop count (drop self.old.at self.old.bytes)))) }
-        ensures end { IfOk result (λ count. count ≡ 0 → 0 < length into.old → drop self.old.at self.old.bytes ≡ []) }
-        ensures behind { IfOk result (λ count. drop count into.new ≡ drop count into.old) }
-        ensures untouched { OnErr result (into.new ≡ into.old) }
-        ensures stays { OnErr result (drop self.new.at self.new.bytes ≡ drop self.old.at self.old.bytes) }
-        ensures number { self.new.takes ≡ following self.old.takes }
-        ensures listed { IsErr result ↔ Contains self.old.failing (following self.old.takes) }
-        ensures failed { OnErr result (self.new.faults ≡ following self.old.faults) }
-        ensures quiet { OnOk result (self.new.faults ≡ self.old.faults) }
-        ensures later { self.old.faults ≤ self.new.faults }
-        ensures failing { self.new.failing ≡ self.old.failing }
+        ensures { IsTakeOf self.old into.old into.new result self.new }
     {
         self.takes = self.takes.saturating_add(1);
         if is_listed(self.failing.as_slice(), self.takes) {
@@ -68,9 +55,7 @@ impl Source for MemSource {
 
 /// Fills a front of `into` with a front of `rest`, as long as both allow, and answers its length.
 fn fill(into: &mut [u8], rest: &[u8]) -> usize
-    ensures most { result ≡ min (length rest.now) (length into.old) }
-    ensures front { take result into.new ≡ take result rest.now }
-    ensures behind { drop result into.new ≡ drop result into.old }
+    ensures { IsFilled into.old rest.now result into.new }
 {
     let count = rest.len().min(into.len());
     into[..count].copy_from_slice(&rest[..count]);

@@ -1,4 +1,4 @@
--- A footprint has each path once, in the order of first looks, and footprints are joined as looks are.
+-- A footprint has each path once, in the order of first looks, footprints are joined as looks are, and a trail by its parts.
 use Rattle.std.proofs.Common.{◌≡◌, ℕ, Bool, true, false, List, [], ◌∷◌, ◌++◌, refl, sym, ap, ◌∙◌}
 use Rattle.std.specs.Prelude.{◌||◌, bytes_eq}
 use Rattle.std.specs.List.{IsDistinct, list_any}
@@ -10,6 +10,7 @@ use Rattle.std.proofs.lemmas.Cmp.{nat_list_eq_equiv}
 use Rattle.std.proofs.lemmas.Map.Keys.{IsDistinct-push}
 use Rattle.tree_spec.specs.Laws.{FootprintIsSet, FootprintsJoin}
 use Rattle.tree_spec.specs.LookAskings.{looks, is_seen, with_seen, noted}
+use Rattle.tree_spec.specs.LookLimits.{Trail}
 
 -- ---- which paths are seen
 
@@ -96,3 +97,9 @@ noted_noted seen before (path ∷ more) =
 
 pub footprints_join : FootprintsJoin
 footprints_join = record { one_after_another = noted_append; by_footprint = λ seen paths. noted_noted seen [] paths }
+
+-- ---- the sets of a trail
+
+-- the trail of these paths, of this size, with these paths of the present question
+abbrev pub trail_of : List (List ℕ) → ℕ → List (List ℕ) → Trail
+trail_of paths size question = record { paths = paths; size = size; question = question }
