@@ -19,6 +19,11 @@ use Rattle.node_spec.specs.declared.BareAnswer.{BareAnswer}
 use Rattle.node_spec.specs.declared.Outcome.{Outcome}
 use Rattle.node_spec.specs.declared.Outcome.TheVariants.{Undefined, Null, InvalidTarget, InvalidConfig}
 
+-- where there is no call, there is none in front
+pub no_front : (front back : List Call) → front ++ back ≡ [] → front ≡ []
+no_front [] back e = refl
+no_front (call ∷ front) back e = absurd (cc)
+
 module _ {T S X : Type 0} (answers : LookAnswers T S) (bares : Bares X) where
   abbrev End : Type 0
   End = Ended (Option X) T S
@@ -38,10 +43,6 @@ module _ {T S X : Type 0} (answers : LookAnswers T S) (bares : Bares X) where
     first_stops :
         (stop : S) (after : T) → Followed answers bares now last front (stopped stop after) → end ≡ stopped stop after
         → Split now last front back end
-
-  no_front : (front back : List Call) → front ++ back ≡ [] → front ≡ []
-  no_front [] back e = refl
-  no_front (x ∷ front) back e = absurd (cc)
 
   call_more : (now later : T) (last : Option X) (text : List ℕ) (answer : BareAnswer) (value : X)
       (front back : List Call) (end : End) → evaluated answers now (bares.ask text) ≡ ends value later
@@ -66,14 +67,14 @@ module _ {T S X : Type 0} (answers : LookAnswers T S) (bares : Bares X) where
       (now : T) (last : Option X) (end : End) → Followed answers bares now last asked end
       → run now (asking last) ≡ brings out end
 
-  abbrev behind : (Came X → LookAsking (Came X)) → CameEnd → CameEnd
-  behind next first = then_ended first (λ value after. run after (next value))
+  abbrev continued : (Came X → LookAsking (Came X)) → CameEnd → CameEnd
+  continued next first = then_ended first (λ value after. run after (next value))
 
   silent : (out : Outcome) → Comes [] (λ last. answered (came out last)) out
   silent out now last end no_call = refl
 
   brings_twice : (first rest : Outcome) (end : End)
-      → behind (λ later. answered (came (last_of first later.out) later.last)) (brings rest end)
+      → continued (λ later. answered (came (last_of first later.out) later.last)) (brings rest end)
       ≡ brings (last_of first rest) end
   brings_twice first rest (ends value after) = refl
   brings_twice first rest (stopped stop after) = refl
@@ -86,20 +87,20 @@ module _ {T S X : Type 0} (answers : LookAnswers T S) (bares : Bares X) where
       elim (split now last front back end f) [
         | both middle value g h ↦ (
             evaluated_then answers now (item last) (after_item more)
-            ∙ (ap (behind (after_item more)) (one now last (ends value middle) g)
+            ∙ (ap (continued (after_item more)) (one now last (ends value middle) g)
             ∙ (ap (λ b. run middle (cond b (and_then (more value) next) (answered (came first value)))) p
             ∙ (evaluated_then answers middle (more value) next
-            ∙ (ap (behind next) (two middle value end h) ∙ brings_twice first rest end))))
+            ∙ (ap (continued next) (two middle value end h) ∙ brings_twice first rest end))))
             )
         | first_stops stop after g s ↦ (
             evaluated_then answers now (item last) (after_item more)
-            ∙ (ap (behind (after_item more)) (one now last (stopped stop after) g)
+            ∙ (ap (continued (after_item more)) (one now last (stopped stop after) g)
             ∙ ap (brings (last_of first rest)) (sym s))
             )
       ]
 
   decided_end : (more : Option X → LookAsking (Came X)) (out : Outcome) → is_passed out ≡ false → (end : End)
-      → behind (after_item more) (brings out end) ≡ brings out end
+      → continued (after_item more) (brings out end) ≡ brings out end
   decided_end more out p (stopped stop after) = refl
   decided_end more out p (ends value after) =
       ap (λ b. run after (cond b
@@ -111,7 +112,7 @@ module _ {T S X : Type 0} (answers : LookAnswers T S) (bares : Bares X) where
       → Comes asked (λ last. and_then (item last) (after_item more)) out
   item_decided asked item more out p one now last end f =
       evaluated_then answers now (item last) (after_item more)
-      ∙ (ap (behind (after_item more)) (one now last end f) ∙ decided_end more out p end)
+      ∙ (ap (continued (after_item more)) (one now last end f) ∙ decided_end more out p end)
 
   member_undefined : (front back : List Call) (member more : Option X → LookAsking (Came X)) (out : Outcome)
       → Comes front member Undefined → Comes back more out
@@ -120,16 +121,16 @@ module _ {T S X : Type 0} (answers : LookAnswers T S) (bares : Bares X) where
       elim (split now last front back end f) [
         | both middle value g h ↦ (
             evaluated_then answers now (member last) (after_member more)
-            ∙ (ap (behind (after_member more)) (one now last (ends value middle) g) ∙ two middle value end h)
+            ∙ (ap (continued (after_member more)) (one now last (ends value middle) g) ∙ two middle value end h)
             )
         | first_stops stop after g s ↦ (
             evaluated_then answers now (member last) (after_member more)
-            ∙ (ap (behind (after_member more)) (one now last (stopped stop after) g) ∙ ap (brings out) (sym s))
+            ∙ (ap (continued (after_member more)) (one now last (stopped stop after) g) ∙ ap (brings out) (sym s))
             )
       ]
 
   defined_end : (more : Option X → LookAsking (Came X)) (out : Outcome) → is_undefined out ≡ false → (end : End)
-      → behind (after_member more) (brings out end) ≡ brings out end
+      → continued (after_member more) (brings out end) ≡ brings out end
   defined_end more out p (stopped stop after) = refl
   defined_end more out p (ends value after) =
       ap (λ b. run after (cond b (more value) (answered (came out value)))) p
@@ -139,7 +140,7 @@ module _ {T S X : Type 0} (answers : LookAnswers T S) (bares : Bares X) where
       → Comes asked (λ last. and_then (member last) (after_member more)) out
   member_defined asked member more out p one now last end f =
       evaluated_then answers now (member last) (after_member more)
-      ∙ (ap (behind (after_member more)) (one now last end f) ∙ defined_end more out p end)
+      ∙ (ap (continued (after_member more)) (one now last end f) ∙ defined_end more out p end)
 
   -- a choice that is known
   chosen : (asked : List Call) (out : Outcome) (asking other : Option X → LookAsking (Came X))
