@@ -9,6 +9,7 @@ use Rattle.std.proofs.lemmas.List.Elements.{All-from_get_or}
 use Rattle.json_spec.specs.Value.{names_of}
 use Rattle.ordered_json.specs.Shown.{members_of}
 use Rattle.ordered_json.specs.declared.value.Value.{Value}
+use Rattle.tree_spec.proofs.PathsAbove.{nonempty}
 use Rattle.node_spec.specs.PatternKeys.{HasNoStar, IsPattern, KeyMatch, PatternMatch, Matches, IsChoice, GoesBefore}
 use Rattle.node_spec.specs.PatternKeys.Matches.{by_itself, by_pattern}
 use Rattle.node_spec.specs.Laws.{PartStands}
@@ -34,10 +35,6 @@ is_pattern_match asked key base trailer part index to p e n t =
     let u : length asked - length trailer ≡ to = omega arith in
     let m : Matches asked key (PatternMatch (length base) (length asked - length trailer)) = by_pattern base trailer p (fits_from_part asked key base trailer p s) in
     record { matches = subst (λ end. Matches asked key (PatternMatch (length base) end)) u m; no_span = λ e. (cc, cc) }
-  where
-    nonempty : (xs : List ℕ) → xs ≢ [] → 0 < length xs
-    nonempty [] d = absurd (d refl)
-    nonempty (x ∷ xs) d = omega arith
 
 pub span_of_key : (asked : List ℕ) (index : ℕ) → IsUtf8 asked → HasSpan asked (record { index = index; exact = true; from = 0; to = 0 })
 span_of_key asked index u = record { ordered = omega arith; begins = IsCharBoundary-start asked u; ends = IsCharBoundary-start asked u }

@@ -11,6 +11,7 @@ use mathlib.Core.Logic.{inl, inr}
 use Rattle.import_map_spec.proofs.Entries.{same_key, same_key_is, same_key_itself, get_inserted, get_nowhere}
 use Rattle.import_map_spec.specs.ParsedMap.{Addresses, ParsedMap}
 use Rattle.layout_spec.proofs.Contained.{contains_cases, contains_none, contains_here, contains_there}
+use Rattle.layout_spec.specs.PutMappings.{nothing_mapped, mapped_at}
 use Rattle.layout_spec.specs.Serving.{addresses_at, held, IsTidy}
 
 -- a specifier and its address, at a place
@@ -19,19 +20,12 @@ pub record Mapping : Type 0 where
   pub asked : List ℕ
   pub target : List ℕ
 
-abbrev pub with_address : List ℕ → List ℕ → List ℕ → ParsedMap → ParsedMap
-with_address [] asked target m = record { imports = insert m.imports asked (Some target); scopes = m.scopes; integrity = m.integrity }
-with_address (b ∷ rest) asked target m = record { imports = m.imports; scopes = insert m.scopes (b ∷ rest) (insert (addresses_at m (b ∷ rest)) asked (Some target)); integrity = m.integrity }
-
 abbrev pub with_mapping : ParsedMap → Mapping → ParsedMap
-with_mapping m mapping = with_address mapping.place mapping.asked mapping.target m
+with_mapping m mapping = mapped_at mapping.place mapping.asked mapping.target m
 
 abbrev pub laid_onto : ParsedMap → List Mapping → ParsedMap
 laid_onto m [] = m
 laid_onto m (mapping ∷ more) = laid_onto (with_mapping m mapping) more
-
-abbrev pub nothing_mapped : ParsedMap
-nothing_mapped = record { imports = empty; scopes = empty; integrity = empty }
 
 abbrev pub laid : List Mapping → ParsedMap
 laid mappings = laid_onto nothing_mapped mappings
@@ -39,13 +33,13 @@ laid mappings = laid_onto nothing_mapped mappings
 -- ---- one mapping more
 
 module _ (m : ParsedMap) (asked target q : List ℕ) where
-  here : (place : List ℕ) → held (with_address place asked target m) q place ≡ cond (same_key q asked) (Some (Some target)) (held m q place)
+  here : (place : List ℕ) → held (mapped_at place asked target m) q place ≡ cond (same_key q asked) (Some (Some target)) (held m q place)
   here [] = get_inserted m.imports asked (Some target) q
   here (b ∷ rest) =
       ap (λ (o : Option Addresses). get (unwrap_or o empty) q) (get_inserted m.scopes (b ∷ rest) (insert (addresses_at m (b ∷ rest)) asked (Some target)) (b ∷ rest) ∙ cond-true _ _ _ (same_key_itself (b ∷ rest)))
       ∙ get_inserted (addresses_at m (b ∷ rest)) asked (Some target) q
 
-  elsewhere : (place other : List ℕ) → same_key other place ≡ false → held (with_address place asked target m) q other ≡ held m q other
+  elsewhere : (place other : List ℕ) → same_key other place ≡ false → held (mapped_at place asked target m) q other ≡ held m q other
   elsewhere [] [] apart = absurd (let same = same_key_itself [] in cc)
   elsewhere [] (c ∷ more) apart = refl
   elsewhere (b ∷ rest) [] apart = refl
@@ -127,7 +121,7 @@ nothing_held q (b ∷ rest) = ap (λ (o : Option Addresses). get (unwrap_or o em
 
 -- ---- the scopes
 
-tidy_with : (place asked target : List ℕ) (m : ParsedMap) → IsTidy m → IsTidy (with_address place asked target m)
+tidy_with : (place asked target : List ℕ) (m : ParsedMap) → IsTidy m → IsTidy (mapped_at place asked target m)
 tidy_with [] asked target m tidy = record { no_top = tidy.no_top; some = tidy.some }
 tidy_with (b ∷ rest) asked target m tidy =
     let grown : Addresses = insert (addresses_at m (b ∷ rest)) asked (Some target) in
@@ -147,7 +141,7 @@ no_digests : (mappings : List Mapping) (m : ParsedMap) → (laid_onto m mappings
 no_digests [] m = refl
 no_digests (mapping ∷ more) m = no_digests more (with_mapping m mapping) ∙ kept mapping.place mapping.asked mapping.target
   where
-    kept : (place asked target : List ℕ) → (with_address place asked target m).integrity ≡ m.integrity
+    kept : (place asked target : List ℕ) → (mapped_at place asked target m).integrity ≡ m.integrity
     kept [] asked target = refl
     kept (b ∷ rest) asked target = refl
 

@@ -1,6 +1,7 @@
 pub mod Needs
 pub mod Places
 pub mod Serving
+pub mod PutMappings
 pub mod AgreedLayout
 pub mod Counting
 pub mod PrintedMap

@@ -10,7 +10,7 @@ use Rattle.std.specs.FinMap.{insert, empty, from_entries}
 use Rattle.std.specs.List.Sorted.{IsStrictlySortedBy}
 use Rattle.import_map_spec.proofs.Entries.{no_entries}
 use Rattle.import_map_spec.specs.ParsedMap.{Addresses, ParsedMap}
-use Rattle.layout_spec.proofs.Laying.{nothing_mapped, with_address}
+use Rattle.layout_spec.specs.PutMappings.{nothing_mapped, mapped_at}
 use Rattle.layout_spec.specs.Serving.{scope_of}
 use Rattle.scope_builder.proofs.KeyOrder.{same_keys}
 use Rattle.scope_builder.specs.Keys.{InKeyOrder}
@@ -41,12 +41,12 @@ in_scope_new m n place asked target scope after absent none inner outer =
 abbrev made_of : Addresses → BTreeMap (List ℕ) Scope → ParsedMap
 made_of imports scopes = record { imports = imports; scopes = scopes_of scopes; integrity = empty }
 
-pub at_top : (place asked target key value : List ℕ) (imports after : Scope) (scopes : BTreeMap (List ℕ) Scope) → length place ≡ 0 → key ≡ asked → value ≡ target → Updates (slice_cmp nat_cmp) imports after key (Some value) → made_of (addresses after) scopes ≡ with_address place asked target (made_of (addresses imports) scopes)
+pub at_top : (place asked target key value : List ℕ) (imports after : Scope) (scopes : BTreeMap (List ℕ) Scope) → length place ≡ 0 → key ≡ asked → value ≡ target → Updates (slice_cmp nat_cmp) imports after key (Some value) → made_of (addresses after) scopes ≡ mapped_at place asked target (made_of (addresses imports) scopes)
 at_top place asked target key value imports after scopes top key_is value_is put =
     ap (λ (i : Addresses). made_of i scopes) (finite_insert Some imports after key value put ∙ (λ i. insert (addresses imports) (key_is i) (Some (value_is i))))
-    ∙ ap (λ p. with_address p asked target (made_of (addresses imports) scopes)) (sym (nil_from_length place top))
+    ∙ ap (λ p. mapped_at p asked target (made_of (addresses imports) scopes)) (sym (nil_from_length place top))
 
-pub at_scope : (place asked target : List ℕ) (imports : Scope) (scopes after : BTreeMap (List ℕ) Scope) → (length place ≡ 0 → ⊥) → scopes_of after ≡ insert (scopes_of scopes) place (insert (scope_of (scopes_of scopes) place) asked (Some target)) → made_of (addresses imports) after ≡ with_address place asked target (made_of (addresses imports) scopes)
+pub at_scope : (place asked target : List ℕ) (imports : Scope) (scopes after : BTreeMap (List ℕ) Scope) → (length place ≡ 0 → ⊥) → scopes_of after ≡ insert (scopes_of scopes) place (insert (scope_of (scopes_of scopes) place) asked (Some target)) → made_of (addresses imports) after ≡ mapped_at place asked target (made_of (addresses imports) scopes)
 at_scope [] asked target imports scopes after some put = absurd (some refl)
 at_scope (b ∷ rest) asked target imports scopes after some put = λ i. record { imports = addresses imports; scopes = put i; integrity = empty }
 

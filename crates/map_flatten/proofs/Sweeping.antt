@@ -9,7 +9,8 @@ use Rattle.std.specs.Option.{option_to_list}
 use mathlib.Core.Logic.{inl, inr}
 use Rattle.import_map_spec.specs.ParsedMap.{ParsedMap}
 use Rattle.layout_spec.proofs.Contained.{contains_here, contains_there, contains_cases, contains_none}
-use Rattle.layout_spec.proofs.Laying.{Mapping, nothing_mapped, with_mapping, laid_onto, laid}
+use Rattle.layout_spec.proofs.Laying.{Mapping, with_mapping, laid_onto, laid}
+use Rattle.layout_spec.specs.PutMappings.{nothing_mapped}
 use Rattle.layout_spec.proofs.SomeAgreed.{mapping_of, AllStand, AreAll, laid_agreed}
 use Rattle.layout_spec.specs.AgreedLayout.{Stands, IsAgreedLayout}
 use Rattle.layout_spec.proofs.PlaceLemmas.{folder_test}

@@ -1,7 +1,7 @@
 ghost use Rattle.std.specs.Prelude.{◌≡◌, [], Some, map, IfOk, OnOk, All};
 ghost use Rattle.std.specs.FinMap.{insert};
+ghost use Rattle.layout_spec.specs.PutMappings.{nothing_mapped, mapped_at};
 ghost use Rattle.layout_spec.specs.Serving.{scope_of};
-ghost use Rattle.layout_spec.proofs.Laying.{nothing_mapped, with_address};
 ghost use Rattle.scope_builder.specs.Keys.{InKeyOrder};
 ghost use Rattle.scope_builder.specs.Lists.{Lists};
 ghost use Rattle.map_flatten.specs.Grouped.{scopes_of, listed_scope};
@@ -40,7 +40,7 @@ impl Laid {
         asked: &Text,
         target: &Text,
     ) -> Result<(), Memory>
-        ensures { OnOk result (laid_map self.new ≡ with_address place.now asked.now target.now (laid_map self.old)) }
+        ensures { OnOk result (laid_map self.new ≡ mapped_at place.now asked.now target.now (laid_map self.old)) }
     {
         let asked = asked.copy(alloc)?;
         let target = target.copy(alloc)?;

@@ -70,10 +70,10 @@ passed_calls asked out e (by_found before text all) = absurd (true≢false (sym 
 passed_calls asked out e (by_stop before text all) = absurd (true≢false (sym e))
 passed_calls asked out e (by_target _ _ all not_bare not_stopped) = all
 
-behind : (front back : List Call) (out : Outcome) → All WasInvalid front → IsDecided back out → IsDecided (front ++ back) out
-behind front back out all (by_found before text more) = subst (λ calls. IsDecided calls Bare) (append_assoc front before _) (by_found (front ++ before) text (All-append WasInvalid front before all more))
-behind front back out all (by_stop before text more) = subst (λ calls. IsDecided calls Stopped) (append_assoc front before _) (by_stop (front ++ before) text (All-append WasInvalid front before all more))
-behind front back out all (by_target _ _ more not_bare not_stopped) = by_target (front ++ back) out (All-append WasInvalid front back all more) not_bare not_stopped
+decided_after_invalid : (front back : List Call) (out : Outcome) → All WasInvalid front → IsDecided back out → IsDecided (front ++ back) out
+decided_after_invalid front back out all (by_found before text more) = subst (λ calls. IsDecided calls Bare) (append_assoc front before _) (by_found (front ++ before) text (All-append WasInvalid front before all more))
+decided_after_invalid front back out all (by_stop before text more) = subst (λ calls. IsDecided calls Stopped) (append_assoc front before _) (by_stop (front ++ before) text (All-append WasInvalid front before all more))
+decided_after_invalid front back out all (by_target _ _ more not_bare not_stopped) = by_target (front ++ back) out (All-append WasInvalid front back all more) not_bare not_stopped
 
 undefined_passed : (out : Outcome) → is_undefined out ≡ true → is_passed out ≡ true
 undefined_passed Undefined e = refl
@@ -92,7 +92,7 @@ passed_then front back first rest e before after =
       | inl t ↦ (let own = passed_own first e in
           subst (IsDecided (front ++ back)) (sym (cond-true _ first rest t))
           (by_target (front ++ back) first (All-append WasInvalid front back all (passed_calls back rest (undefined_passed rest t) after)) own.0 own.1))
-      | inr f ↦ subst (IsDecided (front ++ back)) (sym (cond-false _ first rest f)) (behind front back rest all after)
+      | inr f ↦ subst (IsDecided (front ++ back)) (sym (cond-false _ first rest f)) (decided_after_invalid front back rest all after)
     ]
 
 mutual
@@ -111,7 +111,7 @@ mutual
   members_decided rules ms asked out (untried key v more _ _ e r) = members_decided rules more asked out r
   members_decided rules ms asked out (defined key v more _ _ e r u) = target_decided rules v asked out r
   members_decided rules ms asked out (undefined key v more front back _ e r s) =
-      behind front back out (passed_calls front Undefined refl (target_decided rules v front Undefined r)) (members_decided rules more back out s)
+      decided_after_invalid front back out (passed_calls front Undefined refl (target_decided rules v front Undefined r)) (members_decided rules more back out s)
 
   items_decided : (rules : Rules) (vs : Items) (asked : List Call) (out : Outcome) → ResolvesItems rules vs asked out → IsDecided asked out
   items_decided rules vs asked out no_item = silent Undefined undefined_own

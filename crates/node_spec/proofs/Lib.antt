@@ -19,6 +19,7 @@ pub mod NodeLemmas
 pub mod BareSpecifiers
 pub mod TargetOutcomes
 pub mod KeyChoice
+pub mod TargetInduction
 pub mod TargetsFollowed
 pub mod TargetsAnswered
 pub mod NodeConditions

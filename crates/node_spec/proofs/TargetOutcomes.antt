@@ -7,7 +7,7 @@ use Rattle.json_spec.specs.Value.{Json, a_null, a_bool, a_number, a_text, a_list
 use Rattle.tree_spec.specs.LookAskings.{Sights, LookAsking, looks}
 use Rattle.url_spec.specs.Specifiers.{begins}
 use Rattle.node_spec.proofs.DecidingCall.{never_package}
-use Rattle.node_spec.proofs.SomeOutcome.{Found, silent, behind, found_text, found_first, found_last, found, found_items, found_members, sound, told}
+use Rattle.node_spec.proofs.SomeOutcome.{CallsAndOutcome, silent, calls_joined, found_text, found_first, found_last, found, found_items, found_members, sound, told}
 use Rattle.node_spec.specs.FileLooks.{url_in, check_url}
 use Rattle.node_spec.specs.Laws.{FindsTarget, ExportsLookAtNothing}
 use Rattle.node_spec.specs.PackageTargetResolve.{Bares, Came, came, bare_comes, text_comes, after_item, after_member, target_comes, items_come, members_come, no_bares, target_url, last_found, package_target}
@@ -18,23 +18,25 @@ use Rattle.node_spec.specs.declared.Cause.{Cause}
 use Rattle.node_spec.specs.declared.Outcome.{Outcome}
 use Rattle.node_spec.specs.declared.Outcome.TheVariants.{Undefined, Null, Place, Bare, Stopped, InvalidTarget, InvalidSpecifier, InvalidConfig}
 
+-- what a target makes of the answer to a bare text, by what stands at each path
+abbrev pub answer_to : {X : Type 0} → Sights → Bares X → List ℕ → BareAnswer
+answer_to sights bares text = bares.judge (outcome sights (bares.ask text))
+
+-- what a target's asking comes to, by what stands at each path
+abbrev pub out_of : {X : Type 0} → Sights → LookAsking (Came X) → Outcome
+out_of sights asking = (outcome sights asking).out
+
 module _ {X : Type 0} (sights : Sights) (bares : Bares X) (rules : Rules) where
-  abbrev answer : List ℕ → BareAnswer
-  answer text = bares.judge (outcome sights (bares.ask text))
-
-  abbrev out_of : LookAsking (Came X) → Outcome
-  out_of asking = (outcome sights asking).out
-
-  same_choice : (b : Bool) (x y : LookAsking (Came X)) (p q : Found) → out_of x ≡ p.out → out_of y ≡ q.out
-      → out_of (cond b x y) ≡ (cond b p q).out
+  same_choice : (b : Bool) (x y : LookAsking (Came X)) (p q : CallsAndOutcome) → out_of sights x ≡ p.out → out_of sights y ≡ q.out
+      → out_of sights (cond b x y) ≡ (cond b p q).out
   same_choice true x y p q e f = e
   same_choice false x y p q e f = f
 
-  other_found : (b : Bool) (p q r : Found) → q.out ≡ r.out → (cond b p q).out ≡ (cond b p r).out
+  other_found : (b : Bool) (p q r : CallsAndOutcome) → q.out ≡ r.out → (cond b p q).out ≡ (cond b p r).out
   other_found true p q r e = refl
   other_found false p q r e = e
 
-  text_out : (text : List ℕ) (last : Option X) → out_of (text_comes bares rules text last) ≡ (found_text answer rules text).out
+  text_out : (text : List ℕ) (last : Option X) → out_of sights (text_comes bares rules text last) ≡ (found_text (answer_to sights bares) rules text).out
   text_out text last =
       same_choice (begins text (codes "./")) _ _ _ _ refl
       (same_choice (names_package rules.is_imports text) _ _ _ _
@@ -42,81 +44,81 @@ module _ {X : Type 0} (sights : Sights) (bares : Bares X) (rules : Rules) where
       (outcome_then sights (bares.ask (with_match rules.pattern_match text)) (λ value. answered (bare_comes bares value))))
       refl)
 
-  passed_out : (first : Came X) (rest : Option X → LookAsking (Came X)) (f r : Found) → first.out ≡ f.out
-      → ((last : Option X) → out_of (rest last) ≡ r.out)
-      → out_of (after_item rest first) ≡ (found_last f r).out
+  passed_out : (first : Came X) (rest : Option X → LookAsking (Came X)) (f r : CallsAndOutcome) → first.out ≡ f.out
+      → ((last : Option X) → out_of sights (rest last) ≡ r.out)
+      → out_of sights (after_item rest first) ≡ (found_last f r).out
   passed_out first rest f r e rest_is =
       let next : Came X → LookAsking (Came X) = λ later. answered (came (last_of first.out later.out) later.last) in
       same_choice (is_passed first.out) (and_then (rest first.last) next) (answered first)
-      (behind f r (last_of first.out r.out)) (silent first.out)
+      (calls_joined f r (last_of first.out r.out)) (silent first.out)
       (ap (λ (c : Came X). c.out) (outcome_then sights (rest first.last) next)
       ∙ ap (last_of first.out) (rest_is first.last)) refl
-      ∙ (ap (λ o. (cond (is_passed o) (behind f r (last_of o r.out)) (silent o)).out) e
-      ∙ other_found (is_passed f.out) (behind f r (last_of f.out r.out)) (silent f.out) f refl)
+      ∙ (ap (λ o. (cond (is_passed o) (calls_joined f r (last_of o r.out)) (silent o)).out) e
+      ∙ other_found (is_passed f.out) (calls_joined f r (last_of f.out r.out)) (silent f.out) f refl)
 
-  member_out : (first : Came X) (rest : Option X → LookAsking (Came X)) (f r : Found) → first.out ≡ f.out
-      → ((last : Option X) → out_of (rest last) ≡ r.out)
-      → out_of (after_member rest first) ≡ (found_first f r).out
+  member_out : (first : Came X) (rest : Option X → LookAsking (Came X)) (f r : CallsAndOutcome) → first.out ≡ f.out
+      → ((last : Option X) → out_of sights (rest last) ≡ r.out)
+      → out_of sights (after_member rest first) ≡ (found_first f r).out
   member_out first rest f r e rest_is =
-      same_choice (is_undefined first.out) (rest first.last) (answered first) (behind f r r.out) (silent first.out)
+      same_choice (is_undefined first.out) (rest first.last) (answered first) (calls_joined f r r.out) (silent first.out)
       (rest_is first.last) refl
-      ∙ (ap (λ o. (cond (is_undefined o) (behind f r r.out) (silent o)).out) e
-      ∙ other_found (is_undefined f.out) (behind f r r.out) (silent f.out) f refl)
+      ∙ (ap (λ o. (cond (is_undefined o) (calls_joined f r r.out) (silent o)).out) e
+      ∙ other_found (is_undefined f.out) (calls_joined f r r.out) (silent f.out) f refl)
 
-  item_then : (item : LookAsking (Came X)) (rest : Option X → LookAsking (Came X)) (f r : Found) → out_of item ≡ f.out
-      → ((last : Option X) → out_of (rest last) ≡ r.out)
-      → out_of (and_then item (after_item rest)) ≡ (found_last f r).out
+  item_then : (item : LookAsking (Came X)) (rest : Option X → LookAsking (Came X)) (f r : CallsAndOutcome) → out_of sights item ≡ f.out
+      → ((last : Option X) → out_of sights (rest last) ≡ r.out)
+      → out_of sights (and_then item (after_item rest)) ≡ (found_last f r).out
   item_then item rest f r e rest_is =
       ap (λ (c : Came X). c.out) (outcome_then sights item (after_item rest))
       ∙ passed_out (outcome sights item) rest f r e rest_is
 
-  member_then : (item : LookAsking (Came X)) (rest : Option X → LookAsking (Came X)) (f r : Found)
-      → out_of item ≡ f.out → ((last : Option X) → out_of (rest last) ≡ r.out)
-      → out_of (and_then item (after_member rest)) ≡ (found_first f r).out
+  member_then : (item : LookAsking (Came X)) (rest : Option X → LookAsking (Came X)) (f r : CallsAndOutcome)
+      → out_of sights item ≡ f.out → ((last : Option X) → out_of sights (rest last) ≡ r.out)
+      → out_of sights (and_then item (after_member rest)) ≡ (found_first f r).out
   member_then item rest f r e rest_is =
       ap (λ (c : Came X). c.out) (outcome_then sights item (after_member rest))
       ∙ member_out (outcome sights item) rest f r e rest_is
 
   mutual
     target_out : (target : Json) (last : Option X)
-        → out_of (target_comes bares rules target last) ≡ (found answer rules target).out
+        → out_of sights (target_comes bares rules target last) ≡ (found (answer_to sights bares) rules target).out
     target_out a_null last = refl
     target_out (a_bool b) last = refl
     target_out (a_number number) last = refl
     target_out (a_text text) last = text_out text last
     target_out (a_list no_items) last = refl
     target_out (a_list (an_item item more)) last =
-        item_then (target_comes bares rules item last) (λ l. items_come bares rules more l) (found answer rules item)
-        (found_items answer rules more) (target_out item last) (λ l. items_out more l)
+        item_then (target_comes bares rules item last) (λ l. items_come bares rules more l) (found (answer_to sights bares) rules item)
+        (found_items (answer_to sights bares) rules more) (target_out item last) (λ l. items_out more l)
     target_out (an_object fields) last =
         same_choice (has_index_key fields) _ _ _ _ refl (members_out fields last)
 
     items_out : (items : Items) (last : Option X)
-        → out_of (items_come bares rules items last) ≡ (found_items answer rules items).out
+        → out_of sights (items_come bares rules items last) ≡ (found_items (answer_to sights bares) rules items).out
     items_out no_items last = refl
     items_out (an_item item more) last =
-        item_then (target_comes bares rules item last) (λ l. items_come bares rules more l) (found answer rules item)
-        (found_items answer rules more) (target_out item last) (λ l. items_out more l)
+        item_then (target_comes bares rules item last) (λ l. items_come bares rules more l) (found (answer_to sights bares) rules item)
+        (found_items (answer_to sights bares) rules more) (target_out item last) (λ l. items_out more l)
 
     members_out : (fields : Members) (last : Option X)
-        → out_of (members_come bares rules fields last) ≡ (found_members answer rules fields).out
+        → out_of sights (members_come bares rules fields last) ≡ (found_members (answer_to sights bares) rules fields).out
     members_out no_members last = refl
     members_out (a_member key value more) last =
         same_choice (is_tried rules.conditions key) _ _ _ _
         (member_then (target_comes bares rules value last) (λ l. members_come bares rules more l)
-        (found answer rules value) (found_members answer rules more) (target_out value last) (λ l. members_out more l))
+        (found (answer_to sights bares) rules value) (found_members (answer_to sights bares) rules more) (target_out value last) (λ l. members_out more l))
         (members_out more last)
 
 pub finds_target : {X : Type 0} → FindsTarget X
 finds_target sights bares rules target last =
-    let of : List ℕ → BareAnswer = λ text. bares.judge (outcome sights (bares.ask text)) in
-    let calls : Found = found of rules target in
+    let answer : List ℕ → BareAnswer = answer_to sights bares in
+    let calls : CallsAndOutcome = found answer rules target in
     record {
       asked = calls.asked;
       resolves =
           subst (ResolvesTarget rules target calls.asked) (sym (target_out sights bares rules target last))
-          (sound of rules target);
-      tells = told of rules target;
+          (sound answer rules target);
+      tells = told answer rules target;
     }
 
 -- ---- a target in `exports`

@@ -40,7 +40,7 @@ stops_last _ _ (by_found before text all) = then_last before (text, bare_answer.
 stops_last _ _ (by_stop before text all) = then_last before (text, bare_answer.Stop) all
 stops_last _ _ (by_target asked out all b s) = only_invalid asked all
 
-nothing_called : {B : Type 0} (gives : B → List ℕ → BareAnswer → B → Type 0) (before after : B) (more : List Call)
+pub nothing_called : {B : Type 0} (gives : B → List ℕ → BareAnswer → B → Type 0) (before after : B) (more : List Call)
     → Calls gives before more after → more ≡ [] → after ≡ before
 nothing_called gives before after [] calls e = calls
 nothing_called gives before after (call ∷ more) calls e = absurd (cc)

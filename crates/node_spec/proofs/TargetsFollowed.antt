@@ -5,19 +5,20 @@ use Rattle.std.proofs.lemmas.Bool.{cond-true, cond-false}
 use Rattle.asking_spec.proofs.EvaluationLemmas.{evaluated_then}
 use Rattle.asking_spec.specs.Askings.{answered, and_then}
 use Rattle.asking_spec.specs.Evaluation.{Ended, ends, stopped, then_ended, evaluated}
-use Rattle.json_spec.specs.Value.{Json, an_object, Items, an_item, Members, a_member}
 use Rattle.tree_spec.specs.LookAskings.{LookAsking}
-use Rattle.node_spec.specs.PackageTargetResolve.{Bares, Came, came, bare_comes, text_comes, after_item, after_member, target_comes, items_come, members_come}
-use Rattle.node_spec.specs.PackageTargets.{Rules, Call, own_outcome, with_match, bare_outcome, ResolvesText, is_undefined, is_passed, last_of, ResolvesTarget, ResolvesMembers, ResolvesItems}
-use Rattle.node_spec.specs.PackageTargets.ResolvesItems.{no_item, decided, passed}
-use Rattle.node_spec.specs.PackageTargets.ResolvesMembers.{no_member, untried, defined, undefined}
-use Rattle.node_spec.specs.PackageTargets.ResolvesTarget.{text_target, index_key, object_target, empty_list, list_target, null_target, bool_target, number_target}
-use Rattle.node_spec.specs.PackageTargets.ResolvesText.{own_place, bare, no_target}
+use Rattle.node_spec.proofs.TargetInduction.{asks_bare, HoldsOfParts, holds_of_target}
+use Rattle.node_spec.specs.PackageTargetResolve.{Bares, Came, came, bare_comes, after_item, after_member}
+use Rattle.node_spec.specs.PackageTargets.{Call, bare_outcome, is_undefined, is_passed, last_of}
 use Rattle.node_spec.specs.Laws.{FollowsTarget}
 use Rattle.node_spec.specs.TargetCalls.{LookAnswers, Followed, no_call, a_call, a_stop, brings}
 use Rattle.node_spec.specs.declared.BareAnswer.{BareAnswer}
 use Rattle.node_spec.specs.declared.Outcome.{Outcome}
-use Rattle.node_spec.specs.declared.Outcome.TheVariants.{Undefined, Null, InvalidTarget, InvalidConfig}
+use Rattle.node_spec.specs.declared.Outcome.TheVariants.{Undefined}
+
+-- where there is no call, there is none in front
+pub no_front : (front back : List Call) → front ++ back ≡ [] → front ≡ []
+no_front [] back e = refl
+no_front (call ∷ front) back e = absurd (cc)
 
 module _ {T S X : Type 0} (answers : LookAnswers T S) (bares : Bares X) where
   abbrev End : Type 0
@@ -38,10 +39,6 @@ module _ {T S X : Type 0} (answers : LookAnswers T S) (bares : Bares X) where
     first_stops :
         (stop : S) (after : T) → Followed answers bares now last front (stopped stop after) → end ≡ stopped stop after
         → Split now last front back end
-
-  no_front : (front back : List Call) → front ++ back ≡ [] → front ≡ []
-  no_front [] back e = refl
-  no_front (x ∷ front) back e = absurd (cc)
 
   call_more : (now later : T) (last : Option X) (text : List ℕ) (answer : BareAnswer) (value : X)
       (front back : List Call) (end : End) → evaluated answers now (bares.ask text) ≡ ends value later
@@ -66,14 +63,14 @@ module _ {T S X : Type 0} (answers : LookAnswers T S) (bares : Bares X) where
       (now : T) (last : Option X) (end : End) → Followed answers bares now last asked end
       → run now (asking last) ≡ brings out end
 
-  abbrev behind : (Came X → LookAsking (Came X)) → CameEnd → CameEnd
-  behind next first = then_ended first (λ value after. run after (next value))
+  abbrev continued : (Came X → LookAsking (Came X)) → CameEnd → CameEnd
+  continued next first = then_ended first (λ value after. run after (next value))
 
   silent : (out : Outcome) → Comes [] (λ last. answered (came out last)) out
   silent out now last end no_call = refl
 
   brings_twice : (first rest : Outcome) (end : End)
-      → behind (λ later. answered (came (last_of first later.out) later.last)) (brings rest end)
+      → continued (λ later. answered (came (last_of first later.out) later.last)) (brings rest end)
       ≡ brings (last_of first rest) end
   brings_twice first rest (ends value after) = refl
   brings_twice first rest (stopped stop after) = refl
@@ -86,20 +83,20 @@ module _ {T S X : Type 0} (answers : LookAnswers T S) (bares : Bares X) where
       elim (split now last front back end f) [
         | both middle value g h ↦ (
             evaluated_then answers now (item last) (after_item more)
-            ∙ (ap (behind (after_item more)) (one now last (ends value middle) g)
+            ∙ (ap (continued (after_item more)) (one now last (ends value middle) g)
             ∙ (ap (λ b. run middle (cond b (and_then (more value) next) (answered (came first value)))) p
             ∙ (evaluated_then answers middle (more value) next
-            ∙ (ap (behind next) (two middle value end h) ∙ brings_twice first rest end))))
+            ∙ (ap (continued next) (two middle value end h) ∙ brings_twice first rest end))))
             )
         | first_stops stop after g s ↦ (
             evaluated_then answers now (item last) (after_item more)
-            ∙ (ap (behind (after_item more)) (one now last (stopped stop after) g)
+            ∙ (ap (continued (after_item more)) (one now last (stopped stop after) g)
             ∙ ap (brings (last_of first rest)) (sym s))
             )
       ]
 
   decided_end : (more : Option X → LookAsking (Came X)) (out : Outcome) → is_passed out ≡ false → (end : End)
-      → behind (after_item more) (brings out end) ≡ brings out end
+      → continued (after_item more) (brings out end) ≡ brings out end
   decided_end more out p (stopped stop after) = refl
   decided_end more out p (ends value after) =
       ap (λ b. run after (cond b
@@ -111,7 +108,7 @@ module _ {T S X : Type 0} (answers : LookAnswers T S) (bares : Bares X) where
       → Comes asked (λ last. and_then (item last) (after_item more)) out
   item_decided asked item more out p one now last end f =
       evaluated_then answers now (item last) (after_item more)
-      ∙ (ap (behind (after_item more)) (one now last end f) ∙ decided_end more out p end)
+      ∙ (ap (continued (after_item more)) (one now last end f) ∙ decided_end more out p end)
 
   member_undefined : (front back : List Call) (member more : Option X → LookAsking (Came X)) (out : Outcome)
       → Comes front member Undefined → Comes back more out
@@ -120,16 +117,16 @@ module _ {T S X : Type 0} (answers : LookAnswers T S) (bares : Bares X) where
       elim (split now last front back end f) [
         | both middle value g h ↦ (
             evaluated_then answers now (member last) (after_member more)
-            ∙ (ap (behind (after_member more)) (one now last (ends value middle) g) ∙ two middle value end h)
+            ∙ (ap (continued (after_member more)) (one now last (ends value middle) g) ∙ two middle value end h)
             )
         | first_stops stop after g s ↦ (
             evaluated_then answers now (member last) (after_member more)
-            ∙ (ap (behind (after_member more)) (one now last (stopped stop after) g) ∙ ap (brings out) (sym s))
+            ∙ (ap (continued (after_member more)) (one now last (stopped stop after) g) ∙ ap (brings out) (sym s))
             )
       ]
 
   defined_end : (more : Option X → LookAsking (Came X)) (out : Outcome) → is_undefined out ≡ false → (end : End)
-      → behind (after_member more) (brings out end) ≡ brings out end
+      → continued (after_member more) (brings out end) ≡ brings out end
   defined_end more out p (stopped stop after) = refl
   defined_end more out p (ends value after) =
       ap (λ b. run after (cond b (more value) (answered (came out value)))) p
@@ -139,7 +136,7 @@ module _ {T S X : Type 0} (answers : LookAnswers T S) (bares : Bares X) where
       → Comes asked (λ last. and_then (member last) (after_member more)) out
   member_defined asked member more out p one now last end f =
       evaluated_then answers now (member last) (after_member more)
-      ∙ (ap (behind (after_member more)) (one now last end f) ∙ defined_end more out p end)
+      ∙ (ap (continued (after_member more)) (one now last end f) ∙ defined_end more out p end)
 
   -- a choice that is known
   chosen : (asked : List Call) (out : Outcome) (asking other : Option X → LookAsking (Came X))
@@ -153,8 +150,7 @@ module _ {T S X : Type 0} (answers : LookAnswers T S) (bares : Bares X) where
   nothing_called now last _ no_call = refl
 
   bare_called : (text : List ℕ) (answer : BareAnswer)
-      → Comes ((text, answer) ∷ []) (λ last. and_then (bares.ask text) (λ value. answered (bare_comes bares value)))
-      (bare_outcome answer)
+      → Comes ((text, answer) ∷ []) (λ last. asks_bare bares text) (bare_outcome answer)
   bare_called text answer now last end (a_call {later = later} {value = value} r j none) =
       evaluated_then answers now (bares.ask text) (λ value. answered (bare_comes bares value))
       ∙ (ap (λ e. then_ended e (λ v after. run after (answered (bare_comes bares v)))) r
@@ -164,69 +160,19 @@ module _ {T S X : Type 0} (answers : LookAnswers T S) (bares : Bares X) where
       evaluated_then answers now (bares.ask text) (λ value. answered (bare_comes bares value))
       ∙ ap (λ e. then_ended e (λ v after. run after (answered (bare_comes bares v)))) r
 
-  text_followed : (rules : Rules) (text : List ℕ) (asked : List Call) (out : Outcome)
-      → ResolvesText rules text asked out → Comes asked (text_comes bares rules text) out
-  text_followed rules text _ _ (own_place b) =
-      chosen [] (own_outcome rules.pattern_match text)
-      (λ last. answered (came (own_outcome rules.pattern_match text) last)) (text_comes bares rules text)
-      (λ last. cond-true _ _ _ b) (silent (own_outcome rules.pattern_match text))
-  text_followed rules text _ _ (bare answer b n) =
-      let asked : List ℕ = with_match rules.pattern_match text in
-      chosen ((asked, answer) ∷ []) (bare_outcome answer)
-      (λ last. and_then (bares.ask asked) (λ value. answered (bare_comes bares value))) (text_comes bares rules text)
-      (λ last. cond-false _ _ _ b ∙ cond-true _ _ _ n) (bare_called asked answer)
-  text_followed rules text _ _ (no_target b n) =
-      chosen [] InvalidTarget (λ last. answered (came InvalidTarget last)) (text_comes bares rules text)
-      (λ last. cond-false _ _ _ b ∙ cond-false _ _ _ n) (silent InvalidTarget)
-
   -- ---- all targets
 
-  mutual
-    target_followed : (rules : Rules) (target : Json) (asked : List Call) (out : Outcome)
-        → ResolvesTarget rules target asked out → Comes asked (target_comes bares rules target) out
-    target_followed rules _ _ _ (text_target text asked out r) = text_followed rules text asked out r
-    target_followed rules _ _ _ (index_key fields i) =
-        chosen [] InvalidConfig (λ last. answered (came InvalidConfig last))
-        (target_comes bares rules (an_object fields)) (λ last. cond-true _ _ _ i) (silent InvalidConfig)
-    target_followed rules _ _ _ (object_target fields asked out i r) =
-        chosen asked out (members_come bares rules fields) (target_comes bares rules (an_object fields))
-        (λ last. cond-false _ _ _ i) (members_followed rules fields asked out r)
-    target_followed rules _ _ _ empty_list = silent Null
-    target_followed rules _ _ _ (list_target item more asked out r) =
-        items_followed rules (an_item item more) asked out r
-    target_followed rules _ _ _ null_target = silent Null
-    target_followed rules _ _ _ (bool_target b) = silent InvalidTarget
-    target_followed rules _ _ _ (number_target number) = silent InvalidTarget
-
-    members_followed : (rules : Rules) (fields : Members) (asked : List Call) (out : Outcome)
-        → ResolvesMembers rules fields asked out → Comes asked (members_come bares rules fields) out
-    members_followed rules _ _ _ no_member = silent Undefined
-    members_followed rules _ _ _ (untried key value more asked out t r) =
-        chosen asked out (members_come bares rules more) (members_come bares rules (a_member key value more))
-        (λ last. cond-false _ _ _ t) (members_followed rules more asked out r)
-    members_followed rules _ _ _ (defined key value more asked out t r d) =
-        chosen asked out
-        (λ last. and_then (target_comes bares rules value last) (after_member (λ l. members_come bares rules more l)))
-        (members_come bares rules (a_member key value more)) (λ last. cond-true _ _ _ t)
-        (member_defined asked (target_comes bares rules value) (λ l. members_come bares rules more l) out d
-        (target_followed rules value asked out r))
-    members_followed rules _ _ _ (undefined key value more front back out t r s) =
-        chosen (front ++ back) out
-        (λ last. and_then (target_comes bares rules value last) (after_member (λ l. members_come bares rules more l)))
-        (members_come bares rules (a_member key value more)) (λ last. cond-true _ _ _ t)
-        (member_undefined front back (target_comes bares rules value) (λ l. members_come bares rules more l) out
-        (target_followed rules value front Undefined r) (members_followed rules more back out s))
-
-    items_followed : (rules : Rules) (items : Items) (asked : List Call) (out : Outcome)
-        → ResolvesItems rules items asked out → Comes asked (items_come bares rules items) out
-    items_followed rules _ _ _ no_item = silent Undefined
-    items_followed rules _ _ _ (decided item more asked out r d) =
-        item_decided asked (target_comes bares rules item) (λ l. items_come bares rules more l) out d
-        (target_followed rules item asked out r)
-    items_followed rules _ _ _ (passed item more front back first rest r p s) =
-        item_passed front back (target_comes bares rules item) (λ l. items_come bares rules more l) first rest p
-        (target_followed rules item front first r) (items_followed rules more back rest s)
+  followed_parts : HoldsOfParts bares Comes
+  followed_parts = record {
+    silent = silent;
+    asked_bare = bare_called;
+    chosen = chosen;
+    item_passed = item_passed;
+    item_decided = item_decided;
+    member_undefined = member_undefined;
+    member_defined = member_defined;
+  }
 
 pub follows_target : {T S X : Type 0} → FollowsTarget T S X
 follows_target answers bares rules target asked out r now last end f =
-    target_followed answers bares rules target asked out r now last end f
+    holds_of_target bares (Comes answers bares) (followed_parts answers bares) rules target asked out r now last end f

@@ -5,7 +5,7 @@ use Rattle.std.specs.Prelude.{◌≢◌, ◌<◌, ℕ, List, [], ◌∷◌, leng
 use Rattle.tree_spec.proofs.PathParts.{IsFront, at_root, at_other, front_of, not_root, one_parent}
 use Rattle.tree_spec.specs.Paths.{IsSegment, joined, IsParent, IsAbove, parent_of, further, IsPath, HasDepth, root, child}
 
-nonempty : (xs : List ℕ) → xs ≢ [] → 0 < length xs
+pub nonempty : (xs : List ℕ) → xs ≢ [] → 0 < length xs
 nonempty [] h = absurd (h refl)
 nonempty (x ∷ xs) h = omega arith
 

@@ -7,9 +7,10 @@ use Rattle.import_map_spec.proofs.examples.WrittenMaps.{looked, looked_onto, now
 use Rattle.import_map_spec.specs.LookUps.{Lookup}
 use Rattle.import_map_spec.specs.ParsedMap.{Texts, Addresses}
 use Rattle.import_map_spec.specs.WrittenMaps.{Lists, insert_all, scope_of, map_of, map_of_lists}
-use Rattle.layout_spec.proofs.Laying.{Mapping, with_address, laid_onto}
+use Rattle.layout_spec.proofs.Laying.{Mapping, laid_onto}
 use Rattle.layout_spec.proofs.SomeAgreed.{mappings, laid_agreed, mappings_stand, mappings_are_all}
 use Rattle.layout_spec.specs.AgreedLayout.{IsAgreedLayout}
+use Rattle.layout_spec.specs.PutMappings.{mapped_at}
 use Rattle.layout_spec.specs.declared.Need.{Need}
 
 abbrev Mappings : Type 0
@@ -68,7 +69,7 @@ mapping_listed place asked target scopes =
     ∙ (ap (insert (map_of (map scope_of scopes)) place) (sym (inserted_last mappings empty asked (Some target)))
     ∙ (sym (inserted_last (map scope_of scopes) empty place (map_of grown.1)) ∙ ap map_of (sym (map_last scopes grown))))
 
-address_listed : (place asked target : List ℕ) (l : Lists) → with_address place asked target (map_of_lists l) ≡ map_of_lists (with_listed place asked target l)
+address_listed : (place asked target : List ℕ) (l : Lists) → mapped_at place asked target (map_of_lists l) ≡ map_of_lists (with_listed place asked target l)
 address_listed [] asked target l = λ i. record { imports = sym (inserted_last l.imports empty asked (Some target)) i; scopes = map_of (map scope_of l.scopes); integrity = map_of l.integrity }
 address_listed (b ∷ rest) asked target l = λ i. record { imports = map_of l.imports; scopes = mapping_listed (b ∷ rest) asked target l.scopes i; integrity = map_of l.integrity }
 

@@ -42,8 +42,8 @@ at_place P (first ∷ keys) each (suc i) l key e = at_place P keys each.1 i (ome
 abbrev NotBefore : List ℕ → KeyMatch → List ℕ → Type 0
 NotBefore asked found other = (also : KeyMatch) → Matches asked other also → GoesBefore also found → ⊥
 
-behind : (asked other : List ℕ) (found way : KeyMatch) → Matches asked other way → (GoesBefore way found → ⊥) → NotBefore asked found other
-behind asked other found way m n also a b = n (subst (λ w. GoesBefore w found) (one_match asked other other also way a m) b)
+never_ahead : (asked other : List ℕ) (found way : KeyMatch) → Matches asked other way → (GoesBefore way found → ⊥) → NotBefore asked found other
+never_ahead asked other found way m n also a b = n (subst (λ w. GoesBefore w found) (one_match asked other other also way a m) b)
 
 choice : (keys : List (List ℕ)) (asked key : List ℕ) (found : KeyMatch) → Contains keys key → Matches asked key found → Each (NotBefore asked found) keys → IsChoice keys asked key found
 choice keys asked key found c m each = record {
@@ -85,7 +85,7 @@ longest_base_wins =
     let by_script : Matches asked (codes "./a/*.js") (PatternMatch 4 6) = fits asked (codes "./a/*.js") (codes "./a/") (codes "bc") (codes ".js") scripts_in_a refl (lit< tt) in
     let found : Matches asked (codes "./a/b*") way = fits asked (codes "./a/b*") (codes "./a/b") (codes "c.js") [] any_from_b refl (lit< tt) in
     choice three_keys asked (codes "./a/b*") way (1, lit< tt, refl) found
-    (behind asked (codes "./a/*") way (PatternMatch 4 9) by_any (longer_base_first 4 9 5 9 (lit< tt)), (behind asked (codes "./a/b*") way way found (never_before_itself way), (behind asked (codes "./a/*.js") way (PatternMatch 4 6) by_script (longer_base_first 4 6 5 9 (lit< tt)), tt)))
+    (never_ahead asked (codes "./a/*") way (PatternMatch 4 9) by_any (longer_base_first 4 9 5 9 (lit< tt)), (never_ahead asked (codes "./a/b*") way way found (never_before_itself way), (never_ahead asked (codes "./a/*.js") way (PatternMatch 4 6) by_script (longer_base_first 4 6 5 9 (lit< tt)), tt)))
 
 longest_key_wins : IsChoice three_keys (codes "./a/x.js") (codes "./a/*.js") (PatternMatch 4 5)
 longest_key_wins =
@@ -94,7 +94,7 @@ longest_key_wins =
     let by_any : Matches asked (codes "./a/*") (PatternMatch 4 8) = fits asked (codes "./a/*") (codes "./a/") (codes "x.js") [] any_in_a refl (lit< tt) in
     let found : Matches asked (codes "./a/*.js") way = fits asked (codes "./a/*.js") (codes "./a/") (codes "x") (codes ".js") scripts_in_a refl (lit< tt) in
     choice three_keys asked (codes "./a/*.js") way (2, lit< tt, refl) found
-    (behind asked (codes "./a/*") way (PatternMatch 4 8) by_any (longer_key_first 4 8 5 (lit≤ tt)), ((λ also m b. no_pattern_match asked (codes "./a/b*") (codes "./a/b") [] any_from_b x_is_no_b also m), (behind asked (codes "./a/*.js") way way found (never_before_itself way), tt)))
+    (never_ahead asked (codes "./a/*") way (PatternMatch 4 8) by_any (longer_key_first 4 8 5 (lit≤ tt)), ((λ also m b. no_pattern_match asked (codes "./a/b*") (codes "./a/b") [] any_from_b x_is_no_b also m), (never_ahead asked (codes "./a/*.js") way way found (never_before_itself way), tt)))
 
 any_at_all : IsPattern (codes "./*") (codes "./") []
 any_at_all = pattern _ _ _ refl refl refl
@@ -105,7 +105,7 @@ key_itself_wins =
     let by_any : Matches asked (codes "./*") (PatternMatch 2 3) = fits asked (codes "./*") (codes "./") (codes "x") [] any_at_all refl (lit< tt) in
     let found : Matches asked asked Itself = by_itself refl (no_star asked refl) in
     choice (codes "./*" ∷ codes "./x" ∷ []) asked asked Itself (1, lit< tt, refl) found
-    (behind asked (codes "./*") Itself (PatternMatch 2 3) by_any (λ b. b), (behind asked asked Itself Itself found (λ b. b), tt))
+    (never_ahead asked (codes "./*") Itself (PatternMatch 2 3) by_any (λ b. b), (never_ahead asked asked Itself Itself found (λ b. b), tt))
 
 no_part_behind : (part : List ℕ) → codes "./a/" ≡ codes "./a/" ++ (part ++ []) → part ≡ []
 no_part_behind part e = sym (append-nil part) ∙ append_cancel_left (codes "./a/") (part ++ []) [] (sym e)

@@ -7,7 +7,7 @@ use Rattle.url.specs.Input.{strip_tabs_and_new_lines}
 use Rattle.json_spec.specs.PropertyOrder.{is_array_index}
 use Rattle.json_spec.specs.Value.{Json}
 use Rattle.url_spec.specs.Parsing.{text_of, parse_alone}
-use Rattle.node_spec.proofs.SomeOutcome.{Found, found, sound}
+use Rattle.node_spec.proofs.SomeOutcome.{CallsAndOutcome, found, sound}
 use Rattle.node_spec.specs.PackageTargets.{Rules, Call, ResolvesTarget, is_invalid_segment, names_package}
 use Rattle.node_spec.specs.TargetExamples.{StringExamples, NestedExamples, TargetExamples}
 use Rattle.node_spec.specs.declared.BareAnswer.{BareAnswer}
@@ -18,7 +18,7 @@ answers : List ℕ → BareAnswer
 answers text = if bytes_eq text (codes "x") then bare_answer.InvalidTarget else if bytes_eq text (codes "s") then bare_answer.Stop else bare_answer.Found
 
 comes : (rules : Rules) (target : Json) (asked : List Call) (out : Outcome) → found answers rules target ≡ record { asked = asked; out = out } → ResolvesTarget rules target asked out
-comes rules target asked out e = subst (λ (f : Found). ResolvesTarget rules target f.asked f.out) e (sound answers rules target)
+comes rules target asked out e = subst (λ (f : CallsAndOutcome). ResolvesTarget rules target f.asked f.out) e (sound answers rules target)
 
 string_examples : StringExamples
 unfolding answers is_invalid_segment names_package percent_decode strip_tabs_and_new_lines parse_alone text_of url_on_literals
