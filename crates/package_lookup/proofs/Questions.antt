@@ -201,11 +201,12 @@ tells_unfinished : {X Y : Type 0} (tree : Tree) (before after : State) (part : L
     → Tells {X = Y} tree before whole (fails no_memory) after
 tells_unfinished tree before after part response whole one = record { says = λ sights sees. tt; same = one.same }
 
-abbrev failed : (X : Type 0) → Failing → Response X
+-- the failing, as a response to an asking for this
+abbrev pub failed : (X : Type 0) → Failing → Response X
 failed X failing = fails failing
 
 -- the same failing
-carried : {X Y : Type 0} (one other : Failing) → failed X one ≡ failed X other → failed Y one ≡ failed Y other
+pub carried : {X Y : Type 0} (one other : Failing) → failed X one ≡ failed X other → failed Y one ≡ failed Y other
 carried one other e = (let same : one ≡ other = cc in ap fails same)
 
 -- ---- which looks are those of the whole

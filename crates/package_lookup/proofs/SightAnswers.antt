@@ -25,13 +25,10 @@ use Rattle.package_lookup.specs.Responses.{Failing, passes, not_read, no_memory,
 use Rattle.package_lookup.specs.Answered.{State, state, Comes, Tells, IsLookOf, AsksOnce, Answered}
 use Rattle.package_lookup.specs.Fetching.{unknown, IsAsked, Fetches}
 use Rattle.package_lookup.proofs.LookCounts.{counted_large, counted_many, counted_named, counted_alike, stands_counted, large_seen}
-use Rattle.package_lookup.proofs.Questions.{nothing, asks_nothing}
+use Rattle.package_lookup.proofs.Questions.{nothing, asks_nothing, failed}
 
 abbrev End : Type 0
 End = Ended (Option Entry) Trail LimitName
-
-abbrev failed : Failing → Response (Option Entry)
-failed failing = fails failing
 
 -- ---- what the folder was asked for
 
@@ -158,7 +155,7 @@ module _ (before after : FolderState) (old new : Known) (trail : Trail) (path : 
   limit_passed look which fetches count =
       answers trail (Ok look) (fails (passes which)) fetches
       (λ tree same sights sees. ap (ends_by sights) (count tree same sights sees))
-      (covered look (failed (passes which) ≡ fails no_memory) fetches.known)
+      (covered look (failed (Option Entry) (passes which) ≡ fails no_memory) fetches.known)
       (fine look (fails (passes which)) (λ e. cc) fetches.folder) (λ e. cc)
 
   pub sight_large : Fetches before old path (Ok TooLarge) after new → has_room trail path ≡ true
@@ -172,7 +169,7 @@ module _ (before after : FolderState) (old new : Known) (trail : Trail) (path : 
       → Answered (state before old trail) (look_at path) (fails no_memory) (state after new later)
   unfinished_by look later fetches =
       answers later (Ok look) (fails no_memory) fetches (λ tree same sights sees. tt)
-      (covered look (failed no_memory ≡ fails no_memory) fetches.known)
+      (covered look (failed (Option Entry) no_memory ≡ fails no_memory) fetches.known)
       (fine look (fails no_memory) (λ e. cc) fetches.folder) (λ e. cc)
 
   pub sight_fault : (later : Trail) (some : Seen) (fault : LookupFault)
