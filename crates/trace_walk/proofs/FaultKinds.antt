@@ -1,11 +1,15 @@
 -- What is refused where.
-use Rattle.std.proofs.Common.{◌≡◌, ◌≢◌, Result, Ok, Err, IfErr, ap, subst, sym}
+use Rattle.std.proofs.Common.{◌≡◌, ◌≢◌, ℕ, List, Result, Ok, Err, IfErr, ap, subst, sym}
 use Rattle.std.specs.Result.{IsErrAnd}
 use Rattle.trace_spec.specs.declared.TraceFault.{TraceFault}
 use Rattle.trace_spec.specs.declared.TraceFault.TheVariants.{Unservable, Refused, Clash, NotModule, Limit, ReadFault, Memory}
 use Rattle.trace_spec.specs.Walking.{Referrer}
 use Rattle.trace_spec.specs.Modules.{Config, Module, path_of, suffix_of}
-use Rattle.trace_walk.specs.Kinds.{IsOfWalk}
+use Rattle.module_sources.specs.declared.source.NoSource.{NoSource}
+use Rattle.module_sources.specs.declared.source.NoSource.TheVariants as source
+use Rattle.module_sources.specs.Shown.{IsOfSource}
+use Rattle.trace_walk.specs.Kinds.{IsOfAnswers, IsOfWalk}
+use Rattle.trace_walk.specs.Refusing.{no_source_fault}
 use Rattle.trace_walk.specs.Walking.{IsUnserved}
 
 -- a fault that `?` hands on
@@ -27,3 +31,16 @@ unserved_kind config r (NotModule path reason) unserved = absurd (let e = (unser
 unserved_kind config r (Limit which) unserved = absurd (let e = (unserved (λ e. cc)).is in cc)
 unserved_kind config r ReadFault unserved = tt
 unserved_kind config r Memory unserved = tt
+
+pub answers_kind : (config : Config) (fault : TraceFault) → IsOfAnswers fault → IsOfWalk config fault
+answers_kind config (Unservable path url) kind = absurd kind
+answers_kind config (Refused referrer specifier cause) kind = absurd kind
+answers_kind config (Clash referrer first first_to second second_to) kind = absurd kind
+answers_kind config (NotModule path reason) kind = absurd kind
+answers_kind config (Limit which) kind = kind
+answers_kind config ReadFault kind = tt
+answers_kind config Memory kind = tt
+
+pub source_kind : (config : Config) (shown : List ℕ) (why : NoSource) → IsOfSource why → IsOfWalk config (no_source_fault shown why)
+source_kind config shown (source.NotModule reason) kind = tt
+source_kind config shown (source.Above which) kind = kind

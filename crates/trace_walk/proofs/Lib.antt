@@ -6,3 +6,4 @@ pub mod TableLemmas
 pub mod FollowedRequests
 pub mod Visiting
 pub mod UrlLemmas
+pub mod Advancing

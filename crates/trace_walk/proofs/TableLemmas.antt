@@ -15,7 +15,7 @@ use Rattle.layout_spec.specs.Needs.{clashes, NoClash}
 use Rattle.need_table.specs.Rows.{ClashesAt}
 use Rattle.trace_spec.specs.declared.TraceFault.{TraceFault}
 use Rattle.trace_spec.specs.declared.TraceFault.TheVariants.{ReadFault, Memory}
-use Rattle.trace_spec.specs.Walking.{new_modules, a_module}
+use Rattle.trace_spec.specs.Walking.{a_module}
 use Rattle.trace_spec.specs.Walking as walking
 use Rattle.trace_spec.specs.Modules.{Config, Module, is_module, file_name, served_at, shown}
 use Rattle.trace_spec.specs.Checks.{Gathered, Spelling, Wanted, clashing, named}
@@ -26,6 +26,8 @@ use Rattle.trace_walk.specs.declared.tables.Name.{Name}
 use Rattle.trace_walk.specs.declared.tables.Tables.{Tables}
 use Rattle.trace_walk.specs.Shown.{done}
 use Rattle.trace_walk.specs.Walking.{IsReferrer, IsNamed, AllNamed, IsAdded, IsGiven, Grows}
+use Rattle.trace_walk.specs.Kinds.{IsOfWalk}
+use Rattle.trace_walk.specs.Putting.{Puts}
 use Rattle.trace_walk.specs.Refusing.{clash_by, IsClash, IsMisnamed}
 
 -- ---- a module that is looked up
@@ -141,3 +143,9 @@ pub given_misnamed : (config : Config) (r : walking.Referrer Module) (referrer :
 given_misnamed config r referrer before want specifier target fault result tables is handed misnamed =
     handed_given (named config before r want (record { referrer = shown config r; specifier = specifier; target = target }) (served_at config (a_module target))) fault result tables handed
     (λ ne. (misnamed ne).refuses r before want is) (λ ne. (misnamed ne).no_look)
+
+-- ---- a request that is refused
+
+pub puts_refused : (config : Config) (referrer : List ℕ) (old new : Tables) (fault : TraceFault) (result : Result (Unit {0}) TraceFault) → IsErrAnd result (λ f. f ≡ fault) → IsOfWalk config fault → Puts config referrer old new result
+puts_refused config referrer old new fault (Ok unit) is kind = absurd is
+puts_refused config referrer old new fault (Err other) is kind = record { grows = tt; counts = tt; urls = tt; kind = subst (IsOfWalk config) (sym is) kind }

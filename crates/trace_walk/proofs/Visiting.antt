@@ -1,6 +1,6 @@
 -- Visits, and the walk over the table of modules.
 use Rattle.std.proofs.Common.{◌≡◌, ◌≢◌, ◌≤◌, ◌<◌, ◌+◌, ◌-◌, ℕ, zero, suc, List, [], ◌∷◌, ◌++◌, length, length-append, Option, Some, None, Result, Ok, Err, refl, sym, ap, ◌∙◌, subst, arith}
-use Rattle.std.specs.Prelude.{slice_get, map, OnOk}
+use Rattle.std.specs.Prelude.{slice_get, map}
 use Rattle.std.specs.Map.{keys_of}
 use Rattle.std.specs.Result.{IsErrAnd}
 use Rattle.std.proofs.lemmas.List.{map-append, length-map}
@@ -51,9 +51,9 @@ grows_on config some others old middle new one two = record {
 }
 
 -- a visit puts its source into the tables first
-by_visit : (config : Config) (tables pushed new : Tables) (source : Source) → pushed.modules ≡ tables.modules → pushed.sources.items ≡ tables.sources.items ++ source ∷ [] → pushed.needs ≡ tables.needs → pushed.requests ≡ tables.requests
+pub grows_by_visit : (config : Config) (tables pushed new : Tables) (source : Source) → pushed.modules ≡ tables.modules → pushed.sources.items ≡ tables.sources.items ++ source ∷ [] → pushed.needs ≡ tables.needs → pushed.requests ≡ tables.requests
     → Grows config 0 pushed new → Grows config 1 tables new
-by_visit config tables pushed new source modules sources needs requests grows =
+grows_by_visit config tables pushed new source modules sources needs requests grows =
     let count : length pushed.sources.items ≡ length tables.sources.items + 1 = ap length sources ∙ length-append tables.sources.items (source ∷ []) in
     let same : length pushed.modules.entries ≡ length tables.modules.entries = ap (λ ms. length ms.entries) modules in
     record {
@@ -65,11 +65,6 @@ by_visit config tables pushed new source modules sources needs requests grows =
       beside = grows.beside;
       clear = λ clear. grows.clear (subst NoClash (sym needs) clear);
     }
-
-pub grows_by_visit : (config : Config) (result : Result (Unit {0}) TraceFault) (tables pushed new : Tables) (source : Source) → pushed.modules ≡ tables.modules → pushed.sources.items ≡ tables.sources.items ++ source ∷ [] → pushed.needs ≡ tables.needs → pushed.requests ≡ tables.requests
-    → OnOk result (Grows config 0 pushed new) → OnOk result (Grows config 1 tables new)
-grows_by_visit config (Ok unit) tables pushed new source modules sources needs requests grows = by_visit config tables pushed new source modules sources needs requests grows
-grows_by_visit config (Err fault) tables pushed new source modules sources needs requests grows = tt
 
 -- the tables behind the page's visit and those of all modules
 pub whole_by : (config : Config) (empty paged tables : Tables) → empty.modules.entries ≡ [] → empty.sources.items ≡ [] → empty.needs ≡ [] → empty.requests ≡ 0

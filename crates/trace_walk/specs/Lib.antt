@@ -3,4 +3,5 @@ pub mod Shown
 pub mod Kinds
 pub mod Walking
 pub mod Refusing
+pub mod Putting
 pub mod Configs

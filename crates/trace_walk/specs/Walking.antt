@@ -5,7 +5,7 @@
 --     AreBeside tables                      each need has its spelling
 --     IsAdded needs spellings need spelling after spelled      a need that clashes with none is put with its spelling
 --     AreOfUrls needs                       the referrer of each need is a URL
---     KeepsUrls referrer old new            where this referrer is a URL, the needs stay so
+--     KeepsUrls asks old new                where who asks is a URL, as `asks` says, the needs stay so
 --     Grows config visits old new           the tables grow by so many visits, and keep few modules, each with its
 --                                           name, and few requests
 --     IsWhole tables                        each module has its source, there aren't too many, nor too many requests,
@@ -14,7 +14,12 @@
 --     IsUnserved config path suffix fault   the refusal of what isn't served at its web name
 --     wanted_of name asked                  what a referrer of this name asks for
 --     Spends, IsBounded                     how many steps a part takes
+--     Advances config visits asks old new before after is_ready
+--                                           what is left behind by a part of so many visits that isn't refused
+--     Walks config visits most asks old new before after is_ready result
+--                                           a part of the walk, of this many visits at most, whatever it ends with
 use Rattle.std.specs.Prelude.{◌≡◌, ◌≢◌, ◌≤◌, ◌+◌, ◌++◌, ℕ, List, length, Some, None, Result, Ok, Err, All, false}
+use Rattle.std.specs.Prelude.{IfErr, OnOk}
 use Rattle.std.specs.List.{list_any}
 use Rattle.tree_spec.specs.declared.LimitName.TheVariants.{Modules, Requests}
 use Rattle.tree_spec.specs.Limits.{limit_number}
@@ -30,6 +35,7 @@ use Rattle.url_spec.specs.WebNames.{web}
 use Rattle.trace_walk.specs.declared.referrer.Referrer.{Referrer}
 use Rattle.trace_walk.specs.declared.tables.Name.{Name}
 use Rattle.trace_walk.specs.declared.tables.Tables.{Tables}
+use Rattle.trace_walk.specs.Kinds.{IsOfWalk}
 
 pub record IsReferrer (config : Config) (referrer : spec.Referrer Module) (value : Referrer) : Type 0 where
   pub named : web_name config referrer ≡ Some value.name
@@ -58,9 +64,9 @@ pub record IsAdded (needs : List Need) (spellings : List Spelling) (need : Need)
 abbrev pub AreOfUrls : List Need → Type 0
 AreOfUrls needs = All (λ need. IsUrl need.referrer) needs
 
--- where this referrer is the text of a URL, that of each need stays one
-abbrev pub KeepsUrls : List ℕ → List Need → List Need → Type 0
-KeepsUrls referrer old new = IsUrl referrer → AreOfUrls old → AreOfUrls new
+-- where who asks has the text of a URL, which `asks` says, the referrer of each need stays one
+abbrev pub KeepsUrls : Type 0 → List Need → List Need → Type 0
+KeepsUrls asks old new = asks → AreOfUrls old → AreOfUrls new
 
 -- a part gives its definition's result, or memory is wanting
 pub record IsGiven {X : Type 0} (definition result : Result X TraceFault) : Type 0 where
@@ -107,3 +113,20 @@ Spends visits old new before after = after + old.requests ≤ before + visits + 
 abbrev pub IsBounded : ℕ → Tables → ℕ → ℕ → Type 0
 IsBounded visits old before after =
     old.requests ≤ limit_number Requests → after + old.requests ≤ before + visits + limit_number Requests
+
+-- ---- parts of the walk
+
+-- the tables and the steps behind so many visits, and the answerer is ready for more
+pub record Advances (config : Config) (visits : ℕ) (asks : Type 0) (old new : Tables) (before after : ℕ)
+    (is_ready : Type 0) : Type 0 where
+  pub grows : Grows config visits old new
+  pub urls : KeepsUrls asks old.needs new.needs
+  pub steps : Spends visits old new before after
+  pub ready : is_ready
+
+-- and where it is refused, it took no more steps than there was room for
+pub record Walks (config : Config) (visits most : ℕ) (asks : Type 0) (old new : Tables) (before after : ℕ)
+    (is_ready : Type 0) (result : Result (Unit {0}) TraceFault) : Type 0 where
+  pub advances : OnOk result (Advances config visits asks old new before after is_ready)
+  pub bounded : IsBounded most old before after
+  pub kind : IfErr result (IsOfWalk config)

@@ -1,14 +1,14 @@
-ghost use Rattle.std.specs.Prelude.{◌≡◌, ◌≢◌, ◌≤◌, ◌<◌, ◌+◌, ℕ, List, length, Some, Ok, IfOk, IfErr, OnOk};
+ghost use Rattle.std.specs.Prelude.{◌≡◌, ◌≢◌, ◌≤◌, ◌<◌, ℕ, List, length, Some, Ok, IfOk, IfErr};
 ghost use Rattle.tree_spec.specs.declared.LimitName.TheVariants.{Requests, Specifier};
 ghost use Rattle.tree_spec.specs.Limits.{limit_number};
+ghost use Rattle.url_spec.specs.Parsing.{IsUrl};
 ghost use Rattle.trace_spec.specs.Modules as spec;
 ghost use Rattle.trace_spec.specs.Walking.{Referrer as Referring};
 ghost use Rattle.trace_spec.specs.Checks.{Gathered, wanted_by, checked, follows};
 ghost use Rattle.trace_walk.specs.Kinds.{IsOfWalk};
 ghost use Rattle.trace_walk.specs.Meeting.{Met};
 ghost use Rattle.trace_walk.specs.Refusing.{IsUnwanted};
-ghost use Rattle.trace_walk.specs.Walking.{IsReferrer, AllNamed, AreBeside, KeepsUrls, Grows, IsGiven, wanted_of};
-ghost use Rattle.trace_walk.specs.Walking.{IsBounded};
+ghost use Rattle.trace_walk.specs.Walking.{IsReferrer, AllNamed, AreBeside, IsGiven, wanted_of, Walks};
 ghost use Rattle.trace_walk.specs.Shown.{before_of, done};
 
 use crate::answerer::{Answerer, NodeAnswer};
@@ -38,13 +38,8 @@ pub(crate) fn follow<A: Answerer>(
         → AllNamed config.now tables.old.modules.entries
         → Met (A.state answerer.old) (follows config.now (before_of tables.old) r specifier.now)
         (done result tables.new) (A.state answerer.new) }
-    ensures grows { OnOk result (Grows config.now 0 tables.old tables.new) }
-    ensures counts { OnOk result (tables.new.requests ≡ tables.old.requests + 1) }
-    ensures urls { OnOk result (KeepsUrls referrer.now.text tables.old.needs tables.new.needs) }
-    ensures steps { A.steps answerer.new ≤ A.steps answerer.old + 1 }
-    ensures bounded { IsBounded 0 tables.old (A.steps answerer.old) (A.steps answerer.new) }
-    ensures kind { IfErr result (IsOfWalk config.now) }
-    ensures ready { OnOk result (A.ready answerer.new) }
+    ensures walks { Walks config.now 0 0 (IsUrl referrer.now.text) tables.old tables.new
+        (A.steps answerer.old) (A.steps answerer.new) (A.ready answerer.new) result }
 {
     let asked = check(alloc, tables.requests, referrer, specifier)?;
     let conditions = config.conditions();

@@ -1,4 +1,4 @@
-ghost use Rattle.std.specs.Prelude.{◌≡◌, ◌≢◌, ◌≤◌, ◌<◌, ◌+◌, ◌++◌, ◌∷◌, [], ℕ, List, Option, Some, None, Ok, Err};
+ghost use Rattle.std.specs.Prelude.{◌≡◌, ◌≢◌, ◌≤◌, ◌<◌, ◌++◌, ◌∷◌, [], ℕ, List, Option, Some, None, Ok, Err};
 ghost use Rattle.std.specs.Prelude.{true, false, length, slice_get, IfOk, IfErr, IfSome, OnOk};
 ghost use Rattle.std.specs.List.{list_any};
 ghost use Rattle.indexmap.specs.IndexMap.{keys};
@@ -9,9 +9,9 @@ ghost use Rattle.trace_spec.specs.Modules.{file_name};
 ghost use Rattle.trace_spec.specs.Walking.{Referrer as Referring};
 ghost use Rattle.trace_spec.specs.Checks.{needed, led};
 ghost use Rattle.trace_walk.specs.Kinds.{IsOfWalk};
-ghost use Rattle.trace_walk.specs.Refusing.{IsMisnamed, IsClash};
-ghost use Rattle.trace_walk.specs.Walking.{IsReferrer, AllNamed, AreBeside, IsNamed, IsAdded, IsGiven, Grows};
-ghost use Rattle.trace_walk.specs.Walking.{KeepsUrls};
+ghost use Rattle.trace_walk.specs.Refusing.{IsMisnamed};
+ghost use Rattle.trace_walk.specs.Putting.{PutsNeed, Puts};
+ghost use Rattle.trace_walk.specs.Walking.{IsReferrer, AllNamed, AreBeside, IsNamed, IsGiven};
 ghost use Rattle.trace_walk.specs.Shown.{before_of, done};
 
 use crate::config::Config;
@@ -83,10 +83,7 @@ impl Tables {
             → AllNamed config.now self.old.modules.entries
             → IsGiven (led config.now (before_of self.old) r specifier.now
             (record { referrer = referrer.now.name; asked = asked }) (Ok target)) (done result self.new) }
-        ensures grows { OnOk result (Grows config.now 0 self.old self.new) }
-        ensures counts { OnOk result (self.new.requests ≡ self.old.requests + 1) }
-        ensures urls { OnOk result (KeepsUrls referrer.now.text self.old.needs self.new.needs) }
-        ensures kind { IfErr result (IsOfWalk config.now) }
+        ensures puts { Puts config.now referrer.now.text self.old self.new result }
     {
         match known_text(&self.modules, alloc, &target)? {
             Some(text) => self.put_known(alloc, config, referrer, specifier, asked, &target, text),
@@ -117,20 +114,17 @@ impl Tables {
             (record { referrer = referrer.now.text; asked = asked; target = text })
             (record { referrer = referrer.now.shown; specifier = specifier.now; target = target.now }))
             (done result self.new) }
-        ensures grows { OnOk result (Grows config.now 0 self.old self.new) }
-        ensures counts { OnOk result (self.new.requests ≡ self.old.requests + 1) }
-        ensures urls { OnOk result (KeepsUrls referrer.now.text self.old.needs self.new.needs) }
-        ensures kind { IfErr result (IsOfWalk config.now) }
+        ensures puts { Puts config.now referrer.now.text self.old self.new result }
     {
-        let spelling = spelling_of(alloc, referrer, specifier, target)?;
-        let need = need_of(alloc, referrer, asked, text)?;
-        put_need(
+        put_spelled(
             alloc,
             &mut self.needs,
             &mut self.spellings,
             referrer,
-            need,
-            spelling,
+            specifier,
+            asked,
+            target,
+            text,
         )?;
         self.requests += 1;
         Ok(())
@@ -157,26 +151,46 @@ impl Tables {
             (record { referrer = referrer.now.text; asked = asked; target = name.text })
             (record { referrer = referrer.now.shown; specifier = specifier.now; target = target }))
             (done result self.new) }
-        ensures grows { OnOk result (Grows config.now 0 self.old self.new) }
-        ensures counts { OnOk result (self.new.requests ≡ self.old.requests + 1) }
-        ensures urls { OnOk result (KeepsUrls referrer.now.text self.old.needs self.new.needs) }
-        ensures kind { IfErr result (IsOfWalk config.now) }
+        ensures puts { Puts config.now referrer.now.text self.old self.new result }
     {
-        let spelling = spelling_of(alloc, referrer, specifier, &target)?;
         let text = name.text.copy(alloc)?;
-        let need = need_of(alloc, referrer, asked, text)?;
-        put_need(
+        put_spelled(
             alloc,
             &mut self.needs,
             &mut self.spellings,
             referrer,
-            need,
-            spelling,
+            specifier,
+            asked,
+            &target,
+            text,
         )?;
         put_module(&mut self.modules, target, name)?;
         self.requests += 1;
         Ok(())
     }
+}
+
+// Puts the need of a request among the others, as the request spells it.
+fn put_spelled(
+    alloc: Global,
+    needs: &mut Needs,
+    spellings: &mut Vec<Spelling>,
+    referrer: &Referrer,
+    specifier: &Text,
+    asked: Text,
+    target: &Module,
+    text: Text,
+) -> Result<(), TraceFault>
+    requires beside { length spellings.old.items ≡ length needs.old }
+    requires short { length specifier.now ≤ limit_number Specifier }
+    ensures { PutsNeed referrer.now needs.old spellings.old.items
+        (record { referrer = referrer.now.text; asked = asked; target = text })
+        (record { referrer = referrer.now.shown; specifier = specifier.now; target = target.now })
+        needs.new spellings.new.items result }
+{
+    let spelling = spelling_of(alloc, referrer, specifier, target)?;
+    let need = need_of(alloc, referrer, asked, text)?;
+    put_need(alloc, needs, spellings, referrer, need, spelling)
 }
 
 // How a request spells its need.
@@ -270,10 +284,8 @@ fn put_need(
     spelling: Spelling,
 ) -> Result<(), TraceFault>
     requires beside { length spellings.old.items ≡ length needs.old }
-    ensures added { OnOk result (IsAdded needs.old spellings.old.items need spelling needs.new spellings.new.items) }
-    ensures clash { IfErr result (λ fault. fault ≢ TraceFault.Memory
-        → IsClash referrer.now needs.old need spellings.old.items spelling fault) }
-    ensures kind { IfErr result (λ fault. (config : spec.Config) → IsOfWalk config fault) }
+    ensures { PutsNeed referrer.now needs.old spellings.old.items need spelling needs.new spellings.new.items
+        result }
 {
     match needs.add(need) {
         Ok(Added::New) => {

@@ -1,8 +1,9 @@
 ghost use Rattle.std.specs.Prelude.{◌≡◌, ◌≢◌, ◌≤◌, ◌<◌, ◌+◌, ◌++◌, ◌∷◌, [], length, Some, slice_get, suc, IfOk, IfErr};
-ghost use Rattle.std.specs.Prelude.{OnOk};
+ghost use Rattle.std.specs.Prelude.{⊤, OnOk};
 ghost use Rattle.indexmap.specs.IndexMap.{keys};
 ghost use Rattle.tree_spec.specs.declared.LimitName.TheVariants.{Modules, Requests};
 ghost use Rattle.tree_spec.specs.Limits.{limit_number};
+ghost use Rattle.url_spec.specs.Parsing.{IsUrl};
 ghost use Rattle.trace_spec.specs.Modules as spec;
 ghost use Rattle.trace_spec.specs.Walking.{Referrer as Referring, the_page, a_module, followed, visited, walked};
 ghost use Rattle.trace_spec.specs.Checks.{rules};
@@ -10,8 +11,7 @@ ghost use Rattle.trace_spec.specs.Traces.{trace};
 ghost use Rattle.trace_spec.specs.Modules.{served_at};
 ghost use Rattle.trace_walk.specs.Kinds.{IsOfWalk};
 ghost use Rattle.trace_walk.specs.Meeting.{Met};
-ghost use Rattle.trace_walk.specs.Walking.{IsReferrer, AllNamed, AreBeside, AreOfUrls, KeepsUrls, Grows, IsWhole};
-ghost use Rattle.trace_walk.specs.Walking.{IsUnserved, Spends, IsBounded};
+ghost use Rattle.trace_walk.specs.Walking.{IsReferrer, AllNamed, AreBeside, IsWhole, IsUnserved, Walks};
 ghost use Rattle.trace_walk.specs.Shown.{before_of, done, traced_of, specifiers_of};
 
 use crate::answerer::Answerer;
@@ -64,12 +64,8 @@ fn visit_page<A: Answerer>(
     ensures met { AllNamed config.now tables.old.modules.entries
         → Met (A.state answerer.old) (visited (rules config.now) (before_of tables.old) the_page)
         (done result tables.new) (A.state answerer.new) }
-    ensures grows { OnOk result (Grows config.now 0 tables.old tables.new) }
-    ensures urls { OnOk result (AreOfUrls tables.old.needs → AreOfUrls tables.new.needs) }
-    ensures steps { OnOk result (Spends 0 tables.old tables.new (A.steps answerer.old) (A.steps answerer.new)) }
-    ensures bounded { IsBounded 0 tables.old (A.steps answerer.old) (A.steps answerer.new) }
-    ensures kind { IfErr result (IsOfWalk config.now) }
-    ensures ready { OnOk result (A.ready answerer.new) }
+    ensures walks { Walks config.now 0 0 ⊤ tables.old tables.new
+        (A.steps answerer.old) (A.steps answerer.new) (A.ready answerer.new) result }
 {
     let referrer = page_referrer(alloc, config)?;
     let entries = Specifiers::Entries(config.entries());
@@ -109,12 +105,8 @@ fn follow_all<A: Answerer>(
         → Met (A.state answerer.old)
         (followed (rules config.now) (before_of tables.old) r (specifiers_of specifiers.entry))
         (done result tables.new) (A.state answerer.new) }
-    ensures grows { OnOk result (Grows config.now 0 tables.old tables.new) }
-    ensures urls { OnOk result (KeepsUrls referrer.now.text tables.old.needs tables.new.needs) }
-    ensures steps { OnOk result (Spends 0 tables.old tables.new (A.steps answerer.old) (A.steps answerer.new)) }
-    ensures bounded { IsBounded 0 tables.old (A.steps answerer.old) (A.steps answerer.new) }
-    ensures kind { IfErr result (IsOfWalk config.now) }
-    ensures ready { OnOk result (A.ready answerer.new) }
+    ensures walks { Walks config.now 0 0 (IsUrl referrer.now.text) tables.old tables.new
+        (A.steps answerer.old) (A.steps answerer.new) (A.ready answerer.new) result }
 {
     let mut next = 0;
     while next < specifiers.len() {
@@ -138,14 +130,9 @@ fn visit_modules<A: Answerer>(
     ensures met { AllNamed config.now tables.old.modules.entries
         → Met (A.state answerer.old) (walked (rules config.now) (suc (limit_number Modules))
         (before_of tables.old) 0) (done result tables.new) (A.state answerer.new) }
-    ensures grows { OnOk result (Grows config.now (length tables.new.modules.entries) tables.old tables.new) }
-    ensures urls { OnOk result (AllNamed config.now tables.old.modules.entries
-        → AreOfUrls tables.old.needs → AreOfUrls tables.new.needs) }
-    ensures steps { OnOk result (Spends (length tables.new.modules.entries) tables.old tables.new
-        (A.steps answerer.old) (A.steps answerer.new)) }
-    ensures bounded { IsBounded (limit_number Modules) tables.old (A.steps answerer.old) (A.steps answerer.new) }
-    ensures kind { IfErr result (IsOfWalk config.now) }
-    ensures ready { OnOk result (A.ready answerer.new) }
+    ensures walks { Walks config.now (length tables.new.modules.entries) (limit_number Modules)
+        (AllNamed config.now tables.old.modules.entries) tables.old tables.new
+        (A.steps answerer.old) (A.steps answerer.new) (A.ready answerer.new) result }
 {
     let mut place = 0;
     while place < tables.modules.len() {
@@ -170,13 +157,8 @@ fn visit<A: Answerer>(
         → AllNamed config.now tables.old.modules.entries
         → Met (A.state answerer.old) (visited (rules config.now) (before_of tables.old) (a_module m))
         (done result tables.new) (A.state answerer.new) }
-    ensures grows { OnOk result (Grows config.now 1 tables.old tables.new) }
-    ensures urls { OnOk result (AllNamed config.now tables.old.modules.entries
-        → AreOfUrls tables.old.needs → AreOfUrls tables.new.needs) }
-    ensures steps { OnOk result (Spends 1 tables.old tables.new (A.steps answerer.old) (A.steps answerer.new)) }
-    ensures bounded { IsBounded 1 tables.old (A.steps answerer.old) (A.steps answerer.new) }
-    ensures kind { IfErr result (IsOfWalk config.now) }
-    ensures ready { OnOk result (A.ready answerer.new) }
+    ensures walks { Walks config.now 1 1 (AllNamed config.now tables.old.modules.entries) tables.old tables.new
+        (A.steps answerer.old) (A.steps answerer.new) (A.ready answerer.new) result }
 {
     let (module, name) = tables.modules.get_index(place).unwrap();
     let referrer = referrer_of(alloc, module, name)?;
@@ -197,12 +179,8 @@ fn visit_module<A: Answerer>(
         → AllNamed config.now tables.old.modules.entries
         → Met (A.state answerer.old) (visited (rules config.now) (before_of tables.old) (a_module m))
         (done result tables.new) (A.state answerer.new) }
-    ensures grows { OnOk result (Grows config.now 1 tables.old tables.new) }
-    ensures urls { OnOk result (KeepsUrls referrer.now.text tables.old.needs tables.new.needs) }
-    ensures steps { OnOk result (Spends 1 tables.old tables.new (A.steps answerer.old) (A.steps answerer.new)) }
-    ensures bounded { IsBounded 1 tables.old (A.steps answerer.old) (A.steps answerer.new) }
-    ensures kind { IfErr result (IsOfWalk config.now) }
-    ensures ready { OnOk result (A.ready answerer.new) }
+    ensures walks { Walks config.now 1 1 (IsUrl referrer.now.text) tables.old tables.new
+        (A.steps answerer.old) (A.steps answerer.new) (A.ready answerer.new) result }
 {
     match answerer.module(alloc, &referrer.path)? {
         Ok(source) => {

@@ -2,17 +2,14 @@ use Rattle.std.proofs.Common.{◌≤◌, ◌-◌, length}
 use Rattle.trace_spec.specs.Walking.{walked}
 use Rattle.trace_spec.specs.Checks.{rules}
 use Rattle.trace_walk.specs.Shown.{before_of}
-use Rattle.trace_walk.specs.Walking.{AllNamed, AreOfUrls, Grows, Spends}
+use Rattle.trace_walk.specs.Walking.{AllNamed, Advances}
 use Rattle.trace_walk.proofs.Meetings.{Left}
 use Rattle.trace_walk.proofs.visits.visit_modules.Given as goal
 
 abbrev pub invariant-loop-place : goal.invariant-loop-place
 invariant-loop-place g l = record {
   left : AllNamed l.config l.fn.tables.modules.entries → Left (g.A.Answerer.state l.fn.answerer) (walked (rules l.config) 20001 (before_of l.fn.tables) 0) (g.A.Answerer.state l.answerer) (walked (rules l.config) (20001 - l.place) (before_of l.tables) l.place);
-  grows : Grows l.config l.place l.fn.tables l.tables;
-  spends : Spends l.place l.fn.tables l.tables (g.A.Answerer.steps l.fn.answerer) (g.A.Answerer.steps l.answerer);
-  urls : AllNamed l.config l.fn.tables.modules.entries → AreOfUrls l.fn.tables.needs → AreOfUrls l.tables.needs;
-  ready : g.A.Answerer.ready l.answerer;
+  advances : Advances l.config l.place (AllNamed l.config l.fn.tables.modules.entries) l.fn.tables l.tables (g.A.Answerer.steps l.fn.answerer) (g.A.Answerer.steps l.answerer) (g.A.Answerer.ready l.answerer);
   few : length l.tables.modules.entries ≤ 20000;
   within : l.place ≤ length l.tables.modules.entries;
 }

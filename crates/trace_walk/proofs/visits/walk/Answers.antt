@@ -24,31 +24,31 @@ returns-in_err-visit_modules-clause-met g c =
     let begins = begun_is c.new-tables.result c.new-tables.ensures.modules c.new-tables.ensures.sources c.new-tables.ensures.needs c.new-tables.ensures.spellings c.new-tables.ensures.requests in
     subst (λ v. Met (g.A.Answerer.state c.args.answerer.now) (trace c.args.config.now) (traced_of v) (g.A.Answerer.state c.visit_modules.new.answerer)) (sym (handed c.from_residual-in_err-visit_modules.result c.in_err-visit_modules.field-0.0 c.from_residual-in_err-visit_modules.ensures.1))
     (walk_paged _ _ _ c.args.config.now (before_of c.new-tables.result) (before_of c.visit_page.new.tables) (Err c.in_err-visit_modules.field-0.0) begins
-    (c.in_ok-visit_page.ensures.met none) (c.in_err-visit_modules.ensures.met (c.in_ok-visit_page.ensures.grows.named none)))
+    (c.in_ok-visit_page.ensures.met none) (c.in_err-visit_modules.ensures.met (c.in_ok-visit_page.ensures.walks.advances.grows.named none)))
 
 pub returns-clause-met : goal.returns-clause-met
 returns-clause-met g c =
     let none : AllNamed c.args.config.now c.new-tables.result.modules.entries = subst (AllNamed c.args.config.now) (sym c.new-tables.ensures.modules) (All-nil (λ (x : Module × Name). IsNamed c.args.config.now x.0 x.1)) in
     let begins = begun_is c.new-tables.result c.new-tables.ensures.modules c.new-tables.ensures.sources c.new-tables.ensures.needs c.new-tables.ensures.spellings c.new-tables.ensures.requests in
     walk_paged _ _ _ c.args.config.now (before_of c.new-tables.result) (before_of c.visit_page.new.tables) (Ok (before_of c.visit_modules.new.tables)) begins
-    (c.in_ok-visit_page.ensures.met none) (c.in_ok-visit_modules.ensures.met (c.in_ok-visit_page.ensures.grows.named none))
+    (c.in_ok-visit_page.ensures.met none) (c.in_ok-visit_modules.ensures.met (c.in_ok-visit_page.ensures.walks.advances.grows.named none))
 
 pub returns-clause-whole : goal.returns-clause-whole
 returns-clause-whole g c =
     let none : AllNamed c.args.config.now c.new-tables.result.modules.entries = subst (AllNamed c.args.config.now) (sym c.new-tables.ensures.modules) (All-nil (λ (x : Module × Name). IsNamed c.args.config.now x.0 x.1)) in
     let begun : AreOfUrls c.new-tables.result.needs = subst AreOfUrls (sym c.new-tables.ensures.needs) no_urls in
-    whole_by c.args.config.now c.new-tables.result c.visit_page.new.tables c.visit_modules.new.tables c.new-tables.ensures.modules c.new-tables.ensures.sources c.new-tables.ensures.needs c.new-tables.ensures.requests c.in_ok-visit_page.ensures.grows c.in_ok-visit_modules.ensures.grows
-    (c.in_ok-visit_modules.ensures.urls (c.in_ok-visit_page.ensures.grows.named none) (c.in_ok-visit_page.ensures.urls begun))
+    whole_by c.args.config.now c.new-tables.result c.visit_page.new.tables c.visit_modules.new.tables c.new-tables.ensures.modules c.new-tables.ensures.sources c.new-tables.ensures.needs c.new-tables.ensures.requests c.in_ok-visit_page.ensures.walks.advances.grows c.in_ok-visit_modules.ensures.walks.advances.grows
+    (c.in_ok-visit_modules.ensures.walks.advances.urls (c.in_ok-visit_page.ensures.walks.advances.grows.named none) (c.in_ok-visit_page.ensures.walks.advances.urls tt begun))
 
 pub returns-clause-bounded : goal.returns-clause-bounded
 returns-clause-bounded g c =
     let begins = c.new-tables.ensures.requests in
-    let page = c.in_ok-visit_page.ensures.steps in
-    let few = c.in_ok-visit_page.ensures.grows.requests (omega (arith, begins)) in
-    let all = c.in_ok-visit_modules.ensures.bounded few in
+    let page = c.in_ok-visit_page.ensures.walks.advances.steps in
+    let few = c.in_ok-visit_page.ensures.walks.advances.grows.requests (omega (arith, begins)) in
+    let all = c.in_ok-visit_modules.ensures.walks.bounded few in
     omega (arith, begins, page, all)
 
 pub returns-clause-named : goal.returns-clause-named
 returns-clause-named g c =
     let none : AllNamed c.args.config.now c.new-tables.result.modules.entries = subst (AllNamed c.args.config.now) (sym c.new-tables.ensures.modules) (All-nil (λ (x : Module × Name). IsNamed c.args.config.now x.0 x.1)) in
-    c.in_ok-visit_modules.ensures.grows.named (c.in_ok-visit_page.ensures.grows.named none)
+    c.in_ok-visit_modules.ensures.walks.advances.grows.named (c.in_ok-visit_page.ensures.walks.advances.grows.named none)

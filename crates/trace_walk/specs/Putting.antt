@@ -1,0 +1,30 @@
+-- What puts a request into the tables.
+--     PutsNeed referrer needs spellings need spelling after spelled result
+--                                           a need is put among the others with its spelling, or clashes with one
+--     Puts config referrer old new result   a request of this referrer is put into the tables, and counted
+use Rattle.std.specs.Prelude.{◌≡◌, ◌≢◌, ◌+◌, ℕ, List, Result, IfErr, OnOk}
+use Rattle.layout_spec.specs.declared.Need.{Need}
+use Rattle.url_spec.specs.Parsing.{IsUrl}
+use Rattle.trace_spec.specs.declared.TraceFault.{TraceFault}
+use Rattle.trace_spec.specs.declared.TraceFault.TheVariants.{Memory}
+use Rattle.trace_spec.specs.Checks.{Spelling}
+use Rattle.trace_spec.specs.Modules.{Config}
+use Rattle.trace_walk.specs.declared.referrer.Referrer.{Referrer}
+use Rattle.trace_walk.specs.declared.tables.Tables.{Tables}
+use Rattle.trace_walk.specs.Kinds.{IsOfWalk}
+use Rattle.trace_walk.specs.Refusing.{IsClash}
+use Rattle.trace_walk.specs.Walking.{IsAdded, KeepsUrls, Grows}
+
+pub record PutsNeed (referrer : Referrer) (needs : List Need) (spellings : List Spelling) (need : Need)
+    (spelling : Spelling) (after : List Need) (spelled : List Spelling)
+    (result : Result (Unit {0}) TraceFault) : Type 0 where
+  pub added : OnOk result (IsAdded needs spellings need spelling after spelled)
+  pub clash : IfErr result (λ fault. fault ≢ Memory → IsClash referrer needs need spellings spelling fault)
+  pub kind : IfErr result (λ fault. (config : Config) → IsOfWalk config fault)
+
+pub record Puts (config : Config) (referrer : List ℕ) (old new : Tables)
+    (result : Result (Unit {0}) TraceFault) : Type 0 where
+  pub grows : OnOk result (Grows config 0 old new)
+  pub counts : OnOk result (new.requests ≡ old.requests + 1)
+  pub urls : OnOk result (KeepsUrls (IsUrl referrer) old.needs new.needs)
+  pub kind : IfErr result (IsOfWalk config)
