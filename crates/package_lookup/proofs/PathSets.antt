@@ -6,7 +6,7 @@ use Rattle.std.proofs.lemmas.Bool.{cond-false}
 use Rattle.std.proofs.lemmas.List.Elements.{All-head, All-tail, recursion_from_All}
 use Rattle.tree_spec.specs.LookAskings.{is_seen, with_seen}
 use Rattle.tree_spec.specs.LookLimits.{Trail}
-use Rattle.tree_spec.proofs.FootprintSets.{seen_by}
+use Rattle.tree_spec.proofs.FootprintSets.{seen_by, trail_of}
 use Rattle.indexmap.specs.IndexSet.{insert_key}
 
 -- a set keeps the order of first insertions
@@ -36,9 +36,6 @@ distinct_append (x ∷ xs) ys some more apart = (
       (recursion_from_All (λ y. bytes_eq x y ≡ false) ys (All-head (Apart ys) x xs apart)),
   distinct_append xs ys some.1 more (All-tail (Apart ys) x xs apart),
 )
-
-abbrev pub trail_of : List (List ℕ) → ℕ → List (List ℕ) → Trail
-trail_of paths size question = record { paths = paths; size = size; question = question }
 
 -- a path that is new behind the paths of a trail
 pub appended : (paths : List (List ℕ)) (size : ℕ) (question after : List (List ℕ)) (path : List ℕ) (old : Trail)
