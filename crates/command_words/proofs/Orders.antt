@@ -6,13 +6,13 @@ use Rattle.node_spec.specs.Conditions.{AreConditions, names_in}
 use Rattle.tree_spec.specs.Paths.{IsPath}
 use Rattle.url_spec.specs.Bases.{base_of}
 use Rattle.config_spec.specs.Words.{Sets, SetsBase, SetsPage, SetsConditions}
-use Rattle.config_spec.specs.Words.SetsBase.{none as no_base, given as some_base}
+use Rattle.config_spec.specs.Words.SetsBase.{given as some_base}
 use Rattle.config_spec.specs.Words.SetsPage.{none as no_page, given as some_page}
-use Rattle.config_spec.specs.Words.SetsConditions.{none as no_conditions, given as some_conditions}
-use Rattle.words_spec.specs.PlainWords.{Asked, Asks, no_options}
+use Rattle.config_spec.specs.Words.SetsConditions.{given as some_conditions}
+use Rattle.words_spec.specs.PlainWords.{Asked, Asks}
 use Rattle.command_words.specs.declared.fault.WordsFault.{WordsFault}
 use Rattle.command_words.specs.declared.order.Order.{Order}
-use Rattle.command_words.specs.Settings.{IsFilePage, no_settings}
+use Rattle.command_words.specs.Settings.{IsFilePage}
 use Rattle.command_words.specs.Orders.{IsOrderOf, IsOrder}
 use Rattle.command_words.specs.Faults.{RefusesAs, RefusesOrder, Explains}
 use Rattle.command_words.proofs.Refusals.{words_refused}
@@ -45,9 +45,6 @@ set_is_file (Some text) None set = elim set [ ]
 set_is_file (Some text) (Some found) (some_page other is_page) = is_page.no_root
 
 -- ---- orders
-
-pub nothing_set : Sets no_options no_settings
-nothing_set = record { base = no_base; page = no_page; conditions = no_conditions }
 
 pub same_asked : (order : Order) (asked other : Asked) → asked ≡ other → IsOrderOf order other → IsOrderOf order asked
 same_asked order asked other same is = subst (IsOrderOf order) (sym same) is

@@ -5,11 +5,10 @@
 use Rattle.std.specs.Prelude.{◌≡◌, ℕ, List, Some, map, string_bytes}
 use Rattle.config_spec.specs.declared.Command.{Command}
 use Rattle.config_spec.specs.declared.Command.TheVariants as command
-use Rattle.config_spec.specs.Words.{Settings, Sets, command_of, options_of}
+use Rattle.config_spec.specs.Words.{Settings, Sets, no_settings, command_of, options_of}
 use Rattle.words_spec.specs.PlainWords.{Asked, Asks, LinkOptions, linking, unlinking, refreshing, checking, injecting}
 use Rattle.command_words.specs.declared.order.Order.{Order}
 use Rattle.command_words.specs.declared.order.Order.TheVariants.{Link, Unlink, Refresh, Check, Inject}
-use Rattle.command_words.specs.Settings.{no_settings}
 
 abbrev pub command_ordered : Order → Command
 command_ordered (Link settings entries) = command.Link

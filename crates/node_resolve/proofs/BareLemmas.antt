@@ -21,7 +21,8 @@ use Rattle.node_resolve.specs.Responses.{by_node_fault}
 use Rattle.node_resolve.specs.declared.fault.NodeFault.{NodeFault}
 use Rattle.node_resolve.specs.declared.fault.NodeFault.TheVariants.{Refused, ReadFault, Limit, Memory}
 use Rattle.node_spec.proofs.DecidingCall.{deciding_call_is_last}
-use Rattle.node_spec.proofs.TargetsAnswered.{target_answered, StopsLast, stops_last}
+use Rattle.node_spec.proofs.TargetsAnswered.{target_answered, StopsLast, stops_last, nothing_called}
+use Rattle.node_spec.proofs.TargetsFollowed.{no_front}
 use Rattle.node_spec.specs.NodeAnswers.{Url, Resolving}
 use Rattle.node_spec.specs.PackageTargetResolve.{Bares, Found, Came, came, judge_bare, target_comes}
 use Rattle.node_spec.specs.PackageTargets.{Rules, Call, ResolvesTarget}
@@ -32,23 +33,19 @@ use Rattle.node_spec.specs.declared.BareAnswer.TheVariants as bare_answer
 use Rattle.node_spec.specs.declared.Outcome.{Outcome}
 use Rattle.condition_match.specs.Choosing as choosing
 use Rattle.package_lookup.specs.Answered.{State, state, Comes, Tells, Answered}
-use Rattle.package_lookup.specs.Looked.{look_in, Sees}
+use Rattle.package_lookup.specs.Looked.{Sees}
 use Rattle.package_lookup.specs.Responses.{Failing, passes, not_read, no_memory, never, Response, given, fails}
-use Rattle.package_lookup.proofs.Questions.{limited_always, then_given, then_fails, now_given}
+use Rattle.package_lookup.proofs.Questions.{failed, carried, sees_still, limited_always, then_given, then_fails, now_given}
 use Rattle.node_resolve.proofs.Answering.{reframed}
 use Rattle.node_resolve.proofs.TargetLooks.{Hears, IsLook, hears_front, target_heard}
 use Rattle.node_resolve.specs.BareTexts.{Kept, GivesBare, a_value, a_fault, failing_of, lost_by}
 
 -- ---- a front of the calls
 
-front_empty : (front more : List Call) → front ++ more ≡ [] → front ≡ []
-front_empty [] more e = refl
-front_empty (call ∷ front) more e = absurd (cc)
-
 stops_front : (front more : List Call) → StopsLast (front ++ more) → StopsLast front
 stops_front [] more stops = tt
 stops_front (call ∷ front) more stops =
-    ((λ e. front_empty front more (stops.0 e)), stops_front front more stops.1)
+    ((λ e. no_front front more (stops.0 e)), stops_front front more stops.1)
 
 -- ---- stops that tell the state
 
@@ -122,11 +119,6 @@ module _ (ask : List ℕ → Resolving Url) where
   abbrev bares : Bares Found
   bares = record { ask = ask; judge = judge_bare }
 
-  nothing_called : (before after : Kept) (more : List Call) → Calls (GivesBare ask) before more after → more ≡ []
-      → after ≡ before
-  nothing_called before after [] calls e = calls
-  nothing_called before after (call ∷ more) calls e = absurd (cc)
-
   -- all texts, one after another
   abbrev row : List Call → LookAsking (Unit {0})
   row [] = answered tt
@@ -159,7 +151,8 @@ module _ (ask : List ℕ → Resolving Url) where
       (subst (λ f. Answered before.state (row []) (row_response f) before.state) (sym free) (now_given before.state tt))
   rows before after (call ∷ more) free stops calls =
       one_row before calls.0 after call.0 call.1 more free calls.1 stops.0
-      (λ still. rows calls.0 after more still stops.1 calls.2) (nothing_called calls.0 after more calls.2)
+      (λ still. rows calls.0 after more still stops.1 calls.2)
+      (nothing_called (GivesBare ask) calls.0 after more calls.2)
 
   -- the same, as what is told of a tree
   abbrev stop_of : Option Failing → Trail → Option Stop
@@ -227,18 +220,15 @@ module _ (ask : List ℕ → Resolving Url) where
     still_holds before middle text answer (a_value a j l k) e = a.folder.tree ∙ e
     still_holds before middle text answer (a_fault a s k) e = a.folder.tree ∙ e
 
-    sees_by : (before middle : State) → ((path : List ℕ) → look_in tree middle.known path ≡ look_in tree before.known path)
-        → Sees tree before.known sights → Sees tree middle.known sights
-    sees_by before middle same sees = record { each = λ path. sees.each path ∙ sym (same path) }
-
     still_sees : (before middle : Kept) (text : List ℕ) (answer : BareAnswer) → GivesBare ask before text answer middle
         → before.state.folder.holds ≡ Some tree → Sees tree before.state.known sights
         → Sees tree middle.state.known sights
     still_sees before middle text answer (a_value {found = found} a j l k) e sees =
-        sees_by before.state middle.state (tells_at tree before.state middle.state (ask text) (given found) e a).same sees
+        sees_still tree before.state.known middle.state.known sights
+        (tells_at tree before.state middle.state (ask text) (given found) e a).same sees
     still_sees before middle text answer (a_fault {failing = failing} a s k) e sees =
-        sees_by before.state middle.state (tells_at tree before.state middle.state (ask text) (fails failing) e a).same
-        sees
+        sees_still tree before.state.known middle.state.known sights
+        (tells_at tree before.state middle.state (ask text) (fails failing) e a).same sees
 
     goes_free : (before middle : Kept) (text : List ℕ) (answer : BareAnswer) (more : List Call)
         → GivesBare ask before text answer middle → before.fault ≡ None → (answer ≡ bare_answer.Stop → more ≡ [])
@@ -293,17 +283,6 @@ module _ (ask : List ℕ → Resolving Url) where
         (still_sees before calls.0 call.0 call.1 calls.1 e sees) calls.2)
 
   -- ---- the whole target
-
-  abbrev failed : (X : Type 0) → Failing → Response X
-  failed X failing = fails failing
-
-  there : (failing other : Failing) → failed (Unit {0}) failing ≡ failed (Unit {0}) other
-      → failed (Came Found) failing ≡ failed (Came Found) other
-  there failing other e = (let same : failing ≡ other = cc in ap fails same)
-
-  back : (failing other : Failing) → failed (Came Found) failing ≡ failed (Came Found) other
-      → failed (Unit {0}) failing ≡ failed (Unit {0}) other
-  back failing other e = (let same : failing ≡ other = cc in ap fails same)
 
   abbrev pub response_of : Outcome → Option Found → Option Failing → Response (Came Found)
   response_of out last None = given (came out last)
@@ -374,7 +353,11 @@ module _ (ask : List ℕ → Resolving Url) where
         (λ e. absurd (cc)) (λ e. absurd (cc)) (λ e. absurd (cc)) (λ tree sights e sees. comes_by tree sights e sees None f) within
     whole_by (Some failing) f a =
         reframed before.state after.state (row asked) whole (fails failing) (fails failing) a
-        (there failing no_memory) (there failing not_read) (back failing not_read) (back failing never) (λ tree sights e sees. comes_by tree sights e sees (Some failing) f) within
+        (carried {X = Unit {0}} {Y = Came Found} failing no_memory)
+        (carried {X = Unit {0}} {Y = Came Found} failing not_read)
+        (carried {X = Came Found} {Y = Unit {0}} failing not_read)
+        (carried {X = Came Found} {Y = Unit {0}} failing never)
+        (λ tree sights e sees. comes_by tree sights e sees (Some failing) f) within
 
     pub choice_answered : Answered before.state whole (response_of out after.last after.fault) after.state
     choice_answered = whole_by after.fault refl (rows before after asked free stops calls)
@@ -420,9 +403,6 @@ module _ (ask : List ℕ → Resolving Url) where
     choice_lost =
         lost_when after.fault (rows before after asked free front_stops calls)
 
-abbrev pub fails_of : (X : Type 0) → Failing → Response X
-fails_of X failing = fails failing
-
 -- ---- what is handed on
 
 pub moved : {X : Type 0} (before : State) (asking : LookAsking X) (response : Response X) (folder other_folder : FolderState)
@@ -465,13 +445,13 @@ pub calls_end : {B : Type 0} (gives : B → List ℕ → BareAnswer → B → Ty
     → new ≡ middle → Calls gives old asked middle → Calls gives old asked new
 calls_end gives old middle new asked same calls = subst (λ b. Calls gives old asked b) (sym same) calls
 
-pub lost_same : {X : Type 0} (one other : Failing) → other ≡ one → fails_of X one ≡ fails_of X other
-lost_same {X} one other e = ap (fails_of X) (sym e)
+pub lost_same : {X : Type 0} (one other : Failing) → other ≡ one → failed X one ≡ failed X other
+lost_same {X} one other e = ap (failed X) (sym e)
 
 pub chosen_same : (asks : List ℕ → Resolving Url) (out : Outcome) (last other : Option Found) (fault : Option Failing)
     → fault ≡ None → other ≡ last → response_of asks out last fault ≡ given (came out other)
 chosen_same asks out last other fault e l = ap (response_of asks out last) e ∙ ap (λ o. given (came out o)) (sym l)
 
 pub fault_same : (asks : List ℕ → Resolving Url) (out : Outcome) (last : Option Found) (fault : Option Failing) (failing : Failing)
-    → fault ≡ Some failing → response_of asks out last fault ≡ fails_of (Came Found) failing
+    → fault ≡ Some failing → response_of asks out last fault ≡ failed (Came Found) failing
 fault_same asks out last fault failing e = ap (response_of asks out last) e

@@ -15,7 +15,7 @@ use Rattle.node_spec.specs.PackageSelfResolve.{Subpath, has_name, is_null, self_
 use Rattle.node_spec.specs.ReadPackageJson.{record_at}
 use Rattle.node_spec.specs.Records.{Record}
 use Rattle.node_spec.specs.declared.Cause.TheVariants.{NotFound}
-use Rattle.node_resolve.specs.MainFiles.{served_at, served_or, first_served}
+use Rattle.node_resolve.specs.MainFiles.{shown_if, served_at, served_or, first_served}
 use Rattle.node_resolve.specs.SelfNamed.{found_or, gives_some, named_itself_in, named_itself_at, named_itself}
 
 pub twice : {Q : Type 0} {A : Q → Type 0} {X Y Z : Type 0} (asking : Asking Q A X) (next : X → Asking Q A Y)
@@ -85,38 +85,35 @@ module _ (rest : Resolving Url) (conditions : List (List ℕ)) (asked : Subpath)
 -- ---- main files
 
 module _ (folder : List ℕ) (others : List (List ℕ)) where
-  abbrev behind : Option Url → Resolving Url
-  behind found = found_or (first_file folder others) found
+  abbrev or_others : Option Url → Resolving Url
+  or_others found = found_or (first_file folder others) found
 
-  abbrev shown_if : Url → Bool → LookAsking (Option Url)
-  shown_if url served = answered (if served then Some url else None)
-
-  by_served : (url : Url) (rest : LookAsking (Option Url)) (all : Resolving Url) → all ≡ and_then rest behind → (b : Bool)
-      → (if b then gives url else all) ≡ and_then (and_then (shown_if url b) (served_or rest)) behind
+  by_served : (url : Url) (rest : LookAsking (Option Url)) (all : Resolving Url) → all ≡ and_then rest or_others → (b : Bool)
+      → (if b then gives url else all) ≡ and_then (and_then (shown_if url b) (served_or rest)) or_others
   by_served url rest all e true = refl
   by_served url rest all e false = e
 
-  looked_is : (url : Url) (rest : LookAsking (Option Url)) (all : Resolving Url) → all ≡ and_then rest behind
-      → file_or all (Some url) ≡ and_then (and_then (served_at (Some url)) (served_or rest)) behind
+  looked_is : (url : Url) (rest : LookAsking (Option Url)) (all : Resolving Url) → all ≡ and_then rest or_others
+      → file_or all (Some url) ≡ and_then (and_then (served_at (Some url)) (served_or rest)) or_others
   looked_is url rest all e =
       same_next (look_at_url url) (λ found. if serves url found then gives url else all)
-      (λ found. and_then (and_then (shown_if url (serves url found)) (served_or rest)) behind)
+      (λ found. and_then (and_then (shown_if url (serves url found)) (served_or rest)) or_others)
       (λ found. by_served url rest all e (serves url found))
       ∙ sym (
-      ap (λ a. and_then (and_then a (served_or rest)) behind)
+      ap (λ a. and_then (and_then a (served_or rest)) or_others)
       (twice (look_at_url url) (λ found. answered (serves url found)) (shown_if url))
-      ∙ (ap (λ a. and_then a behind)
+      ∙ (ap (λ a. and_then a or_others)
       (twice (look_at_url url) (λ found. shown_if url (serves url found)) (served_or rest))
-      ∙ twice (look_at_url url) (λ found. and_then (shown_if url (serves url found)) (served_or rest)) behind)
+      ∙ twice (look_at_url url) (λ found. and_then (shown_if url (serves url found)) (served_or rest)) or_others)
       )
 
-  text_is : (found : Option Url) (rest : LookAsking (Option Url)) (all : Resolving Url) → all ≡ and_then rest behind
-      → file_or all found ≡ and_then (and_then (served_at found) (served_or rest)) behind
+  text_is : (found : Option Url) (rest : LookAsking (Option Url)) (all : Resolving Url) → all ≡ and_then rest or_others
+      → file_or all found ≡ and_then (and_then (served_at found) (served_or rest)) or_others
   text_is None rest all e = e
   text_is (Some url) rest all e = looked_is url rest all e
 
   pub files_are : (texts : List (List ℕ))
-      → first_file folder (texts ++ others) ≡ and_then (first_served folder texts) behind
+      → first_file folder (texts ++ others) ≡ and_then (first_served folder texts) or_others
   files_are [] = refl
   files_are (text ∷ more) =
       text_is (url_in folder (codes "./" ++ text)) (first_served folder more) (first_file folder (more ++ others))

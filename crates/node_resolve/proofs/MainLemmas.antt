@@ -3,9 +3,9 @@
 --     served_lost, served_fails, served_there, served_absent      one text
 --     none_first, first_fails, first_here, first_later            one text after another
 --     file_fails, file_found, file_behind                         the main file, by the first file of some texts
-use Rattle.std.proofs.Common.{◌≡◌, ◌++◌, [], ◌∷◌, ℕ, List, Bool, true, false, Option, Some, None, Result, Ok, sym, ◌∙◌, subst}
-use Rattle.std.specs.Prelude.{codes, if◌then◌else◌}
-use Rattle.asking_spec.specs.Askings.{answered, and_then}
+use Rattle.std.proofs.Common.{◌≡◌, ◌++◌, [], ◌∷◌, ℕ, List, true, false, Option, Some, None, Result, Ok, sym, ◌∙◌, subst}
+use Rattle.std.specs.Prelude.{codes}
+use Rattle.asking_spec.specs.Askings.{and_then}
 use Rattle.tree_spec.specs.LookAskings.{LookAsking}
 use Rattle.url_spec.specs.FileUrls.{file_text}
 use Rattle.url_spec.specs.Parsing.{parse_against}
@@ -15,7 +15,7 @@ use Rattle.package_lookup.specs.Answered.{State, Answered}
 use Rattle.package_lookup.specs.Responses.{Response, given, fails, never, by_fault}
 use Rattle.package_lookup.specs.declared.fault.LookupFault.{LookupFault}
 use Rattle.package_lookup.proofs.Questions.{then_given, now_given, looked_on, asking_as}
-use Rattle.node_resolve.specs.MainFiles.{served_at, served_or, first_served}
+use Rattle.node_resolve.specs.MainFiles.{shown_if, served_at, served_or, first_served}
 use Rattle.node_resolve.specs.SelfNamed.{found_or}
 use Rattle.node_resolve.specs.Responses.{node_fault, by_node_fault}
 use Rattle.node_resolve.specs.declared.fault.NodeFault.{NodeFault}
@@ -25,9 +25,6 @@ use Rattle.node_resolve.proofs.PlaceLemmas.{serving}
 pub url_here : (path base text wanted : List ℕ) (found : Option Url) → base ≡ file_text path true → text ≡ wanted
     → found ≡ without_host (parse_against base text) → url_in path wanted ≡ found
 url_here path base text wanted found e t f = sym (f ∙ (λ i. without_host (parse_against (e i) (t i))))
-
-abbrev shown_if : Url → Bool → LookAsking (Option Url)
-shown_if url served = answered (if served then Some url else None)
 
 pub served_lost : (before : State) (wanted : Option Url) → wanted ≡ None
     → Answered before (served_at wanted) (given None) before

@@ -8,10 +8,12 @@ use Rattle.std.specs.Prelude.{slice_get, bytes_eq, MatchOption}
 use Rattle.std.specs.List.{list_any, list_all, IsDistinct}
 use Rattle.std.proofs.lemmas.Bool.{cond-true, cond-false}
 use Rattle.std.proofs.lemmas.Cmp.{nat_list_eq_equiv}
+use Rattle.std.proofs.lemmas.Option.{same_Some, none-some, slice_get_past}
 use Rattle.json_spec.proofs.NewNames.{IsNewName}
 use Rattle.json_spec.specs.Value.{AreDistinct, names_of}
 use Rattle.ordered_json.specs.Shown.{json_of, members_of}
 use Rattle.ordered_json.specs.declared.value.Value.{Value}
+use Rattle.exports_patterns.proofs.KeyLemmas.{key_stands, no_key}
 use Rattle.exports_patterns.specs.Found.{match_shown, IsFound}
 use Rattle.exports_patterns.specs.declared.pattern_keys.Match.{Match}
 use Rattle.node_spec.proofs.KeyChoice.{finds_key}
@@ -93,18 +95,12 @@ none_by asked keys (Some chosen) is none = absurd (none chosen.key chosen.found 
 
 name_at : (pairs : Pairs) (i : ℕ) (pair : List ℕ × Value) (key : List ℕ) → slice_get pairs i ≡ Some pair
     → slice_get (names_of (members_of pairs)) i ≡ Some key → key ≡ pair.0
-name_at [] i pair key e f = absurd (cc)
-name_at (other ∷ pairs) zero pair key e f =
-    let same : other ≡ pair = cc in
-    let name : other.0 ≡ key = cc in
-    sym name ∙ ap (λ (p : List ℕ × Value). p.0) same
-name_at (other ∷ pairs) (suc i) pair key e f = name_at pairs i pair key e f
+name_at pairs i pair key e f = same_Some _ _ (sym f ∙ key_stands pairs i pair e)
 
 pub not_there : (pairs : Pairs) (i : ℕ) (key : List ℕ)
     → slice_get (names_of (members_of pairs)) i ≡ Some key → slice_get pairs i ≡ None → ⊥
-not_there [] i key e f = cc
-not_there (pair ∷ pairs) zero key e f = cc
-not_there (pair ∷ pairs) (suc i) key e f = not_there pairs i key e f
+not_there pairs i key e f =
+    none-some key (sym (slice_get_past (names_of (members_of pairs)) i (no_key pairs i f)) ∙ e)
 
 pub none_first : (pairs : Pairs) (asked : List ℕ) → MatchesNone (names_of (members_of pairs)) asked
     → first_key asked (names_of (members_of pairs)) ≡ None

@@ -1,5 +1,4 @@
 -- The looks for the bare texts of a target are looks of the target.
---     Agrees asked                 each call has the answer by what stands at each path
 --     Hears Among asked            the looks for the texts are among these, up to the first call with another answer
 --     hears_front                  so it is of the first calls
 --     target_heard                 the calls of a target, and what it comes to by them
@@ -9,30 +8,22 @@ use Rattle.std.proofs.lemmas.Bool.{cond-true, cond-false}
 use Rattle.std.proofs.lemmas.List.Elements.{All-weaker, All-contains_itself, Contains-append_left, Contains-append_right}
 use Rattle.asking_spec.proofs.AskingLemmas.{outcome_then, questions_then}
 use Rattle.asking_spec.specs.Askings.{answered, outcome, and_then}
-use Rattle.json_spec.specs.Value.{Json, an_object, Items, an_item, Members, a_member}
+use Rattle.json_spec.specs.Value.{Json}
 use Rattle.tree_spec.specs.LookAskings.{Sights, LookAsking, looks}
-use Rattle.node_spec.specs.PackageTargetResolve.{Bares, Came, came, bare_comes, text_comes, after_item, after_member, target_comes, items_come, members_come}
-use Rattle.node_spec.specs.PackageTargets.{Rules, Call, own_outcome, with_match, bare_outcome, ResolvesText, is_undefined, is_passed, last_of, ResolvesTarget, ResolvesMembers, ResolvesItems}
-use Rattle.node_spec.specs.PackageTargets.ResolvesItems.{no_item, decided, passed}
-use Rattle.node_spec.specs.PackageTargets.ResolvesMembers.{no_member, untried, defined, undefined}
-use Rattle.node_spec.specs.PackageTargets.ResolvesTarget.{text_target, index_key, object_target, empty_list, list_target, null_target, bool_target, number_target}
-use Rattle.node_spec.specs.PackageTargets.ResolvesText.{own_place, bare, no_target}
+use Rattle.node_spec.proofs.TargetInduction.{asks_bare, HoldsOfParts, holds_of_target}
+use Rattle.node_spec.proofs.TargetOutcomes.{answer_to, out_of}
+use Rattle.node_spec.specs.BareCalls.{Tells}
+use Rattle.node_spec.specs.PackageTargetResolve.{Bares, Came, came, bare_comes, after_item, after_member, target_comes}
+use Rattle.node_spec.specs.PackageTargets.{Rules, Call, bare_outcome, is_undefined, is_passed, last_of, ResolvesTarget}
 use Rattle.node_spec.specs.declared.BareAnswer.{BareAnswer}
 use Rattle.node_spec.specs.declared.Outcome.{Outcome}
-use Rattle.node_spec.specs.declared.Outcome.TheVariants.{Undefined, Null, InvalidTarget, InvalidConfig}
+use Rattle.node_spec.specs.declared.Outcome.TheVariants.{Undefined}
 
 module _ {X : Type 0} (sights : Sights) (bares : Bares X) where
-  abbrev pub answer_to : List ℕ → BareAnswer
-  answer_to text = bares.judge (outcome sights (bares.ask text))
-
-  abbrev pub Agrees : List Call → Type 0
-  Agrees [] = ⊤
-  Agrees (call ∷ more) = (call.1 ≡ answer_to call.0) × Agrees more
-
   abbrev pub Hears : (List ℕ → Type 0) → List Call → Type 0
   Hears Among [] = ⊤
   Hears Among (call ∷ more) =
-      All Among (looks sights (bares.ask call.0)) × (call.1 ≡ answer_to call.0 → Hears Among more)
+      All Among (looks sights (bares.ask call.0)) × (call.1 ≡ answer_to sights bares call.0 → Hears Among more)
 
   hears_weaker : (One Other : List ℕ → Type 0) → ((path : List ℕ) → One path → Other path) → (asked : List Call)
       → Hears One asked → Hears Other asked
@@ -43,7 +34,7 @@ module _ {X : Type 0} (sights : Sights) (bares : Bares X) where
   )
 
   hears_append : (Among : List ℕ → Type 0) (front back : List Call) → Hears Among front
-      → (Agrees front → Hears Among back) → Hears Among (front ++ back)
+      → (Tells (answer_to sights bares) front → Hears Among back) → Hears Among (front ++ back)
   hears_append Among [] back hears rest = rest tt
   hears_append Among (call ∷ front) back hears rest =
       (hears.0, λ e. hears_append Among front back (hears.1 e) (λ agrees. rest (e, agrees)))
@@ -53,10 +44,11 @@ module _ {X : Type 0} (sights : Sights) (bares : Bares X) where
   hears_front Among [] back hears = tt
   hears_front Among (call ∷ front) back hears = (hears.0, λ e. hears_front Among front back (hears.1 e))
 
-  agrees_parts : (front back : List Call) → Agrees (front ++ back) → Agrees front × Agrees back
-  agrees_parts [] back agrees = (tt, agrees)
-  agrees_parts (call ∷ front) back agrees =
-      (let rest = agrees_parts front back agrees.1 in ((agrees.0, rest.0), rest.1))
+  tells_parts : (front back : List Call) → Tells (answer_to sights bares) (front ++ back)
+      → Tells (answer_to sights bares) front × Tells (answer_to sights bares) back
+  tells_parts [] back agrees = (tt, agrees)
+  tells_parts (call ∷ front) back agrees =
+      (let rest = tells_parts front back agrees.1 in ((agrees.0, rest.0), rest.1))
 
   -- ---- a part and the whole
 
@@ -77,10 +69,7 @@ module _ {X : Type 0} (sights : Sights) (bares : Bares X) where
 
   pub record IsHeard (asked : List Call) (asking : Option X → LookAsking (Came X)) (out : Outcome) : Type 0 where
     pub hears : (last : Option X) → Hears (IsLook (asking last)) asked
-    pub comes : (last : Option X) → Agrees asked → (outcome sights (asking last)).out ≡ out
-
-  abbrev comes_to : LookAsking (Came X) → Outcome
-  comes_to asking = (outcome sights asking).out
+    pub comes : (last : Option X) → Tells (answer_to sights bares) asked → out_of sights (asking last) ≡ out
 
   part_heard : (part : LookAsking (Came X)) (next : Came X → LookAsking (Came X)) (asked : List Call)
       → Hears (IsLook part) asked → Hears (IsLook (and_then part next)) asked
@@ -95,9 +84,9 @@ module _ {X : Type 0} (sights : Sights) (bares : Bares X) where
       (λ path is. later_looks part next path (subst (λ asking. IsLook asking path) (sym same) is)) asked hears
 
   rest_comes : (part : LookAsking (Came X)) (next : Came X → LookAsking (Came X)) (rest : LookAsking (Came X))
-      → next (outcome sights part) ≡ rest → comes_to (and_then part next) ≡ comes_to rest
+      → next (outcome sights part) ≡ rest → out_of sights (and_then part next) ≡ out_of sights rest
   rest_comes part next rest same =
-      ap (λ (c : Came X). c.out) (outcome_then sights part next) ∙ ap comes_to same
+      ap (λ (c : Came X). c.out) (outcome_then sights part next) ∙ ap (out_of sights) same
 
   silent : (out : Outcome) → IsHeard [] (λ last. answered (came out last)) out
   silent out = record { hears = λ last. tt; comes = λ last agrees. refl }
@@ -106,31 +95,31 @@ module _ {X : Type 0} (sights : Sights) (bares : Bares X) where
       → ((last : Option X) → other last ≡ asking last) → IsHeard asked asking out → IsHeard asked other out
   chosen asked out asking other same one = record {
     hears = λ last. subst (λ a. Hears (IsLook a) asked) (sym (same last)) (one.hears last);
-    comes = λ last agrees. ap comes_to (same last) ∙ one.comes last agrees;
+    comes = λ last agrees. ap (out_of sights) (same last) ∙ one.comes last agrees;
   }
 
   -- ---- an item or a member, and then the rest
 
-  abbrev behind : (Option X → LookAsking (Came X)) → Came X → LookAsking (Came X)
-  behind more first = and_then (more first.last) (λ later. answered (came (last_of first.out later.out) later.last))
+  abbrev rest_of_list : (Option X → LookAsking (Came X)) → Came X → LookAsking (Came X)
+  rest_of_list more first = and_then (more first.last) (λ later. answered (came (last_of first.out later.out) later.last))
 
   item_passed : (front back : List Call) (item more : Option X → LookAsking (Came X)) (first rest : Outcome)
       → is_passed first ≡ true → IsHeard front item first → IsHeard back more rest
       → IsHeard (front ++ back) (λ last. and_then (item last) (after_item more)) (last_of first rest)
   item_passed front back item more first rest p one two =
-      let goes : (last : Option X) → Agrees front
-      → after_item more (outcome sights (item last)) ≡ behind more (outcome sights (item last)) =
+      let goes : (last : Option X) → Tells (answer_to sights bares) front
+      → after_item more (outcome sights (item last)) ≡ rest_of_list more (outcome sights (item last)) =
       λ last agrees. cond-true _ _ _ (ap is_passed (one.comes last agrees) ∙ p) in
       record {
         hears = λ last. let c : Came X = outcome sights (item last) in
             hears_append (IsLook (and_then (item last) (after_item more))) front back
             (part_heard (item last) (after_item more) front (one.hears last))
-            (λ agrees. rest_heard (item last) (after_item more) (behind more c) back (goes last agrees)
+            (λ agrees. rest_heard (item last) (after_item more) (rest_of_list more c) back (goes last agrees)
             (part_heard (more c.last) (λ later. answered (came (last_of c.out later.out) later.last)) back
             (two.hears c.last)));
         comes = λ last agrees. let c : Came X = outcome sights (item last) in
-            let parts = agrees_parts front back agrees in
-            rest_comes (item last) (after_item more) (behind more c) (goes last parts.0)
+            let parts = tells_parts front back agrees in
+            rest_comes (item last) (after_item more) (rest_of_list more c) (goes last parts.0)
             ∙ (ap (λ (d : Came X). d.out) (outcome_then sights (more c.last) (λ later. answered (came (last_of c.out later.out) later.last)))
             ∙ (λ i. last_of (one.comes last parts.0 i) (two.comes c.last parts.1 i)));
       }
@@ -150,7 +139,7 @@ module _ {X : Type 0} (sights : Sights) (bares : Bares X) where
       → IsHeard front member Undefined → IsHeard back more out
       → IsHeard (front ++ back) (λ last. and_then (member last) (after_member more)) out
   member_undefined front back member more out one two =
-      let goes : (last : Option X) → Agrees front
+      let goes : (last : Option X) → Tells (answer_to sights bares) front
       → after_member more (outcome sights (member last)) ≡ more (outcome sights (member last)).last =
       λ last agrees. cond-true _ _ _ (ap is_undefined (one.comes last agrees)) in
       record {
@@ -160,7 +149,7 @@ module _ {X : Type 0} (sights : Sights) (bares : Bares X) where
             (λ agrees. rest_heard (member last) (after_member more) (more c.last) back (goes last agrees)
             (two.hears c.last));
         comes = λ last agrees. let c : Came X = outcome sights (member last) in
-            let parts = agrees_parts front back agrees in
+            let parts = tells_parts front back agrees in
             rest_comes (member last) (after_member more) (more c.last) (goes last parts.0)
             ∙ two.comes c.last parts.1;
       }
@@ -178,14 +167,11 @@ module _ {X : Type 0} (sights : Sights) (bares : Bares X) where
 
   -- ---- strings
 
-  abbrev asks_bare : List ℕ → LookAsking (Came X)
-  asks_bare text = and_then (bares.ask text) (λ value. answered (bare_comes bares value))
-
   bare_heard : (text : List ℕ) (answer : BareAnswer)
-      → IsHeard ((text, answer) ∷ []) (λ last. asks_bare text) (bare_outcome answer)
+      → IsHeard ((text, answer) ∷ []) (λ last. asks_bare bares text) (bare_outcome answer)
   bare_heard text answer = record {
     hears = λ last. (
-      All-weaker (Contains (looks sights (bares.ask text))) (IsLook (asks_bare text))
+      All-weaker (Contains (looks sights (bares.ask text))) (IsLook (asks_bare bares text))
           (first_looks (bares.ask text) (λ value. answered (bare_comes bares value))) (looks sights (bares.ask text))
           (All-contains_itself (looks sights (bares.ask text))),
       λ e. tt,
@@ -195,63 +181,19 @@ module _ {X : Type 0} (sights : Sights) (bares : Bares X) where
         ∙ ap bare_outcome (sym agrees.0);
   }
 
-  text_heard : (rules : Rules) (text : List ℕ) (asked : List Call) (out : Outcome)
-      → ResolvesText rules text asked out → IsHeard asked (text_comes bares rules text) out
-  text_heard rules text _ _ (own_place b) =
-      chosen [] (own_outcome rules.pattern_match text)
-      (λ last. answered (came (own_outcome rules.pattern_match text) last)) (text_comes bares rules text)
-      (λ last. cond-true _ _ _ b) (silent (own_outcome rules.pattern_match text))
-  text_heard rules text _ _ (bare answer b n) =
-      let asked : List ℕ = with_match rules.pattern_match text in
-      chosen ((asked, answer) ∷ []) (bare_outcome answer) (λ last. asks_bare asked) (text_comes bares rules text)
-      (λ last. cond-false _ _ _ b ∙ cond-true _ _ _ n) (bare_heard asked answer)
-  text_heard rules text _ _ (no_target b n) =
-      chosen [] InvalidTarget (λ last. answered (came InvalidTarget last)) (text_comes bares rules text)
-      (λ last. cond-false _ _ _ b ∙ cond-false _ _ _ n) (silent InvalidTarget)
-
   -- ---- all targets
 
-  mutual
-    pub target_heard : (rules : Rules) (target : Json) (asked : List Call) (out : Outcome)
-        → ResolvesTarget rules target asked out → IsHeard asked (target_comes bares rules target) out
-    target_heard rules _ _ _ (text_target text asked out r) = text_heard rules text asked out r
-    target_heard rules _ _ _ (index_key fields i) =
-        chosen [] InvalidConfig (λ last. answered (came InvalidConfig last))
-        (target_comes bares rules (an_object fields)) (λ last. cond-true _ _ _ i) (silent InvalidConfig)
-    target_heard rules _ _ _ (object_target fields asked out i r) =
-        chosen asked out (members_come bares rules fields) (target_comes bares rules (an_object fields))
-        (λ last. cond-false _ _ _ i) (members_heard rules fields asked out r)
-    target_heard rules _ _ _ empty_list = silent Null
-    target_heard rules _ _ _ (list_target item more asked out r) = items_heard rules (an_item item more) asked out r
-    target_heard rules _ _ _ null_target = silent Null
-    target_heard rules _ _ _ (bool_target b) = silent InvalidTarget
-    target_heard rules _ _ _ (number_target number) = silent InvalidTarget
+  heard_parts : HoldsOfParts bares IsHeard
+  heard_parts = record {
+    silent = silent;
+    asked_bare = bare_heard;
+    chosen = chosen;
+    item_passed = item_passed;
+    item_decided = item_decided;
+    member_undefined = member_undefined;
+    member_defined = member_defined;
+  }
 
-    members_heard : (rules : Rules) (fields : Members) (asked : List Call) (out : Outcome)
-        → ResolvesMembers rules fields asked out → IsHeard asked (members_come bares rules fields) out
-    members_heard rules _ _ _ no_member = silent Undefined
-    members_heard rules _ _ _ (untried key value more asked out t r) =
-        chosen asked out (members_come bares rules more) (members_come bares rules (a_member key value more))
-        (λ last. cond-false _ _ _ t) (members_heard rules more asked out r)
-    members_heard rules _ _ _ (defined key value more asked out t r d) =
-        chosen asked out
-        (λ last. and_then (target_comes bares rules value last) (after_member (λ l. members_come bares rules more l)))
-        (members_come bares rules (a_member key value more)) (λ last. cond-true _ _ _ t)
-        (member_defined asked (target_comes bares rules value) (λ l. members_come bares rules more l) out d
-        (target_heard rules value asked out r))
-    members_heard rules _ _ _ (undefined key value more front back out t r s) =
-        chosen (front ++ back) out
-        (λ last. and_then (target_comes bares rules value last) (after_member (λ l. members_come bares rules more l)))
-        (members_come bares rules (a_member key value more)) (λ last. cond-true _ _ _ t)
-        (member_undefined front back (target_comes bares rules value) (λ l. members_come bares rules more l) out
-        (target_heard rules value front Undefined r) (members_heard rules more back out s))
-
-    items_heard : (rules : Rules) (items : Items) (asked : List Call) (out : Outcome)
-        → ResolvesItems rules items asked out → IsHeard asked (items_come bares rules items) out
-    items_heard rules _ _ _ no_item = silent Undefined
-    items_heard rules _ _ _ (decided item more asked out r d) =
-        item_decided asked (target_comes bares rules item) (λ l. items_come bares rules more l) out d
-        (target_heard rules item asked out r)
-    items_heard rules _ _ _ (passed item more front back first rest r p s) =
-        item_passed front back (target_comes bares rules item) (λ l. items_come bares rules more l) first rest p
-        (target_heard rules item front first r) (items_heard rules more back rest s)
+  pub target_heard : (rules : Rules) (target : Json) (asked : List Call) (out : Outcome)
+      → ResolvesTarget rules target asked out → IsHeard asked (target_comes bares rules target) out
+  target_heard rules target asked out r = holds_of_target bares IsHeard heard_parts rules target asked out r

@@ -1,9 +1,8 @@
 -- A specifier that isn't relative and has an answer is bare.
-use Rattle.std.proofs.Common.{◌≡◌, ◌≢◌, ℕ, List, [], ◌∷◌, Bool, true, false, Option, Some, None, refl, sym, ap, ◌∙◌, subst}
-use Rattle.std.specs.Prelude.{◌||◌, Result, Ok, codes, bytes_eq, option_map, if◌then◌else◌}
-use Rattle.std.proofs.lemmas.Bool.{cond-false, cases_Bool, true≢false}
+use Rattle.std.proofs.Common.{◌≡◌, ◌≢◌, ℕ, List, [], ◌∷◌, Bool, true, false, Option, Some, None, refl, sym, ◌∙◌, subst}
+use Rattle.std.specs.Prelude.{◌||◌, Ok, codes, bytes_eq, option_map, if◌then◌else◌}
+use Rattle.std.proofs.lemmas.Bool.{cond-false, true≢false}
 use Rattle.std.proofs.lemmas.Slice.Eq.{bytes_eq-Decides}
-use mathlib.Core.Logic.{inl, inr}
 use Rattle.asking_spec.specs.Askings.{outcome, and_ok}
 use Rattle.tree_spec.specs.LookAskings.{Sights}
 use Rattle.tree_spec.specs.FoldersAbove.{folder_of}
@@ -11,7 +10,7 @@ use Rattle.url_spec.specs.Parsing.{parse_alone}
 use Rattle.url_spec.specs.Schemes.{scheme_of, url_scheme}
 use Rattle.url_spec.specs.Specifiers.{begins, is_relative, ends_in_slash}
 use Rattle.node_spec.specs.BuiltinNames.{is_builtin}
-use Rattle.node_spec.specs.EsmResolve.{judged, no_url, by_scheme, node}
+use Rattle.node_spec.specs.EsmResolve.{judged, by_scheme}
 use Rattle.node_spec.specs.NodeAnswers.{Url, Module, Resolving, refuses}
 use Rattle.node_spec.specs.Laws.{IsBare, AnsweredIsBare}
 use Rattle.node_spec.specs.PackageImportsResolve.{imports_resolve}

@@ -1,7 +1,6 @@
 -- What a target comes to by its calls, one after another, is what it comes to as an asking.
 use Rattle.std.proofs.Common.{◌≡◌, ℕ, true, false, List, [], ◌∷◌, ◌++◌, Option, Some, refl, sym, ap, ◌∙◌}
 use Rattle.std.specs.Prelude.{cond}
-use Rattle.std.proofs.lemmas.Bool.{cond-true, cond-false}
 use Rattle.asking_spec.proofs.EvaluationLemmas.{evaluated_then}
 use Rattle.asking_spec.specs.Askings.{answered, and_then}
 use Rattle.asking_spec.specs.Evaluation.{Ended, ends, stopped, then_ended, evaluated}

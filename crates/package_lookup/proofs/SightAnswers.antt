@@ -21,7 +21,7 @@ use Rattle.package_lookup.specs.declared.known.Known.{Known}
 use Rattle.package_lookup.specs.SeenLooks.{entry_of, look_seen, within_limit, seen_as}
 use Rattle.package_lookup.specs.Looked.{known_at, look_or, look_in, Sees}
 use Rattle.package_lookup.specs.Trails.{has_room, OnCount}
-use Rattle.package_lookup.specs.Responses.{Failing, passes, not_read, no_memory, never, Response, given, fails, by_limit, by_fault}
+use Rattle.package_lookup.specs.Responses.{passes, not_read, no_memory, never, Response, given, fails, by_limit, by_fault}
 use Rattle.package_lookup.specs.Answered.{State, state, Comes, Tells, IsLookOf, AsksOnce, Answered}
 use Rattle.package_lookup.specs.Fetching.{unknown, IsAsked, Fetches}
 use Rattle.package_lookup.proofs.LookCounts.{counted_large, counted_many, counted_named, counted_alike, stands_counted, large_seen}
