@@ -10,7 +10,7 @@ use crate::refusals::unservable;
 use std::alloc::Global;
 use trace_spec::TraceFault;
 use tree_model::Path;
-use web_url::{Suffix, WebFault, WebUrl, web_of};
+use web_url::{Suffix, WebFault, WebUrl, ends_in_slash, web_of};
 
 /// The web name of what lies at a path, which is served there.
 pub fn served_url(
@@ -33,9 +33,8 @@ pub fn served_url(
 }
 
 /// Whether a URL is a folder's.
-#[tactic(auto, using(std::proofs::lemmas::Str::Pattern::ends_text))]
 pub fn is_folder_url(url: &WebUrl) -> bool
     ensures { result ≡ ends_in_slash url.now }
 {
-    url.as_str().ends_with("/")
+    ends_in_slash(url.as_str())
 }
