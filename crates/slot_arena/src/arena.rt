@@ -2,7 +2,7 @@ ghost use Rattle.std.specs.Prelude.{◌≡◌, ◌↔◌, ◌+◌, ◌*◌, ◌-
 ghost use Rattle.std.specs.Prelude.{OnOk, OnErr, Some, None, IsTrue, IsSome, ◌++◌, ◌∷◌, [], vec_len, vec_capacity};
 ghost use Rattle.slot_arena.specs.Slots.{place, value_at, IsFresh, set_at, with_places, taken_from};
 ghost use Rattle.slot_arena.specs.Counts.{spare, live, wanted, GrewLess, IsArena};
-ghost use Rattle.slot_arena.specs.Kept.{down_to};
+ghost use Rattle.slot_arena.specs.Kept.{HasChunkRoom, down_to};
 ghost use Rattle.std.specs.Option.{option_copied_mut};
 
 use crate::chunk::CHUNK;
@@ -161,8 +161,7 @@ fn make_room(next: &mut Vec<u64>, free: &mut Vec<u32>) -> Result<(), Memory>
     requires fewer { vec_len free.old ≤ vec_len next.old }
     ensures same { (next.new.items ≡ next.old.items) × (free.new.items ≡ free.old.items) }
     ensures kept { vec_capacity free.old ≤ vec_capacity free.new }
-    ensures next_room { IfOk result (λ _. vec_len next.new + 64 ≤ vec_capacity next.new) }
-    ensures free_room { IfOk result (λ _. vec_len next.new + 64 ≤ vec_capacity free.new) }
+    ensures room { IfOk result (λ _. HasChunkRoom (vec_len next.new) (vec_capacity next.new) (vec_capacity free.new)) }
 {
     next.reserve(CHUNK)?;
     free.reserve(next.len() + CHUNK - free.len())

@@ -30,7 +30,7 @@ pub add_places-requires-clause-free_room : goal.add_places-requires-clause-free_
 add_places-requires-clause-free_room g c =
     let vs = c.self.inside.places in let ns = c.self.inside.next.items in let long = c.self.invariant.0 in let k = c.self.invariant.1 in
     let m = c.in_ok-make_room.ensures in
-    omega (arith, m.free_room, ap length m.same.0, ap length m.same.1, k.all_spare, spare_live-le (paired vs ns), length-paired vs ns long, long, c.make_room.new.next.ok.0, c.make_room.new.free.ok.0, c.self.inside.next.ok.0, c.self.inside.free.ok.0)
+    omega (arith, m.room.free, ap length m.same.0, ap length m.same.1, k.all_spare, spare_live-le (paired vs ns), length-paired vs ns long, long, c.make_room.new.next.ok.0, c.make_room.new.free.ok.0, c.self.inside.next.ok.0, c.self.inside.free.ok.0)
 
 pub add_places-requires-clause-small : goal.add_places-requires-clause-small
 add_places-requires-clause-small g c =
@@ -44,7 +44,7 @@ invariant_of-self-2 g c =
     let made : c.len-made.result ≡ length ns = omega (arith, c.len-made.ensures, c.self.inside.next.ok.0) in
     let next : c.add_places.new.next.items ≡ ns ++ replicate 64 first = c.add_places.ensures.next ∙ ap (λ l. l ++ replicate 64 first) m.same.0 in
     let frees : c.add_places.new.free.items ≡ free ++ down_to (length ns) 64 = c.add_places.ensures.free ∙ (λ j. m.same.1 j ++ down_to (made j) 64) in
-    let fits : length ns + 64 ≤ vec_capacity c.make_room.new.free = omega (arith, m.free_room, ap length m.same.0, c.make_room.new.next.ok.0) in
+    let fits : length ns + 64 ≤ vec_capacity c.make_room.new.free = omega (arith, m.room.free, ap length m.same.0, c.make_room.new.next.ok.0) in
     let small : length ns + 64 < 2 ^ 32 = omega (arith, c.requires.small, ap length c.self.view_is, length-paired vs ns long, long) in
     rw c.in_ok-grow.ensures.ok (rw next (rw frees (rw c.add_places.ensures.capacity (
       long_too vs ns 64 first long,
