@@ -22,19 +22,19 @@ use Rattle.module_spec.proofs.TokenLaws.{one_reach}
 use Rattle.es_lexer.specs.declared.state.Open.{Open}
 use Rattle.es_lexer.specs.declared.state.Last.{Last}
 use Rattle.es_lexer.specs.Open.{top_of, top_bracket, changed}
-use Rattle.es_lexer.specs.State.{IsLexer}
+use Rattle.es_lexer.specs.State.{Follows, IsLexer, State, no_last}
 use Rattle.es_lexer.specs.Steps.{GivesToken}
 use Rattle.es_lexer.specs.State.IsStack.{empty}
-use Rattle.es_lexer.proofs.Stack.{top, top_opener, Follows, state_after}
+use Rattle.es_lexer.proofs.Stack.{top, top_opener, state_after, state_at_start}
 
 -- at the start
-pub started : (text rest : List ℕ) (last : Last) (stack : List Open) (room : ℕ) → IsUtf8 text → rest ≡ hashbang_rest text → stack ≡ [] → most_brackets ≤ room → last.word ≡ Other → last.property ≡ false → last.for_head ≡ false → last.before_value ≡ false → last.slash ≡ true → IsLexer text rest last stack room
-started text rest last stack room u e f l word property for_head value slash =
+pub started : (text rest : List ℕ) (last : Last) (stack : List Open) (room : ℕ) → IsUtf8 text → rest ≡ hashbang_rest text → stack ≡ [] → most_brackets ≤ room → last ≡ no_last → IsLexer text rest last stack room
+started text rest last stack room u e f l is =
     record {
       utf8 = u;
       before = [];
       reached = begin e;
-      state = record { word = word; property = property; for_head = for_head; value = value; slash = subst (λ s. Slash [] s) (sym slash) start; brackets = rw f (empty same); deep = rw f refl };
+      state = rw (f, is) state_at_start;
       reserved = l;
       few = rw f (omega arith);
       within = rw e (at_most (hashbang_suffix text));

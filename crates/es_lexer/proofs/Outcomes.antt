@@ -11,8 +11,6 @@ use Rattle.module_spec.specs.declared.token.Word.TheVariants.{Other}
 use Rattle.module_spec.specs.Sorts.{opens, closes, is_dot, is_for, is_await, sort_before_value}
 use Rattle.module_spec.specs.Spellings.{blank_rest, hashbang_rest}
 use Rattle.module_spec.specs.Tokens.{Piece, piece, Lexeme, lexeme, name_word, Next, next_from, next_at, unless_refused, refusal, is_template, depth, Skips, IsNext, Reaches, ReadsTokens, token_of, fault_of, most_brackets}
-use Rattle.module_spec.specs.Tokens.Balanced.{same}
-use Rattle.module_spec.specs.Tokens.Slash.{start}
 use Rattle.module_spec.specs.Tokens.Next.{Ends, Faults, Gives}
 use Rattle.module_spec.specs.Tokens.Skips.{stop, more}
 use Rattle.module_spec.specs.Tokens.IsNext.{next}
@@ -22,10 +20,9 @@ use Rattle.module_spec.proofs.Suffixes.{blank_shorter, next_shorter}
 use Rattle.es_lexer.specs.declared.state.Open.{Open}
 use Rattle.es_lexer.specs.declared.state.Last.{Last}
 use Rattle.es_lexer.specs.Open.{top_of, top_bracket, changed, slash_behind}
-use Rattle.es_lexer.specs.State.{State}
-use Rattle.es_lexer.specs.State.IsStack.{empty}
+use Rattle.es_lexer.specs.State.{Follows, State, no_last}
 use Rattle.es_lexer.specs.Outcomes.{SomeTokens}
-use Rattle.es_lexer.proofs.Stack.{top, top_opener, Follows, state_after}
+use Rattle.es_lexer.proofs.Stack.{top, top_opener, state_after, state_at_start}
 
 -- ---- white space
 
@@ -121,13 +118,8 @@ read (suc n) text before rest last stack l r =
     let comes : IsNext before rest out = next r.state.slash at.inner s.skips (ap (λ (k : Option Bracket). next_at last.slash k (depth before) s.end) (top_opener at.kept)) in
     read_by n text before rest last stack s.end l r (λ b x y z m w. read n text b x y z m w) out comes (seen last.slash (top_bracket (top_of stack)) (depth before) s.end)
 
--- where no token stands before
-abbrev no_last : Last
-no_last = record { word = Other; property = false; for_head = false; before_value = false; slash = true }
-
 pub some_tokens : SomeTokens
 some_tokens text =
     let rest = hashbang_rest text in
-    let first : State [] no_last [] = record { word = refl; property = refl; for_head = refl; value = refl; slash = start; brackets = empty same; deep = refl } in
-    let out = read (suc (length rest)) text [] rest no_last [] (omega arith) (record { reached = begin refl; state = first; few = omega arith }) in
+    let out = read (suc (length rest)) text [] rest no_last [] (omega arith) (record { reached = begin refl; state = state_at_start; few = omega arith }) in
     (out.outcome, out.reads)

@@ -16,13 +16,13 @@ use Rattle.module_spec.specs.Tokens.{Lexeme, Balanced, Innermost, depth, opener,
 use Rattle.module_spec.specs.Tokens.Balanced.{same, neither, closed}
 use Rattle.module_spec.specs.Tokens.Outside.{first, later}
 use Rattle.module_spec.specs.Tokens.Innermost.{none, bracket as innermost}
-use Rattle.module_spec.specs.Tokens.Slash.{token}
+use Rattle.module_spec.specs.Tokens.Slash.{start, token}
 use Rattle.module_spec.proofs.BracketLaws.{closes_innermost}
 use Rattle.es_lexer.specs.declared.state.Open.{Open}
 use Rattle.es_lexer.specs.declared.state.Open.TheVariants.{Round, Square, Curly, Template}
 use Rattle.es_lexer.specs.declared.state.Last.{Last}
 use Rattle.es_lexer.specs.Open.{bracket_of, top_of, top_bracket, opened, changed, is_control, is_block, is_for_head, slash_behind, slash_behind_mark, slash_behind_word}
-use Rattle.es_lexer.specs.State.{Facts, IsStack, State}
+use Rattle.es_lexer.specs.State.{Facts, Follows, IsStack, State, no_last}
 use Rattle.es_lexer.specs.State.IsStack.{empty, inside}
 use Rattle.es_lexer.proofs.Tops.{top_of_more, front_of}
 
@@ -225,14 +225,6 @@ changed_by t before last stack (Some k) (Some l) e f s few r =
       few = few;
     }
 
--- what is kept of the last token, as it is told of the code
-pub record Follows (last next : Last) (top : Option Open) (sort : Sort) (text : List ℕ) : Type 0 where
-  pub word : next.word ≡ (if last.property then Other else name_word sort text)
-  pub property : next.property ≡ is_dot sort
-  pub for_head : next.for_head ≡ (is_for next.word || is_await next.word && is_for last.word)
-  pub value : next.before_value ≡ sort_before_value sort next.word
-  pub slash : next.slash ≡ slash_behind sort next.word top
-
 pub record After (t : Lexeme) (before : List Lexeme) (next : Last) (stack : List Open) : Type 0 where
   pub state : State (t ∷ before) next stack
   pub few : length stack ≤ most_brackets
@@ -255,3 +247,7 @@ state_after t before last next stack s l r f =
       };
       few = here.few;
     }
+
+-- at the start
+pub state_at_start : State [] no_last []
+state_at_start = record { word = refl; property = refl; for_head = refl; value = refl; slash = start; brackets = empty same; deep = refl }

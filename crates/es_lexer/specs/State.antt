@@ -1,13 +1,33 @@
--- What is kept of the tokens so far agrees with them.
-use Rattle.std.specs.Prelude.{◌≡◌, ℕ, ◌≤◌, List, [], ◌∷◌, ◌++◌, Some, length}
+-- What is kept of the tokens so far, and how it agrees with them.
+--     no_last      what is kept where no token stands before
+--     Follows last next top sort text      next is kept behind one more token, where last was, and top is the innermost
+--         bracket that is open before it
+--     Facts open before      what is kept of an open bracket agrees with the tokens before it
+--     IsStack before stack      these brackets are open behind the tokens
+--     State before last stack      what is kept agrees with the tokens
+--     IsLexer text rest last stack room      what a reader keeps, which stands before the rest of a text
+use Rattle.std.specs.Prelude.{◌≡◌, ℕ, ◌≤◌, ◌||◌, ◌&&◌, true, false, if◌then◌else◌, List, [], ◌∷◌, ◌++◌}
+use Rattle.std.specs.Prelude.{Option, Some, length}
 use Rattle.std.specs.Str.{IsUtf8}
-use Rattle.module_spec.specs.Sorts.{opens}
-use Rattle.module_spec.specs.Tokens.{Lexeme, Balanced, Outside, Slash, Reaches, depth, plain_word}
+use Rattle.module_spec.specs.declared.token.Sort.{Sort}
+use Rattle.module_spec.specs.declared.token.Word.TheVariants.{Other}
+use Rattle.module_spec.specs.Sorts.{opens, is_dot, sort_before_value, is_for, is_await}
+use Rattle.module_spec.specs.Tokens.{Lexeme, Balanced, Outside, Slash, Reaches, depth, plain_word, name_word}
 use Rattle.module_spec.specs.Tokens.{is_property, after_for, after_control, before_value, most_brackets}
 use Rattle.es_lexer.specs.declared.state.Open.{Open}
 use Rattle.es_lexer.specs.declared.state.Open.TheVariants.{Round, Square, Curly, Template}
 use Rattle.es_lexer.specs.declared.state.Last.{Last}
-use Rattle.es_lexer.specs.Open.{bracket_of}
+use Rattle.es_lexer.specs.Open.{bracket_of, slash_behind}
+
+abbrev pub no_last : Last
+no_last = record { word = Other; property = false; for_head = false; before_value = false; slash = true }
+
+pub record Follows (last next : Last) (top : Option Open) (sort : Sort) (text : List ℕ) : Type 0 where
+  pub word : next.word ≡ (if last.property then Other else name_word sort text)
+  pub property : next.property ≡ is_dot sort
+  pub for_head : next.for_head ≡ (is_for next.word || is_await next.word && is_for last.word)
+  pub value : next.before_value ≡ sort_before_value sort next.word
+  pub slash : next.slash ≡ slash_behind sort next.word top
 
 -- what is kept of an open bracket, by the tokens before it
 abbrev pub Facts : Open → List Lexeme → Type 0

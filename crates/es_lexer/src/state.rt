@@ -1,9 +1,8 @@
-ghost use Rattle.std.specs.Prelude.{◌≡◌, ◌≢◌, ◌<◌, ◌≤◌, ◌⊎◌, ◌||◌, ◌&&◌, true, false, None};
-ghost use Rattle.std.specs.Prelude.{length, if◌then◌else◌, option_map, vec_len, vec_capacity};
-ghost use Rattle.module_spec.specs.Sorts.{opens, closes, is_dot, sort_before_value, is_for, is_await};
-ghost use Rattle.module_spec.specs.Tokens.{name_word};
+ghost use Rattle.std.specs.Prelude.{◌≡◌, ◌≢◌, ◌<◌, ◌≤◌, ◌⊎◌, None, vec_len, vec_capacity};
+ghost use Rattle.module_spec.specs.Sorts.{opens, closes};
 ghost use Rattle.es_lexer.specs.Open.{bracket_of, top_of, opened, changed, is_control, is_block};
 ghost use Rattle.es_lexer.specs.Open.{is_for_head, slash_behind_word, slash_behind_mark, slash_behind};
+ghost use Rattle.es_lexer.specs.State.{Follows, no_last};
 
 use crate::sorts::{
     closes, is_await, is_condition, is_dot, is_for, name_word, opens, sort_before_value,
@@ -39,11 +38,7 @@ pub enum Open {
 impl Last {
     /// What is said where no token stands before.
     pub fn none() -> Last
-        ensures word { result.word ≡ Word.Other }
-        ensures property { result.property ≡ false }
-        ensures for_head { result.for_head ≡ false }
-        ensures before_value { result.before_value ≡ false }
-        ensures slash { result.slash ≡ true }
+        ensures { result ≡ no_last }
     {
         Last {
             word: Word::Other,
@@ -56,11 +51,7 @@ impl Last {
 
     /// The same behind one more token. `top` is the innermost bracket that is open before it.
     pub fn follow(self, top: Option<Open>, sort: Sort, text: &[u8]) -> Last
-        ensures word { result.word ≡ (if self.property then Word.Other else name_word sort text.now) }
-        ensures property { result.property ≡ is_dot sort }
-        ensures for_head { result.for_head ≡ (is_for result.word || is_await result.word && is_for self.word) }
-        ensures before_value { result.before_value ≡ sort_before_value sort result.word }
-        ensures slash { result.slash ≡ slash_behind sort result.word top }
+        ensures { Follows self result top sort text.now }
     {
         let word = if self.property {
             Word::Other

@@ -1,8 +1,8 @@
 -- A look at the bytes behind all space says what comes; the lemmas on calls put it into words of tokens.
 use Rattle.std.proofs.Common.{◌≡◌, ◌-◌, ◌∙◌, ap, length, take, arith}
-use Rattle.es_lexer.specs.Open.{top_of, slash_behind}
+use Rattle.es_lexer.specs.Open.{top_of}
+use Rattle.es_lexer.specs.State.{Follows}
 use Rattle.es_lexer.proofs.Calls.{looked, faulted, ended, given, spanned, skip_at_most, rest_shorter, behind}
-use Rattle.es_lexer.proofs.Stack.{Follows}
 use Rattle.es_lexer.proofs.lexer.Lexer.next.Goals as goal
 
 pub overflow_sub-result : goal.overflow_sub-result
@@ -17,9 +17,7 @@ slice_bounds-text-count c = let shorter = rest_shorter (looked c.as_slice.result
 pub invariant_of-self : goal.invariant_of-self
 invariant_of-self c =
     let top_is : c.top_of-top.result ≡ top_of c.self.inside.stack.items = c.top_of-top.ensures ∙ ap top_of c.as_slice.ensures.value in
-    let new = c.follow-last.ensures in
-    let follows : Follows c.self.inside.last c.follow-last.result (top_of c.self.inside.stack.items) c.in-Ok-Some.sort (take (length c.skip-bytes.result.now - length c.in-Ok-Some.rest.now) c.skip-bytes.result.now) =
-    record { word = new.word; property = new.property; for_head = new.for_head; value = new.before_value; slash = new.slash ∙ ap (slash_behind c.in-Ok-Some.sort c.follow-last.result.word) top_is } in
+    let follows : Follows c.self.inside.last c.follow-last.result (top_of c.self.inside.stack.items) c.in-Ok-Some.sort (take (length c.skip-bytes.result.now - length c.in-Ok-Some.rest.now) c.skip-bytes.result.now) = rw (← top_is) c.follow-last.ensures in
     let look = looked c.as_slice.result.now c.as_slice-depth.result.now c.self.invariant c.skip-bytes.ensures c.as_slice.ensures.value c.top_of-top.ensures c.bracket_of.ensures c.as_slice-depth.ensures.value in
     rw c.change.ensures.items (behind c.in-Ok-Some.sort look (rw c.in-Ok-Some.field-0-is at c.in-Ok-Some.ensures.next) (rw c.in-Ok-Some.field-0-is at c.in-Ok-Some.ensures.allowed) c.change.ensures.capacity follows)
 
