@@ -19,6 +19,7 @@
 --         more, or one fewer
 -- Of the calls of the forest:
 --     Keeps before after      what was shown is shown still
+--     IsAsBefore before after      the same, and as many lists are open
 --     AddsValue value before after      a value that waits for none is put behind the innermost list's
 --     OpensList before after      a list without items is open within
 --     ClosesList before after      the innermost list is a value of the one around it
@@ -208,6 +209,10 @@ pub record FillsAll (before after : Forest) : Type 0 where
 
 pub record Keeps (before after : Forest) : Type 0 where
   pub keeps : (lists : List (List Json)) (items : List Json) → Shows before lists items → Shows after lists items
+
+pub record IsAsBefore (before after : Forest) : Type 0 where
+  pub shown : Keeps before after
+  pub depth : after.innermost ≡ before.innermost
 
 -- one value more is in the innermost list, and Is says which
 pub record PutsOn (before after : Forest) (Is : Json → Type 0) : Type 0 where

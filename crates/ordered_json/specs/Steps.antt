@@ -1,6 +1,7 @@
 -- What the reader of lists within lists does at one place of a text.
 --     IsShown forest      the forest shows some lists
---     PutsRead depth bytes before after rest      the value that stands up to the rest is put on
+--     Puts depth bytes before after rest      the value that stands up to the rest is put on, and as many lists are
+--         open
 --     Begins depth bytes before after awaited rest      where a value is awaited, it opens a list, or puts the value on
 --     GoesOn bytes before after awaited rest      behind a value of a list, it goes past a comma, or closes the list
 --     StopsAt bytes stop      there is neither, or no memory was found
@@ -33,11 +34,8 @@ pub record Opens (depth : ℕ) (bytes : List ℕ) (before after : Forest) (rest 
   pub opened : OpensList before after
   pub deeper : after.innermost ≡ before.innermost + 1
 
-abbrev pub PutsRead : ℕ → List ℕ → Forest → Forest → List ℕ → Type 0
-PutsRead depth bytes before after rest = PutsOn before after (λ json. Reads depth bytes (taken json rest))
-
 pub record Puts (depth : ℕ) (bytes : List ℕ) (before after : Forest) (rest : List ℕ) : Type 0 where
-  pub on : PutsRead depth bytes before after rest
+  pub on : PutsOn before after (λ json. Reads depth bytes (taken json rest))
   pub level : after.innermost ≡ before.innermost
 
 abbrev pub Begins : ℕ → List ℕ → Forest → Forest → Bool → List ℕ → Type 0

@@ -7,8 +7,8 @@ ghost use Rattle.ordered_json.specs.Shown.{json_of};
 ghost use Rattle.ordered_json.specs.Outcomes.{Fails, IsFault, IsWhole, WholeFails, ReadsValue, Unread};
 ghost use Rattle.ordered_json.specs.Outcomes.{ReadsAnywhere, UnreadAnywhere, IsScalar, IsNoScalar, ReadsPair, NoPair};
 ghost use Rattle.ordered_json.specs.Outcomes.{ReadsObject, NoObject, IsLeft};
-ghost use Rattle.ordered_json.specs.Forests.{IsComplete, IsInside, Keeps};
-ghost use Rattle.ordered_json.specs.Steps.{IsShown, PutsRead, Begins, GoesOn, StopsAt, GoesUp, StopsAbove};
+ghost use Rattle.ordered_json.specs.Forests.{IsAsBefore, IsComplete, IsInside};
+ghost use Rattle.ordered_json.specs.Steps.{IsShown, Puts, Begins, GoesOn, StopsAt, GoesUp, StopsAbove};
 
 use crate::fault::{JsonFault, Stop};
 use crate::forest::Forest;
@@ -63,8 +63,7 @@ fn read_alone<'a>(
 ) -> Result<(Value, &'a [u8]), Stop>
     requires { IsShown forest.old }
     ensures reads { MatchResult result (λ x. ReadsValue depth bytes.now x.0 x.1.now) (Unread depth bytes.now) }
-    ensures kept { OnOk result (Keeps forest.old forest.new) }
-    ensures depth { OnOk result (forest.new.innermost ≡ forest.old.innermost) }
+    ensures kept { OnOk result (IsAsBefore forest.old forest.new) }
     ensures shorter { IfOk result (λ x. length x.1.now < length bytes.now) }
 {
     if after_byte(bytes, b'[').is_none() {
@@ -86,9 +85,8 @@ fn read_value<'a>(
     bytes: &'a [u8],
 ) -> Result<&'a [u8], Stop>
     requires { IsShown forest.old }
-    ensures reads { IfOk result (λ rest. PutsRead depth bytes.now forest.old forest.new rest.now) }
+    ensures reads { IfOk result (λ rest. Puts depth bytes.now forest.old forest.new rest.now) }
     ensures fails { IfErr result (Unread depth bytes.now) }
-    ensures depth { OnOk result (forest.new.innermost ≡ forest.old.innermost) }
     ensures shorter { IfOk result (λ rest. length rest.now < length bytes.now) }
 {
     let outside = forest.depth();
@@ -195,8 +193,7 @@ fn read_other<'a>(
     requires no_list { (rest : List ℕ) → bytes.now ≢ 91 ∷ rest }
     ensures reads { MatchResult result (λ x. ReadsValue depth bytes.now x.0 x.1.now) (Unread depth bytes.now) }
     ensures left { IfOk result (λ x. IsLeft bytes.now x.0 x.1.now) }
-    ensures kept { OnOk result (Keeps forest.old forest.new) }
-    ensures depth { OnOk result (forest.new.innermost ≡ forest.old.innermost) }
+    ensures kept { OnOk result (IsAsBefore forest.old forest.new) }
 {
     let Some((first, rest)) = cut_first(bytes) else {
         return Err(Stop::Unreadable(0));
@@ -224,8 +221,7 @@ fn read_object<'a>(
     requires bracket { bytes.now ≡ 123 ∷ inner.now }
     ensures reads { MatchResult result (λ x. ReadsValue depth bytes.now x.0 x.1.now) (Unread depth bytes.now) }
     ensures left { IfOk result (λ x. IsLeft bytes.now x.0 x.1.now) }
-    ensures kept { OnOk result (Keeps forest.old forest.new) }
-    ensures depth { OnOk result (forest.new.innermost ≡ forest.old.innermost) }
+    ensures kept { OnOk result (IsAsBefore forest.old forest.new) }
 {
     if depth == 0 {
         return Err(Stop::Deep(bytes.len()));
@@ -278,8 +274,7 @@ fn read_members<'a>(
 ) -> Result<(Members, &'a [u8]), Stop>
     requires { IsShown forest.old }
     ensures reads { MatchResult result (λ x. ReadsObject depth bytes.now x.0 x.1.now) (NoObject depth bytes.now) }
-    ensures kept { OnOk result (Keeps forest.old forest.new) }
-    ensures depth { OnOk result (forest.new.innermost ≡ forest.old.innermost) }
+    ensures kept { OnOk result (IsAsBefore forest.old forest.new) }
     ensures shorter { IfOk result (λ x. length x.1.now < length bytes.now) }
 {
     let start = skip_space(bytes);
@@ -317,8 +312,7 @@ fn read_member<'a>(
 ) -> Result<(Text, Value, &'a [u8]), Stop>
     requires { IsShown forest.old }
     ensures reads { MatchResult result (λ x. ReadsPair depth bytes.now x.0 x.1 x.2.now) (NoPair depth bytes.now) }
-    ensures kept { OnOk result (Keeps forest.old forest.new) }
-    ensures depth { OnOk result (forest.new.innermost ≡ forest.old.innermost) }
+    ensures kept { OnOk result (IsAsBefore forest.old forest.new) }
     ensures shorter { IfOk result (λ x. length x.2.now < length bytes.now) }
 {
     let (key, after) = read_name(alloc, bytes)?;

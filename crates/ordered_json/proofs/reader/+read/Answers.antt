@@ -1,4 +1,4 @@
-use Rattle.std.proofs.Common.{true, false, ◌-◌, length, ap, refl, sym, ◌∙◌, arith}
+use Rattle.std.proofs.Common.{rules, true, false, ◌-◌, length, ap, refl, sym, ◌∙◌, arith}
 use Rattle.std.proofs.lemmas.Result.{err_from_is_err_and}
 use Rattle.json_spec.specs.Value.{no_members}
 use Rattle.json_spec.specs.Taken.{taken}
@@ -36,7 +36,7 @@ read_members-returns-in-Some-after_byte-clause-shorter t c =
 pub read_members-loop-more-init : goal.read_members-loop-more-init
 read_members-loop-more-init t c =
     let first = awaits_first_member (Reads c.args.depth) c.args.bytes.now _ _ c.in_ok-members.ensures c.skip_space-start.ensures c.in_default.ensures in
-    record { behind = behind_one_more first _ _ _ _ _ c.in_ok-key.ensures.reads c.skip_space-rest.ensures c.in_ok-put.ensures; no_end = c.in_default-after_byte.ensures; kept = c.in_ok-key.ensures.kept; level = c.in_ok-key.ensures.depth; shorter = omega (arith, space_at_most c.args.bytes.now, ap length c.skip_space-start.ensures, c.in_ok-key.ensures.shorter, space_at_most c.in_ok-key.after.now, ap length c.skip_space-rest.ensures) }
+    record { behind = behind_one_more first _ _ _ _ _ c.in_ok-key.ensures.reads c.skip_space-rest.ensures c.in_ok-put.ensures; no_end = c.in_default-after_byte.ensures; kept = c.in_ok-key.ensures.kept.shown; level = c.in_ok-key.ensures.kept.depth; shorter = omega (arith, space_at_most c.args.bytes.now, ap length c.skip_space-start.ensures, c.in_ok-key.ensures.shorter, space_at_most c.in_ok-key.after.now, ap length c.skip_space-rest.ensures) }
 
 pub read_members-returns-in_default-after_byte-2-clause-reads : goal.read_members-returns-in_default-after_byte-2-clause-reads
 read_members-returns-in_default-after_byte-2-clause-reads t c =
@@ -63,7 +63,7 @@ read_members-loop-more-smaller t c =
 pub read_members-loop-more-preserved : goal.read_members-loop-more-preserved
 read_members-loop-more-preserved t c =
     let next = awaits_next_member c.loop-more.invariant.behind _ _ c.in-Some-after_byte-2.ensures c.skip_space.ensures in
-    record { behind = behind_one_more next _ _ _ _ _ c.in_ok-key-2.ensures.reads c.skip_space-rest-in-loop-more.ensures c.in_ok-put-2.ensures; no_end = c.in_default-after_byte-3.ensures; kept = kept_twice c.loop-more.invariant.kept c.in_ok-key-2.ensures.kept; level = c.in_ok-key-2.ensures.depth ∙ c.loop-more.invariant.level; shorter = omega (arith, c.loop-more.invariant.shorter, shorter_by_member c.loop-more.rest.now _ _ _ _ _ c.in-Some-after_byte-2.ensures c.skip_space.ensures c.in_ok-key-2.ensures.shorter c.skip_space-rest-in-loop-more.ensures) }
+    record { behind = behind_one_more next _ _ _ _ _ c.in_ok-key-2.ensures.reads c.skip_space-rest-in-loop-more.ensures c.in_ok-put-2.ensures; no_end = c.in_default-after_byte-3.ensures; kept = kept_twice c.loop-more.invariant.kept c.in_ok-key-2.ensures.kept.shown; level = c.in_ok-key-2.ensures.kept.depth ∙ c.loop-more.invariant.level; shorter = omega (arith, c.loop-more.invariant.shorter, shorter_by_member c.loop-more.rest.now _ _ _ _ _ c.in-Some-after_byte-2.ensures c.skip_space.ensures c.in_ok-key-2.ensures.shorter c.skip_space-rest-in-loop-more.ensures) }
 
 pub read_member-returns-in_err-key-clause-reads : goal.read_member-returns-in_err-key-clause-reads
 read_member-returns-in_err-key-clause-reads t c =
@@ -87,10 +87,13 @@ pub read_alone-read_value-requires : goal.read_alone-read_value-requires
 read_alone-read_value-requires t c = (omega arith, opened_shown c.in_ok-open.ensures.opens c.requires)
 
 pub read_alone-returns-clause-reads : goal.read_alone-returns-clause-reads
-read_alone-returns-clause-reads t c = taken_is c.in_ok-open.ensures.opens c.in_ok-rest.ensures.reads c.in_ok-value.ensures.takes c.requires
+read_alone-returns-clause-reads t c = taken_is c.in_ok-open.ensures.opens c.in_ok-rest.ensures.reads.on c.in_ok-value.ensures.takes c.requires
 
 pub read_alone-returns-clause-kept : goal.read_alone-returns-clause-kept
-read_alone-returns-clause-kept t c = taken_kept c.in_ok-open.ensures.opens c.in_ok-rest.ensures.reads c.in_ok-value.ensures.takes
+read_alone-returns-clause-kept t c = record {
+  shown = taken_kept c.in_ok-open.ensures.opens c.in_ok-rest.ensures.reads.on c.in_ok-value.ensures.takes;
+  depth = search rules;
+}
 
 pub read_other-returns-in_default-clause-reads : goal.read_other-returns-in_default-clause-reads
 read_other-returns-in_default-clause-reads t c = no_value _ _ c.in_default.ensures
@@ -116,7 +119,7 @@ read_other-returns-clause-reads t c =
     scalar_result c.args.depth _ _ _ c.read_scalar.result (λ x. taken (json_of x.0) x.1.now) c.in-Some.ensures c.if-first-eq34.false (not_bracket c.in-Some.ensures c.requires.no_list) c.if-first-eq123.false c.read_scalar.ensures.reads
 
 pub read_other-returns-clause-kept : goal.read_other-returns-clause-kept
-read_other-returns-clause-kept t c = if_taken c.read_scalar.result (kept_same refl)
+read_other-returns-clause-kept t c = if_taken c.read_scalar.result (record { shown = kept_same refl; depth = refl })
 
 pub read_other-returns-clause-left : goal.read_other-returns-clause-left
 read_other-returns-clause-left t c =
@@ -127,11 +130,11 @@ pub begin_value-returns-then-depth-eq0-clause-fails : goal.begin_value-returns-t
 begin_value-returns-then-depth-eq0-clause-fails t c = deep_list _ _ _ _ c.if-depth-eq0.true c.in-Some.ensures refl
 
 pub begin_value-put-requires : goal.begin_value-put-requires
-begin_value-put-requires t c = shown_inside (kept_shown c.in_ok-value.ensures.kept c.requires)
+begin_value-put-requires t c = shown_inside (kept_shown c.in_ok-value.ensures.kept.shown c.requires)
 
 pub begin_value-returns-in_default-clause-begins : goal.begin_value-returns-in_default-clause-begins
 begin_value-returns-in_default-clause-begins t c =
-    puts_value _ c.in_ok-value.ensures.left.whole c.in_ok-value.ensures.kept c.in_ok-put.ensures.adds c.in_ok-value.ensures.reads c.in_ok-value.ensures.depth c.in_ok-put.ensures.stands.depth
+    puts_value _ c.in_ok-value.ensures.left.whole c.in_ok-value.ensures.kept.shown c.in_ok-put.ensures.adds c.in_ok-value.ensures.reads c.in_ok-value.ensures.kept.depth c.in_ok-put.ensures.stands.depth
 
 pub begin_value-returns-in-Some-after_byte-clause-begins : goal.begin_value-returns-in-Some-after_byte-clause-begins
 begin_value-returns-in-Some-after_byte-clause-begins t c =
@@ -186,11 +189,4 @@ read_value-returns-then-not-again-clause-reads t c =
     let awaits = c.loop-awaited.invariant in
     let behind = begun awaits _ _ (left_is awaits _ _ c.depth.ensures c.depth-outside.ensures) false _ (rw c.if-awaited.false at c.in_ok-awaited.ensures.begins) c.in_ok-awaited.ensures.shorter in
     let all = went_up c.depth-outside.result c.depth-outside.ensures behind (rw c.if-not-again.true at c.in_ok-again.ensures.goes) in
-    ends all.behind all.whole
-
-pub read_value-returns-then-not-again-clause-depth : goal.read_value-returns-then-not-again-clause-depth
-read_value-returns-then-not-again-clause-depth t c =
-    let awaits = c.loop-awaited.invariant in
-    let behind = begun awaits _ _ (left_is awaits _ _ c.depth.ensures c.depth-outside.ensures) false _ (rw c.if-awaited.false at c.in_ok-awaited.ensures.begins) c.in_ok-awaited.ensures.shorter in
-    let all = went_up c.depth-outside.result c.depth-outside.ensures behind (rw c.if-not-again.true at c.in_ok-again.ensures.goes) in
-    level_again all.behind all.whole
+    record { on = ends all.behind all.whole; level = level_again all.behind all.whole }
