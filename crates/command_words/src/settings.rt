@@ -47,9 +47,7 @@ impl Settings {
 
     /// The base, the page and the conditions, moved out.
     pub fn into_parts(self) -> (Option<Base>, Option<Path>, Option<Conditions>)
-        ensures base { result.0 ≡ self.base }
-        ensures page { result.1 ≡ self.page }
-        ensures conditions { result.2 ≡ self.conditions }
+        ensures parts { result ≡ (self.base, self.page, self.conditions) }
         ensures is_file { IsFilePage self.page }
     {
         let Settings {

@@ -7,13 +7,12 @@ use Rattle.std.proofs.lemmas.Option.{slice_get_within, get_or_from_slice_get}
 use Rattle.json_spec.specs.PrintedString.{quoted}
 use Rattle.json_spec.specs.PrintedValue.{line, printed, printed_items}
 use Rattle.json_spec.specs.Value.{a_list}
-use Rattle.tree_spec.specs.Limits.{limit_number}
-use Rattle.tree_spec.specs.declared.LimitName.TheVariants.{Entries}
 use Rattle.map_print.proofs.Appends.{piece, next, as_text, from_nothing, Completes}
 use Rattle.map_print.specs.Appending.{Appends}
 use Rattle.trace_spec.specs.Modules.{Config}
 use Rattle.project_spec.proofs.ReadBack.{projects_read_back}
-use Rattle.project_spec.specs.ProjectFiles.{IsProject, ReadsProject, project_text, project_value, strings}
+use Rattle.project_spec.specs.ProjectFiles.{ReadsProject, project_text, project_value, strings}
+use Rattle.project_file.specs.Parts.{CanBeReadBack}
 
 -- ---- the names, copied one after another
 
@@ -77,6 +76,6 @@ pub whole_text : {old new : List ℕ} (config : Config) → old ≡ [] → Appen
 unfolding project_text
 whole_text config none a = from_nothing none a
 
-pub text_read_back : (config : Config) (bytes : List ℕ) → bytes ≡ project_text config → IsProject config → length config.entries ≤ limit_number Entries → IsUtf8 config.page → All IsUtf8 config.entries → ReadsProject bytes (Ok config)
-text_read_back config bytes is project few page entries =
-    subst (λ bs. ReadsProject bs (Ok config)) (sym is) (projects_read_back config project few page entries)
+pub text_read_back : (config : Config) (bytes : List ℕ) → bytes ≡ project_text config → CanBeReadBack config → ReadsProject bytes (Ok config)
+text_read_back config bytes is can =
+    subst (λ bs. ReadsProject bs (Ok config)) (sym is) (projects_read_back config can.project can.few can.page can.entries)

@@ -5,8 +5,11 @@
 --     HoldsStrings items Are found                   the list is these strings, and they are so; or it is no such list
 --     CanBeProject page entries                      the page isn't the root, and the entries are distinct
 --     IsPage text                                    the text is the path of a page
+--     CanBeReadBack config                           it is a project of few entries, and its texts are UTF-8
 use Rattle.std.specs.List.{IsDistinct}
-use Rattle.std.specs.Prelude.{◌≡◌, ◌≢◌, ℕ, List, ⊤, Option, Some, None, codes, bytes_eq}
+use Rattle.std.specs.Prelude.{◌≡◌, ◌≢◌, ◌≤◌, ℕ, List, ⊤, Option, Some, None, All, IsUtf8, codes, bytes_eq, length}
+use Rattle.tree_spec.specs.declared.LimitName.TheVariants.{Entries}
+use Rattle.tree_spec.specs.Limits.{limit_number}
 use Rattle.tree_spec.specs.Paths.{IsPath}
 use Rattle.json_spec.specs.Value.{Json, an_object, Items, Members}
 use Rattle.url_spec.specs.Bases.{base_of}
@@ -14,7 +17,7 @@ use Rattle.ordered_json.specs.Lists.{values_of}
 use Rattle.ordered_json.specs.Shown.{items_of}
 use Rattle.node_spec.specs.Conditions.{AreConditions}
 use Rattle.trace_spec.specs.Modules.{Config}
-use Rattle.project_spec.specs.ProjectFiles.{strings, HasParts}
+use Rattle.project_spec.specs.ProjectFiles.{strings, HasParts, IsProject}
 use Rattle.project_file.specs.declared.parts.Written.{Written}
 
 abbrev pub has_written : Members → Written → Type 0
@@ -41,6 +44,12 @@ pub record IsPage (text : List ℕ) : Type 0 where
 pub record CanBeProject (page : List ℕ) (entries : List (List ℕ)) : Type 0 where
   pub is_file : page ≢ codes "/"
   pub distinct : IsDistinct bytes_eq entries
+
+pub record CanBeReadBack (config : Config) : Type 0 where
+  pub project : IsProject config
+  pub few : length config.entries ≤ limit_number Entries
+  pub page : IsUtf8 config.page
+  pub entries : All IsUtf8 config.entries
 
 abbrev pub IsAnyList : List (List ℕ) → Type 0
 IsAnyList texts = ⊤

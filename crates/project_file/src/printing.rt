@@ -1,12 +1,11 @@
-ghost use Rattle.std.specs.Prelude.{◌≡◌, ◌≤◌, ◌∷◌, ◌++◌, length, All, IfOk, IsUtf8, Ok, OnOk};
+ghost use Rattle.std.specs.Prelude.{◌≡◌, ◌∷◌, ◌++◌, All, IfOk, IsUtf8, Ok, OnOk};
 ghost use Rattle.node_spec.specs.Conditions.{AreConditions};
 ghost use Rattle.json_spec.specs.PrintedString.{quoted};
 ghost use Rattle.json_spec.specs.PrintedValue.{line, printed, printed_items};
 ghost use Rattle.json_spec.specs.Value.{a_list};
-ghost use Rattle.tree_spec.specs.declared.LimitName.TheVariants.{Entries};
-ghost use Rattle.tree_spec.specs.Limits.{limit_number};
 ghost use Rattle.map_print.specs.Appending.{Appends};
-ghost use Rattle.project_spec.specs.ProjectFiles.{IsProject, ReadsProject, project_text, project_value, strings};
+ghost use Rattle.project_spec.specs.ProjectFiles.{ReadsProject, project_text, project_value, strings};
+ghost use Rattle.project_file.specs.Parts.{CanBeReadBack};
 
 use condition_match::Conditions;
 use ordered_json::print_text;
@@ -45,10 +44,7 @@ fn push_project(out: &mut Vec<u8>, config: &Config, conditions: &[Text]) -> Resu
     requires allowed { AreConditions config.now.conditions }
     ensures text { OnOk result (Appends out.old.items out.new.items
         (λ rest. printed 0 (project_value config.now) (10 ∷ rest))) }
-    ensures project { OnOk result (IsProject config.now) }
-    ensures few { OnOk result (length config.now.entries ≤ limit_number Entries) }
-    ensures page { OnOk result (IsUtf8 config.now.page) }
-    ensures entries { OnOk result (All IsUtf8 config.now.entries) }
+    ensures can_be_read { OnOk result (CanBeReadBack config.now) }
 {
     out.extend_from_slice(b"{\n  \"base\": ".as_slice())?;
     print_text(out, config.base().as_str())?;

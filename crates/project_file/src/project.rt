@@ -40,10 +40,7 @@ impl Project {
     ) -> Project
         requires is_file { page ≢ codes "/" }
         requires distinct { IsDistinct bytes_eq entries }
-        ensures base { result.base ≡ base }
-        ensures page { result.page ≡ page }
-        ensures conditions { result.conditions ≡ conditions }
-        ensures entries { result.entries ≡ entries }
+        ensures { result ≡ record { base = base; page = page; conditions = conditions; entries = entries } }
     {
         Project {
             base,

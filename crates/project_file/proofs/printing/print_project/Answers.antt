@@ -6,5 +6,4 @@ returns-clause-text c = whole_text c.args.config.now c.new-out.ensures.items c.i
 
 pub returns-clause-read_back : goal.returns-clause-read_back
 returns-clause-read_back c =
-    text_read_back c.args.config.now c.push_project.new.out.items (whole_text c.args.config.now c.new-out.ensures.items c.in_ok-push_project.ensures.text)
-    c.in_ok-push_project.ensures.project c.in_ok-push_project.ensures.few c.in_ok-push_project.ensures.page c.in_ok-push_project.ensures.entries
+    text_read_back c.args.config.now c.push_project.new.out.items (whole_text c.args.config.now c.new-out.ensures.items c.in_ok-push_project.ensures.text) c.in_ok-push_project.ensures.can_be_read
