@@ -16,8 +16,8 @@ use Rattle.map_flatten.proofs.Updates.{finite_insert}
 use Rattle.scope_builder.specs.Keys.{InKeyOrder}
 use Rattle.generation.specs.Digesting.{kept_texts}
 
-pub kept_inserted : (m n : BTreeMap (List ℕ) (List ℕ)) (key url text digest : List ℕ) → key ≡ url → text ≡ digest → Updates (slice_cmp nat_cmp) m n key (Some text) → kept_texts n ≡ insert (kept_texts m) url digest
-kept_inserted m n key url text digest k t put = finite_insert (λ x. x) m n key text put ∙ (λ i. insert (kept_texts m) (k i) (t i))
+pub kept_inserted : (m n : BTreeMap (List ℕ) (List ℕ)) (key text digest : List ℕ) → text ≡ digest → Updates (slice_cmp nat_cmp) m n key (Some text) → kept_texts n ≡ insert (kept_texts m) key digest
+kept_inserted m n key text digest t put = finite_insert (λ x. x) m n key text put ∙ ap (insert (kept_texts m) key) t
 
 same_pairs : (es : List (List ℕ × List ℕ)) → map (λ e. (e.0, e.1)) es ≡ es
 same_pairs [] = refl

@@ -1,7 +1,5 @@
 ghost use Rattle.std.specs.Prelude.{◌≡◌, IfOk, OnOk};
 ghost use Rattle.std.specs.FinMap.{entries};
-ghost use Rattle.trace_spec.specs.Modules.{web_name};
-ghost use Rattle.trace_spec.specs.Walking.{a_module};
 ghost use Rattle.generator_spec.specs.Digests as definition;
 ghost use Rattle.generation.specs.Digesting.{IsPut, kept_texts};
 
@@ -9,10 +7,8 @@ use integrity_digest::kept_digest;
 use primitives::{Memory, Text};
 use request_trace::{Config, Trace};
 use scope_builder::Mappings;
-use std::alloc::{AllocError, Global};
+use std::alloc::Global;
 use std::collections::BTreeMap;
-use trace_walk::Module;
-use web_url::{WebFault, WebUrl, web_of};
 
 /// Digests under URLs.
 type Digests = BTreeMap<Text, Text>;
@@ -41,31 +37,18 @@ fn put(
 ) -> Result<(), Memory>
     ensures { OnOk result (IsPut config.now trace.now place (kept_texts kept.old) (kept_texts kept.new)) }
 {
-    let (Some(target), Some(bytes)) = (trace.module(place), trace.bytes(place)) else {
+    let url = trace.url(alloc, config.base(), place)?;
+    let (Some(url), Some(bytes)) = (url, trace.bytes(place)) else {
         return Ok(());
     };
-    match url_of(alloc, config, target)? {
-        None => Ok(()),
-        Some(url) => put_digest(alloc, kept, &url, bytes),
-    }
+    put_digest(alloc, kept, url, bytes)
 }
 
-fn put_digest(alloc: Global, kept: &mut Digests, url: &WebUrl, bytes: &[u8]) -> Result<(), Memory>
+fn put_digest(alloc: Global, kept: &mut Digests, url: Text, bytes: &[u8]) -> Result<(), Memory>
     ensures { OnOk result (kept_texts kept.new
-        ≡ definition.with_digest (Some url.now) bytes.now (kept_texts kept.old)) }
+        ≡ definition.with_digest (Some url) bytes.now (kept_texts kept.old)) }
 {
     let digest = kept_digest(alloc, bytes)?;
-    kept.insert(Text::of(alloc, url.as_str())?, digest)?;
+    kept.insert(url, digest)?;
     Ok(())
-}
-
-// The URL of a module, whether or not it is served there.
-fn url_of(alloc: Global, config: &Config, target: &Module) -> Result<Option<WebUrl>, Memory>
-    ensures { IfOk result (λ found. web_name config.now (a_module target.now) ≡ found) }
-{
-    match web_of(alloc, config.base(), target.path(), target.suffix()) {
-        Ok(url) => Ok(Some(url)),
-        Err(WebFault::Unservable { url }) => Ok(url),
-        Err(WebFault::Memory) => Err(AllocError),
-    }
 }

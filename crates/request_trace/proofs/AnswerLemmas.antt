@@ -3,10 +3,11 @@
 --     met_by               a question
 --     traces_by            the walk
 --     traces_moved         the same beside another name for the state
+--     traces_nothing       there is no memory for a walk
 --     traced_kind          why there is no trace
 --     first_name, second_name, third_name      the references
 --     named_limit, limit_ends, look_ends      a limit that ends a walk
-use Rattle.std.proofs.Common.{◌≡◌, ℕ, List, Option, Some, None, Result, Ok, Err, IfSome, refl, sym, ap, ◌∙◌, subst}
+use Rattle.std.proofs.Common.{◌≡◌, ℕ, List, Option, Some, None, Result, Ok, Err, IfSome, refl, sym, ap, ◌∙◌, subst, arith}
 use Rattle.std.specs.Prelude.{◌≢◌, [], ◌∷◌, Contains, IfErr}
 use Rattle.std.proofs.lemmas.List.Elements.{Contains-append_left}
 use Rattle.asking_spec.specs.Askings.{Asking, answered, ask, questions}
@@ -19,6 +20,7 @@ use Rattle.tree_spec.specs.LookAskings.{Sights, looks, footprint}
 use Rattle.tree_spec.specs.LookLimits.{Trail, begun, no_trail, look_limits, limited}
 use Rattle.tree_spec.specs.States.{FolderState}
 use Rattle.tree_spec.specs.Trees.{Tree}
+use Rattle.tree_spec.proofs.ToldStates.{if_all}
 use Rattle.trace_spec.specs.declared.TraceFault.{TraceFault}
 use Rattle.trace_spec.specs.declared.TraceFault.TheVariants.{Limit, ReadFault, Memory}
 use Rattle.trace_spec.specs.Questions.{Question, Answer, put, answers, always}
@@ -32,13 +34,13 @@ use Rattle.package_lookup.specs.Answered.{State, state, Tells, IsLookOf, Answere
 use Rattle.package_lookup.specs.Answered as lookup
 use Rattle.package_lookup.specs.Responses.{Response, given, fails, passes, not_read, no_memory, never, by_limit}
 use Rattle.package_lookup.proofs.Questions.{sees_still, limited_always}
-use Rattle.package_lookup.proofs.Learnings.{learns_as, learns_by, learns_at}
+use Rattle.package_lookup.proofs.Learnings.{learns_as, learns_by, learns_at, learns_nothing}
 use Rattle.trace_walk.specs.Meeting.{Told, Kept, IsTold, looks_of, IsAskedBy, Comes, Met, fine}
 use Rattle.trace_walk.specs.Kinds.{IsOfWalk}
 use Rattle.trace_walk.specs.Shown.{traced_of}
 use Rattle.trace_walk.specs.declared.tables.Tables.{Tables}
 use Rattle.request_trace.specs.Answering.{result_by, told_by, ToldBy, answers_of}
-use Rattle.request_trace.specs.Tracing.{IsOfFootprint, Traces}
+use Rattle.request_trace.specs.Tracing.{known_of, IsOfFootprint, Traces}
 use Rattle.request_trace.proofs.FootprintPaths.{footprint_contains}
 
 abbrev Answering : Type 0
@@ -187,6 +189,22 @@ pub traces_moved : (config : Config) (before : FolderState) (known : Known) (res
 traces_moved config before known result one other some later here there traces =
     subst (λ k. Traces config before known result other k) there
     (subst (λ f. Traces config before known result f some) here traces)
+
+-- where memory is wanting before the first question
+pub traces_nothing : (config : Config) (before : FolderState) (known : Known)
+    → Traces config before known (Err Memory) before known
+traces_nothing config before known = record {
+  is = if_all before.holds (λ tree sights sees told. absurd (told.1 refl));
+  learns = learns_nothing (known_of before known) _ (IsOfFootprint config before known);
+  looks = record {
+    tree = refl;
+    writes = refl;
+    later = omega arith;
+    cause = λ e. absurd (cc);
+    quiet = λ none. refl;
+  };
+  kind = tt;
+}
 
 -- ---- why an answer ends a walk
 

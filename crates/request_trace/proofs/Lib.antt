@@ -1,2 +1,3 @@
 mod FootprintPaths
 pub mod AnswerLemmas
+mod NamedModules

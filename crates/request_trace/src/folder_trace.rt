@@ -2,7 +2,7 @@ ghost use Rattle.std.specs.Prelude.{◌≤◌, ◌+◌, length, IfOk};
 ghost use Rattle.tree_spec.specs.declared.LimitName.TheVariants.{Modules, Requests};
 ghost use Rattle.tree_spec.specs.Limits.{limit_number};
 ghost use Rattle.trace_walk.specs.Shown.{before_of, traced_of};
-ghost use Rattle.trace_walk.specs.Walking.{IsWhole};
+ghost use Rattle.trace_walk.specs.Walking.{AllNamed, IsWhole};
 ghost use Rattle.request_trace.specs.Tracing.{Traces};
 
 use crate::folder_answers::FolderAnswers;
@@ -28,8 +28,9 @@ pub fn trace<F: Folder, L: Ledger>(
     ensures steps { IfOk result (λ trace. steps.new ≤ steps.old + (length trace.sources + trace.requests)) }
     ensures bounded { steps.new ≤ steps.old + (limit_number Modules + limit_number Requests) }
 {
+    let base = config.base().copy(alloc)?;
     let tables = tables_of(alloc, folder, known, config, steps)?;
-    Ok(Trace::of(tables))
+    Ok(Trace::of(base, tables))
 }
 
 // The tables of the trace.
@@ -43,6 +44,7 @@ fn tables_of<F: Folder, L: Ledger>(
     ensures traces { Traces config.now (F.state folder.old) known.old (traced_of result)
         (F.state folder.new) known.new }
     ensures whole { IfOk result (λ tables. IsWhole (before_of tables)) }
+    ensures named { IfOk result (λ tables. AllNamed config.now tables.modules.entries) }
     ensures steps { IfOk result (λ tables. steps.new
         ≤ steps.old + (length tables.sources.items + tables.requests)) }
     ensures bounded { steps.new ≤ steps.old + (limit_number Modules + limit_number Requests) }

@@ -32,12 +32,16 @@ static FILES: [(&str, &str); 9] = [
     ("/node_modules/part/text.mjs", "x; import 5"),
 ];
 
-/// An entry, and the modules of the trace with their requests, the needs, and the number of requests; or the first
-/// refusal.
+/// An entry, and the modules of the trace with their requests, their URLs at its base and at another one, the needs, and
+/// the number of requests; or the first refusal.
 static CASES: [(&str, &str); 4] = [
     (
         "./app.js",
         "/app.js part ./lib/b.mjs?1\n/node_modules/part/b.mjs ../../lib/b.mjs\n/lib/b.mjs?1\n/lib/b.mjs\n\
+         https://app.test/app.js\nhttps://app.test/node_modules/part/b.mjs\n\
+         https://app.test/lib/b.mjs?1\nhttps://app.test/lib/b.mjs\n\
+         http://two.test/to/app.js\nhttp://two.test/to/node_modules/part/b.mjs\n\
+         http://two.test/to/lib/b.mjs?1\nhttp://two.test/to/lib/b.mjs\n\
          https://app.test/index.html https://app.test/app.js\n\
          https://app.test/app.js https://app.test/node_modules/part/b.mjs\n\
          https://app.test/app.js https://app.test/lib/b.mjs?1\n\
@@ -88,6 +92,17 @@ fn modules(alloc: Global, trace: &Trace) -> Result<String, Fail> {
     Ok(lines)
 }
 
+fn urls(alloc: Global, trace: &Trace, base: &str) -> Result<String, Fail> {
+    let base = Base::parse(alloc, base)?;
+    let mut lines = String::new(alloc);
+    for place in 0..trace.len() {
+        let url = trace.url(alloc, &base, place)?.ok_or("no URL")?;
+        lines.push_str(url.as_str())?;
+        lines.push('\n')?;
+    }
+    Ok(lines)
+}
+
 fn needs(alloc: Global, trace: &Trace) -> Result<String, Fail> {
     let mut lines = String::new(alloc);
     for place in 0..trace.needs().len() {
@@ -104,9 +119,11 @@ fn told(alloc: Global, traced: Result<Trace, TraceFault>) -> Result<String, Fail
     match traced {
         Ok(trace) => {
             let modules = modules(alloc, &trace)?;
+            let own = urls(alloc, &trace, "https://app.test/")?;
+            let other = urls(alloc, &trace, "http://two.test/to/")?;
             let needs = needs(alloc, &trace)?;
             let count = trace.request_count();
-            Ok(format!(in alloc; "{modules}{needs}{count} requests")?)
+            Ok(format!(in alloc; "{modules}{own}{other}{needs}{count} requests")?)
         }
         Err(
             TraceFault::Refused {

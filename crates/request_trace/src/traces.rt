@@ -1,18 +1,25 @@
-ghost use Rattle.std.specs.Prelude.{◌≡◌, ◌≤◌, length, slice_get, option_map, option_and_then, option_copied};
+ghost use Rattle.std.specs.Prelude.{◌≡◌, ◌≤◌, IfOk, length, slice_get, option_map, option_and_then, option_copied};
 ghost use Rattle.tree_spec.specs.declared.LimitName.TheVariants.{Modules, Requests};
 ghost use Rattle.tree_spec.specs.Limits.{limit_number};
 ghost use Rattle.layout_spec.specs.Needs.{NoClash};
+ghost use Rattle.url_spec.specs.WebNames.{web};
 ghost use Rattle.trace_walk.specs.Shown.{before_of};
 ghost use Rattle.trace_walk.specs.Walking.{IsWhole, AreOfUrls};
+ghost use Rattle.request_trace.specs.Naming.{AllNamedAt};
 
 use need_table::Needs;
+use primitives::{Memory, Text};
+use std::alloc::{AllocError, Global};
 use std::marker::Model;
 use trace_walk::{Module, Spelling, Tables};
 use tree_model::Path;
+use web_url::{Base, WebFault, web_of};
 
-/// What a trace holds: the modules in trace order, the source of each, the needs, and how many requests were followed.
+/// What a trace holds: the modules in trace order, the source of each, the needs, and how many requests were followed;
+/// and the base at which its modules are named.
 #[derive(Drop)]
 pub struct Trace {
+    base: Base,
     tables: Tables,
 }
 
@@ -20,22 +27,23 @@ impl Model for Trace {
     ghost use Rattle.trace_spec.specs.Checks.{Gathered};
     ghost use Rattle.layout_spec.specs.Needs.{NoClash};
     ghost use Rattle.trace_walk.specs.Shown.{before_of};
-    ghost use Rattle.trace_walk.specs.Walking.{IsWhole};
+    ghost use Rattle.request_trace.specs.Naming.{IsTraceAt};
 
     ghost Value = { Gathered };
 
     ghost view = { λ t. before_of t.tables };
 
-    ghost invariant = { λ t. IsWhole (before_of t.tables) };
+    ghost invariant = { λ t. IsTraceAt t.base t.tables };
 }
 
 impl Trace {
-    /// The trace that these tables hold.
-    pub(crate) fn of(tables: Tables) -> Trace
-        requires { IsWhole (before_of tables) }
+    /// The trace that these tables hold, whose modules are named at this base.
+    pub(crate) fn of(base: Base, tables: Tables) -> Trace
+        requires whole { IsWhole (before_of tables) }
+        requires named { AllNamedAt base tables.modules.entries }
         ensures { result ≡ before_of tables }
     {
-        Trace { tables }
+        Trace { base, tables }
     }
 
     /// The needs, each at its first place. The referrer of each parses to itself.
@@ -101,6 +109,21 @@ impl Trace {
         }
     }
 
+    /// The URL of the module at a place, at this base, whether or not it is served there. At the base of the trace it
+    /// shares the memory of the module's name.
+    pub fn url(&self, alloc: Global, base: &Base, place: usize) -> Result<Option<Text>, Memory>
+        ensures { IfOk result (λ found. found
+            ≡ option_and_then (λ m. web base.now m.path m.suffix) (slice_get self.now.modules place)) }
+    {
+        let Some((target, name)) = self.tables.modules.get_index(place) else {
+            return Ok(None);
+        };
+        if base.as_str() == self.base.as_str() {
+            return Ok(Some(name.text.copy(alloc)?));
+        }
+        url_of(alloc, base, target)
+    }
+
     /// The bytes of the module at a place. Each module has its source, as `len` says.
     pub fn bytes(&self, place: usize) -> Option<&[u8]>
         ensures { option_copied result ≡ option_map (λ source. source.bytes) (slice_get self.now.sources place) }
@@ -133,5 +156,17 @@ impl Trace {
                 Some(request) => Some(request.text.as_str()),
             },
         }
+    }
+}
+
+// The URL of a module at a base, whether or not it is served there.
+fn url_of(alloc: Global, base: &Base, target: &Module) -> Result<Option<Text>, Memory>
+    ensures { IfOk result (λ found. found ≡ web base.now target.now.path target.now.suffix) }
+{
+    match web_of(alloc, base, target.path(), target.suffix()) {
+        Ok(url) => Ok(Some(url.into_text(alloc)?)),
+        Err(WebFault::Unservable { url: Some(url) }) => Ok(Some(url.into_text(alloc)?)),
+        Err(WebFault::Unservable { url: None }) => Ok(None),
+        Err(WebFault::Memory) => Err(AllocError),
     }
 }
