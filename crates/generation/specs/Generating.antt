@@ -5,6 +5,7 @@
 --     HasLargeMap config all      the text of the map of these tables is too large
 --     AsksNoPathTwice old after      the folder was asked for further paths, for none of them twice
 --     AsksFootprint config holds old after      where a tree is told, all further paths are of its footprint
+--     AsksFurther config before after      a folder that tells what it is asked for was asked so
 --     Tracing config before result after      the trace of a folder, and what is left of that
 --     Generating config before result after      what the call that generates gives for a folder, and what it leaves
 use Rattle.std.specs.Prelude.{◌≡◌, ◌≢◌, ◌≤◌, ◌<◌, ◌++◌, ⊤, ℕ, List, length, bytes_eq, All, Contains}
@@ -77,6 +78,11 @@ abbrev pub AsksFootprint : Config → Option Tree → List (List ℕ) → Folder
 AsksFootprint config holds old after =
     (more : List (List ℕ)) → after.asked ≡ Some (old ++ more)
     → IfSome holds (λ tree. All (Contains (footprint (get tree) (generation config))) more)
+
+-- own: both of what a folder tells
+pub record AsksFurther (config : Config) (before after : FolderState) : Type 0 where
+  pub once : IfSome before.asked (λ old. AsksNoPathTwice old after)
+  pub footprint : IfSome before.asked (λ old. AsksFootprint config before.holds old after)
 
 -- own: a told tree has this trace, or refuses each command that is opened so; and whatever is told, each can be refused
 -- so. What isn't refused is a look that failed and was counted, or want of memory

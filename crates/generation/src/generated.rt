@@ -1,6 +1,5 @@
-ghost use Rattle.std.specs.Prelude.{◌≡◌, ◌≤◌, ◌+◌, Err, IfOk};
-ghost use Rattle.tree_spec.specs.declared.LimitName.TheVariants.{Modules, Requests};
-ghost use Rattle.tree_spec.specs.Limits.{limit_number};
+ghost use Rattle.std.specs.Prelude.{◌≡◌, ◌+◌, Err, IfOk};
+ghost use Rattle.request_trace.specs.Tracing.{TakesSteps};
 ghost use Rattle.generator_spec.specs.Generation.{PageIsFile};
 ghost use Rattle.generation.specs.Generating.{Generating, IsMapOf, HasLargeMap};
 
@@ -36,8 +35,7 @@ pub fn generate<F: Folder, L: Ledger>(
 ) -> Result<Generated, Stop>
     ensures generates { Generating config.now (F.state folder.old) result (F.state folder.new) }
     ensures page { IfOk result (λ found. PageIsFile config.now) }
-    ensures steps { IfOk result (λ found. steps.new ≤ steps.old + (found.modules + found.requests)) }
-    ensures bounded { steps.new ≤ steps.old + (limit_number Modules + limit_number Requests) }
+    ensures steps { TakesSteps result (λ found. found.modules + found.requests) steps.old steps.new }
 {
     match page_is_served(alloc, config) {
         Err(stop) => Err(stop),
@@ -53,8 +51,7 @@ fn generated_from<F: Folder, L: Ledger>(
     steps: &mut Steps<L>,
 ) -> Result<Generated, Stop>
     ensures generates { Generating config.now (F.state folder.old) result (F.state folder.new) }
-    ensures steps { IfOk result (λ found. steps.new ≤ steps.old + (found.modules + found.requests)) }
-    ensures bounded { steps.new ≤ steps.old + (limit_number Modules + limit_number Requests) }
+    ensures steps { TakesSteps result (λ found. found.modules + found.requests) steps.old steps.new }
 {
     match traced(alloc, folder, config, steps) {
         Err(stop) => Err(stop),

@@ -1,6 +1,5 @@
-ghost use Rattle.std.specs.Prelude.{◌≤◌, ◌+◌, length, IfOk};
-ghost use Rattle.tree_spec.specs.declared.LimitName.TheVariants.{Modules, Requests};
-ghost use Rattle.tree_spec.specs.Limits.{limit_number};
+ghost use Rattle.std.specs.Prelude.{◌+◌, length};
+ghost use Rattle.request_trace.specs.Tracing.{TakesSteps};
 ghost use Rattle.generation.specs.Generating.{Tracing};
 
 use crate::stop::{Stop, stop_of};
@@ -20,8 +19,7 @@ pub fn traced<F: Folder, L: Ledger>(
     steps: &mut Steps<L>,
 ) -> Result<Trace, Stop>
     ensures traces { Tracing config.now (F.state folder.old) result (F.state folder.new) }
-    ensures steps { IfOk result (λ all. steps.new ≤ steps.old + (length all.modules + all.requests)) }
-    ensures bounded { steps.new ≤ steps.old + (limit_number Modules + limit_number Requests) }
+    ensures steps { TakesSteps result (λ all. length all.modules + all.requests) steps.old steps.new }
 {
     let mut known = Known::new(alloc);
     match trace(alloc, folder, &mut known, config, steps) {

@@ -2,7 +2,10 @@
 --     IsOfFootprint config before known path       where a tree is told, the path is of the generation's footprint, by
 --                                                  all that looks tell
 --     Traces config before known result after later      the trace, or its first refusal
-use Rattle.std.specs.Prelude.{◌≡◌, ℕ, List, Contains, Result, Err, IfSome, IfErr}
+--     TakesSteps result count before after      a step for each module and for each request, at most
+use Rattle.std.specs.Prelude.{◌≡◌, ◌≤◌, ◌+◌, ℕ, List, Contains, Result, Err, IfSome, IfOk, IfErr}
+use Rattle.tree_spec.specs.declared.LimitName.TheVariants.{Modules, Requests}
+use Rattle.tree_spec.specs.Limits.{limit_number}
 use Rattle.tree_spec.specs.LookAskings.{Sights, footprint}
 use Rattle.tree_spec.specs.LookLimits.{no_trail}
 use Rattle.tree_spec.specs.States.{FolderState, OnlyLooks}
@@ -39,3 +42,9 @@ pub record Traces (config : Config) (before : FolderState) (known : Known) (resu
       Learns (known_of before known) (known_of after later) (result ≡ Err Memory) (IsOfFootprint config before known)
   pub looks : OnlyLooks before after (result ≡ Err ReadFault)
   pub kind : IfErr result (IsOfWalk config)
+
+-- own: as many modules and requests as are counted of what was found; and whatever the result is, as many as there may
+-- be at most
+pub record TakesSteps {A E : Type 0} (result : Result A E) (count : A → ℕ) (before after : ℕ) : Type 0 where
+  pub counted : IfOk result (λ found. after ≤ before + count found)
+  pub bounded : after ≤ before + (limit_number Modules + limit_number Requests)

@@ -1,9 +1,7 @@
-ghost use Rattle.std.specs.Prelude.{◌≤◌, ◌+◌, length, IfOk};
-ghost use Rattle.tree_spec.specs.declared.LimitName.TheVariants.{Modules, Requests};
-ghost use Rattle.tree_spec.specs.Limits.{limit_number};
+ghost use Rattle.std.specs.Prelude.{◌+◌, length, IfOk};
 ghost use Rattle.trace_walk.specs.Shown.{before_of, traced_of};
 ghost use Rattle.trace_walk.specs.Walking.{AllNamed, IsWhole};
-ghost use Rattle.request_trace.specs.Tracing.{Traces};
+ghost use Rattle.request_trace.specs.Tracing.{TakesSteps, Traces};
 
 use crate::folder_answers::FolderAnswers;
 use crate::traces::Trace;
@@ -16,7 +14,8 @@ use trace_walk::{Config, Tables, walk};
 use tree_model::Folder;
 
 /// The trace of a folder and a config, or its first refusal. No path is looked at that is known, none twice, and none
-/// that isn't of the generation's footprint. It takes at most one step for each module and for each request.
+/// that isn't of the generation's footprint. A trace takes at most one step for each module and for each request;
+/// whatever comes of it, no more than there may be modules and requests.
 pub fn trace<F: Folder, L: Ledger>(
     alloc: Global,
     folder: &mut F,
@@ -25,8 +24,7 @@ pub fn trace<F: Folder, L: Ledger>(
     steps: &mut Steps<L>,
 ) -> Result<Trace, TraceFault>
     ensures traces { Traces config.now (F.state folder.old) known.old result (F.state folder.new) known.new }
-    ensures steps { IfOk result (λ trace. steps.new ≤ steps.old + (length trace.sources + trace.requests)) }
-    ensures bounded { steps.new ≤ steps.old + (limit_number Modules + limit_number Requests) }
+    ensures steps { TakesSteps result (λ trace. length trace.sources + trace.requests) steps.old steps.new }
 {
     let base = config.base().copy(alloc)?;
     let tables = tables_of(alloc, folder, known, config, steps)?;
@@ -45,9 +43,7 @@ fn tables_of<F: Folder, L: Ledger>(
         (F.state folder.new) known.new }
     ensures whole { IfOk result (λ tables. IsWhole (before_of tables)) }
     ensures named { IfOk result (λ tables. AllNamed config.now tables.modules.entries) }
-    ensures steps { IfOk result (λ tables. steps.new
-        ≤ steps.old + (length tables.sources.items + tables.requests)) }
-    ensures bounded { steps.new ≤ steps.old + (limit_number Modules + limit_number Requests) }
+    ensures steps { TakesSteps result (λ tables. length tables.sources.items + tables.requests) steps.old steps.new }
 {
     let mut trail = Trail::new(alloc);
     let mut answers = FolderAnswers {
