@@ -1,7 +1,7 @@
 -- How a run ends.
 use Rattle.std.proofs.Common.{◌≡◌, ◌≢◌, ◌≤◌, ℕ, List, [], ◌∷◌, ◌++◌, Option, Some, None, Ok, IfSome, inl, inr, refl, sym, ap, ◌∙◌, subst, arith}
 use Rattle.std.specs.List.{concat}
-use Rattle.std.specs.Prelude.{◌+◌, option_map, Contains, map as each}
+use Rattle.std.specs.Prelude.{◌+◌, ⊤, option_map, Contains, map as each}
 use Rattle.std.specs.FinMap.{get}
 use Rattle.import_map_spec.specs.ParsedMap.{ParsedMap}
 use Rattle.check_spec.specs.Differences.{Difference, differences}
@@ -9,6 +9,8 @@ use Rattle.layout_spec.proofs.Contained.{contains_here}
 use Rattle.trace_spec.specs.Checks.{Gathered}
 use Rattle.trace_spec.specs.Traces.{traced}
 use Rattle.tree_spec.specs.declared.Entry.TheVariants.{Stored}
+use Rattle.tree_spec.specs.declared.LimitName.TheVariants.{Modules, Requests}
+use Rattle.tree_spec.specs.Limits.{limit_number}
 use Rattle.tree_spec.specs.Counts.{Rose}
 use Rattle.tree_spec.specs.States.{FolderState, SinkState, OnlyLooks}
 use Rattle.tree_spec.specs.Trees.{Tree, Places}
@@ -55,7 +57,8 @@ use Rattle.command_words.specs.Faults.{Explains}
 use Rattle.generator_spec.specs.Asked.{IsConfigAt}
 use Rattle.generator_core.specs.Configuring.{StopsConfig, StopsConfig as stops_config}
 use Rattle.generator_core.specs.Preparing.{EndsBefore, IsPrepared, IsReady, shown_files}
-use Rattle.generator_spec.specs.Steps.{SpendsFew}
+use Rattle.request_trace.specs.Tracing.{TakesSteps}
+use Rattle.generator_core.specs.Spending.{CommandSpends}
 use Rattle.generator_core.specs.Writing.{AreSome, SaysWrite, TellsNoMeaning, TellsNoMeaning as tells_text, TellsStop, TellsWords, EndsWriting}
 use Rattle.generator_core.specs.Writing.{SaysWrite as writes}
 
@@ -233,7 +236,7 @@ refusal_not_done why out out_after result (inl told) zero = refusal_is_not_zero 
 refusal_not_done why out out_after result (inr memory) zero = let e = status_done 8 memory_line out out_after result memory zero in absurd (omega (arith, e))
 
 -- a stop isn't answered by 0
-pub stop_not_done : (stop : Stop) (out out_after : SinkState) (result : ℕ) → TellsStop stop out out_after result → result ≢ 0
+stop_not_done : (stop : Stop) (out out_after : SinkState) (result : ℕ) → TellsStop stop out out_after result → result ≢ 0
 stop_not_done (stops.Refused why) out out_after result told zero = refusal_not_done why out out_after result told zero
 stop_not_done stops.ReadFault out out_after result told zero = let e = status_done 4 read_fault_line out out_after result told zero in absurd (omega (arith, e))
 stop_not_done stops.Memory out out_after result told zero = let e = status_done 8 memory_line out out_after result told zero in absurd (omega (arith, e))
@@ -248,13 +251,26 @@ said_done prepared before after out out_after result wrote zero = by wrote.says 
     by (writes.memory s l h w) (ends.said is given quiet) = let e = sym s ∙ (sym is ∙ zero) in absurd (omega (arith, e))
     by says_so (ends.output_fault is gives rose) = let e = sym is ∙ zero in absurd (omega (arith, e))
 
-pub spends_few : (prepared : Prepared) (before after : FolderState) (out out_after : SinkState) (result steps later : ℕ) → EndsWriting prepared before after out out_after result → later ≤ steps + (prepared.modules + prepared.requests) → result ≡ 0 → SpendsFew out out_after steps later
-spends_few prepared before after out out_after result steps later wrote few zero = record {
-  modules = prepared.modules;
-  requests = prepared.requests;
-  mappings = prepared.mappings;
-  said = said_done prepared before after out out_after result wrote zero;
-  few = few;
+pub done_spends :
+    (prepared : Prepared) (before after : FolderState) (out out_after : SinkState) (result steps later : ℕ) → EndsWriting prepared before after out out_after result
+    → TakesSteps {A = Prepared} {E = Stop} (Ok prepared) (λ found. found.modules + found.requests) steps later → CommandSpends ⊤ out out_after result steps later
+done_spends prepared before after out out_after result steps later wrote takes = record {
+  told = λ _ zero. record {
+    modules = prepared.modules;
+    requests = prepared.requests;
+    mappings = prepared.mappings;
+    said = said_done prepared before after out out_after result wrote zero;
+    few = takes.counted;
+  };
+  bounded = takes.bounded;
+}
+
+pub stop_spends :
+    (generates : Type 0) (stop : Stop) (out out_after : SinkState) (result steps later : ℕ) → TellsStop stop out out_after result → later ≤ steps + (limit_number Modules + limit_number Requests)
+    → CommandSpends generates out out_after result steps later
+stop_spends generates stop out out_after result steps later told bounded = record {
+  told = λ _ zero. absurd (stop_not_done stop out out_after result told zero);
+  bounded = bounded;
 }
 
 -- ---- words that are refused

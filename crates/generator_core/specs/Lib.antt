@@ -2,3 +2,4 @@ pub mod Preparing
 pub mod Writing
 pub mod Checking
 pub mod Configuring
+pub mod Spending

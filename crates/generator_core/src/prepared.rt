@@ -1,12 +1,11 @@
 //! What a command has at hand for its write, or why it ends before.
 
-ghost use Rattle.std.specs.Prelude.{◌≡◌, ◌≤◌, ◌+◌, IfOk, IfSome};
-ghost use Rattle.tree_spec.specs.declared.LimitName.TheVariants.{Modules, Requests};
-ghost use Rattle.tree_spec.specs.Limits.{limit_number};
+ghost use Rattle.std.specs.Prelude.{◌≡◌, ◌+◌, IfOk, IfSome};
 ghost use Rattle.page_spec.specs.Injection.{TakesMaps};
 ghost use Rattle.config_spec.specs.declared.Command.TheVariants.{Inject};
 ghost use Rattle.generator_spec.specs.Commands.{IsPage};
-ghost use Rattle.generation.specs.Generating.{AsksFootprint, AsksNoPathTwice};
+ghost use Rattle.request_trace.specs.Tracing.{TakesSteps};
+ghost use Rattle.generation.specs.Generating.{AsksFurther};
 ghost use Rattle.config_spec.specs.declared.Command.{Command};
 ghost use Rattle.generator_core.specs.Preparing.{AreMapFiles, FindsPage, IsPageFile, KeepsProject, Prepares};
 
@@ -48,8 +47,7 @@ pub fn prepare_map<F: Folder, L: Ledger>(
 ) -> Result<Prepared, Stop>
     ensures prepares { (command : Command) → KeepsProject command keeps
         → Prepares command config.now (F.state folder.old) result (F.state folder.new) }
-    ensures steps { IfOk result (λ prepared. steps.new ≤ steps.old + (prepared.modules + prepared.requests)) }
-    ensures bounded { steps.new ≤ steps.old + (limit_number Modules + limit_number Requests) }
+    ensures steps { TakesSteps result (λ prepared. prepared.modules + prepared.requests) steps.old steps.new }
 {
     match generate(alloc, folder, config, steps) {
         Err(stop) => Err(stop),
@@ -101,8 +99,7 @@ pub fn prepare_page<F: Folder, L: Ledger>(
     steps: &mut Steps<L>,
 ) -> Result<Prepared, Stop>
     ensures prepares { Prepares Inject config.now (F.state folder.old) result (F.state folder.new) }
-    ensures steps { IfOk result (λ prepared. steps.new ≤ steps.old + (prepared.modules + prepared.requests)) }
-    ensures bounded { steps.new ≤ steps.old + (limit_number Modules + limit_number Requests) }
+    ensures steps { TakesSteps result (λ prepared. prepared.modules + prepared.requests) steps.old steps.new }
 {
     match page_of(alloc, folder, config) {
         Err(stop) => Err(stop),
@@ -146,11 +143,8 @@ fn prepare_at<F: Folder, L: Ledger>(
     ensures prepares { TakesMaps site.now
         → IfSome (F.state folder.old).holds (λ tree. IsPage tree config.now site.now)
         → Prepares Inject config.now (F.state folder.old) result (F.state folder.new) }
-    ensures asked { IfSome (F.state folder.old).asked (λ old. AsksNoPathTwice old (F.state folder.new)) }
-    ensures footprint { IfSome (F.state folder.old).asked
-        (λ old. AsksFootprint config.now (F.state folder.old).holds old (F.state folder.new)) }
-    ensures steps { IfOk result (λ prepared. steps.new ≤ steps.old + (prepared.modules + prepared.requests)) }
-    ensures bounded { steps.new ≤ steps.old + (limit_number Modules + limit_number Requests) }
+    ensures asked { AsksFurther config.now (F.state folder.old) (F.state folder.new) }
+    ensures steps { TakesSteps result (λ prepared. prepared.modules + prepared.requests) steps.old steps.new }
 {
     match generate(alloc, folder, config, steps) {
         Err(stop) => Err(stop),

@@ -1,16 +1,16 @@
-ghost use Rattle.std.specs.Prelude.{◌≡◌, ◌≤◌, ◌+◌, List, ℕ, map, string_bytes, IfSome};
+ghost use Rattle.std.specs.Prelude.{◌≡◌, ◌≤◌, ◌+◌, ⊤, List, ℕ, map, string_bytes, IfSome};
 ghost use Rattle.tree_spec.specs.declared.LimitName.TheVariants.{Modules, Requests};
 ghost use Rattle.tree_spec.specs.Limits.{limit_number};
 ghost use Rattle.config_spec.specs.declared.Command.{Command as Commanded};
 ghost use Rattle.config_spec.specs.declared.Command.TheVariants.{Inject, Check};
 ghost use Rattle.config_spec.specs.Words.{IsCommandOf};
-ghost use Rattle.generator_spec.specs.Statuses.{done_status};
 ghost use Rattle.generator_spec.specs.Commands.{IsGenerating};
 ghost use Rattle.generator_spec.specs.Ending.{Ends, EndsAs, TellsRefusal};
 ghost use Rattle.generator_spec.specs.Asked.{IsConfigAt, AsksFew, AsksInOrder, own_file};
-ghost use Rattle.generator_spec.specs.Steps.{SpendsFew};
+ghost use Rattle.generator_spec.specs.Steps.{RunSpends};
 ghost use Rattle.command_words.specs.Orders.{IsOrder, command_ordered};
 ghost use Rattle.generator_core.specs.Preparing.{KeepsProject, shown_file};
+ghost use Rattle.generator_core.specs.Spending.{CommandSpends};
 ghost use Rattle.generator_core.specs.Writing.{TellsStop, TellsWords, EndsWriting, WritesFiles};
 
 use crate::checking::checked;
@@ -46,11 +46,8 @@ pub fn run<F: Folder, I: Source, O: Sink, L: Ledger>(
     ensures input { _input.new ≡ _input.old }
     ensures asked { IfSome (F.state folder.old).asked
         (λ old. AsksInOrder (map string_bytes words.now) (F.state folder.old) old (F.state folder.new)) }
-    ensures steps { (command : Commanded) → IsCommandOf (map string_bytes words.now) command → IsGenerating command
-        → result ≡ done_status → SpendsFew (O.state out.old) (O.state out.new) steps.old steps.new }
-    ensures bounded { steps.new ≤ steps.old + (limit_number Modules + limit_number Requests) }
-    ensures unspent { ((command : Commanded) → IsCommandOf (map string_bytes words.now) command → ⊥)
-        → steps.new ≡ steps.old }
+    ensures steps { RunSpends (map string_bytes words.now) (O.state out.old) (O.state out.new) result steps.old
+        steps.new }
 {
     match order_of(alloc, words) {
         Ok(order) => ordered(alloc, folder, order, out, steps),
@@ -83,9 +80,8 @@ fn ordered<F: Folder, O: Sink, L: Ledger>(
         → EndsAs words (F.state folder.old) (F.state folder.new) (O.state out.old) (O.state out.new) result }
     ensures asked { IfSome (F.state folder.old).asked (λ old. (words : List (List ℕ)) → IsOrder words order.entry
         → AsksInOrder words (F.state folder.old) old (F.state folder.new)) }
-    ensures steps { IsGenerating (command_ordered order.entry) → result ≡ done_status
-        → SpendsFew (O.state out.old) (O.state out.new) steps.old steps.new }
-    ensures bounded { steps.new ≤ steps.old + (limit_number Modules + limit_number Requests) }
+    ensures steps { CommandSpends (IsGenerating (command_ordered order.entry)) (O.state out.old) (O.state out.new)
+        result steps.old steps.new }
 {
     let command = order.command();
     match configured(alloc, folder, order) {
@@ -107,9 +103,8 @@ fn commanded<F: Folder, O: Sink, L: Ledger>(
         → EndsAs words (F.state folder.old) (F.state folder.new) (O.state out.old) (O.state out.new) result }
     ensures asked { IfSome (F.state folder.old).asked (λ old. AsksFew config.now (F.state folder.old).holds
         (own_file command config.now) old (F.state folder.new)) }
-    ensures steps { IsGenerating command → result ≡ done_status
-        → SpendsFew (O.state out.old) (O.state out.new) steps.old steps.new }
-    ensures bounded { steps.new ≤ steps.old + (limit_number Modules + limit_number Requests) }
+    ensures steps { CommandSpends (IsGenerating command) (O.state out.old) (O.state out.new) result steps.old
+        steps.new }
 {
     match command {
         Command::Link => write_map(alloc, folder, config, true, out, steps),
@@ -134,8 +129,7 @@ fn write_map<F: Folder, O: Sink, L: Ledger>(
         → EndsAs words (F.state folder.old) (F.state folder.new) (O.state out.old) (O.state out.new) result }
     ensures asked { IfSome (F.state folder.old).asked (λ old. (command : Commanded) → KeepsProject command keeps
         → AsksFew config.now (F.state folder.old).holds (own_file command config.now) old (F.state folder.new)) }
-    ensures steps { result ≡ done_status → SpendsFew (O.state out.old) (O.state out.new) steps.old steps.new }
-    ensures bounded { steps.new ≤ steps.old + (limit_number Modules + limit_number Requests) }
+    ensures steps { CommandSpends ⊤ (O.state out.old) (O.state out.new) result steps.old steps.new }
 {
     match prepare_map(alloc, folder, config, keeps, steps) {
         Ok(prepared) => finish(alloc, folder, &prepared, out),
@@ -156,8 +150,7 @@ fn inject<F: Folder, O: Sink, L: Ledger>(
     ensures asked { IfSome (F.state folder.old).asked
         (λ old. AsksFew config.now (F.state folder.old).holds (own_file Inject config.now) old
         (F.state folder.new)) }
-    ensures steps { result ≡ done_status → SpendsFew (O.state out.old) (O.state out.new) steps.old steps.new }
-    ensures bounded { steps.new ≤ steps.old + (limit_number Modules + limit_number Requests) }
+    ensures steps { CommandSpends ⊤ (O.state out.old) (O.state out.new) result steps.old steps.new }
 {
     match prepare_page(alloc, folder, config, steps) {
         Ok(prepared) => finish(alloc, folder, &prepared, out),

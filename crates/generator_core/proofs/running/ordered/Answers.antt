@@ -1,9 +1,9 @@
-use Rattle.std.proofs.Common.{sym, subst}
+use Rattle.std.proofs.Common.{rules, sym, subst}
 use Rattle.command_words.specs.Orders.{command_ordered}
 use Rattle.generator_spec.specs.Commands.{IsGenerating}
 use Rattle.generator_spec.specs.Asked.{AsksInOrder, IsConfigAt}
 use Rattle.generator_core.specs.Configuring.{FindsConfig}
-use Rattle.generator_core.proofs.Endings.{config_stop_end, ends_from, stop_not_done}
+use Rattle.generator_core.proofs.Endings.{config_stop_end, ends_from, stop_spends}
 use Rattle.generator_core.proofs.Runs.{command_is, config_asks, config_still, for_all_words, project_asks}
 use Rattle.generator_core.proofs.running.ordered.Goals as goal
 
@@ -30,7 +30,10 @@ returns-in-Ok-clause-asked g c =
     (subst (λ command. IsConfigAt words command c.in-Ok.config before) (sym c.command-command.ensures) at.found.is) at.found.looks.tree at.asked c.commanded.ensures.asked)
 
 pub returns-in-Ok-clause-steps : goal.returns-in-Ok-clause-steps
-returns-in-Ok-clause-steps g c = λ generating zero. c.commanded.ensures.steps (subst IsGenerating (sym c.command-command.ensures) generating) zero
+returns-in-Ok-clause-steps g c = record {
+  told = λ generating zero. c.commanded.ensures.steps.told (subst IsGenerating (sym c.command-command.ensures) generating) zero;
+  bounded = c.commanded.ensures.steps.bounded;
+}
 
 pub returns-in-Err-clause-end : goal.returns-in-Err-clause-end
 returns-in-Err-clause-end g c =
@@ -48,4 +51,4 @@ returns-in-Err-clause-asked g c =
     (λ words is. project_asks words before after before.asked (c.configured.ensures words is).asked)
 
 pub returns-in-Err-clause-steps : goal.returns-in-Err-clause-steps
-returns-in-Err-clause-steps g c = λ generating zero. absurd (stop_not_done c.in-Err.stop _ _ _ c.close.ensures.tells zero)
+returns-in-Err-clause-steps g c = stop_spends (IsGenerating (command_ordered c.args.order)) c.in-Err.stop _ _ _ _ _ c.close.ensures.tells (search rules)

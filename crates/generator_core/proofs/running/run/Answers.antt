@@ -1,4 +1,4 @@
-use Rattle.std.proofs.Common.{subst}
+use Rattle.std.proofs.Common.{rules, refl, subst}
 use Rattle.std.specs.Prelude.{map, string_bytes}
 use Rattle.tree_spec.proofs.ToldStates.{if_some}
 use Rattle.config_spec.proofs.WordsJudged.{words_are_judged}
@@ -11,9 +11,6 @@ use Rattle.generator_core.proofs.running.run.Goals as goal
 pub returns-in-Ok-clause-idle : goal.returns-in-Ok-clause-idle
 returns-in-Ok-clause-idle g c = λ none. absurd (none _ (command_is (map string_bytes c.args.words.now) c.in-Ok.order c.in-Ok.ensures))
 
-pub returns-in-Ok-clause-unspent : goal.returns-in-Ok-clause-unspent
-returns-in-Ok-clause-unspent g c = λ none. absurd (none _ (command_is (map string_bytes c.args.words.now) c.in-Ok.order c.in-Ok.ensures))
-
 pub returns-in-Ok-clause-asked : goal.returns-in-Ok-clause-asked
 returns-in-Ok-clause-asked g c =
     if_some (g.F.Folder.state c.args.folder.now).asked
@@ -21,12 +18,13 @@ returns-in-Ok-clause-asked g c =
 
 pub returns-in-Ok-clause-steps : goal.returns-in-Ok-clause-steps
 returns-in-Ok-clause-steps g c =
-    λ command is generating zero.
     let words = map string_bytes c.args.words.now in
-    c.ordered.ensures.steps
-    (subst IsGenerating
-    ((words_are_judged words).one_command command (command_ordered c.in-Ok.order) is
-    (command_is words c.in-Ok.order c.in-Ok.ensures)) generating) zero
+    let commanded = command_is words c.in-Ok.order c.in-Ok.ensures in
+    record {
+      told = λ command is generating zero. c.ordered.ensures.steps.told (subst IsGenerating ((words_are_judged words).one_command command (command_ordered c.in-Ok.order) is commanded) generating) zero;
+      bounded = c.ordered.ensures.steps.bounded;
+      unspent = λ none. absurd (none _ commanded);
+    }
 
 pub returns-in-Err-clause-end : goal.returns-in-Err-clause-end
 returns-in-Err-clause-end g c = words_end (map string_bytes c.args.words.now) (g.F.Folder.state c.args.folder.now) _ _ _ c.in-Err.fault c.in-Err.ensures c.misworded.ensures.tells c.misworded.ensures.later
@@ -35,4 +33,8 @@ pub returns-in-Err-clause-asked : goal.returns-in-Err-clause-asked
 returns-in-Err-clause-asked g c = asks_nothing_in_order (map string_bytes c.args.words.now) (g.F.Folder.state c.args.folder.now)
 
 pub returns-in-Err-clause-steps : goal.returns-in-Err-clause-steps
-returns-in-Err-clause-steps g c = λ command is generating zero. absurd (words_not_done c.in-Err.fault _ _ _ c.misworded.ensures.tells zero)
+returns-in-Err-clause-steps g c = record {
+  told = λ command is generating zero. absurd (words_not_done c.in-Err.fault _ _ _ c.misworded.ensures.tells zero);
+  bounded = search rules;
+  unspent = λ none. refl;
+}

@@ -1,7 +1,8 @@
 use Rattle.std.proofs.Common.{subst}
+use Rattle.std.specs.Prelude.{⊤}
 use Rattle.generator_spec.specs.Asked.{AsksFew, own_file}
 use Rattle.generator_core.specs.Preparing.{Prepares}
-use Rattle.generator_core.proofs.Endings.{stop_end, write_end, stop_not_done, spends_few}
+use Rattle.generator_core.proofs.Endings.{stop_end, write_end, stop_spends, done_spends}
 use Rattle.generator_core.proofs.Preparings.{generates, still_few}
 use Rattle.generator_core.proofs.Runs.{for_all_words}
 use Rattle.generator_core.proofs.running.write_map.Goals as goal
@@ -12,7 +13,7 @@ returns-in-Ok-clause-end g c =
     write_end words command c.args.config.now _ _ _ _ _ _ c.in-Ok.prepared (generates c.args.keeps kept) is_config (subst (λ r. Prepares command c.args.config.now (g.F.Folder.state c.args.folder.now) r (g.F.Folder.state c.prepare_map.new.folder)) c.in-Ok.is (c.prepare_map.ensures.prepares command kept)).ready c.finish.ensures
 
 pub returns-in-Ok-clause-steps : goal.returns-in-Ok-clause-steps
-returns-in-Ok-clause-steps g c = spends_few c.in-Ok.prepared _ _ _ _ _ _ _ c.finish.ensures c.in-Ok.ensures.steps
+returns-in-Ok-clause-steps g c = done_spends c.in-Ok.prepared _ _ _ _ _ _ _ c.finish.ensures (rw c.in-Ok.is at c.prepare_map.ensures.steps)
 
 pub returns-in-Err-clause-end : goal.returns-in-Err-clause-end
 returns-in-Err-clause-end g c =
@@ -20,7 +21,7 @@ returns-in-Err-clause-end g c =
     stop_end words command c.args.config.now _ _ _ _ _ is_config c.in-Err.stop (subst (λ r. Prepares command c.args.config.now (g.F.Folder.state c.args.folder.now) r (g.F.Folder.state c.prepare_map.new.folder)) c.in-Err.is (c.prepare_map.ensures.prepares command kept)).stopped c.close.ensures.tells c.close.ensures.later
 
 pub returns-in-Err-clause-steps : goal.returns-in-Err-clause-steps
-returns-in-Err-clause-steps g c = λ zero. absurd (stop_not_done c.in-Err.stop _ _ _ c.close.ensures.tells zero)
+returns-in-Err-clause-steps g c = stop_spends ⊤ c.in-Err.stop _ _ _ _ _ c.close.ensures.tells c.prepare_map.ensures.steps.bounded
 
 pub returns-in-Ok-clause-asked : goal.returns-in-Ok-clause-asked
 returns-in-Ok-clause-asked g c =

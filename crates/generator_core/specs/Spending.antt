@@ -1,0 +1,15 @@
+-- How many steps a command takes.
+--     CommandSpends generates out out_after result before after      no more than its line tells, where a command that
+--                                                                    generates is done; and never more than there may
+--                                                                    be modules and requests
+use Rattle.std.specs.Prelude.{◌≡◌, ◌≤◌, ◌+◌, ℕ}
+use Rattle.tree_spec.specs.declared.LimitName.TheVariants.{Modules, Requests}
+use Rattle.tree_spec.specs.Limits.{limit_number}
+use Rattle.tree_spec.specs.States.{SinkState}
+use Rattle.generator_spec.specs.Statuses.{done_status}
+use Rattle.generator_spec.specs.Steps.{SpendsFew}
+
+-- own: `told` where the command generates and answers 0; `bounded` however it ends
+pub record CommandSpends (generates : Type 0) (out out_after : SinkState) (result before after : ℕ) : Type 0 where
+  pub told : generates → result ≡ done_status → SpendsFew out out_after before after
+  pub bounded : after ≤ before + (limit_number Modules + limit_number Requests)
