@@ -45,8 +45,8 @@ shown_inside s = inside_is s.shows.has
 pub opened_shown : {before after : Forest} → OpensList before after → IsShown before → IsShown after
 opened_shown o s = record { lists = s.lists ++ s.items ∷ []; items = []; shows = o.opens s.lists s.items s.shows }
 
-pub kept_shown : {before after : Forest} → Keeps before after → IsShown before → IsShown after
-kept_shown k s = record { lists = s.lists; items = s.items; shows = k.keeps s.lists s.items s.shows }
+pub shown_kept : {before after : Forest} → Keeps before after → IsShown before → IsShown after
+shown_kept k s = record { lists = s.lists; items = s.items; shows = k.keeps s.lists s.items s.shows }
 
 pub kept_twice : {before middle after : Forest} → Keeps before middle → Keeps middle after → Keeps before after
 kept_twice k l = record { keeps = λ lists items s. l.keeps lists items (k.keeps lists items s) }

@@ -8,7 +8,7 @@ use Rattle.ordered_json.specs.Shown.{json_of, members_of}
 use Rattle.ordered_json.proofs.ShownLemmas.{json_of_object}
 use Rattle.ordered_json.proofs.GrammarLemmas.{no_value, at_depth, scalar_result, scalar_result_shorter, if_taken, deep_list, deep_object, not_bracket, below_depth, object_value, object_fails, no_members_read, awaits_first_member, member_read, name_fails, value_fails, members_fail, behind_one_more, awaits_next_member, last_member, no_more_members, shorter_by_close, shorter_by_member}
 use Rattle.ordered_json.proofs.NestLemmas.{empty_list, begins, left_is, read_fails, begun, ends, level_again, shown_now, went_up, stopped_above}
-use Rattle.ordered_json.proofs.ForestFacts.{left_of, empty_is, empty_complete, puts_value, kept_same, kept_twice, kept_shown, shown_inside, opened_shown, taken_kept, taken_is}
+use Rattle.ordered_json.proofs.ForestFacts.{left_of, empty_is, empty_complete, puts_value, kept_same, kept_twice, shown_kept, shown_inside, opened_shown, taken_kept, taken_is}
 use Rattle.ordered_json.proofs.reader.+read.Goals as goal
 
 pub read_members-returns-in-Some-clause-reads : goal.read_members-returns-in-Some-clause-reads
@@ -130,7 +130,7 @@ pub begin_value-returns-then-depth-eq0-clause-fails : goal.begin_value-returns-t
 begin_value-returns-then-depth-eq0-clause-fails t c = deep_list _ _ _ _ c.if-depth-eq0.true c.in-Some.ensures refl
 
 pub begin_value-put-requires : goal.begin_value-put-requires
-begin_value-put-requires t c = shown_inside (kept_shown c.in_ok-value.ensures.kept.shown c.requires)
+begin_value-put-requires t c = shown_inside (shown_kept c.in_ok-value.ensures.kept.shown c.requires)
 
 pub begin_value-returns-in_default-clause-begins : goal.begin_value-returns-in_default-clause-begins
 begin_value-returns-in_default-clause-begins t c =
