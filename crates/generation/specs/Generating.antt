@@ -79,7 +79,7 @@ AsksFootprint config holds old after =
     (more : List (List ℕ)) → after.asked ≡ Some (old ++ more)
     → IfSome holds (λ tree. All (Contains (footprint (get tree) (generation config))) more)
 
--- own: both of what a folder tells
+-- own: both, of a folder that tells for which paths it was asked
 pub record AsksFurther (config : Config) (before after : FolderState) : Type 0 where
   pub once : IfSome before.asked (λ old. AsksNoPathTwice old after)
   pub footprint : IfSome before.asked (λ old. AsksFootprint config before.holds old after)

@@ -1,7 +1,8 @@
 -- How many steps a command takes.
 --     CommandSpends generates out out_after result before after      no more than its line tells, where a command that
---                                                                    generates is done; and never more than there may
---                                                                    be modules and requests
+--                                                                    generates is done and the output tells what it
+--                                                                    took; and never more than there may be modules
+--                                                                    and requests
 use Rattle.std.specs.Prelude.{◌≡◌, ◌≤◌, ◌+◌, ℕ}
 use Rattle.tree_spec.specs.declared.LimitName.TheVariants.{Modules, Requests}
 use Rattle.tree_spec.specs.Limits.{limit_number}

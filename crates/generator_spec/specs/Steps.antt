@@ -2,8 +2,9 @@
 --     SpendsFew out out_after before after      where the output tells what it took: the line of a map went out, with
 --                                               so many modules and requests that they are no fewer than the steps
 --     RunSpends words out out_after result before after      no more steps than its line tells, where a command that
---                                               generates is done; never more than there may be modules and requests;
---                                               and none where the words ask for no command
+--                                               generates is done and the output tells what it took; never more than
+--                                               there may be modules and requests; and none where the words ask for no
+--                                               command
 use Rattle.std.specs.Prelude.{◌≡◌, ◌≤◌, ◌+◌, ◌++◌, ℕ, List, option_map}
 use Rattle.tree_spec.specs.declared.LimitName.TheVariants.{Modules, Requests}
 use Rattle.tree_spec.specs.Limits.{limit_number}
@@ -15,7 +16,7 @@ use Rattle.generator_spec.specs.Lines.{counts_line}
 use Rattle.generator_spec.specs.Statuses.{done_status}
 
 -- own: a step for each module and for each request that the line tells, at most; of an output that tells nothing, no
--- line is known, and nothing is said
+-- line is known, and nothing is said but that it goes on so
 pub record SpendsFew (out out_after : SinkState) (before after : ℕ) : Type 0 where
   pub modules : ℕ
   pub requests : ℕ

@@ -367,7 +367,8 @@ FollowsTarget T S X =
     → (now : T) (last : Option X) (end : Ended (Option X) T S) → Followed answers bares now last asked end
     → evaluated answers now (target_comes bares rules target last) ≡ brings out end
 
--- PACKAGE_TARGET_RESOLVE: the same by what an object keeps that answers the calls, where it lost no answer
+-- PACKAGE_TARGET_RESOLVE: the same by what an object keeps that answers the calls, where nothing had stopped it before
+-- and it lost no answer
 abbrev pub TargetAnswered : Type 0 → Type 0 → Type 0 → Type 0
 TargetAnswered T S X =
     (answers : LookAnswers T S) (bares : Bares X) (rules : Rules) (target : Json) (before : Answerer T S X)

@@ -5,7 +5,7 @@
 --     HoldsStrings items Are found                   the list is these strings, and they are so; or it is no such list
 --     CanBeProject page entries                      the page isn't the root, and the entries are distinct
 --     IsPage text                                    the text is the path of a page
---     CanBeReadBack config                           it is a project of few entries, and its texts are UTF-8
+--     CanBeReadBack config                           it is a project of few entries, and its page and entries are UTF-8
 use Rattle.std.specs.List.{IsDistinct}
 use Rattle.std.specs.Prelude.{◌≡◌, ◌≢◌, ◌≤◌, ℕ, List, ⊤, Option, Some, None, All, IsUtf8, codes, bytes_eq, length}
 use Rattle.tree_spec.specs.declared.LimitName.TheVariants.{Entries}

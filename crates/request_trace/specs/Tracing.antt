@@ -2,7 +2,8 @@
 --     IsOfFootprint config before known path       where a tree is told, the path is of the generation's footprint, by
 --                                                  all that looks tell
 --     Traces config before known result after later      the trace, or its first refusal
---     TakesSteps result count before after      a step for each module and for each request, at most
+--     TakesSteps result count before after      no more steps than count tells of what was found, and never more than
+--                                               there may be modules and requests
 use Rattle.std.specs.Prelude.{◌≡◌, ◌≤◌, ◌+◌, ℕ, List, Contains, Result, Err, IfSome, IfOk, IfErr}
 use Rattle.tree_spec.specs.declared.LimitName.TheVariants.{Modules, Requests}
 use Rattle.tree_spec.specs.Limits.{limit_number}

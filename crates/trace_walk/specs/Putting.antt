@@ -1,7 +1,8 @@
 -- What puts a request into the tables.
 --     PutsNeed referrer needs spellings need spelling after spelled result
 --                                           a need is put among the others with its spelling, or clashes with one
---     Puts config referrer old new result   a request of this referrer is put into the tables, and counted
+--     Puts config referrer old new result   the tables grow by no visit and one request is counted, and the needs stay
+--                                           of URLs where this referrer is one; or a refusal of the walk
 use Rattle.std.specs.Prelude.{◌≡◌, ◌≢◌, ◌+◌, ℕ, List, Result, IfErr, OnOk}
 use Rattle.layout_spec.specs.declared.Need.{Need}
 use Rattle.url_spec.specs.Parsing.{IsUrl}

@@ -5,7 +5,7 @@
 --     AreBeside tables                      each need has its spelling
 --     IsAdded needs spellings need spelling after spelled      a need that clashes with none is put with its spelling
 --     AreOfUrls needs                       the referrer of each need is a URL
---     KeepsUrls asks old new                where who asks is a URL, as `asks` says, the needs stay so
+--     KeepsUrls asks old new                where the fact `asks` holds, the needs stay of URLs
 --     Grows config visits old new           the tables grow by so many visits, and keep few modules, each with its
 --                                           name, and few requests
 --     IsWhole tables                        each module has its source, there aren't too many, nor too many requests,
@@ -17,7 +17,9 @@
 --     Advances config visits asks old new before after is_ready
 --                                           what is left behind by a part of so many visits that isn't refused
 --     Walks config visits most asks old new before after is_ready result
---                                           a part of the walk, of this many visits at most, whatever it ends with
+--                                           a part of the walk: what so many visits leave, unless it is refused; and
+--                                           whatever it ends with, no more steps than `most` visits and the free
+--                                           requests
 use Rattle.std.specs.Prelude.{◌≡◌, ◌≢◌, ◌≤◌, ◌+◌, ◌++◌, ℕ, List, length, Some, None, Result, Ok, Err, All, false}
 use Rattle.std.specs.Prelude.{IfErr, OnOk}
 use Rattle.std.specs.List.{list_any}
@@ -64,7 +66,7 @@ pub record IsAdded (needs : List Need) (spellings : List Spelling) (need : Need)
 abbrev pub AreOfUrls : List Need → Type 0
 AreOfUrls needs = All (λ need. IsUrl need.referrer) needs
 
--- where who asks has the text of a URL, which `asks` says, the referrer of each need stays one
+-- where this fact holds, as that who asks has the text of a URL, the referrer of each need stays the text of one
 abbrev pub KeepsUrls : Type 0 → List Need → List Need → Type 0
 KeepsUrls asks old new = asks → AreOfUrls old → AreOfUrls new
 
@@ -105,7 +107,7 @@ wanted_of name (Err refusal) = Err refusal
 
 -- ---- steps
 
--- as many steps as there are visits, and requests that are put into the tables
+-- at most as many steps as there are visits, and requests that are put into the tables
 abbrev pub Spends : ℕ → Tables → Tables → ℕ → ℕ → Type 0
 Spends visits old new before after = after + old.requests ≤ before + visits + new.requests
 
@@ -124,7 +126,7 @@ pub record Advances (config : Config) (visits : ℕ) (asks : Type 0) (old new : 
   pub steps : Spends visits old new before after
   pub ready : is_ready
 
--- and where it is refused, it took no more steps than there was room for
+-- the same unless it is refused; however it ends, no more steps than there was room for; and a refusal is one of a walk
 pub record Walks (config : Config) (visits most : ℕ) (asks : Type 0) (old new : Tables) (before after : ℕ)
     (is_ready : Type 0) (result : Result (Unit {0}) TraceFault) : Type 0 where
   pub advances : OnOk result (Advances config visits asks old new before after is_ready)

@@ -1,4 +1,4 @@
-ghost use Rattle.std.specs.Prelude.{◌≡◌, ◌≢◌, ◌≤◌, ◌<◌, ℕ, List, length, Some, Ok, IfOk, IfErr};
+ghost use Rattle.std.specs.Prelude.{◌≡◌, ◌≢◌, ◌≤◌, ◌<◌, ◌+◌, ℕ, List, length, Some, Ok, IfOk, IfErr, OnOk};
 ghost use Rattle.tree_spec.specs.declared.LimitName.TheVariants.{Requests, Specifier};
 ghost use Rattle.tree_spec.specs.Limits.{limit_number};
 ghost use Rattle.url_spec.specs.Parsing.{IsUrl};
@@ -40,6 +40,8 @@ pub(crate) fn follow<A: Answerer>(
         (done result tables.new) (A.state answerer.new) }
     ensures walks { Walks config.now 0 0 (IsUrl referrer.now.text) tables.old tables.new
         (A.steps answerer.old) (A.steps answerer.new) (A.ready answerer.new) result }
+    ensures step { A.steps answerer.new ≤ A.steps answerer.old + 1 }
+    ensures counts { OnOk result (tables.new.requests ≡ tables.old.requests + 1) }
 {
     let asked = check(alloc, tables.requests, referrer, specifier)?;
     let conditions = config.conditions();

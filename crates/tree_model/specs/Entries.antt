@@ -6,8 +6,8 @@
 --     IsBarred tree path                              no write can make a file at the path
 --     file_of found                                   the bytes of what stands there, where it is a file
 --     entry_for file                                  the entry that is put for a file's bytes, or for none
---     IsPlaced before path entry result after         an entry is placed where nothing stands
---     IsPutNew before path entry result after         the same, or what is there or above bars it
+--     IsPlaced before path entry result after         an entry is placed, or a file stands above its place
+--     IsPutNew before path entry result after         an entry is placed where its place is free, or it isn't free
 --     IsPutFile before path bytes result after        a file is made, also in the place of one that is there
 use Rattle.std.specs.Prelude.{◌≡◌, ◌≢◌, ◌⊎◌, ℕ, List, codes, Bool, true, false, Option, Some, None, Result, Ok}
 use Rattle.std.specs.BTreeMap.{BTreeMap}

@@ -51,7 +51,8 @@ pub record IsPutInto {E : Type 0} (before : MemFolder) (path : List ℕ) (entry 
   pub failing_looks : after.failing_looks ≡ before.failing_looks
   pub failing_writes : after.failing_writes ≡ before.failing_writes
 
--- own: a look answers what stands there, fails exactly where its number is listed, and counts that
+-- own: a look answers what stands there, and then its path is among those asked for; it fails exactly where its number
+-- is listed, and counts that; nothing else changes but the number of looks
 pub record IsLookOf (before : MemFolder) (path : List ℕ) (limit : ℕ) (result : Result Look LookFault)
     (after : MemFolder) : Type 0 where
   pub entry : IfOk result (λ look. IsLook (tree_of before.entries) path limit look)
