@@ -3,3 +3,4 @@ pub mod Writing
 pub mod Checking
 pub mod Configuring
 pub mod Spending
+pub mod Running

@@ -10,6 +10,7 @@ ghost use Rattle.map_check.specs.Shown.{shown};
 ghost use Rattle.generator_spec.specs.Checking as spec_at;
 ghost use Rattle.generator_spec.specs.Checking.{difference_line};
 ghost use Rattle.generator_spec.specs.Lines as spec;
+ghost use Rattle.generator_spec.specs.Statuses.{differences_status, done_status};
 ghost use Rattle.generator_spec.specs.Commands as spec_files;
 ghost use Rattle.generator_spec.specs.Commands.{HoldsMap};
 ghost use Rattle.generator_core.specs.Checking.{Checks, ChecksBy, FindsMapText, FindsMap, IsNameless, IsReport};
@@ -165,7 +166,7 @@ fn report_of(alloc: Global, trace: &Trace, parsed: &ParsedMap) -> Result<Report,
 }
 
 fn served(alloc: Global, needs: usize) -> Result<Report, Memory>
-    ensures status { IfOk result (λ report. report.status ≡ 0) }
+    ensures status { IfOk result (λ report. report.status ≡ done_status) }
     ensures text { IfOk result (λ report. report.text.items ≡ spec.served_line needs) }
 {
     Ok(Report {
@@ -175,7 +176,7 @@ fn served(alloc: Global, needs: usize) -> Result<Report, Memory>
 }
 
 fn differing(alloc: Global, trace: &Trace, differences: &Differences) -> Result<Report, Memory>
-    ensures status { IfOk result (λ report. report.status ≡ 6) }
+    ensures status { IfOk result (λ report. report.status ≡ differences_status) }
     ensures text { IfOk result (λ report. report.text.items
         ≡ concat (map (λ d. difference_line trace.now (shown d)) differences.now)
         ++ spec.differences_line (length differences.now)) }

@@ -1,15 +1,14 @@
-ghost use Rattle.std.specs.Prelude.{◌≡◌, ◌≤◌, ◌+◌, ⊤, List, ℕ, map, string_bytes, IfSome};
-ghost use Rattle.tree_spec.specs.declared.LimitName.TheVariants.{Modules, Requests};
-ghost use Rattle.tree_spec.specs.Limits.{limit_number};
+ghost use Rattle.std.specs.Prelude.{◌≡◌, ◌≤◌, List, ℕ, map, string_bytes, IfSome};
 ghost use Rattle.config_spec.specs.declared.Command.{Command as Commanded};
 ghost use Rattle.config_spec.specs.declared.Command.TheVariants.{Inject, Check};
 ghost use Rattle.config_spec.specs.Words.{IsCommandOf};
 ghost use Rattle.generator_spec.specs.Commands.{IsGenerating};
 ghost use Rattle.generator_spec.specs.Ending.{Ends, EndsAs, TellsRefusal};
-ghost use Rattle.generator_spec.specs.Asked.{IsConfigAt, AsksFew, AsksInOrder, own_file};
+ghost use Rattle.generator_spec.specs.Asked.{AsksInOrder};
 ghost use Rattle.generator_spec.specs.Steps.{RunSpends};
 ghost use Rattle.command_words.specs.Orders.{IsOrder, command_ordered};
 ghost use Rattle.generator_core.specs.Preparing.{KeepsProject, shown_file};
+ghost use Rattle.generator_core.specs.Running.{RunsCommand};
 ghost use Rattle.generator_core.specs.Spending.{CommandSpends};
 ghost use Rattle.generator_core.specs.Writing.{TellsStop, TellsWords, EndsWriting, WritesFiles};
 
@@ -99,12 +98,8 @@ fn commanded<F: Folder, O: Sink, L: Ledger>(
     out: &mut O,
     steps: &mut Steps<L>,
 ) -> u8
-    ensures end { (words : List (List ℕ)) → IsConfigAt words command config.now (F.state folder.old)
-        → EndsAs words (F.state folder.old) (F.state folder.new) (O.state out.old) (O.state out.new) result }
-    ensures asked { IfSome (F.state folder.old).asked (λ old. AsksFew config.now (F.state folder.old).holds
-        (own_file command config.now) old (F.state folder.new)) }
-    ensures steps { CommandSpends (IsGenerating command) (O.state out.old) (O.state out.new) result steps.old
-        steps.new }
+    ensures { RunsCommand command config.now (F.state folder.old) (F.state folder.new) (O.state out.old)
+        (O.state out.new) result steps.old steps.new }
 {
     match command {
         Command::Link => write_map(alloc, folder, config, true, out, steps),
@@ -124,12 +119,9 @@ fn write_map<F: Folder, O: Sink, L: Ledger>(
     out: &mut O,
     steps: &mut Steps<L>,
 ) -> u8
-    ensures end { (words : List (List ℕ)) (command : Commanded) → KeepsProject command keeps
-        → IsConfigAt words command config.now (F.state folder.old)
-        → EndsAs words (F.state folder.old) (F.state folder.new) (O.state out.old) (O.state out.new) result }
-    ensures asked { IfSome (F.state folder.old).asked (λ old. (command : Commanded) → KeepsProject command keeps
-        → AsksFew config.now (F.state folder.old).holds (own_file command config.now) old (F.state folder.new)) }
-    ensures steps { CommandSpends ⊤ (O.state out.old) (O.state out.new) result steps.old steps.new }
+    ensures { (command : Commanded) → KeepsProject command keeps
+        → RunsCommand command config.now (F.state folder.old) (F.state folder.new) (O.state out.old)
+        (O.state out.new) result steps.old steps.new }
 {
     match prepare_map(alloc, folder, config, keeps, steps) {
         Ok(prepared) => finish(alloc, folder, &prepared, out),
@@ -145,12 +137,8 @@ fn inject<F: Folder, O: Sink, L: Ledger>(
     out: &mut O,
     steps: &mut Steps<L>,
 ) -> u8
-    ensures end { (words : List (List ℕ)) → IsConfigAt words Inject config.now (F.state folder.old)
-        → EndsAs words (F.state folder.old) (F.state folder.new) (O.state out.old) (O.state out.new) result }
-    ensures asked { IfSome (F.state folder.old).asked
-        (λ old. AsksFew config.now (F.state folder.old).holds (own_file Inject config.now) old
-        (F.state folder.new)) }
-    ensures steps { CommandSpends ⊤ (O.state out.old) (O.state out.new) result steps.old steps.new }
+    ensures { RunsCommand Inject config.now (F.state folder.old) (F.state folder.new) (O.state out.old)
+        (O.state out.new) result steps.old steps.new }
 {
     match prepare_page(alloc, folder, config, steps) {
         Ok(prepared) => finish(alloc, folder, &prepared, out),
@@ -166,12 +154,8 @@ fn check<F: Folder, O: Sink, L: Ledger>(
     out: &mut O,
     steps: &mut Steps<L>,
 ) -> u8
-    ensures end { (words : List (List ℕ)) → IsConfigAt words Check config.now (F.state folder.old)
-        → EndsAs words (F.state folder.old) (F.state folder.new) (O.state out.old) (O.state out.new) result }
-    ensures asked { IfSome (F.state folder.old).asked
-        (λ old. AsksFew config.now (F.state folder.old).holds (own_file Check config.now) old
-        (F.state folder.new)) }
-    ensures bounded { steps.new ≤ steps.old + (limit_number Modules + limit_number Requests) }
+    ensures { RunsCommand Check config.now (F.state folder.old) (F.state folder.new) (O.state out.old)
+        (O.state out.new) result steps.old steps.new }
 {
     match checked(alloc, folder, config, steps) {
         Ok(report) => tell(out, report.text.as_slice(), report.status),

@@ -24,10 +24,10 @@ use tree_spec::LimitName;
 /// a new one on the trail.
 #[derive(Drop)]
 pub struct FolderAnswers<'a, 'b, 'c, 'd, F: Folder, L: Ledger> {
-    pub folder: &'a mut F,
-    pub known: &'b mut Known,
-    pub steps: &'c mut Steps<L>,
-    pub trail: &'d mut Trail,
+    pub(crate) folder: &'a mut F,
+    pub(crate) known: &'b mut Known,
+    pub(crate) steps: &'c mut Steps<L>,
+    pub(crate) trail: &'d mut Trail,
 }
 
 impl<'a, 'b, 'c, 'd, F: Folder, L: Ledger> Answerer for FolderAnswers<'a, 'b, 'c, 'd, F, L> {

@@ -1,37 +1,28 @@
-use Rattle.std.proofs.Common.{sym, subst, IfSome}
-use Rattle.tree_spec.proofs.ToldStates.{if_some}
+use Rattle.std.proofs.Common.{◌≡◌, ℕ, sym, subst}
+use Rattle.tree_spec.specs.States.{FolderState, SinkState}
+use Rattle.trace_spec.specs.Modules.{Config}
+use Rattle.config_spec.specs.declared.Command.{Command}
 use Rattle.config_spec.specs.declared.Command.TheVariants.{Link, Unlink, Refresh}
-use Rattle.generator_spec.specs.Asked.{IsConfigAt}
-use Rattle.generator_spec.specs.Asked.{AsksFew, own_file}
 use Rattle.generator_core.specs.Preparing.{KeepsProject as keeps}
+use Rattle.generator_core.specs.Running.{RunsCommand}
 use Rattle.generator_core.proofs.running.commanded.Goals as goal
 
-pub returns-in-Link-clause-end : goal.returns-in-Link-clause-end
-returns-in-Link-clause-end g c = λ words is_config. c.write_map.ensures.end words Link keeps.link (subst (λ command. IsConfigAt words command c.args.config.now (g.F.Folder.state c.args.folder.now)) c.in-Link.is is_config)
+-- what is run for the command that it is
+runs_as : (config : Config) (before after : FolderState) (out out_after : SinkState) (result steps later : ℕ) (command is : Command) → command ≡ is → RunsCommand is config before after out out_after result steps later → RunsCommand command config before after out out_after result steps later
+runs_as config before after out out_after result steps later command is same runs =
+    subst (λ one. RunsCommand one config before after out out_after result steps later) (sym same) runs
 
-pub returns-in-Link-clause-asked : goal.returns-in-Link-clause-asked
-returns-in-Link-clause-asked g c =
-    let before = g.F.Folder.state c.args.folder.now in
-    let after = g.F.Folder.state c.write_map.new.folder in
-    subst (λ command. IfSome before.asked (λ old. AsksFew c.args.config.now before.holds (own_file command c.args.config.now) old after)) (sym c.in-Link.is)
-    (if_some {Q = λ old. AsksFew c.args.config.now before.holds (own_file Link c.args.config.now) old after} before.asked (λ old each. each Link keeps.link) c.write_map.ensures.asked)
+pub returns-in-Link : goal.returns-in-Link
+returns-in-Link g c = runs_as _ _ _ _ _ _ _ _ _ _ c.in-Link.is (c.write_map.ensures Link keeps.link)
 
-pub returns-in-Unlink-clause-end : goal.returns-in-Unlink-clause-end
-returns-in-Unlink-clause-end g c = λ words is_config. c.write_map-in-Unlink.ensures.end words Unlink keeps.unlink (subst (λ command. IsConfigAt words command c.args.config.now (g.F.Folder.state c.args.folder.now)) c.in-Unlink.is is_config)
+pub returns-in-Unlink : goal.returns-in-Unlink
+returns-in-Unlink g c = runs_as _ _ _ _ _ _ _ _ _ _ c.in-Unlink.is (c.write_map-in-Unlink.ensures Unlink keeps.unlink)
 
-pub returns-in-Unlink-clause-asked : goal.returns-in-Unlink-clause-asked
-returns-in-Unlink-clause-asked g c =
-    let before = g.F.Folder.state c.args.folder.now in
-    let after = g.F.Folder.state c.write_map-in-Unlink.new.folder in
-    subst (λ command. IfSome before.asked (λ old. AsksFew c.args.config.now before.holds (own_file command c.args.config.now) old after)) (sym c.in-Unlink.is)
-    (if_some {Q = λ old. AsksFew c.args.config.now before.holds (own_file Unlink c.args.config.now) old after} before.asked (λ old each. each Unlink keeps.unlink) c.write_map-in-Unlink.ensures.asked)
+pub returns-in-Refresh : goal.returns-in-Refresh
+returns-in-Refresh g c = runs_as _ _ _ _ _ _ _ _ _ _ c.in-Refresh.is (c.write_map-in-Refresh.ensures Refresh keeps.refresh)
 
-pub returns-in-Refresh-clause-end : goal.returns-in-Refresh-clause-end
-returns-in-Refresh-clause-end g c = λ words is_config. c.write_map-in-Refresh.ensures.end words Refresh keeps.refresh (subst (λ command. IsConfigAt words command c.args.config.now (g.F.Folder.state c.args.folder.now)) c.in-Refresh.is is_config)
+pub returns-in-Inject : goal.returns-in-Inject
+returns-in-Inject g c = runs_as _ _ _ _ _ _ _ _ _ _ c.in-Inject.is c.inject.ensures
 
-pub returns-in-Refresh-clause-asked : goal.returns-in-Refresh-clause-asked
-returns-in-Refresh-clause-asked g c =
-    let before = g.F.Folder.state c.args.folder.now in
-    let after = g.F.Folder.state c.write_map-in-Refresh.new.folder in
-    subst (λ command. IfSome before.asked (λ old. AsksFew c.args.config.now before.holds (own_file command c.args.config.now) old after)) (sym c.in-Refresh.is)
-    (if_some {Q = λ old. AsksFew c.args.config.now before.holds (own_file Refresh c.args.config.now) old after} before.asked (λ old each. each Refresh keeps.refresh) c.write_map-in-Refresh.ensures.asked)
+pub returns-in-Check : goal.returns-in-Check
+returns-in-Check g c = runs_as _ _ _ _ _ _ _ _ _ _ c.in-Check.is c.check.ensures

@@ -31,8 +31,8 @@ returns-in-Ok-clause-asked g c =
 
 pub returns-in-Ok-clause-steps : goal.returns-in-Ok-clause-steps
 returns-in-Ok-clause-steps g c = record {
-  told = λ generating zero. c.commanded.ensures.steps.told (subst IsGenerating (sym c.command-command.ensures) generating) zero;
-  bounded = c.commanded.ensures.steps.bounded;
+  told = λ generating zero. c.commanded.ensures.spends.told (subst IsGenerating (sym c.command-command.ensures) generating) zero;
+  bounded = c.commanded.ensures.spends.bounded;
 }
 
 pub returns-in-Err-clause-end : goal.returns-in-Err-clause-end

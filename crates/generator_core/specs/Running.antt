@@ -1,0 +1,20 @@
+-- What one command does.
+--     RunsCommand command config before after out out_after result steps later
+--                                                    the run ends as words end that ask for this command with this
+--                                                    config; it asks for few paths; and it takes few steps
+use Rattle.std.specs.Prelude.{ℕ, List, IfSome}
+use Rattle.tree_spec.specs.States.{FolderState, SinkState}
+use Rattle.trace_spec.specs.Modules.{Config}
+use Rattle.config_spec.specs.declared.Command.{Command}
+use Rattle.generator_spec.specs.Asked.{IsConfigAt, AsksFew, own_file}
+use Rattle.generator_spec.specs.Commands.{IsGenerating}
+use Rattle.generator_spec.specs.Ending.{EndsAs}
+use Rattle.generator_core.specs.Spending.{CommandSpends}
+
+pub record RunsCommand (command : Command) (config : Config) (before after : FolderState) (out out_after : SinkState)
+    (result steps later : ℕ) : Type 0 where
+  pub end :
+      (words : List (List ℕ)) → IsConfigAt words command config before
+      → EndsAs words before after out out_after result
+  pub asked : IfSome before.asked (λ old. AsksFew config before.holds (own_file command config) old after)
+  pub spends : CommandSpends (IsGenerating command) out out_after result steps later
