@@ -9,6 +9,8 @@ use Rattle.std.specs.List.{list_any}
 use Rattle.std.specs.Prelude.{◌≡◌, ◌<◌, ℕ, true, false, List, [], ◌∷◌, length, codes, bytes_eq, Some, None, Ok, Err}
 use Rattle.tree_spec.specs.Trees.{bare_tree, Tree}
 use Rattle.tree_spec.specs.declared.Entry.TheVariants.{Stored, Directory}
+use Rattle.tree_spec.specs.declared.LimitName.TheVariants.{File}
+use Rattle.tree_spec.specs.Limits.{limit_number}
 use Rattle.trace_spec.specs.Modules.{Config}
 use Rattle.words_spec.specs.PlainWords.{LinkOptions, no_options, linking, unlinking, refreshing, checking, injecting}
 use Rattle.config_spec.specs.declared.Command.TheVariants.{Link}
@@ -160,7 +162,7 @@ pub record WordExamples : Type 0 where
   pub link_by_folder :
       (tree : Tree) → get tree project_path ≡ Some Directory → RefusesConfig (codes "link" ∷ []) tree NoBase
   pub large :
-      (tree : Tree) (bytes : List ℕ) → get tree project_path ≡ Some (Stored bytes) → 16777216 < length bytes
+      (tree : Tree) (bytes : List ℕ) → get tree project_path ≡ Some (Stored bytes) → limit_number File < length bytes
       → RefusesConfig (codes "link" ∷ []) tree (Project TooLarge)
   pub new :
       IsConfigOf (codes "link" ∷ codes "--base=HTTPS://H/a/" ∷ codes "./app.mjs" ∷ []) bare_tree Link

@@ -1,6 +1,6 @@
 -- The need that is found where another asks alike.
 use Rattle.std.proofs.Common.{◌≡◌, ℕ, zero, suc, Bool, true, false, List, [], ◌∷◌, ◌++◌, Some, Result, Ok, Err, Contains, refl, sym, ap, ◌∙◌, subst, ⊎_elim}
-use Rattle.std.specs.Prelude.{◌≢◌, ◌⊎◌, IfErr, not, slice_get, take, bytes_eq}
+use Rattle.std.specs.Prelude.{◌≢◌, IfErr, IsErrAnd, not, slice_get, take, bytes_eq}
 use mathlib.Core.Logic.{inl, inr}
 use Rattle.std.specs.List.{find, list_any, IsDistinct, AllByRecursion}
 use Rattle.std.specs.Cmp.{first_so, second_so}
@@ -12,9 +12,9 @@ use Rattle.layout_spec.specs.Needs.{is_need, clashes, NoClash}
 use Rattle.layout_spec.proofs.Contained.{contains_here, contains_there, contains_cases, contains_none, contains_at}
 use Rattle.layout_spec.proofs.CountedNeeds.{need_itself}
 use Rattle.need_table.specs.declared.needs.NeedFault.{NeedFault}
-use Rattle.need_table.specs.declared.needs.NeedFault.TheVariants.{Clash}
+use Rattle.need_table.specs.declared.needs.NeedFault.TheVariants.{Clash, Memory}
 use Rattle.need_table.specs.declared.needs.Added.{Added}
-use Rattle.need_table.specs.Rows.{asks_alike, IsFresh, IsKnown, ClashesAt}
+use Rattle.need_table.specs.Rows.{asks_alike, IsFresh, IsKnown, ClashesAt, Adds}
 
 pub find_passes : {X : Type 0} (test : X → Bool) (xs : List X) (x : X) → Some x ≡ find test xs → test x ≡ true
 find_passes test [] x e = absurd (cc)
@@ -166,3 +166,13 @@ clash_by needs need other first (Ok added) rows stored alike is = tt
 clash_by needs need other first (Err fault) rows stored alike is = λ place e.
     let same : first ≡ place = (let f = is.0 in cc) in
     subst (ClashesAt needs need) same (clashes_at needs need other first rows stored alike is.1)
+
+-- with memory wanting, the table is as it was
+pub no_memory : (needs after : List Need) (need : Need) (result : Result Added NeedFault) → IsErrAnd result (λ fault. fault ≡ Memory) → after ≡ needs → Adds needs need after result
+no_memory needs after need (Ok added) is same = absurd is
+no_memory needs after need (Err fault) is same = record {
+  new = λ e. absurd (cc);
+  known = λ e. absurd (cc);
+  clash = λ first e. absurd (let f = sym is ∙ e in cc);
+  same = λ _. same;
+}

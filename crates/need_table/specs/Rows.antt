@@ -3,12 +3,17 @@
 --     IsFresh needs need after       the need is of a row of its own, and is put at the end
 --     IsKnown needs need             the need is there, and clashes with none
 --     ClashesAt needs need first     the need at this place clashes with it, and none before
+--     Adds needs need after result   what adding the need comes to; only where it is a new one, the table changes
 use Rattle.std.specs.Prelude.{◌≡◌, ◌≢◌, ℕ, Bool, true, false, List, [], ◌∷◌, ◌++◌, bytes_eq, Some, slice_get, take}
-use Rattle.std.specs.Prelude.{Contains}
+use Rattle.std.specs.Prelude.{Contains, Result, Ok, IfErr}
 use Rattle.std.specs.List.{list_any}
 use Rattle.std.specs.Ordering.{on, eq_of_both}
 use Rattle.layout_spec.specs.declared.Need.{Need}
 use Rattle.layout_spec.specs.Needs.{clashes, with_need}
+use Rattle.need_table.specs.declared.needs.Added.{Added}
+use Rattle.need_table.specs.declared.needs.Added.TheVariants.{New, Known}
+use Rattle.need_table.specs.declared.needs.NeedFault.{NeedFault}
+use Rattle.need_table.specs.declared.needs.NeedFault.TheVariants.{Clash}
 
 -- own: they have one referrer and one specifier
 abbrev pub asks_alike : Need → Need → Bool
@@ -33,3 +38,10 @@ pub record ClashesAt (needs : List Need) (need : Need) (first : ℕ) : Type 0 wh
   pub clash : clashes need other ≡ true
   pub found : list_any (clashes need) needs ≡ true
   pub none_before : list_any (clashes need) (take first needs) ≡ false
+
+-- own: one part for each result; and where the need isn't a new one, the table is as it was
+pub record Adds (needs : List Need) (need : Need) (after : List Need) (result : Result Added NeedFault) : Type 0 where
+  pub new : result ≡ Ok New → IsFresh needs need after
+  pub known : result ≡ Ok Known → IsKnown needs need
+  pub clash : IfErr result (λ fault. (first : ℕ) → fault ≡ Clash first → ClashesAt needs need first)
+  pub same : result ≢ Ok New → after ≡ needs

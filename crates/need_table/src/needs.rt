@@ -3,7 +3,7 @@ ghost use Rattle.std.specs.Prelude.{option_copied, Some, OnOk, OnErr, IfErr, Mat
 ghost use Rattle.std.specs.List.{list_any};
 ghost use Rattle.layout_spec.specs.Needs.{NoClash};
 ghost use Rattle.layout_spec.specs.declared.Need.{Need};
-ghost use Rattle.need_table.specs.Rows.{asks_alike, IsFresh, IsKnown, ClashesAt};
+ghost use Rattle.need_table.specs.Rows.{asks_alike, Adds};
 
 use crate::asking::Asking;
 use indexmap::IndexSet;
@@ -82,11 +82,7 @@ impl Needs {
 
     /// Adds a need that isn't there yet.
     pub fn add(&mut self, need: Need) -> Result<Added, NeedFault>
-        ensures new { result ≡ Ok Added.New → IsFresh self.old need self.new }
-        ensures known { result ≡ Ok Added.Known → IsKnown self.old need }
-        ensures clash { IfErr result (λ fault. (first : ℕ) → fault ≡ NeedFault.Clash first
-            → ClashesAt self.old need first) }
-        ensures same { result ≢ Ok Added.New → self.new ≡ self.old }
+        ensures { Adds self.old need self.new result }
     {
         let _apart = self.rows.len();
         let row = Asking::new(need);

@@ -1,4 +1,5 @@
 -- What reading gives is asked for by plain words.
+use Rattle.std.proofs.option.Match.{None-if_not_some}
 use Rattle.std.proofs.Common.{◌≡◌, ◌≤◌, ◌<◌, ◌==◌, ◌&&◌, ◌+◌, ◌-◌, ◌*◌, ◌/◌, ◌%◌, ℕ, List, [], ◌∷◌, ◌++◌, codes, append-nil, append_assoc, Option, Some, None, option_map, is_some, if◌then◌else◌, Bool, true, false, not, refl, sym, ap, ap₂, ◌∙◌, subst, arith, inl, inr, ◌⊎◌}
 use Rattle.std.specs.Fmt.{decimal}
 use Rattle.std.specs.List.{list_all}
@@ -66,10 +67,6 @@ record IsOneMore (options : LinkOptions) (option : LinkOption) (value : List ℕ
   pub free : value_of option options ≡ None
   pub same : with_value option value options ≡ more
 
-not_some : {X : Type 0} (x : Option X) → is_some x ≡ false → x ≡ None
-not_some None none = refl
-not_some (Some x) none = absurd (let bad : true ≡ false = none in cc)
-
 is_one_more : (options : LinkOptions) (option : LinkOption) (value : List ℕ) (more : LinkOptions) → one_more options option value ≡ Some more → IsOneMore options option value more
 is_one_more options option value more is = by_test (is_value value && not (is_some (value_of option options))) refl is
   where
@@ -80,7 +77,7 @@ is_one_more options option value more is = by_test (is_value value && not (is_so
         let parts = and_parts (is_value value) (not (is_some (value_of option options))) both in
         record {
           is = passed_value value parts.0;
-          free = not_some (value_of option options) (not-true (is_some (value_of option options)) parts.1);
+          free = None-if_not_some (value_of option options) (not-true (is_some (value_of option options)) parts.1);
           same = cc;
         }
     by_test false both is = absurd (let bad : None ≡ Some more = is in cc)

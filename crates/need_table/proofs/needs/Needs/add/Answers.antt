@@ -1,12 +1,24 @@
-use Rattle.need_table.proofs.Found.{fresh, is_known, clash_by}
+use Rattle.std.proofs.Common.{refl}
+use Rattle.need_table.proofs.Found.{fresh, is_known, clash_by, no_memory}
 use Rattle.need_table.proofs.needs.Needs.add.Goals as goal
 
-pub returns-in-Some-clause-known : goal.returns-in-Some-clause-known
-returns-in-Some-clause-known c = λ e. rw (← c.self.view_is, ← c.new-row.ensures)
-    (is_known c.self.inside.rows.keys c.new-row.result c.in-Some.other.now c.in-Some.first c.len-apart.ensures.unique c.in-Some.ensures.0 c.in-Some.ensures.1 (rw c.need.ensures at (c.judge.ensures.known e)))
+pub returns-in-Some : goal.returns-in-Some
+returns-in-Some c = record {
+  new = λ e. absurd (c.judge.ensures.not_new e);
+  known = λ e. rw (← c.self.view_is, ← c.new-row.ensures)
+      (is_known c.self.inside.rows.keys c.new-row.result c.in-Some.other.now c.in-Some.first c.len-apart.ensures.unique c.in-Some.ensures.0 c.in-Some.ensures.1 (rw c.need.ensures at (c.judge.ensures.known e)));
+  clash = rw (← c.self.view_is, ← c.new-row.ensures) (clash_by c.self.inside.rows.keys c.new-row.result c.in-Some.other.now c.in-Some.first c.judge.result c.len-apart.ensures.unique c.in-Some.ensures.0 c.in-Some.ensures.1 (rw c.need.ensures at c.judge.ensures.clash));
+  same = λ _. refl;
+}
 
-pub returns-in-Some-clause-clash : goal.returns-in-Some-clause-clash
-returns-in-Some-clause-clash c = rw (← c.self.view_is, ← c.new-row.ensures) (clash_by c.self.inside.rows.keys c.new-row.result c.in-Some.other.now c.in-Some.first c.judge.result c.len-apart.ensures.unique c.in-Some.ensures.0 c.in-Some.ensures.1 (rw c.need.ensures at c.judge.ensures.clash))
+pub returns-in_ok-put_row-in-None : goal.returns-in_ok-put_row-in-None
+returns-in_ok-put_row-in-None c = record {
+  new = λ e. rw (← c.self.view_is, ← c.new-row.ensures) (fresh c.self.inside.rows.keys c.put_row.new.rows.keys c.new-row.result c.in-None.ensures c.in_ok-put_row-in-None.ensures.put);
+  known = λ e. absurd (cc);
+  clash = tt;
+  same = λ apart. absurd (apart refl);
+}
 
-pub returns-in_ok-put_row-in-None-clause-new : goal.returns-in_ok-put_row-in-None-clause-new
-returns-in_ok-put_row-in-None-clause-new c = λ e. rw (← c.self.view_is, ← c.new-row.ensures) (fresh c.self.inside.rows.keys c.put_row.new.rows.keys c.new-row.result c.in-None.ensures c.in_ok-put_row-in-None.ensures.put)
+pub returns-in_err-put_row-in-None : goal.returns-in_err-put_row-in-None
+returns-in_err-put_row-in-None c = rw (← c.self.view_is)
+    (no_memory c.self.inside.rows.keys c.put_row.new.rows.keys _ c.from_residual.result c.from_residual.ensures.1 c.in_err-put_row-in-None.ensures.same)
