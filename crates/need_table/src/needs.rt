@@ -1,6 +1,6 @@
 ghost use Rattle.std.specs.Prelude.{◌≡◌, ◌≢◌, ◌==◌, ◌++◌, ◌∷◌, List, [], ℕ, Bool, length, true, false, slice_get};
 ghost use Rattle.std.specs.Prelude.{option_copied, Some, OnOk, OnErr, IfErr, MatchOption};
-ghost use Rattle.std.specs.List.{list_any};
+ghost use Rattle.std.specs.List.{list_any, IsDistinct};
 ghost use Rattle.layout_spec.specs.Needs.{NoClash};
 ghost use Rattle.layout_spec.specs.declared.Need.{Need};
 ghost use Rattle.need_table.specs.Rows.{asks_alike, Adds};
@@ -58,6 +58,7 @@ impl Needs {
     /// The number of needs.
     pub fn len(&self) -> usize
         ensures len { result ≡ length self.now }
+        ensures unique { IsDistinct asks_alike self.now }
         ensures no_clash { NoClash self.now }
     {
         self.rows.len()
