@@ -167,10 +167,16 @@ clash_by needs need other first (Err fault) rows stored alike is = λ place e.
     let same : first ≡ place = (let f = is.0 in cc) in
     subst (ClashesAt needs need) same (clashes_at needs need other first rows stored alike is.1)
 
+-- a fault of a need that is there isn't want of memory
+pub not_lost : (result : Result Added NeedFault) (first : ℕ) (P : Type 0) → IfErr result (λ fault. (fault ≡ Clash first) × P) → result ≡ Err Memory → ⊥
+not_lost (Ok added) first P is e = absurd (cc)
+not_lost (Err fault) first P is e = absurd (let f = is.0 in cc)
+
 -- with memory wanting, the table is as it was
-pub no_memory : (needs after : List Need) (need : Need) (result : Result Added NeedFault) → IsErrAnd result (λ fault. fault ≡ Memory) → after ≡ needs → Adds needs need after result
-no_memory needs after need (Ok added) is same = absurd is
-no_memory needs after need (Err fault) is same = record {
+pub no_memory : (needs after : List Need) (need : Need) (result : Result Added NeedFault) → list_any (asks_alike need) needs ≡ false → IsErrAnd result (λ fault. fault ≡ Memory) → after ≡ needs → Adds needs need after result
+no_memory needs after need (Ok added) none is same = absurd is
+no_memory needs after need (Err fault) none is same = record {
+  lost = λ _. none;
   new = λ e. absurd (cc);
   known = λ e. absurd (cc);
   clash = λ first e. absurd (let f = sym is ∙ e in cc);

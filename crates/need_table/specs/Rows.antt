@@ -5,7 +5,7 @@
 --     ClashesAt needs need first     the need at this place clashes with it, and none before
 --     Adds needs need after result   what adding the need comes to; only where it is a new one, the table changes
 use Rattle.std.specs.Prelude.{◌≡◌, ◌≢◌, ℕ, Bool, true, false, List, [], ◌∷◌, ◌++◌, bytes_eq, Some, slice_get, take}
-use Rattle.std.specs.Prelude.{Contains, Result, Ok, IfErr}
+use Rattle.std.specs.Prelude.{Contains, Result, Ok, Err, IfErr}
 use Rattle.std.specs.List.{list_any}
 use Rattle.std.specs.Ordering.{on, eq_of_both}
 use Rattle.layout_spec.specs.declared.Need.{Need}
@@ -13,7 +13,7 @@ use Rattle.layout_spec.specs.Needs.{clashes, with_need}
 use Rattle.need_table.specs.declared.needs.Added.{Added}
 use Rattle.need_table.specs.declared.needs.Added.TheVariants.{New, Known}
 use Rattle.need_table.specs.declared.needs.NeedFault.{NeedFault}
-use Rattle.need_table.specs.declared.needs.NeedFault.TheVariants.{Clash}
+use Rattle.need_table.specs.declared.needs.NeedFault.TheVariants.{Clash, Memory}
 
 -- own: they have one referrer and one specifier
 abbrev pub asks_alike : Need → Need → Bool
@@ -39,9 +39,11 @@ pub record ClashesAt (needs : List Need) (need : Need) (first : ℕ) : Type 0 wh
   pub found : list_any (clashes need) needs ≡ true
   pub none_before : list_any (clashes need) (take first needs) ≡ false
 
--- own: one part for each result; and where the need isn't a new one, the table is as it was
+-- own: one part for each result, where memory is wanting for a need of a row of its own alone; and where the need isn't
+-- a new one, the table is as it was
 pub record Adds (needs : List Need) (need : Need) (after : List Need) (result : Result Added NeedFault) : Type 0 where
   pub new : result ≡ Ok New → IsFresh needs need after
   pub known : result ≡ Ok Known → IsKnown needs need
   pub clash : IfErr result (λ fault. (first : ℕ) → fault ≡ Clash first → ClashesAt needs need first)
+  pub lost : result ≡ Err Memory → list_any (asks_alike need) needs ≡ false
   pub same : result ≢ Ok New → after ≡ needs
