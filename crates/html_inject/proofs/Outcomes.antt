@@ -1,5 +1,5 @@
 -- What comes of a map and a page, by the place that was found for the map.
-use Rattle.std.specs.Prelude.{IfOk, IfErr, IsUtf8}
+use Rattle.std.specs.Prelude.{IsUtf8, MatchResult}
 use Rattle.std.specs.Str.{is_utf8}
 use Rattle.std.specs.Str.Lossy.{utf8_valid_len}
 use Rattle.std.proofs.Common.{◌≡◌, ℕ, ◌+◌, ◌≤◌, List, [], ◌++◌, length, true, false, Bool, Option, Some, None, Result, Ok, Err, refl, sym, ◌∙◌, ap, subst, arith}
@@ -16,7 +16,7 @@ use Rattle.page_spec.proofs.Cover.{pieces_cover}
 use Rattle.page_spec.proofs.Putting.{some_replaced, some_inserted, replaced_site, inserted_place}
 use Rattle.html_inject.specs.declared.search.Site.{Site}
 use Rattle.html_inject.specs.declared.search.Site.TheVariants.{Map, Place}
-use Rattle.html_inject.specs.Search.{chosen, site, IsSite, IsSiteOf}
+use Rattle.html_inject.specs.Search.{chosen, site, IsSite, IsSiteOf, TakesMapsAt}
 
 -- what comes of a map that goes there
 abbrev pub finished : List ℕ → List ℕ → Result Site InjectFault → Result (List ℕ) InjectFault
@@ -97,20 +97,16 @@ site_fits page body s e i = subst (λ b. Fits b s) (sym (pieces_cover body i.par
 
 -- ---- what a search says of the page
 
-pub site_is : (page body : List ℕ) (s : Site) → body ≡ page → IsUtf8 page → IsSite body (here s) → IsSiteOf page s
+site_is : (page body : List ℕ) (s : Site) → body ≡ page → IsUtf8 page → IsSite body (here s) → IsSiteOf page s
 site_is page body s e u i = record { utf8 = u; is = subst (λ b. IsSite b (here s)) e i }
 
-pub site_takes : (page body : List ℕ) (s : Site) → body ≡ page → IsUtf8 page → IsSite body (here s) → TakesMaps page
+site_takes : (page body : List ℕ) (s : Site) → body ≡ page → IsUtf8 page → IsSite body (here s) → TakesMaps page
 site_takes page body (Map from to) e u i = λ text. record { new = _; injection = comes_of text page body (here (Map from to)) e u i }
 site_takes page body (Place n) e u i = λ text. record { new = _; injection = comes_of text page body (here (Place n)) e u i }
 
-pub takes_of : (page body : List ℕ) (out : Result Site InjectFault) → body ≡ page → IsUtf8 page → IsSite body out → IfOk out (λ _. TakesMaps page)
-takes_of page body (Ok s) e u i = site_takes page body s e u i
-takes_of page body (Err fault) e u i = tt
-
-pub keeps_of : (page body : List ℕ) (out : Result Site InjectFault) → body ≡ page → IsUtf8 page → IsSite body out → IfErr out (λ fault. KeepsMapsOut page fault)
-keeps_of page body (Ok s) e u i = tt
-keeps_of page body (Err fault) e u i = λ text. comes_of text page body (Err fault) e u i
+pub takes_or_keeps_out : (page body : List ℕ) (out : Result Site InjectFault) → body ≡ page → IsUtf8 page → IsSite body out → MatchResult out (TakesMapsAt page) (KeepsMapsOut page)
+takes_or_keeps_out page body (Ok s) e u i = record { site = site_is page body s e u i; takes = site_takes page body s e u i }
+takes_or_keeps_out page body (Err fault) e u i = λ text. comes_of text page body (Err fault) e u i
 
 -- ---- a map at its site
 

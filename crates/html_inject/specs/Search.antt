@@ -8,6 +8,8 @@
 --     site parts                      where a map goes among the pieces, or the fault that decides
 --     IsSite page out                 the same of a page
 --     IsSiteOf page site              a map goes there in the page
+--     TakesMapsAt page place          the same, and the page takes each map
+--     TakesMapsAs bytes shown         the page that is shown is these bytes, and they take each map
 use Rattle.std.specs.Prelude.{◌≡◌, ◌||◌, codes, ℕ, ⊤, false, List, [], ◌∷◌, if◌then◌else◌, Option, Some, None, Result}
 use Rattle.std.specs.Prelude.{Ok, Err, IsUtf8}
 use Rattle.std.specs.Option.{option_or}
@@ -18,7 +20,7 @@ use Rattle.page_spec.specs.Pieces.{Part, Pieces}
 use Rattle.page_spec.specs.ImportMaps.{is_broken, is_raw, is_start_of, is_map_start}
 use Rattle.page_spec.specs.Places.{IsPieceOf, part_at}
 use Rattle.page_spec.specs.Faults.{first_fault}
-use Rattle.page_spec.specs.Injection.{map_span, is_place, place, unless_faulted}
+use Rattle.page_spec.specs.Injection.{map_span, is_place, place, unless_faulted, TakesMaps}
 use Rattle.html_inject.specs.declared.search.Found.{Found}
 use Rattle.html_inject.specs.declared.search.Site.{Site}
 use Rattle.html_inject.specs.declared.search.Site.TheVariants.{Map, Place}
@@ -67,3 +69,11 @@ pub record IsSite (page : List ℕ) (out : Result Site InjectFault) : Type 0 whe
 pub record IsSiteOf (page : List ℕ) (place : Site) : Type 0 where
   pub utf8 : IsUtf8 page
   pub is : IsSite page (Ok place)
+
+pub record TakesMapsAt (page : List ℕ) (place : Site) : Type 0 where
+  pub site : IsSiteOf page place
+  pub takes : TakesMaps page
+
+pub record TakesMapsAs (bytes shown : List ℕ) : Type 0 where
+  pub page : shown ≡ bytes
+  pub takes : TakesMaps bytes

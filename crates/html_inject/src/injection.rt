@@ -1,7 +1,7 @@
-ghost use Rattle.std.specs.Prelude.{◌≡◌, ◌≢◌, Ok, Err, IfOk, IfErr};
+ghost use Rattle.std.specs.Prelude.{◌≢◌, Ok, Err, IfOk, IfErr, MatchResult};
 ghost use Rattle.page_spec.specs.declared.kinds.InjectFault.TheVariants.{Memory};
-ghost use Rattle.page_spec.specs.Injection.{Injection, TakesMaps, KeepsMapsOut};
-ghost use Rattle.html_inject.specs.Search.{IsSiteOf};
+ghost use Rattle.page_spec.specs.Injection.{Injection, KeepsMapsOut};
+ghost use Rattle.html_inject.specs.Search.{IsSiteOf, TakesMapsAs, TakesMapsAt};
 
 use crate::search::{Site, site_in};
 use crate::written::{inserted, replaced};
@@ -33,9 +33,7 @@ impl<'a> Model for PageSite<'a> {
 /// all others; then what page_spec's faults say; [`InjectFault::NoPlace`] where there is no fault and nowhere to put
 /// a map.
 pub fn site_of(page: &[u8]) -> Result<PageSite<'_>, InjectFault>
-    ensures page { IfOk result (λ site. site ≡ page.now) }
-    ensures takes { IfOk result (λ _. TakesMaps page.now) }
-    ensures fault { IfErr result (λ fault. KeepsMapsOut page.now fault) }
+    ensures { MatchResult result (TakesMapsAs page.now) (KeepsMapsOut page.now) }
 {
     match place_in(page) {
         Err(fault) => Err(fault),
@@ -44,9 +42,7 @@ pub fn site_of(page: &[u8]) -> Result<PageSite<'_>, InjectFault>
 }
 
 fn place_in(page: &[u8]) -> Result<Site, InjectFault>
-    ensures site { IfOk result (λ site. IsSiteOf page.now site) }
-    ensures takes { IfOk result (λ _. TakesMaps page.now) }
-    ensures fault { IfErr result (λ fault. KeepsMapsOut page.now fault) }
+    ensures { MatchResult result (TakesMapsAt page.now) (KeepsMapsOut page.now) }
 {
     match std::str::from_utf8(page) {
         Err(fault) => Err(InjectFault::PageUnclear {

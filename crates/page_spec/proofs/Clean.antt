@@ -1,5 +1,6 @@
 -- Pieces without a fault, in a form that no offset enters.
-use Rattle.std.specs.Prelude.{◌&&◌, ◌||◌, codes, is_some, option_map}
+use Rattle.std.specs.Prelude.{◌&&◌, ◌||◌, codes, is_some, option_map, nat_eq}
+use Rattle.std.specs.List.{starts_with}
 use Rattle.std.proofs.Common.{◌≡◌, ℕ, ◌+◌, List, [], ◌∷◌, length, Bool, true, false, Option, Some, None, if◌then◌else◌, refl, ◌∙◌, ap, subst}
 use Rattle.std.proofs.Math.Bool.{and-false}
 use Rattle.std.proofs.lemmas.Option.{same_Some}
@@ -8,7 +9,7 @@ use Rattle.page_spec.specs.declared.kinds.InjectFault.TheVariants.{PageUnclear, 
 use Rattle.page_spec.specs.Pieces.{Part}
 use Rattle.page_spec.specs.Attributes.{attribute_text}
 use Rattle.page_spec.specs.ImportMaps.{is_broken, is_start_of, is_script, raw_behind, begins_map}
-use Rattle.page_spec.specs.Faults.{holds_ampersand, is_unclear, begins_with, comment_at, raw_fault, fault_at, or_later, first_fault}
+use Rattle.page_spec.specs.Faults.{holds_ampersand, is_unclear, comment_at, raw_fault, fault_at, or_later, first_fault}
 
 -- the piece has no fault
 pub record Fine (seen : Bool) (p : Part) (parts : List Part) : Type 0 where
@@ -35,7 +36,7 @@ unfaulted false false false o f g e = record { first = refl; second = refl; thir
 
 comment_moved : (m n : ℕ) (bytes : List ℕ) → comment_at m bytes ≡ None → comment_at n bytes ≡ None
 comment_moved m n [] e = refl
-comment_moved m n (b ∷ rest) e = by_test (begins_with (codes "<!--") (b ∷ rest)) e (λ f. comment_moved (m + 1) (n + 1) rest f) where
+comment_moved m n (b ∷ rest) e = by_test (starts_with nat_eq (b ∷ rest) (codes "<!--")) e (λ f. comment_moved (m + 1) (n + 1) rest f) where
   by_test : (c : Bool) → (if c then Some m else comment_at (m + 1) rest) ≡ None → (comment_at (m + 1) rest ≡ None → comment_at (n + 1) rest ≡ None) → (if c then Some n else comment_at (n + 1) rest) ≡ None
   by_test true e go = absurd (cc)
   by_test false e go = go e

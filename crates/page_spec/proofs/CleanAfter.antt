@@ -1,5 +1,7 @@
 -- Pieces among which a map was put have no fault, and one import map element.
-use Rattle.std.specs.Prelude.{◌&&◌, ◌||◌, codes, is_some}
+use Rattle.std.specs.Prelude.{◌&&◌, ◌||◌, codes, is_some, nat_eq}
+use Rattle.std.specs.List.{starts_with}
+use Rattle.std.specs.Cmp.{nat_eq_equiv}
 use Rattle.std.proofs.Common.{◌≡◌, ℕ, ◌+◌, List, [], ◌∷◌, All, Bool, true, false, ◌==◌, Some, None, if◌then◌else◌, refl, sym, ◌∙◌, ap, subst}
 use Rattle.std.proofs.Math.Bool.{and-false}
 use Rattle.std.proofs.lemmas.Option.{same_Some}
@@ -8,7 +10,7 @@ use Rattle.page_spec.specs.declared.kinds.PieceKind.TheVariants.{Text, Start, En
 use Rattle.page_spec.specs.Pieces.{Part, part}
 use Rattle.page_spec.specs.Attributes.{attribute, attribute_text}
 use Rattle.page_spec.specs.ImportMaps.{is_raw, is_map_start, raw_behind, map_of, begins_map, with_map, import_maps}
-use Rattle.page_spec.specs.Faults.{begins_with, comment_at}
+use Rattle.page_spec.specs.Faults.{comment_at}
 use Rattle.page_spec.specs.Injection.{start_tag, end_tag}
 use Rattle.page_spec.proofs.Clean.{Clean, Fine, fine_moved, fine_seen}
 use Rattle.page_spec.proofs.Clean.Clean.{no_more, fine}
@@ -20,8 +22,8 @@ use Rattle.page_spec.proofs.Putting.Inserted.{before, behind}
 
 no_comment : (n : ℕ) (text : List ℕ) → All (λ b. (b == 60) ≡ false) text → comment_at n text ≡ None
 no_comment n [] a = refl
-no_comment n (b ∷ text) a = by_first (b == 60) (All-head (λ b. (b == 60) ≡ false) b text a) (no_comment (n + 1) text (All-tail (λ b. (b == 60) ≡ false) b text a)) where
-  by_first : (c : Bool) → c ≡ false → comment_at (n + 1) text ≡ None → (if c && begins_with (codes "!--") text then Some n else comment_at (n + 1) text) ≡ None
+no_comment n (b ∷ text) a = by_first (60 == b) (nat_eq_equiv.symm 60 b ∙ All-head (λ b. (b == 60) ≡ false) b text a) (no_comment (n + 1) text (All-tail (λ b. (b == 60) ≡ false) b text a)) where
+  by_first : (c : Bool) → c ≡ false → comment_at (n + 1) text ≡ None → (if c && starts_with nat_eq text (codes "!--") then Some n else comment_at (n + 1) text) ≡ None
   by_first false e f = f
   by_first true e f = absurd (cc)
 

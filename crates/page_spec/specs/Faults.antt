@@ -8,9 +8,9 @@
 -- A page is unclear where a piece is Broken, where it has a `base` (which changes what the map's addresses mean),
 -- where a script's type holds `&` (which may begin a character reference), where an import map element has a `src`,
 -- and where a script's text holds `<!--` (behind which its end tag need not end it).
-use Rattle.std.specs.Prelude.{ℕ, ◌+◌, Bool, true, false, ◌&&◌, ◌||◌, ◌==◌, List, [], ◌∷◌, length, if◌then◌else◌, Option}
+use Rattle.std.specs.Prelude.{ℕ, ◌+◌, Bool, false, ◌&&◌, ◌||◌, ◌==◌, nat_eq, List, [], ◌∷◌, length, if◌then◌else◌, Option}
 use Rattle.std.specs.Prelude.{Some, None, option_map, is_some, codes}
-use Rattle.std.specs.List.{list_any}
+use Rattle.std.specs.List.{list_any, starts_with}
 use Rattle.page_spec.specs.declared.kinds.InjectFault.{InjectFault}
 use Rattle.page_spec.specs.declared.kinds.InjectFault.TheVariants.{PageUnclear, TwoMaps}
 use Rattle.page_spec.specs.Pieces.{Part}
@@ -28,14 +28,9 @@ is_unclear p parts =
     || is_script p && holds_ampersand (attribute_text (codes "type") p.text)
     || begins_map p parts && is_some (attribute_text (codes "src") p.text)
 
-abbrev pub begins_with : List ℕ → List ℕ → Bool
-begins_with [] bytes = true
-begins_with (f ∷ front) [] = false
-begins_with (f ∷ front) (b ∷ bytes) = b == f && begins_with front bytes
-
 abbrev pub comment_at : ℕ → List ℕ → Option ℕ
 comment_at n [] = None
-comment_at n (b ∷ rest) = if begins_with (codes "<!--") (b ∷ rest) then Some n else comment_at (n + 1) rest
+comment_at n (b ∷ rest) = if starts_with nat_eq (b ∷ rest) (codes "<!--") then Some n else comment_at (n + 1) rest
 
 -- the fault of a script's raw text that begins at the offset
 abbrev pub raw_fault : ℕ → Option (List ℕ) → Option InjectFault

@@ -3,7 +3,7 @@
 //! `clap` judges the words, and `words_read` gives the values, which are those that `clap` holds.
 #![tactic(auto)]
 
-ghost use Rattle.std.specs.Prelude.{◌≡◌, ◌≢◌, IfErr, IfOk, map, string_bytes};
+ghost use Rattle.std.specs.Prelude.{◌≡◌, ◌≢◌, MatchResult, map, string_bytes};
 ghost use Rattle.clap.specs.Words.{kind_of};
 ghost use Rattle.words_parse.specs.Explaining.{Explains};
 ghost use Rattle.words_read.specs.Shown.{shown};
@@ -35,11 +35,9 @@ pub enum WordsFault {
 #[tactic(auto, using(crate::proofs::Explained::explained))]
 pub fn parse<'a>(alloc: Global, words: &'a [String]) -> Result<Command<'a>, WordsFault>
     ensures plain { (asked : Asked) → Asks (map string_bytes words.now) asked
-        → IfOk result (λ command. shown command ≡ asked) }
-    ensures memory { (asked : Asked) → Asks (map string_bytes words.now) asked
-        → IfErr result (λ fault. fault ≡ WordsFault.Memory) }
-    ensures asks { IfOk result (λ command. Asks (map string_bytes words.now) (shown command)) }
-    ensures faults { IfErr result (Explains (map string_bytes words.now)) }
+        → MatchResult result (λ command. shown command ≡ asked) (λ fault. fault ≡ WordsFault.Memory) }
+    ensures asks { MatchResult result (λ command. Asks (map string_bytes words.now) (shown command))
+        (Explains (map string_bytes words.now)) }
 {
     match matches(alloc, words) {
         Err(error) => Err(fault_from(alloc, &error)),

@@ -13,5 +13,5 @@ returns-in-Some-clause-plain c = λ asked plain.
 pub returns-in-Some-clause-asks : goal.returns-in-Some-clause-asks
 returns-in-Some-clause-asks c = c.in-Some.ensures
 
-pub returns-clause-memory : goal.returns-clause-memory
-returns-clause-memory c = λ asked plain. absurd (c.in-None.ensures asked plain)
+pub returns-clause-plain : goal.returns-clause-plain
+returns-clause-plain c = λ asked plain. absurd (c.in-None.ensures asked plain)

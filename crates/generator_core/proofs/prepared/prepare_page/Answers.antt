@@ -16,7 +16,7 @@ returns-in-Err-site_of-clause-prepares g c =
     let before = g.F.Folder.state c.args.folder.now in
     let after = g.F.Folder.state c.page_of.new.folder in
     page_keeps_out c.args.config.now before after c.in-Ok.page c.in-Err-site_of.fault c.without_page.result (subst (λ r. FindsPage c.args.config.now before r after) c.in-Ok.is c.page_of.ensures)
-    (subst (λ b. KeepsMapsOut b c.in-Err-site_of.fault) c.as_slice.ensures c.in-Err-site_of.ensures.fault) c.without_page.ensures
+    (subst (λ b. KeepsMapsOut b c.in-Err-site_of.fault) c.as_slice.ensures c.in-Err-site_of.ensures) c.without_page.ensures
 
 pub returns-clause-prepares : goal.returns-clause-prepares
 returns-clause-prepares g c =
