@@ -1,16 +1,13 @@
 -- What one call of the lexer says of the tokens.
-use Rattle.std.proofs.Common.{◌≡◌, ◌≤◌, ◌<◌, ◌-◌, ◌+◌, ℕ, true, false, List, [], ◌∷◌, length, take, Option, None, refl, sym, ◌∙◌, ap, subst, arith}
+use Rattle.std.proofs.Common.{◌≡◌, ◌≤◌, ◌<◌, ◌-◌, ◌+◌, ℕ, List, [], ◌∷◌, length, take, Option, None, refl, sym, ◌∙◌, ap, subst, arith}
 use Rattle.module_spec.specs.declared.token.Bracket.{Bracket}
 use Rattle.module_spec.specs.declared.token.LexKind.{LexKind}
 use Rattle.module_spec.specs.declared.token.Sort.{Sort}
-use Rattle.module_spec.specs.declared.token.Word.TheVariants.{Other}
 use Rattle.module_spec.specs.declared.token.Kind.{Kind}
 use Rattle.module_spec.specs.declared.token.Token.{Token}
 use Rattle.module_spec.specs.Sorts.{opens, closes, kind_of}
 use Rattle.module_spec.specs.Spellings.{hashbang_rest}
-use Rattle.module_spec.specs.Tokens.{Lexeme, Slash, Skips, Next, next_at, lexeme, refusal, opener, depth, is_property, IsNext, Reaches, most_brackets, token_of, fault_of}
-use Rattle.module_spec.specs.Tokens.Balanced.{same}
-use Rattle.module_spec.specs.Tokens.Slash.{start}
+use Rattle.module_spec.specs.Tokens.{Lexeme, Skips, Next, next_at, lexeme, refusal, opener, depth, is_property, IsNext, Reaches, most_brackets, fault_of}
 use Rattle.module_spec.specs.Tokens.Next.{Ends, Faults, Gives}
 use Rattle.module_spec.specs.Tokens.IsNext.{next}
 use Rattle.module_spec.specs.Tokens.Reaches.{begin, go}
@@ -22,9 +19,8 @@ use Rattle.module_spec.proofs.TokenLaws.{one_reach}
 use Rattle.es_lexer.specs.declared.state.Open.{Open}
 use Rattle.es_lexer.specs.declared.state.Last.{Last}
 use Rattle.es_lexer.specs.Open.{top_of, top_bracket, changed}
-use Rattle.es_lexer.specs.State.{Follows, IsLexer, State, no_last}
+use Rattle.es_lexer.specs.State.{Follows, IsLexer, no_last}
 use Rattle.es_lexer.specs.Steps.{GivesToken}
-use Rattle.es_lexer.specs.State.IsStack.{empty}
 use Rattle.es_lexer.proofs.Stack.{top, top_opener, state_after, state_at_start}
 
 -- at the start
@@ -101,6 +97,9 @@ depth_of now items e l f = subst (λ (p : List ℕ × List ℕ). Tells p (length
 
 pub property_of : {text rest : List ℕ} (now : List ℕ × List ℕ) {last : Last} {stack : List Open} {room : ℕ} → (text, rest) ≡ now → IsLexer text rest last stack room → Tells now last.property is_property
 property_of now {last} e l = subst (λ (p : List ℕ × List ℕ). Tells p last.property is_property) e (l.before, l.reached, l.state.property)
+
+pub stood : {text rest : List ℕ} (now : List ℕ × List ℕ) {last : Last} {stack : List Open} {room : ℕ} → (text, rest) ≡ now → IsLexer text rest last stack room → (before : List Lexeme) × Reaches now.0 before now.1
+stood now e l = subst (λ (p : List ℕ × List ℕ). (before : List Lexeme) × Reaches p.0 before p.1) e (l.before, l.reached)
 
 pub faulted : {text rest bytes : List ℕ} (now : List ℕ × List ℕ) {last : Last} {stack : List Open} {room : ℕ} {inner : Option Bracket} {d : ℕ} (kind : LexKind) → (text, rest) ≡ now → Look text rest bytes last stack room inner d → next_at last.slash inner d bytes ≡ Faults (length bytes) kind
     → (before : List Lexeme) → Reaches now.0 before now.1 → (left : ℕ) × IsNext before now.1 (Faults left kind) × (fault_of (length text) (length bytes) kind ≡ fault_of (length now.0) left kind) × (now.1 ≡ now.1)

@@ -1,5 +1,5 @@
 -- One more token: what is kept agrees with the tokens again.
-use Rattle.std.proofs.Common.{◌≡◌, ◌≢◌, ◌≤◌, ◌+◌, ◌-◌, ◌==◌, ◌||◌, ◌&&◌, ℕ, Bool, true, false, not, if◌then◌else◌, List, [], ◌∷◌, ◌++◌, length, take, Option, Some, None, refl, sym, ◌∙◌, ap, subst, arith}
+use Rattle.std.proofs.Common.{◌≡◌, ◌≢◌, ◌≤◌, ◌+◌, ◌-◌, ◌==◌, ℕ, Bool, true, false, not, if◌then◌else◌, List, [], ◌∷◌, ◌++◌, length, take, Option, Some, None, refl, sym, ◌∙◌, ap, subst, arith}
 use Rattle.std.proofs.lemmas.List.{length_push, length-take-le}
 use Rattle.std.proofs.lemmas.Bool.{eqb-false}
 use Rattle.module_spec.specs.declared.token.Bracket as brackets
@@ -11,7 +11,7 @@ use Rattle.module_spec.specs.declared.token.Sort.TheVariants.{Name, Private, Num
 use Rattle.module_spec.specs.declared.token.Word.{Word}
 use Rattle.module_spec.specs.declared.token.Word.TheVariants.{Condition, For, Await, Of, Value, Statement, Other}
 use Rattle.module_spec.specs.declared.token.LexKind.TheVariants.{TooDeep}
-use Rattle.module_spec.specs.Sorts.{opens, closes, is_dot, sort_before_value, is_for, is_await}
+use Rattle.module_spec.specs.Sorts.{opens, closes, sort_before_value}
 use Rattle.module_spec.specs.Tokens.{Lexeme, Balanced, Innermost, depth, opener, plain_word, name_word, refusal, slash_after, slash_after_mark, slash_after_word, in_for, closed_round, closed_curly, most_brackets}
 use Rattle.module_spec.specs.Tokens.Balanced.{same, neither, closed}
 use Rattle.module_spec.specs.Tokens.Outside.{first, later}

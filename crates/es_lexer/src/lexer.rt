@@ -1,9 +1,8 @@
-ghost use Rattle.std.specs.Prelude.{◌≡◌, ℕ, List, IfOk, IfSome, length};
-ghost use Rattle.module_spec.specs.Spans.{IsSpan};
+ghost use Rattle.std.specs.Prelude.{◌≡◌, List, IfOk};
 ghost use Rattle.module_spec.specs.Spellings.{hashbang_rest};
 ghost use Rattle.module_spec.specs.Tokens.{Lexeme, Reaches, depth, is_property};
 ghost use Rattle.es_lexer.specs.Open.{top_bracket};
-ghost use Rattle.es_lexer.specs.Steps.{NextIs};
+ghost use Rattle.es_lexer.specs.Steps.{ReadsNext};
 
 use crate::look::look;
 use crate::sorts::kind_of;
@@ -62,11 +61,7 @@ impl<'a> Lexer<'a> {
     /// The next token, None at the text's end, or the text's first fault. At the end and at a fault the reader stays
     /// where it is, so that each later call answers the same.
     pub fn next(&mut self) -> Result<Option<Token>, LexFault>
-        ensures text { self.new.0 ≡ self.old.0 }
-        ensures span { IfOk result (λ token. IfSome token (λ t. IsSpan self.old.0 t)) }
-        ensures reached { (before : List Lexeme) × Reaches self.old.0 before self.old.1 }
-        ensures next { (before : List Lexeme) → Reaches self.old.0 before self.old.1
-            → NextIs self.old.0 before self.old.1 result self.new.1 }
+        ensures { ReadsNext self.old self.new result }
     {
         let bytes = skip(self.rest);
         let top = top_of(self.stack.as_slice());

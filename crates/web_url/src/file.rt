@@ -1,8 +1,9 @@
-ghost use Rattle.std.specs.Prelude.{◌≡◌, IfOk, OnOk, IsAscii, IsErrOf, Some, true, false};
+ghost use Rattle.std.specs.Prelude.{◌≡◌, IfOk, OnOk, IsErrOf, Some, true, false};
 ghost use Rattle.std.specs.Prelude.{string_bytes, codes, bytes_eq, ◌&&◌, not, [], if◌then◌else◌};
 ghost use Rattle.url_spec.specs.Parsing.{parse_alone, parse_against, IsUrl};
 ghost use Rattle.url_spec.specs.Specifiers.{is_relative};
 ghost use Rattle.url_spec.specs.FileUrls.{file_text, names_host, url_path, IsPlace};
+ghost use Rattle.web_url.specs.Written.{IsTextOf};
 
 use crate::escapes::push_escaped;
 use crate::paths::{escapes_separator, named_path};
@@ -69,9 +70,7 @@ impl FileUrl {
     /// Lends the text.
     #[tactic(auto, using(crate::proofs::UrlTexts::texts))]
     pub fn as_str(&self) -> &str
-        ensures text { result.now ≡ self.now }
-        ensures ascii { IsAscii self.now }
-        ensures is_url { IsUrl self.now }
+        ensures { IsTextOf self.now result.now }
     {
         self.url.as_str()
     }
@@ -138,8 +137,8 @@ pub fn file_join(_alloc: Global, text: &str, parent: &FileUrl) -> Result<Option<
 
 /// The place that a file URL names, which must have no host.
 pub fn file_of(alloc: Global, url: &FileUrl) -> Result<Place, FileFault>
-    ensures place { IfOk result (λ place. IsPlace url.now place.path place.folder_only place.escaped place.suffix) }
-    ensures no_host { IfOk result (λ place. names_host url.now ≡ false) }
+    ensures place { IfOk result (λ place. (names_host url.now ≡ false)
+        × IsPlace url.now place.path place.folder_only place.escaped place.suffix) }
     ensures host { IsErrOf result FileFault.BadFileUrl → names_host url.now ≡ true }
 {
     if url.names_host() {

@@ -1,7 +1,7 @@
-ghost use Rattle.std.specs.Prelude.{◌≡◌, IfOk, IfSome, IsAscii};
-ghost use Rattle.url_spec.specs.Parsing.{parse_alone, parse_against, IsUrl};
+ghost use Rattle.std.specs.Prelude.{◌≡◌, IfOk, IfSome};
+ghost use Rattle.url_spec.specs.Parsing.{parse_alone, parse_against};
 ghost use Rattle.url_spec.specs.Schemes.{has_special_scheme, url_scheme};
-ghost use Rattle.web_url.specs.Written.{IsParsedAs};
+ghost use Rattle.web_url.specs.Written.{IsParsedAs, IsTextOf};
 
 use crate::url_text;
 use primitives::{Memory, Text};
@@ -54,9 +54,7 @@ impl WebUrl {
     /// Lends the text.
     #[tactic(auto, using(crate::proofs::UrlTexts::texts))]
     pub fn as_str(&self) -> &str
-        ensures text { result.now ≡ self.now }
-        ensures ascii { IsAscii self.now }
-        ensures is_url { IsUrl self.now }
+        ensures { IsTextOf self.now result.now }
     {
         self.url.as_str()
     }

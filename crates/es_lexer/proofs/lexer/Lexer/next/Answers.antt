@@ -1,8 +1,8 @@
 -- A look at the bytes behind all space says what comes; the lemmas on calls put it into words of tokens.
-use Rattle.std.proofs.Common.{◌≡◌, ◌-◌, ◌∙◌, ap, length, take, arith}
+use Rattle.std.proofs.Common.{◌≡◌, ◌-◌, ◌∙◌, ℕ, List, ap, refl, length, take, arith}
 use Rattle.es_lexer.specs.Open.{top_of}
 use Rattle.es_lexer.specs.State.{Follows}
-use Rattle.es_lexer.proofs.Calls.{looked, faulted, ended, given, spanned, skip_at_most, rest_shorter, behind}
+use Rattle.es_lexer.proofs.Calls.{looked, faulted, ended, given, spanned, stood, skip_at_most, rest_shorter, behind}
 use Rattle.es_lexer.proofs.lexer.Lexer.next.Goals as goal
 
 pub overflow_sub-result : goal.overflow_sub-result
@@ -21,14 +21,30 @@ invariant_of-self c =
     let look = looked c.as_slice.result.now c.as_slice-depth.result.now c.self.invariant c.skip-bytes.ensures c.as_slice.ensures.value c.top_of-top.ensures c.bracket_of.ensures c.as_slice-depth.ensures.value in
     rw c.change.ensures.items (behind c.in-Ok-Some.sort look (rw c.in-Ok-Some.field-0-is at c.in-Ok-Some.ensures.next) (rw c.in-Ok-Some.field-0-is at c.in-Ok-Some.ensures.allowed) c.change.ensures.capacity follows)
 
-pub returns-in-Err-clause-next : goal.returns-in-Err-clause-next
-returns-in-Err-clause-next c = faulted c.args.self.now c.in-Err.kind c.self.view_is (looked c.as_slice.result.now c.as_slice-depth.result.now c.self.invariant c.skip-bytes.ensures c.as_slice.ensures.value c.top_of-top.ensures c.bracket_of.ensures c.as_slice-depth.ensures.value) c.in-Err.ensures.next
+pub returns-in-Err : goal.returns-in-Err
+returns-in-Err c =
+    record {
+      text = refl;
+      span = tt;
+      reached = stood c.args.self.now c.self.view_is c.self.invariant;
+      next = faulted c.args.self.now c.in-Err.kind c.self.view_is (looked c.as_slice.result.now c.as_slice-depth.result.now c.self.invariant c.skip-bytes.ensures c.as_slice.ensures.value c.top_of-top.ensures c.bracket_of.ensures c.as_slice-depth.ensures.value) c.in-Err.ensures.next;
+    }
 
-pub returns-in-Ok-None-clause-next : goal.returns-in-Ok-None-clause-next
-returns-in-Ok-None-clause-next c = ended c.args.self.now c.self.view_is (looked c.as_slice.result.now c.as_slice-depth.result.now c.self.invariant c.skip-bytes.ensures c.as_slice.ensures.value c.top_of-top.ensures c.bracket_of.ensures c.as_slice-depth.ensures.value) (rw c.in-Ok-None.field-0-is at c.in-Ok-None.ensures.next)
+pub returns-in-Ok-None : goal.returns-in-Ok-None
+returns-in-Ok-None c =
+    record {
+      text = refl;
+      span = tt;
+      reached = stood c.args.self.now c.self.view_is c.self.invariant;
+      next = ended c.args.self.now c.self.view_is (looked c.as_slice.result.now c.as_slice-depth.result.now c.self.invariant c.skip-bytes.ensures c.as_slice.ensures.value c.top_of-top.ensures c.bracket_of.ensures c.as_slice-depth.ensures.value) (rw c.in-Ok-None.field-0-is at c.in-Ok-None.ensures.next);
+    }
 
-pub returns-in-Ok-Some-clause-next : goal.returns-in-Ok-Some-clause-next
-returns-in-Ok-Some-clause-next c = given c.args.self.now c.in-Ok-Some.sort c.kind_of.result c.self.view_is (looked c.as_slice.result.now c.as_slice-depth.result.now c.self.invariant c.skip-bytes.ensures c.as_slice.ensures.value c.top_of-top.ensures c.bracket_of.ensures c.as_slice-depth.ensures.value) (rw c.in-Ok-Some.field-0-is at c.in-Ok-Some.ensures.next) c.kind_of.ensures
-
-pub returns-in-Ok-Some-clause-span : goal.returns-in-Ok-Some-clause-span
-returns-in-Ok-Some-clause-span c = spanned c.args.self.now c.in-Ok-Some.sort c.kind_of.result c.self.view_is (looked c.as_slice.result.now c.as_slice-depth.result.now c.self.invariant c.skip-bytes.ensures c.as_slice.ensures.value c.top_of-top.ensures c.bracket_of.ensures c.as_slice-depth.ensures.value) (rw c.in-Ok-Some.field-0-is at c.in-Ok-Some.ensures.next)
+pub returns-in-Ok-Some : goal.returns-in-Ok-Some
+returns-in-Ok-Some c =
+    let look = looked c.as_slice.result.now c.as_slice-depth.result.now c.self.invariant c.skip-bytes.ensures c.as_slice.ensures.value c.top_of-top.ensures c.bracket_of.ensures c.as_slice-depth.ensures.value in
+    record {
+      text = ap (λ (p : List ℕ × List ℕ). p.0) c.self.view_is;
+      span = spanned c.args.self.now c.in-Ok-Some.sort c.kind_of.result c.self.view_is look (rw c.in-Ok-Some.field-0-is at c.in-Ok-Some.ensures.next);
+      reached = stood c.args.self.now c.self.view_is c.self.invariant;
+      next = given c.args.self.now c.in-Ok-Some.sort c.kind_of.result c.self.view_is look (rw c.in-Ok-Some.field-0-is at c.in-Ok-Some.ensures.next) c.kind_of.ensures;
+    }
