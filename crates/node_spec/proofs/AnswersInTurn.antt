@@ -19,10 +19,10 @@ use Rattle.node_spec.specs.declared.Outcome.{Outcome}
 use Rattle.node_spec.specs.declared.Outcome.TheVariants.{Undefined, Null, InvalidTarget, InvalidConfig}
 
 module _ (answer : AnswersBehind) (rules : Rules) where
-  tells_both : (before front back : List Call) → TellsBehind answer before front → TellsBehind answer (before ++ front) back → TellsBehind answer before (front ++ back)
-  tells_both before [] back t u = subst (λ calls. TellsBehind answer calls back) (append-nil before) u
-  tells_both before (call ∷ front) back t u =
-      (t.0, tells_both (before ++ call ∷ []) front back t.1 (subst (λ calls. TellsBehind answer calls back) (sym (append_assoc before (call ∷ []) front)) u))
+  tells_behind_both : (before front back : List Call) → TellsBehind answer before front → TellsBehind answer (before ++ front) back → TellsBehind answer before (front ++ back)
+  tells_behind_both before [] back t u = subst (λ calls. TellsBehind answer calls back) (append-nil before) u
+  tells_behind_both before (call ∷ front) back t u =
+      (t.0, tells_behind_both (before ++ call ∷ []) front back t.1 (subst (λ calls. TellsBehind answer calls back) (sym (append_assoc before (call ∷ []) front)) u))
 
   -- it comes to some outcome, behind these calls
   record ComesInTurn (Is : List Call → Outcome → Type 0) (before : List Call) : Type 0 where
@@ -50,14 +50,14 @@ module _ (answer : AnswersBehind) (rules : Rules) where
   item_comes : (before : List Call) (item : Json) (more : Items) → ComesInTurn (ResolvesTarget rules item) before → ((later : List Call) → ComesInTurn (ResolvesItems rules more) later) → ComesInTurn (ResolvesItems rules (an_item item more)) before
   item_comes before item more first behind =
       elim (cases_Bool (is_passed first.out)) [
-        | inl p ↦ (let rest = behind (before ++ first.asked) in record { asked = first.asked ++ rest.asked; out = last_of first.out rest.out; is = passed item more first.asked rest.asked first.out rest.out first.is p rest.is; tells = tells_both before first.asked rest.asked first.tells rest.tells })
+        | inl p ↦ (let rest = behind (before ++ first.asked) in record { asked = first.asked ++ rest.asked; out = last_of first.out rest.out; is = passed item more first.asked rest.asked first.out rest.out first.is p rest.is; tells = tells_behind_both before first.asked rest.asked first.tells rest.tells })
         | inr d ↦ record { asked = first.asked; out = first.out; is = decided item more first.asked first.out first.is d; tells = first.tells }
       ]
 
   tried_comes : (before : List Call) (key : List ℕ) (value : Json) (more : Members) → is_tried rules.conditions key ≡ true → ComesInTurn (ResolvesTarget rules value) before → ((later : List Call) → ComesInTurn (ResolvesMembers rules more) later) → ComesInTurn (ResolvesMembers rules (a_member key value more)) before
   tried_comes before key value more t first behind =
       elim (cases_Bool (is_undefined first.out)) [
-        | inl u ↦ (let rest = behind (before ++ first.asked) in record { asked = first.asked ++ rest.asked; out = rest.out; is = undefined key value more first.asked rest.asked rest.out t (subst (λ o. ResolvesTarget rules value first.asked o) (undefined_from first.out u) first.is) rest.is; tells = tells_both before first.asked rest.asked first.tells rest.tells })
+        | inl u ↦ (let rest = behind (before ++ first.asked) in record { asked = first.asked ++ rest.asked; out = rest.out; is = undefined key value more first.asked rest.asked rest.out t (subst (λ o. ResolvesTarget rules value first.asked o) (undefined_from first.out u) first.is) rest.is; tells = tells_behind_both before first.asked rest.asked first.tells rest.tells })
         | inr d ↦ record { asked = first.asked; out = first.out; is = defined key value more first.asked first.out t first.is d; tells = first.tells }
       ]
 

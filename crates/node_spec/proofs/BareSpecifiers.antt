@@ -81,15 +81,15 @@ module _ (sights : Sights) (found : Module) where
           no_folder = tests.1;
         }
 
-  by_url : (conditions : List (List ℕ)) (parent specifier : List ℕ) (scheme : Option (List ℕ))
+  bare_by_scheme : (conditions : List (List ℕ)) (parent specifier : List ℕ) (scheme : Option (List ℕ))
       → scheme_of specifier ≡ scheme → is_relative specifier ≡ false
       → LeadsTo sights (by_scheme conditions parent specifier scheme) found → IsBare specifier
-  by_url conditions parent specifier (Some scheme) is other e =
+  bare_by_scheme conditions parent specifier (Some scheme) is other e =
       absurd (two_refused (bytes_eq scheme (codes "node")) e)
-  by_url conditions parent specifier None is other e =
+  bare_by_scheme conditions parent specifier None is other e =
       by_start conditions parent specifier (no_scheme_no_url specifier is) (begins specifier (codes "#")) refl
       (subst (λ asking. LeadsTo sights asking found) (cond-false _ _ _ other) e)
 
 pub answered_is_bare : AnsweredIsBare
 answered_is_bare sights conditions parent specifier found other e =
-    by_url sights found conditions parent specifier (scheme_of specifier) refl other e
+    bare_by_scheme sights found conditions parent specifier (scheme_of specifier) refl other e

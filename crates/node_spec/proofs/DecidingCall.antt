@@ -42,18 +42,18 @@ own_is_own : (part : Option (List ℕ)) (target : List ℕ) → IsOwn (own_outco
 own_is_own part target =
     cond_both (leaves_package target) _ _ IsOwn (λ leaves. invalid_own) (λ stays. cond_both (is_invalid_match part) _ _ IsOwn (λ invalid. specifier_own) (λ valid. place_own (with_match part target)))
 
-silent : (out : Outcome) → IsOwn out → IsDecided [] out
-silent out is = by_target [] out (All-nil WasInvalid) is.0 is.1
+own_decided : (out : Outcome) → IsOwn out → IsDecided [] out
+own_decided out is = by_target [] out (All-nil WasInvalid) is.0 is.1
 
 -- ---- the deciding call
 
 text_decided : (rules : Rules) (target : List ℕ) (asked : List Call) (out : Outcome) → ResolvesText rules target asked out → IsDecided asked out
-text_decided rules target asked out (own_place e) = silent out (own_is_own rules.pattern_match target)
+text_decided rules target asked out (own_place e) = own_decided out (own_is_own rules.pattern_match target)
 text_decided rules target asked out (bare bare_answer.Found e n) = by_found [] (with_match rules.pattern_match target) (All-nil WasInvalid)
 text_decided rules target asked out (bare bare_answer.Stop e n) = by_stop [] (with_match rules.pattern_match target) (All-nil WasInvalid)
 text_decided rules target asked out (bare bare_answer.InvalidTarget e n) =
     by_target ((with_match rules.pattern_match target, bare_answer.InvalidTarget) ∷ []) InvalidTarget (All-cons WasInvalid _ [] refl (All-nil WasInvalid)) invalid_own.0 invalid_own.1
-text_decided rules target asked out (no_target e n) = silent InvalidTarget invalid_own
+text_decided rules target asked out (no_target e n) = own_decided InvalidTarget invalid_own
 
 passed_own : (out : Outcome) → is_passed out ≡ true → IsOwn out
 passed_own Undefined e = undefined_own
@@ -98,23 +98,23 @@ passed_then front back first rest e before after =
 mutual
   target_decided : (rules : Rules) (target : Json) (asked : List Call) (out : Outcome) → ResolvesTarget rules target asked out → IsDecided asked out
   target_decided rules target asked out (text_target text _ _ r) = text_decided rules text asked out r
-  target_decided rules target asked out (index_key ms e) = silent InvalidConfig config_own
+  target_decided rules target asked out (index_key ms e) = own_decided InvalidConfig config_own
   target_decided rules target asked out (object_target ms _ _ e r) = members_decided rules ms asked out r
-  target_decided rules target asked out empty_list = silent Null null_own
+  target_decided rules target asked out empty_list = own_decided Null null_own
   target_decided rules target asked out (list_target v more _ _ r) = items_decided rules _ asked out r
-  target_decided rules target asked out null_target = silent Null null_own
-  target_decided rules target asked out (bool_target b) = silent InvalidTarget invalid_own
-  target_decided rules target asked out (number_target n) = silent InvalidTarget invalid_own
+  target_decided rules target asked out null_target = own_decided Null null_own
+  target_decided rules target asked out (bool_target b) = own_decided InvalidTarget invalid_own
+  target_decided rules target asked out (number_target n) = own_decided InvalidTarget invalid_own
 
   members_decided : (rules : Rules) (ms : Members) (asked : List Call) (out : Outcome) → ResolvesMembers rules ms asked out → IsDecided asked out
-  members_decided rules ms asked out no_member = silent Undefined undefined_own
+  members_decided rules ms asked out no_member = own_decided Undefined undefined_own
   members_decided rules ms asked out (untried key v more _ _ e r) = members_decided rules more asked out r
   members_decided rules ms asked out (defined key v more _ _ e r u) = target_decided rules v asked out r
   members_decided rules ms asked out (undefined key v more front back _ e r s) =
       decided_after_invalid front back out (passed_calls front Undefined refl (target_decided rules v front Undefined r)) (members_decided rules more back out s)
 
   items_decided : (rules : Rules) (vs : Items) (asked : List Call) (out : Outcome) → ResolvesItems rules vs asked out → IsDecided asked out
-  items_decided rules vs asked out no_item = silent Undefined undefined_own
+  items_decided rules vs asked out no_item = own_decided Undefined undefined_own
   items_decided rules vs asked out (decided v more _ _ r d) = target_decided rules v asked out r
   items_decided rules vs asked out (passed v more front back first rest r p s) = passed_then front back first rest p (target_decided rules v front first r) (items_decided rules more back rest s)
 

@@ -1,5 +1,4 @@
 pub mod OneAnswer
-pub mod SomeAnswer
 pub mod OneRecord
 pub mod OneOutcome
 pub mod PlacesBeginWithDotSlash

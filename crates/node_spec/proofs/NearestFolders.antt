@@ -116,12 +116,12 @@ module _ (search : Search) (tree : Tree) where
   ])
 
   -- what stands at its place decides, or else the folders above
-  by_entry : (path : List ℕ) (above : LookAsking (Option (List ℕ))) (accepted : Bool)
+  accepted_or_above : (path : List ℕ) (above : LookAsking (Option (List ℕ))) (accepted : Bool)
       → search.accepts (get tree (search.place path)) ≡ accepted → search.ends_at path ≡ false
       → ((IsAccepted search tree path → ⊥) → IsNearest search tree path (outcome (get tree) above))
       → IsNearest search tree path (outcome (get tree) (if accepted then answered (Some path) else above))
-  by_entry path above false e free rest = rest (λ h. absurd (cc))
-  by_entry path above true e free rest = one_is path (itself path free e)
+  accepted_or_above path above false e free rest = rest (λ h. absurd (cc))
+  accepted_or_above path above true e free rest = one_is path (itself path free e)
 
   by_name : IsTree tree → (path : List ℕ) (above : LookAsking (Option (List ℕ))) (named : Bool)
       → search.ends_at path ≡ named
@@ -138,7 +138,7 @@ module _ (search : Search) (tree : Tree) where
       ∙ ap search.accepts (text_sees tree is place) in
       subst (IsNearest search tree path)
       (sym (outcome_then (get tree) (is_accepted search path) next ∙ ap (λ accepted. outcome (get tree) (next accepted)) says))
-      (by_entry path above (search.accepts (get tree place)) refl e (rest e))
+      (accepted_or_above path above (search.accepts (get tree place)) refl e (rest e))
 
   by_climbs : IsTree tree → (path : List ℕ) (folders : List (List ℕ)) → Climbs path folders
       → IsNearest search tree path (outcome (get tree) (nearest_in search folders))

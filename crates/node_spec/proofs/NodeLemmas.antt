@@ -48,24 +48,24 @@ no_scheme specifier r = ap (option_map url_scheme) (relative_no_url specifier r)
 abbrev as_module : LookAsking Answer → Resolving Module
 as_module asking = and_then asking (λ answer. answered (as_node answer))
 
-by_host : (url : List ℕ) (host : Bool) → names_host url ≡ host
+checked_by_host : (url : List ℕ) (host : Bool) → names_host url ≡ host
     → and_ok (check_url (without_host (Some url))) judged ≡ as_module (joined_judged (Some url))
-by_host url true h =
+checked_by_host url true h =
     ap (λ u. and_ok (check_url u) judged) (cond-true _ None (Some url) h)
     ∙ sym (ap as_module (cond-true _ _ (url_judged url) h))
-by_host url false h =
+checked_by_host url false h =
     ap (λ u. and_ok (check_url u) judged) (cond-false _ None (Some url) h)
     ∙ sym (ap as_module (cond-false _ _ (url_judged url) h))
 
-by_url : (url : Option (List ℕ)) → and_ok (check_url (without_host url)) judged ≡ as_module (joined_judged url)
-by_url None = refl
-by_url (Some url) = by_host url (names_host url) refl
+checked_by_url : (url : Option (List ℕ)) → and_ok (check_url (without_host url)) judged ≡ as_module (joined_judged url)
+checked_by_url None = refl
+checked_by_url (Some url) = checked_by_host url (names_host url) refl
 
 pub relative_is : (conditions : List (List ℕ)) (parent specifier : List ℕ) → is_relative specifier ≡ true
     → node conditions parent specifier ≡ as_module (relative_resolution parent specifier)
 relative_is conditions parent specifier r =
     ap (λ scheme. and_ok (by_scheme conditions parent specifier scheme) judged) (no_scheme specifier r)
-    ∙ (ap (λ asking. and_ok asking judged) (cond-true _ _ _ r) ∙ by_url (joined_url parent specifier))
+    ∙ (ap (λ asking. and_ok asking judged) (cond-true _ _ _ r) ∙ checked_by_url (joined_url parent specifier))
 
 pub relative_node : RelativeNode
 relative_node sights conditions parent specifier r =
@@ -98,11 +98,11 @@ record IsFileAt (sights : Sights) (looks : List (List ℕ)) (path : List ℕ) : 
   bytes : List ℕ
   stored : sights path ≡ Some (Stored bytes)
 
-by_entry : (sights : Sights) (url path : List ℕ) (found : Option Entry) (answer : Module) → sights path ≡ found
+entry_file : (sights : Sights) (url path : List ℕ) (found : Option Entry) (answer : Module) → sights path ≡ found
     → as_node (entry_judged url path found) ≡ Ok answer → IsFileAt sights (path ∷ []) answer.path
-by_entry sights url path None answer s e = absurd (cc)
-by_entry sights url path (Some Directory) answer s e = absurd (cc)
-by_entry sights url path (Some (Stored bytes)) answer s e =
+entry_file sights url path None answer s e = absurd (cc)
+entry_file sights url path (Some Directory) answer s e = absurd (cc)
+entry_file sights url path (Some (Stored bytes)) answer s e =
     let same = by_folder path (suffix_of url) (is_folder_path (url_path url)) answer e in
     record { last = ap (λ p. p ∷ []) same; bytes = bytes; stored = ap sights (sym same) ∙ s }
 
@@ -111,7 +111,7 @@ by_asked : (sights : Sights) (url : List ℕ) (escapes : Bool) (named : Option (
     → IsFileAt sights (looks sights (as_module (asked url escapes named))) answer.path
 by_asked sights url true named answer e = absurd (cc)
 by_asked sights url false None answer e = absurd (cc)
-by_asked sights url false (Some path) answer e = by_entry sights url path (sights path) answer refl e
+by_asked sights url false (Some path) answer e = entry_file sights url path (sights path) answer refl e
 
 judged_is : (url : List ℕ) (escapes : Bool) → escapes_separator (url_path url) ≡ escapes
     → judged url ≡ as_module (asked url escapes (named_path url))

@@ -26,11 +26,11 @@ record_is_read bytes out = (
   (λ is. subst (ReadsRecord bytes) is (record_reads bytes)),
 )
 
-by_entry : (tree : Tree) (folder : List ℕ) (found : Option Entry) → get tree (package_json folder) ≡ found
+record_by_entry : (tree : Tree) (folder : List ℕ) (found : Option Entry) → get tree (package_json folder) ≡ found
     → IsRecordAt tree folder (record_of_entry found)
-by_entry tree folder None e = no_file (ap is_file e)
-by_entry tree folder (Some Directory) e = no_file (ap is_file e)
-by_entry tree folder (Some (Stored bytes)) e = from_file bytes (read_record bytes) e (record_reads bytes)
+record_by_entry tree folder None e = no_file (ap is_file e)
+record_by_entry tree folder (Some Directory) e = no_file (ap is_file e)
+record_by_entry tree folder (Some (Stored bytes)) e = from_file bytes (read_record bytes) e (record_reads bytes)
 
 pub finds_record : FindsRecord
 finds_record tree folder is =
@@ -38,7 +38,7 @@ finds_record tree folder is =
     subst (IsRecordAt tree folder)
     (sym (outcome_then (get tree) (look_at_text place) (λ found. answered (record_of_entry found))
     ∙ ap record_of_entry (text_sees tree is place)))
-    (by_entry tree folder (get tree place) refl)
+    (record_by_entry tree folder (get tree place) refl)
 
 pub one_record_at : OneRecordAt
 one_record_at tree folder _ _ (no_file e) (no_file f) = refl

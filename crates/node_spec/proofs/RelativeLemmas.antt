@@ -1,4 +1,4 @@
--- The asking of a relative specifier comes to Node's answer.
+-- The asking of a relative specifier comes to Node's answer, and so each relative specifier has one.
 use Rattle.std.proofs.Common.{◌≡◌, ℕ, Bool, true, false, List, Option, Some, None, refl, sym, ap, ◌∙◌, subst}
 use Rattle.std.specs.Prelude.{◌&&◌, IsUtf8}
 use Rattle.std.specs.FinMap.{get}
@@ -15,6 +15,7 @@ use Rattle.node_spec.specs.Resolution.{Resolved, Refused, is_folder_path, joined
 use Rattle.node_spec.specs.Resolution.Judges.{separator, folder, nameless, absent, no_folder, file}
 use Rattle.node_spec.specs.Resolution.Joins.{no_url, other_host, joined}
 use Rattle.node_spec.specs.Resolution.ResolvesRelative.{relative}
+use Rattle.node_spec.specs.Laws.{SomeAnswer}
 use Rattle.node_spec.specs.RelativeResolution.{named_path, entry_judged, judged_at, url_judged, joined_judged, relative_resolution}
 use Rattle.url_spec.specs.PathTests.{is_path}
 use Rattle.url_spec.proofs.PathDecisions.{path_by_test, test_by_path}
@@ -64,3 +65,7 @@ module _ (tree : Tree) where
 
 pub finds_relative : (tree : Tree) (parent specifier : List ℕ) → is_relative specifier ≡ true → ResolvesRelative tree parent specifier (outcome (get tree) (relative_resolution parent specifier))
 finds_relative tree parent specifier r = relative (outcome (get tree) (relative_resolution parent specifier)) r (by_url tree parent specifier (joined_url parent specifier) refl)
+
+pub some_answer : SomeAnswer
+some_answer tree parent specifier r =
+    (outcome (get tree) (relative_resolution parent specifier), finds_relative tree parent specifier r)

@@ -20,8 +20,8 @@ pub record CallsAndOutcome : Type 0 where
   pub asked : List Call
   pub out : Outcome
 
-abbrev pub silent : Outcome → CallsAndOutcome
-silent out = record { asked = []; out = out }
+abbrev pub with_no_call : Outcome → CallsAndOutcome
+with_no_call out = record { asked = []; out = out }
 
 abbrev pub calls_joined : CallsAndOutcome → CallsAndOutcome → Outcome → CallsAndOutcome
 calls_joined first rest out = record { asked = first.asked ++ rest.asked; out = out }
@@ -31,9 +31,9 @@ found_once text answer = record { asked = (text, answer) ∷ []; out = bare_outc
 
 abbrev pub found_text : (List ℕ → BareAnswer) → Rules → List ℕ → CallsAndOutcome
 found_text answer rules target =
-    if begins target (codes "./") then silent (own_outcome rules.pattern_match target)
+    if begins target (codes "./") then with_no_call (own_outcome rules.pattern_match target)
     else if names_package rules.is_imports target then found_once (with_match rules.pattern_match target) (answer (with_match rules.pattern_match target))
-    else silent InvalidTarget
+    else with_no_call InvalidTarget
 
 abbrev pub found_first : CallsAndOutcome → CallsAndOutcome → CallsAndOutcome
 found_first first rest = if is_undefined first.out then calls_joined first rest rest.out else first
@@ -43,20 +43,20 @@ found_last first rest = if is_passed first.out then calls_joined first rest (las
 
 abbrev mutual
   pub found : (List ℕ → BareAnswer) → Rules → Json → CallsAndOutcome
-  found answer rules a_null = silent Null
-  found answer rules (a_bool b) = silent InvalidTarget
-  found answer rules (a_number number) = silent InvalidTarget
+  found answer rules a_null = with_no_call Null
+  found answer rules (a_bool b) = with_no_call InvalidTarget
+  found answer rules (a_number number) = with_no_call InvalidTarget
   found answer rules (a_text text) = found_text answer rules text
-  found answer rules (a_list no_items) = silent Null
+  found answer rules (a_list no_items) = with_no_call Null
   found answer rules (a_list (an_item item more)) = found_last (found answer rules item) (found_items answer rules more)
-  found answer rules (an_object members) = if has_index_key members then silent InvalidConfig else found_members answer rules members
+  found answer rules (an_object members) = if has_index_key members then with_no_call InvalidConfig else found_members answer rules members
 
   pub found_items : (List ℕ → BareAnswer) → Rules → Items → CallsAndOutcome
-  found_items answer rules no_items = silent Undefined
+  found_items answer rules no_items = with_no_call Undefined
   found_items answer rules (an_item item more) = found_last (found answer rules item) (found_items answer rules more)
 
   pub found_members : (List ℕ → BareAnswer) → Rules → Members → CallsAndOutcome
-  found_members answer rules no_members = silent Undefined
+  found_members answer rules no_members = with_no_call Undefined
   found_members answer rules (a_member key value more) =
       if is_tried rules.conditions key then found_first (found answer rules value) (found_members answer rules more) else found_members answer rules more
 

@@ -7,7 +7,7 @@ use Rattle.json_spec.specs.Value.{Json, a_null, a_bool, a_number, a_text, a_list
 use Rattle.tree_spec.specs.LookAskings.{Sights, LookAsking, looks}
 use Rattle.url_spec.specs.Specifiers.{begins}
 use Rattle.node_spec.proofs.DecidingCall.{never_package}
-use Rattle.node_spec.proofs.SomeOutcome.{CallsAndOutcome, silent, calls_joined, found_text, found_first, found_last, found, found_items, found_members, sound, told}
+use Rattle.node_spec.proofs.SomeOutcome.{CallsAndOutcome, with_no_call, calls_joined, found_text, found_first, found_last, found, found_items, found_members, sound, told}
 use Rattle.node_spec.specs.FileLooks.{url_in, check_url}
 use Rattle.node_spec.specs.Laws.{FindsTarget, ExportsLookAtNothing}
 use Rattle.node_spec.specs.PackageTargetResolve.{Bares, Came, came, bare_comes, text_comes, after_item, after_member, target_comes, items_come, members_come, no_bares, target_url, last_found, package_target}
@@ -27,10 +27,10 @@ abbrev pub out_of : {X : Type 0} → Sights → LookAsking (Came X) → Outcome
 out_of sights asking = (outcome sights asking).out
 
 module _ {X : Type 0} (sights : Sights) (bares : Bares X) (rules : Rules) where
-  same_choice : (b : Bool) (x y : LookAsking (Came X)) (p q : CallsAndOutcome) → out_of sights x ≡ p.out → out_of sights y ≡ q.out
+  same_branch : (b : Bool) (x y : LookAsking (Came X)) (p q : CallsAndOutcome) → out_of sights x ≡ p.out → out_of sights y ≡ q.out
       → out_of sights (cond b x y) ≡ (cond b p q).out
-  same_choice true x y p q e f = e
-  same_choice false x y p q e f = f
+  same_branch true x y p q e f = e
+  same_branch false x y p q e f = f
 
   other_found : (b : Bool) (p q r : CallsAndOutcome) → q.out ≡ r.out → (cond b p q).out ≡ (cond b p r).out
   other_found true p q r e = refl
@@ -38,8 +38,8 @@ module _ {X : Type 0} (sights : Sights) (bares : Bares X) (rules : Rules) where
 
   text_out : (text : List ℕ) (last : Option X) → out_of sights (text_comes bares rules text last) ≡ (found_text (answer_to sights bares) rules text).out
   text_out text last =
-      same_choice (begins text (codes "./")) _ _ _ _ refl
-      (same_choice (names_package rules.is_imports text) _ _ _ _
+      same_branch (begins text (codes "./")) _ _ _ _ refl
+      (same_branch (names_package rules.is_imports text) _ _ _ _
       (ap (λ (c : Came X). c.out)
       (outcome_then sights (bares.ask (with_match rules.pattern_match text)) (λ value. answered (bare_comes bares value))))
       refl)
@@ -49,21 +49,21 @@ module _ {X : Type 0} (sights : Sights) (bares : Bares X) (rules : Rules) where
       → out_of sights (after_item rest first) ≡ (found_last f r).out
   passed_out first rest f r e rest_is =
       let next : Came X → LookAsking (Came X) = λ later. answered (came (last_of first.out later.out) later.last) in
-      same_choice (is_passed first.out) (and_then (rest first.last) next) (answered first)
-      (calls_joined f r (last_of first.out r.out)) (silent first.out)
+      same_branch (is_passed first.out) (and_then (rest first.last) next) (answered first)
+      (calls_joined f r (last_of first.out r.out)) (with_no_call first.out)
       (ap (λ (c : Came X). c.out) (outcome_then sights (rest first.last) next)
       ∙ ap (last_of first.out) (rest_is first.last)) refl
-      ∙ (ap (λ o. (cond (is_passed o) (calls_joined f r (last_of o r.out)) (silent o)).out) e
-      ∙ other_found (is_passed f.out) (calls_joined f r (last_of f.out r.out)) (silent f.out) f refl)
+      ∙ (ap (λ o. (cond (is_passed o) (calls_joined f r (last_of o r.out)) (with_no_call o)).out) e
+      ∙ other_found (is_passed f.out) (calls_joined f r (last_of f.out r.out)) (with_no_call f.out) f refl)
 
   member_out : (first : Came X) (rest : Option X → LookAsking (Came X)) (f r : CallsAndOutcome) → first.out ≡ f.out
       → ((last : Option X) → out_of sights (rest last) ≡ r.out)
       → out_of sights (after_member rest first) ≡ (found_first f r).out
   member_out first rest f r e rest_is =
-      same_choice (is_undefined first.out) (rest first.last) (answered first) (calls_joined f r r.out) (silent first.out)
+      same_branch (is_undefined first.out) (rest first.last) (answered first) (calls_joined f r r.out) (with_no_call first.out)
       (rest_is first.last) refl
-      ∙ (ap (λ o. (cond (is_undefined o) (calls_joined f r r.out) (silent o)).out) e
-      ∙ other_found (is_undefined f.out) (calls_joined f r r.out) (silent f.out) f refl)
+      ∙ (ap (λ o. (cond (is_undefined o) (calls_joined f r r.out) (with_no_call o)).out) e
+      ∙ other_found (is_undefined f.out) (calls_joined f r r.out) (with_no_call f.out) f refl)
 
   item_then : (item : LookAsking (Came X)) (rest : Option X → LookAsking (Came X)) (f r : CallsAndOutcome) → out_of sights item ≡ f.out
       → ((last : Option X) → out_of sights (rest last) ≡ r.out)
@@ -91,7 +91,7 @@ module _ {X : Type 0} (sights : Sights) (bares : Bares X) (rules : Rules) where
         item_then (target_comes bares rules item last) (λ l. items_come bares rules more l) (found (answer_to sights bares) rules item)
         (found_items (answer_to sights bares) rules more) (target_out item last) (λ l. items_out more l)
     target_out (an_object fields) last =
-        same_choice (has_index_key fields) _ _ _ _ refl (members_out fields last)
+        same_branch (has_index_key fields) _ _ _ _ refl (members_out fields last)
 
     items_out : (items : Items) (last : Option X)
         → out_of sights (items_come bares rules items last) ≡ (found_items (answer_to sights bares) rules items).out
@@ -104,7 +104,7 @@ module _ {X : Type 0} (sights : Sights) (bares : Bares X) (rules : Rules) where
         → out_of sights (members_come bares rules fields last) ≡ (found_members (answer_to sights bares) rules fields).out
     members_out no_members last = refl
     members_out (a_member key value more) last =
-        same_choice (is_tried rules.conditions key) _ _ _ _
+        same_branch (is_tried rules.conditions key) _ _ _ _
         (member_then (target_comes bares rules value last) (λ l. members_come bares rules more l)
         (found (answer_to sights bares) rules value) (found_members (answer_to sights bares) rules more) (target_out value last) (λ l. members_out more l))
         (members_out more last)

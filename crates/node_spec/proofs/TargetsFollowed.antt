@@ -144,9 +144,9 @@ module _ {T S X : Type 0} (answers : LookAnswers T S) (bares : Bares X) where
 
   -- ---- strings
 
-  nothing_called : (now : T) (last : Option X) (end : End) → Followed answers bares now last [] end
+  nothing_followed : (now : T) (last : Option X) (end : End) → Followed answers bares now last [] end
       → end ≡ ends last now
-  nothing_called now last _ no_call = refl
+  nothing_followed now last _ no_call = refl
 
   bare_called : (text : List ℕ) (answer : BareAnswer)
       → Comes ((text, answer) ∷ []) (λ last. asks_bare bares text) (bare_outcome answer)
@@ -154,7 +154,7 @@ module _ {T S X : Type 0} (answers : LookAnswers T S) (bares : Bares X) where
       evaluated_then answers now (bares.ask text) (λ value. answered (bare_comes bares value))
       ∙ (ap (λ e. then_ended e (λ v after. run after (answered (bare_comes bares v)))) r
       ∙ (ap (λ a. ends (came (bare_outcome a) (Some value)) later) (sym j)
-      ∙ ap (brings (bare_outcome answer)) (sym (nothing_called later (Some value) end none))))
+      ∙ ap (brings (bare_outcome answer)) (sym (nothing_followed later (Some value) end none))))
   bare_called text answer now last end (a_stop r none) =
       evaluated_then answers now (bares.ask text) (λ value. answered (bare_comes bares value))
       ∙ ap (λ e. then_ended e (λ v after. run after (answered (bare_comes bares v)))) r

@@ -2,20 +2,17 @@
 -- "If specifier starts with "/", "./", or "../"" on).
 --     relative_resolution parent specifier      in the file at the path `parent`: a module, or the cause of a refusal
 --     named_path url                            the path that the URL's path spells, if it spells one
-use Rattle.std.specs.Prelude.{◌≡◌, ◌&&◌, ℕ, true, List, Option, Some, None, if◌then◌else◌}
+use Rattle.std.specs.Prelude.{◌&&◌, ℕ, List, Option, Some, None, if◌then◌else◌}
 use Rattle.std.specs.Str.{is_utf8}
-use Rattle.std.specs.FinMap.{get}
-use Rattle.asking_spec.specs.Askings.{answered, ask, outcome}
+use Rattle.asking_spec.specs.Askings.{answered, ask}
 use Rattle.tree_spec.specs.declared.Entry.{Entry}
 use Rattle.tree_spec.specs.declared.Entry.TheVariants.{Stored, Directory}
 use Rattle.tree_spec.specs.LookAskings.{LookAsking}
-use Rattle.tree_spec.specs.Trees.{Tree}
 use Rattle.url_spec.specs.FileUrls.{names_host, url_path, escapes_separator, spelled_path}
 use Rattle.url_spec.specs.PathTests.{is_path}
-use Rattle.url_spec.specs.Specifiers.{is_relative}
 use Rattle.url_spec.specs.Suffixes.{suffix_of}
 use Rattle.node_spec.specs.declared.Cause.TheVariants.{InvalidSpecifier, NotFound, DirectoryImport}
-use Rattle.node_spec.specs.Resolution.{Answer, Resolved, Refused, is_folder_path, joined_url, ResolvesRelative}
+use Rattle.node_spec.specs.Resolution.{Answer, Resolved, Refused, is_folder_path, joined_url}
 
 -- the path, where the spelled bytes are one
 abbrev pub as_path : List ℕ → Option (List ℕ)

@@ -12,7 +12,7 @@ use Rattle.asking_spec.specs.Evaluation.{Ended, ends, stopped, then_ended, Answe
 use Rattle.json_spec.specs.Value.{Json}
 use Rattle.tree_spec.specs.declared.Entry.{Entry}
 use Rattle.node_spec.specs.PackageTargetResolve.{Bares, Came, came, target_comes}
-use Rattle.node_spec.specs.PackageTargets.{Rules, Call, ResolvesTarget}
+use Rattle.node_spec.specs.PackageTargets.{Rules, Call}
 use Rattle.node_spec.specs.declared.BareAnswer.{BareAnswer}
 use Rattle.node_spec.specs.declared.BareAnswer.TheVariants as bare_answer
 use Rattle.node_spec.specs.declared.Outcome.{Outcome}

@@ -111,7 +111,7 @@ pub fn one_answer()
 {}
 
 /// A relative specifier has an answer in each tree.
-#[tactic(auto, using(crate::proofs::SomeAnswer::some_answer))]
+#[tactic(auto, using(crate::proofs::RelativeLemmas::some_answer))]
 pub fn some_answer()
     ensures { SomeAnswer }
 {}

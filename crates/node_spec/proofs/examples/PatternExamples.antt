@@ -25,8 +25,8 @@ no_star (b ∷ text) e =
 pattern : (key base trailer : List ℕ) → key ≡ base ++ 42 ∷ trailer → has_no_star base ≡ true → has_no_star trailer ≡ true → IsPattern key base trailer
 pattern key base trailer e b t = record { parts = e; before_star = no_star base b; after_star = no_star trailer t }
 
-fits : (asked key base part trailer : List ℕ) → IsPattern key base trailer → asked ≡ base ++ (part ++ trailer) → 0 < length part → Matches asked key (PatternMatch (length base) (length asked - length trailer))
-fits asked key base part trailer p e l = by_pattern base trailer p (fits_from_part asked key base trailer p (record { part = part; stands = e; some = l }))
+part_matches : (asked key base part trailer : List ℕ) → IsPattern key base trailer → asked ≡ base ++ (part ++ trailer) → 0 < length part → Matches asked key (PatternMatch (length base) (length asked - length trailer))
+part_matches asked key base part trailer p e l = by_pattern base trailer p (fits_from_part asked key base trailer p (record { part = part; stands = e; some = l }))
 
 -- ---- lists of keys
 
@@ -81,9 +81,9 @@ longest_base_wins : IsChoice three_keys (codes "./a/bc.js") (codes "./a/b*") (Pa
 longest_base_wins =
     let asked : List ℕ = codes "./a/bc.js" in
     let way : KeyMatch = PatternMatch 5 9 in
-    let by_any : Matches asked (codes "./a/*") (PatternMatch 4 9) = fits asked (codes "./a/*") (codes "./a/") (codes "bc.js") [] any_in_a refl (lit< tt) in
-    let by_script : Matches asked (codes "./a/*.js") (PatternMatch 4 6) = fits asked (codes "./a/*.js") (codes "./a/") (codes "bc") (codes ".js") scripts_in_a refl (lit< tt) in
-    let found : Matches asked (codes "./a/b*") way = fits asked (codes "./a/b*") (codes "./a/b") (codes "c.js") [] any_from_b refl (lit< tt) in
+    let by_any : Matches asked (codes "./a/*") (PatternMatch 4 9) = part_matches asked (codes "./a/*") (codes "./a/") (codes "bc.js") [] any_in_a refl (lit< tt) in
+    let by_script : Matches asked (codes "./a/*.js") (PatternMatch 4 6) = part_matches asked (codes "./a/*.js") (codes "./a/") (codes "bc") (codes ".js") scripts_in_a refl (lit< tt) in
+    let found : Matches asked (codes "./a/b*") way = part_matches asked (codes "./a/b*") (codes "./a/b") (codes "c.js") [] any_from_b refl (lit< tt) in
     choice three_keys asked (codes "./a/b*") way (1, lit< tt, refl) found
     (never_ahead asked (codes "./a/*") way (PatternMatch 4 9) by_any (longer_base_first 4 9 5 9 (lit< tt)), (never_ahead asked (codes "./a/b*") way way found (never_before_itself way), (never_ahead asked (codes "./a/*.js") way (PatternMatch 4 6) by_script (longer_base_first 4 6 5 9 (lit< tt)), tt)))
 
@@ -91,8 +91,8 @@ longest_key_wins : IsChoice three_keys (codes "./a/x.js") (codes "./a/*.js") (Pa
 longest_key_wins =
     let asked : List ℕ = codes "./a/x.js" in
     let way : KeyMatch = PatternMatch 4 5 in
-    let by_any : Matches asked (codes "./a/*") (PatternMatch 4 8) = fits asked (codes "./a/*") (codes "./a/") (codes "x.js") [] any_in_a refl (lit< tt) in
-    let found : Matches asked (codes "./a/*.js") way = fits asked (codes "./a/*.js") (codes "./a/") (codes "x") (codes ".js") scripts_in_a refl (lit< tt) in
+    let by_any : Matches asked (codes "./a/*") (PatternMatch 4 8) = part_matches asked (codes "./a/*") (codes "./a/") (codes "x.js") [] any_in_a refl (lit< tt) in
+    let found : Matches asked (codes "./a/*.js") way = part_matches asked (codes "./a/*.js") (codes "./a/") (codes "x") (codes ".js") scripts_in_a refl (lit< tt) in
     choice three_keys asked (codes "./a/*.js") way (2, lit< tt, refl) found
     (never_ahead asked (codes "./a/*") way (PatternMatch 4 8) by_any (longer_key_first 4 8 5 (lit≤ tt)), ((λ also m b. no_pattern_match asked (codes "./a/b*") (codes "./a/b") [] any_from_b x_is_no_b also m), (never_ahead asked (codes "./a/*.js") way way found (never_before_itself way), tt)))
 
@@ -102,7 +102,7 @@ any_at_all = pattern _ _ _ refl refl refl
 key_itself_wins : IsChoice (codes "./*" ∷ codes "./x" ∷ []) (codes "./x") (codes "./x") Itself
 key_itself_wins =
     let asked : List ℕ = codes "./x" in
-    let by_any : Matches asked (codes "./*") (PatternMatch 2 3) = fits asked (codes "./*") (codes "./") (codes "x") [] any_at_all refl (lit< tt) in
+    let by_any : Matches asked (codes "./*") (PatternMatch 2 3) = part_matches asked (codes "./*") (codes "./") (codes "x") [] any_at_all refl (lit< tt) in
     let found : Matches asked asked Itself = by_itself refl (no_star asked refl) in
     choice (codes "./*" ∷ codes "./x" ∷ []) asked asked Itself (1, lit< tt, refl) found
     (never_ahead asked (codes "./*") Itself (PatternMatch 2 3) by_any (λ b. b), (never_ahead asked asked Itself Itself found (λ b. b), tt))

@@ -60,27 +60,27 @@ c_folder = in_a (codes "c") (segment _ refl refl refl refl) (omega arith)
 named : (text path : List ℕ) → escapes_separator text ≡ false → path ≡ spelled_path text → is_utf8 path ≡ true → IsPath path → NamesPath text path
 named text path s e u is = record { no_separator = s; spelled = e; utf8 = IsUtf8-from_is_utf8 path u; is_path = is }
 
-by_url : (tree : Tree) (specifier url : List ℕ) (answer : Answer) → is_relative specifier ≡ true → joined_url main specifier ≡ Some url → names_host url ≡ false → Judges tree url answer → ResolvesRelative tree main specifier answer
-by_url tree specifier url answer r e h judged = relative answer r (joined url answer e h judged)
+joined_to_main : (tree : Tree) (specifier url : List ℕ) (answer : Answer) → is_relative specifier ≡ true → joined_url main specifier ≡ Some url → names_host url ≡ false → Judges tree url answer → ResolvesRelative tree main specifier answer
+joined_to_main tree specifier url answer r e h judged = relative answer r (joined url answer e h judged)
 
 file_examples : FileExamples
 unfolding is_utf8 chars encode_utf8 file_text escaped holds_escape spelled_path names_host url_path percent_encode_byte percent_decode parse_alone parse_against text_of url_on_literals
 file_examples = record {
-  beside = λ bytes tree e. by_url tree _ (codes "file:///a/b.mjs") _ refl refl refl (file (codes "/a/b.mjs") bytes (named _ _ refl refl refl b_file) e refl);
-  above = λ bytes tree e. by_url tree _ (codes "file:///c.mjs") _ refl refl refl (file (codes "/c.mjs") bytes (named _ _ refl refl refl c_file) e refl);
-  from_root = λ bytes tree e. by_url tree _ (codes "file:///c.mjs") _ refl refl refl (file (codes "/c.mjs") bytes (named _ _ refl refl refl c_file) e refl);
-  with_suffix = λ bytes tree e. by_url tree _ (codes "file:///a/b.mjs?q#f") _ refl refl refl (file (codes "/a/b.mjs") bytes (named _ _ refl refl refl b_file) e refl);
-  with_escape = λ bytes tree e. by_url tree _ (codes "file:///a/%62.mjs") _ refl refl refl (file (codes "/a/b.mjs") bytes (named _ _ refl refl refl b_file) e refl);
+  beside = λ bytes tree e. joined_to_main tree _ (codes "file:///a/b.mjs") _ refl refl refl (file (codes "/a/b.mjs") bytes (named _ _ refl refl refl b_file) e refl);
+  above = λ bytes tree e. joined_to_main tree _ (codes "file:///c.mjs") _ refl refl refl (file (codes "/c.mjs") bytes (named _ _ refl refl refl c_file) e refl);
+  from_root = λ bytes tree e. joined_to_main tree _ (codes "file:///c.mjs") _ refl refl refl (file (codes "/c.mjs") bytes (named _ _ refl refl refl c_file) e refl);
+  with_suffix = λ bytes tree e. joined_to_main tree _ (codes "file:///a/b.mjs?q#f") _ refl refl refl (file (codes "/a/b.mjs") bytes (named _ _ refl refl refl b_file) e refl);
+  with_escape = λ bytes tree e. joined_to_main tree _ (codes "file:///a/%62.mjs") _ refl refl refl (file (codes "/a/b.mjs") bytes (named _ _ refl refl refl b_file) e refl);
 }
 
 refused_examples : RefusedExamples
 unfolding is_utf8 chars encode_utf8 file_text escaped holds_escape spelled_path names_host url_path percent_encode_byte percent_decode parse_alone parse_against text_of url_on_literals
 refused_examples = record {
-  a_folder = λ tree e. by_url tree _ (codes "file:///a/c") _ refl refl refl (folder (codes "/a/c") (named _ _ refl refl refl c_folder) e);
-  a_folder_with_slash = λ tree e. by_url tree _ (codes "file:///a/c/") _ refl refl refl (folder (codes "/a/c") (named _ _ refl refl refl c_folder) e);
-  a_file_with_slash = λ bytes tree e. by_url tree _ (codes "file:///a/b.mjs/") _ refl refl refl (no_folder (codes "/a/b.mjs") bytes (named _ _ refl refl refl b_file) e refl);
-  missing = λ tree e. by_url tree _ (codes "file:///a/b.mjs") _ refl refl refl (absent (codes "/a/b.mjs") (named _ _ refl refl refl b_file) e);
-  escaped_slash = λ tree. by_url tree _ (codes "file:///a/b%2Fc.mjs") _ refl refl refl (separator refl);
+  a_folder = λ tree e. joined_to_main tree _ (codes "file:///a/c") _ refl refl refl (folder (codes "/a/c") (named _ _ refl refl refl c_folder) e);
+  a_folder_with_slash = λ tree e. joined_to_main tree _ (codes "file:///a/c/") _ refl refl refl (folder (codes "/a/c") (named _ _ refl refl refl c_folder) e);
+  a_file_with_slash = λ bytes tree e. joined_to_main tree _ (codes "file:///a/b.mjs/") _ refl refl refl (no_folder (codes "/a/b.mjs") bytes (named _ _ refl refl refl b_file) e refl);
+  missing = λ tree e. joined_to_main tree _ (codes "file:///a/b.mjs") _ refl refl refl (absent (codes "/a/b.mjs") (named _ _ refl refl refl b_file) e);
+  escaped_slash = λ tree. joined_to_main tree _ (codes "file:///a/b%2Fc.mjs") _ refl refl refl (separator refl);
   host = λ tree. relative _ refl (other_host (codes "file://h/c.mjs") refl refl);
 }
 
