@@ -1,6 +1,5 @@
 -- Import and export declarations by their productions: lists of tokens, from behind the word to the last one that is
--- asked for. ECMA-262,
--- 16.2.2 and 16.2.3.
+-- asked for. ECMA-262, 16.2.2 and 16.2.3.
 --     ImportDeclaration tokens      what stands behind `import`, up to its module specifier
 --     ExportFrom tokens      what stands behind `export`, up to its module specifier
 --     ExportAlone tokens      what stands behind an `export` that asks for nothing

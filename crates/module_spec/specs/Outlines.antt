@@ -1,6 +1,6 @@
 -- What a module text asks for. ECMA-262, 16.2.2, 16.2.3 and 13.3.12.
 --     ReadsOutline text (Ok outline)      the requests of the text in their order, and whether it has declarations of
---                                         a module
+--                                         a module or `import.meta`
 --     ReadsOutline text (Err fault)      its first fault
 use Rattle.std.specs.Prelude.{◌≡◌, ℕ, zero, suc, ◌-◌, Bool, false, ◌||◌, ◌==◌, List, [], ◌∷◌, ◌++◌, if◌then◌else◌}
 use Rattle.std.specs.Prelude.{Option, Some, None, Result, Ok, Err, length, reverse}

@@ -173,7 +173,7 @@ is_dot Regex = false
 is_dot (Punctuator mark) = is_dot_mark mark
 
 -- own: behind what a `{` opens an object literal. What comes of a function's or a class's braces is taken as a
--- block's, also where they are expressions
+-- block's, also where they are expressions, and so is what comes of braces behind `:`
 abbrev pub mark_before_value : Mark → Bool
 mark_before_value OpenRound = true
 mark_before_value OpenSquare = true

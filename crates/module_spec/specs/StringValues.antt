@@ -96,8 +96,7 @@ behind_character c None = None
 behind_character c (Some rest) = Some (c ∷ rest)
 
 -- ECMA-262, 11.1.3 and 11.1.4: the characters that the elements come to, behind a high surrogate that waits for the
--- low one. Own: none where a
--- surrogate is alone, or where a number is above that of every character
+-- low one. Own: none where a surrogate is alone, or where a number is above that of every character
 abbrev pub code_points : Option ℕ → List Element → Option (List ℕ)
 code_points None [] = Some []
 code_points (Some high) [] = None
