@@ -38,9 +38,11 @@ pub record Asked (T Q : Type 0) : Type 0 where
   pub state : T
   pub asked : Option (List Q)
 
+-- the list with more questions at its end, where it is told
 abbrev pub with_asked : {Q : Type 0} → Option (List Q) → List Q → Option (List Q)
 with_asked asked more = option_map (λ questions. questions ++ more) asked
 
+-- the same end, with the list beside its state
 abbrev pub keep_asked : {X T S Q : Type 0} → Option (List Q) → Ended X T S → Ended X (Asked T Q) S
 keep_asked asked (ends value state) = ends value (record { state = state; asked = asked })
 keep_asked asked (stopped stop state) = stopped stop (record { state = state; asked = asked })

@@ -32,23 +32,25 @@ EvaluatedThrough T S P B Q A X =
     → evaluated answers state (through of asking)
     ≡ evaluated (λ before question. evaluated answers before (of question)) state asking
 
--- answers that agree on the questions that are asked under the first give one outcome and the same questions
+-- the two answer each question of the list alike
 pub record AgreesOn {Q : Type 0} {A : Q → Type 0} (one other : (question : Q) → A question)
     (asked : List Q) : Type 0 where
   pub each : All (λ question. one question ≡ other question) asked
 
+-- answers that agree on the questions that are asked under the first give one outcome and the same questions
 abbrev pub SameByQuestions : (Q : Type 0) (A : Q → Type 0) (X : Type 0) → Type 0
 SameByQuestions Q A X =
     (one other : (question : Q) → A question) (asking : Asking Q A X) → AgreesOn one other (questions one asking)
     → (outcome one asking ≡ outcome other asking) × (questions one asking ≡ questions other asking)
 
--- where nothing stops it, an asking comes to the outcome of the answers that are always given, and puts its questions
--- to the list, each at its place
+-- the value is the outcome under these answers, and the list is the one before with the questions asked at its end
 pub record IsOutcome {Q : Type 0} {A : Q → Type 0} {X : Type 0} (always : (question : Q) → A question)
     (before : Option (List Q)) (asking : Asking Q A X) (value : X) (after : Option (List Q)) : Type 0 where
   pub is : value ≡ outcome always asking
   pub asked : after ≡ with_asked before (questions always asking)
 
+-- where nothing stops it, an asking comes to the outcome of the answers that are always given, and puts its questions
+-- to the list, each at its place
 abbrev pub EvaluatedComes : (T S Q : Type 0) (A : Q → Type 0) (X : Type 0) → Type 0
 EvaluatedComes T S Q A X =
     (answers : Answers T S Q A) (always : (question : Q) → A question) → AreAlways answers always

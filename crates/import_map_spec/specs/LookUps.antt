@@ -31,6 +31,8 @@ exact_match None = None
 exact_match (Some None) = Some Blocked
 exact_match (Some (Some url)) = Some (Resolved url)
 
+-- what a prefix comes to, by its address and by the URL of what follows it against that address: a URL that begins with
+-- the address, or a way to fail (HTML, import maps: resolve an imports match)
 abbrev pub below_address : List ℕ → Option (List ℕ) → Resolution
 below_address address None = BadRest
 below_address address (Some url) = if begins url address then Resolved url else Backtrack
@@ -79,6 +81,7 @@ abbrev pub unmatched : Option (List ℕ) → Resolution
 unmatched None = Bare
 unmatched (Some url) = Resolved url
 
+-- the answer, or the other one where there is none
 abbrev pub answer_or : Option Resolution → Resolution → Resolution
 answer_or None other = other
 answer_or (Some answer) other = answer

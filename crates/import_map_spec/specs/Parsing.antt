@@ -15,6 +15,7 @@ use Rattle.import_map_spec.specs.ParsedMap.{Addresses, Texts, ParsedMap, MapFaul
 use Rattle.import_map_spec.specs.declared.MapPart.{MapPart}
 use Rattle.import_map_spec.specs.declared.MapPart.TheVariants.{Scope, Imports, Scopes, Integrity, Top}
 
+-- the text is empty
 abbrev pub is_empty : List ℕ → Bool
 is_empty [] = true
 is_empty (b ∷ text) = false
@@ -70,6 +71,7 @@ abbrev pub with_integrity : Option (List ℕ) → Json → Texts (List ℕ) → 
 with_integrity (Some url) (a_text text) m = insert m url text
 with_integrity _ _ m = m
 
+-- in written order, so that a later key replaces an earlier one (HTML, import maps: normalizing a module integrity map)
 abbrev pub integrity_onto : List ℕ → Texts (List ℕ) → Members → Texts (List ℕ)
 integrity_onto base m no_members = m
 integrity_onto base m (a_member key value more) = integrity_onto base (with_integrity (as_url base key) value m) more
@@ -89,6 +91,7 @@ object_in part (Some (an_object ms)) = Ok ms
 object_in part (Some _) = Err part
 
 infixl 10 ◌>>=◌
+-- what comes next is made of the value; the first part that is no object ends it
 abbrev pub ◌>>=◌ : {A B : Type 0} → Result A MapPart → (A → Result B MapPart) → Result B MapPart
 (Ok x) >>= next = next x
 (Err part) >>= next = Err part
@@ -111,10 +114,12 @@ unfoldable pub parsed_map : List ℕ → Json → Result ParsedMap MapPart
 parsed_map base (an_object ms) = map_of_members base ms
 parsed_map base _ = Err Top
 
+-- the map, or the part that is no object as the fault of a text
 abbrev pub as_map : Result ParsedMap MapPart → Result ParsedMap MapFault
 as_map (Ok m) = Ok m
 as_map (Err part) = Err (NotObject part)
 
+-- the map of the JSON value that a text has, or the fault of a text that has none
 abbrev pub map_from : List ℕ → Result Json Fault → Result ParsedMap MapFault
 map_from base (Ok value) = as_map (parsed_map base value)
 map_from base (Err fault) = Err (NoJson fault)

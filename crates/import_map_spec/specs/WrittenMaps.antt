@@ -17,6 +17,7 @@ insert_all m (e ∷ es) = insert_all (insert m e.0 e.1) es
 abbrev pub map_of : {X : Type 0} → List (List ℕ × X) → Texts X
 map_of es = insert_all empty es
 
+-- a scope's key, with the map of its entries
 abbrev pub scope_of : List ℕ × List (List ℕ × Option (List ℕ)) → List ℕ × Addresses
 scope_of e = (e.0, map_of e.1)
 

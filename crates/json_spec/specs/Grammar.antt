@@ -51,6 +51,7 @@ abbrev pub word_else : Json → Option (List ℕ) → Reading Json → Reading J
 word_else value None other = other
 word_else value (Some rest) other = taken value rest
 
+-- a number as a value; where none is read, the fault is at the front of the bytes
 abbrev pub as_number : List ℕ → Read (List ℕ) → Reading Json
 as_number bytes (taken number rest) = taken (a_number number) rest
 as_number bytes (refused e) = fault_here bytes
@@ -63,7 +64,7 @@ scalar_at bytes =
     (word_else a_null (behind (codes "null") bytes)
     (as_number bytes (number_at bytes))))
 
--- a string whose opening quote stands before the bytes, as a value. One that can't be read fails at that quote
+-- what comes of a string whose opening quote stands before the bytes. One that can't be read fails at that quote
 abbrev pub text_behind : {A : Type 0} → List ℕ → (List ℕ → List ℕ → Reading A) → Read (List ℕ) → Reading A
 text_behind bytes next (taken text rest) = next text rest
 text_behind bytes next (refused e) = refused (NotJson (suc (length bytes)))
@@ -85,6 +86,7 @@ pub data ReadsName : List ℕ → Reading (List ℕ) → Type 0 where
 pub data Member : Type 0 where
   a_pair : List ℕ → Json → Member
 
+-- the name with the value that is read behind it
 abbrev pub paired : List ℕ → Reading Json → Reading Member
 paired name out = and_then out (λ value rest. taken (a_pair name value) rest)
 
@@ -95,9 +97,11 @@ pub data ReadsMember (value : List ℕ → Reading Json → Type 0) : List ℕ �
       → value (after_space middle) out → ReadsMember value bytes (paired name out)
   member_name : {bytes : List ℕ} {f : Fault} → ReadsName bytes (refused f) → ReadsMember value bytes (refused f)
 
+-- a member before those that are read behind it
 abbrev pub behind_member : List ℕ → Json → Reading Members → Reading Members
 behind_member name value out = and_then out (λ more rest. taken (a_member name value more) rest)
 
+-- a value of a list before those that are read behind it
 abbrev pub behind_item : Json → Reading Items → Reading Items
 behind_item value out = and_then out (λ more rest. taken (an_item value more) rest)
 
@@ -148,12 +152,15 @@ pub data ReadsItems (value : List ℕ → Reading Json → Type 0) : List ℕ �
       → ReadsItems value (b ∷ bytes) (refused f)
   list_ends : ReadsItems value [] (fault_here [])
 
+-- a string whose opening quote stands before the bytes, as a value
 abbrev pub as_text : List ℕ → Read (List ℕ) → Reading Json
 as_text bytes out = text_behind bytes (λ text rest. taken (a_text text) rest) out
 
+-- the values that are read, as a list
 abbrev pub as_list : Reading Items → Reading Json
 as_list out = and_then out (λ items rest. taken (a_list items) rest)
 
+-- the members that are read, settled, as an object
 abbrev pub as_object : Reading Members → Reading Json
 as_object out = and_then out (λ members rest. taken (an_object (settled members)) rest)
 
@@ -200,6 +207,7 @@ abbrev pub offset_in : ℕ → Fault → Fault
 offset_in n (NotJson left) = NotJson (n - left)
 offset_in n (TooDeep left) = TooDeep (n - left)
 
+-- the value, or the fault with its offset in a text of n bytes
 abbrev pub with_offset : ℕ → Result Json Fault → Result Json Fault
 with_offset n (Ok value) = Ok value
 with_offset n (Err fault) = Err (offset_in n fault)

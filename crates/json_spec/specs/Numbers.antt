@@ -7,6 +7,7 @@ use Rattle.json_spec.specs.Taken.{taken, refused, Read, and_then, behind_piece, 
 
 -- ---- the grammar
 
+-- RFC 8259, 6: one digit or more
 abbrev pub AreDigits : List ℕ → Type 0
 AreDigits text = (text ≢ []) × All (λ b. is_ascii_digit b ≡ true) text
 
@@ -50,11 +51,12 @@ pub record IsNumber (text : List ℕ) : Type 0 where
 
 -- ---- the number at the front of some bytes
 
--- the digits that the bytes begin with, and the bytes after them
+-- the digits that the bytes begin with
 abbrev pub leading_digits : List ℕ → List ℕ
 leading_digits [] = []
 leading_digits (b ∷ bytes) = if is_ascii_digit b then b ∷ leading_digits bytes else []
 
+-- the bytes after the digits that they begin with
 abbrev pub after_digits : List ℕ → List ℕ
 after_digits [] = []
 after_digits (b ∷ bytes) = if is_ascii_digit b then after_digits bytes else b ∷ bytes
@@ -64,13 +66,15 @@ abbrev pub some_digits : List ℕ → List ℕ → Read (List ℕ)
 some_digits [] rest = refused tt
 some_digits (d ∷ digits) rest = taken (d ∷ digits) rest
 
+-- the digits at the front, one or more
 abbrev pub digits_at : List ℕ → Read (List ℕ)
 digits_at bytes = some_digits (leading_digits bytes) (after_digits bytes)
 
--- one piece and then another, and a piece that may be missing
+-- one piece and then another
 abbrev pub piece_then : (List ℕ → Read (List ℕ)) → (List ℕ → Read (List ℕ)) → List ℕ → Read (List ℕ)
 piece_then one another bytes = and_then (one bytes) (λ piece rest. behind_piece piece (another rest))
 
+-- a piece that may be missing
 abbrev pub maybe : (List ℕ → Read (List ℕ)) → List ℕ → Read (List ℕ)
 maybe one bytes = or_else (one bytes) (taken [] bytes)
 
@@ -79,13 +83,16 @@ abbrev pub one_of : (ℕ → Bool) → List ℕ → Read (List ℕ)
 one_of test [] = refused tt
 one_of test (b ∷ bytes) = if test b then taken (b ∷ []) bytes else refused tt
 
+-- RFC 8259, 6: int, a zero or all digits at the front
 abbrev pub int_at : List ℕ → Read (List ℕ)
 int_at [] = refused tt
 int_at (b ∷ bytes) = if b == 48 then taken (b ∷ []) bytes else digits_at (b ∷ bytes)
 
+-- RFC 8259, 6: frac, a point and all digits behind it
 abbrev pub frac_at : List ℕ → Read (List ℕ)
 frac_at bytes = piece_then (one_of (λ b. b == 46)) digits_at bytes
 
+-- RFC 8259, 6: exp, an `e` in either case, a sign or none, and all digits behind it
 abbrev pub exp_at : List ℕ → Read (List ℕ)
 exp_at bytes =
     piece_then (one_of (λ b. b == 101 || b == 69))

@@ -35,11 +35,12 @@ abbrev mutual
       123 ∷ line (suc n)
       (quoted name ++ (codes ": " ++ printed (suc n) v (printed_members (suc n) more (line n (125 ∷ rest)))))
 
-  -- what stands behind an item, and behind a member
+  -- what stands behind an item, and then rest
   pub printed_items : ℕ → Items → List ℕ → List ℕ
   printed_items n no_items rest = rest
   printed_items n (an_item v more) rest = 44 ∷ line n (printed n v (printed_items n more rest))
 
+  -- what stands behind a member, and then rest
   pub printed_members : ℕ → Members → List ℕ → List ℕ
   printed_members n no_members rest = rest
   printed_members n (a_member name v more) rest =
@@ -62,10 +63,12 @@ abbrev mutual
   IsPrintable zero (an_object ms) = ⊥
   IsPrintable (suc depth) (an_object ms) = AreDistinct ms × MembersArePrintable depth ms
 
+  -- each value of the list is printable
   pub ArePrintable : ℕ → Items → Type 0
   ArePrintable depth no_items = ⊤
   ArePrintable depth (an_item value more) = IsPrintable depth value × ArePrintable depth more
 
+  -- each member has a name in UTF-8 and a printable value
   pub MembersArePrintable : ℕ → Members → Type 0
   MembersArePrintable depth no_members = ⊤
   MembersArePrintable depth (a_member name value more) =

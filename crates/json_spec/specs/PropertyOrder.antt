@@ -55,6 +55,7 @@ other_members no_members = no_members
 other_members (a_member key value more) =
     if is_array_index key then other_members more else a_member key value (other_members more)
 
+-- the members, and behind them the others
 abbrev pub joined : Members → Members → Members
 joined no_members others = others
 joined (a_member key value more) others = a_member key value (joined more others)

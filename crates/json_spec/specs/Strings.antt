@@ -37,6 +37,7 @@ hex_digits zero v bytes = taken v bytes
 hex_digits (suc n) v [] = refused tt
 hex_digits (suc n) v (b ∷ bytes) = taken_from (hex_value b) (λ d. hex_digits n (v * 16 + d) bytes)
 
+-- RFC 8259, 7: the number that four hexadecimal digits spell
 abbrev pub four_digits : List ℕ → Read ℕ
 four_digits bytes = hex_digits 4 0 bytes
 
@@ -51,6 +52,8 @@ abbrev pub second_half : ℕ → ℕ → List ℕ → Read (List ℕ)
 second_half high low rest =
     if is_low_surrogate low then taken (encode_utf8 (surrogate_pair_char high low)) rest else refused tt
 
+-- RFC 8259, 7: the character, in UTF-8, of a `\u` and digits whose number is n; behind a high surrogate the escape of a
+-- low one has to follow
 abbrev pub unicode_character : ℕ → List ℕ → Read (List ℕ)
 unicode_character n rest =
     if is_high_surrogate n

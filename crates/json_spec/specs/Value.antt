@@ -57,10 +57,12 @@ abbrev mutual
   HasDistinctNames (a_list items) = ItemsHaveDistinctNames items
   HasDistinctNames (an_object members) = AreDistinct members × MembersHaveDistinctNames members
 
+  -- the same in each value of a list
   pub ItemsHaveDistinctNames : Items → Type 0
   ItemsHaveDistinctNames no_items = ⊤
   ItemsHaveDistinctNames (an_item value more) = HasDistinctNames value × ItemsHaveDistinctNames more
 
+  -- the same in the value of each member; the names of these members themselves aren't compared
   pub MembersHaveDistinctNames : Members → Type 0
   MembersHaveDistinctNames no_members = ⊤
   MembersHaveDistinctNames (a_member name value more) = HasDistinctNames value × MembersHaveDistinctNames more

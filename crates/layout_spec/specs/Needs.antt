@@ -20,7 +20,7 @@ is_need one other =
 abbrev pub with_need : List Need → Need → List Need
 with_need needs need = if list_any (is_need need) needs then needs else needs ++ need ∷ []
 
--- own: each need once, at its first place
+-- own: these needs, and behind them each of the others that isn't there yet, once, at its first place
 abbrev pub counted_onto : List Need → List Need → List Need
 counted_onto needs [] = needs
 counted_onto needs (need ∷ more) = counted_onto (with_need needs need) more

@@ -29,6 +29,7 @@ above (b ∷ rest) = folders (b ∷ rest) (length rest) ++ [] ∷ []
 abbrev pub places : List ℕ → List (List ℕ)
 places referrer = referrer ∷ above referrer
 
+-- the first of the places, which stand longest first; none where there are none
 abbrev pub longest : List (List ℕ) → Option (List ℕ)
 longest [] = None
 longest (place ∷ shorter) = Some place
@@ -45,6 +46,7 @@ pub record IsShorterFront (text front : List ℕ) : Type 0 where
   pub shorter : size < length text
   pub is_front : front ≡ take size text
 
+-- own: the text is that of a URL and ends in `/`
 pub record IsFolder (text : List ℕ) : Type 0 where
   pub slash : ends_in_slash text ≡ true
   pub url : IsUrl text

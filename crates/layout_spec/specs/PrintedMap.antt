@@ -10,10 +10,12 @@ use Rattle.url_spec.specs.Specifiers.{normalized, as_url}
 use Rattle.import_map_spec.specs.ParsedMap.{Addresses, ParsedMap}
 use Rattle.import_map_spec.specs.Parsing.{address_of, is_empty}
 
+-- the members with these names in this order, each with the JSON value of what it has
 abbrev pub members_of : {X : Type 0} → (X → Json) → List (List ℕ × X) → Members
 members_of value [] = no_members
 members_of value (e ∷ es) = a_member e.0 (value e.1) (members_of value es)
 
+-- an address as a JSON value: its URL as a string, or null
 abbrev pub address_value : Option (List ℕ) → Json
 address_value None = a_null
 address_value (Some url) = a_text url
@@ -38,6 +40,7 @@ map_value m =
 unfoldable pub map_text : ParsedMap → List ℕ
 map_text m = printed_text (map_value m)
 
+-- own: parsing gives the key this address as it is, and it is UTF-8; null is kept always
 abbrev pub IsKeptAddress : List ℕ → List ℕ → Option (List ℕ) → Type 0
 IsKeptAddress base key None = ⊤
 IsKeptAddress base key (Some url) = (address_of base key (a_text url) ≡ Some url) × IsUtf8 url
@@ -49,6 +52,7 @@ pub record IsKeptKey (base key : List ℕ) (address : Option (List ℕ)) : Type 
   pub utf8 : IsUtf8 key
   pub stands : IsKeptAddress base key address
 
+-- own: each key of a module specifier map is kept, with its address
 abbrev pub AreKept : List ℕ → Addresses → Type 0
 AreKept base m = (key : List ℕ) (address : Option (List ℕ)) → get m key ≡ Some address → IsKeptKey base key address
 

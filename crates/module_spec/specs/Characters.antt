@@ -92,6 +92,7 @@ name_size (b ∷ rest) =
     else if is_wide_space (code_point (b ∷ rest)) then 0
     else character_size b
 
+-- an ASCII digit stands at the front
 abbrev pub begins_digit : List ℕ → Bool
 begins_digit [] = false
 begins_digit (b ∷ rest) = is_ascii_digit b

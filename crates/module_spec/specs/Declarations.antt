@@ -1,6 +1,5 @@
 -- Import and export declarations by their productions: lists of tokens, from behind the word to the last one that is
--- asked for. ECMA-262,
--- 16.2.2 and 16.2.3.
+-- asked for. ECMA-262, 16.2.2 and 16.2.3.
 --     ImportDeclaration tokens      what stands behind `import`, up to its module specifier
 --     ExportFrom tokens      what stands behind `export`, up to its module specifier
 --     ExportAlone tokens      what stands behind an `export` that asks for nothing
@@ -30,6 +29,7 @@ pub data NameSpaceImport : List Placed → Type 0 where
   star_as : {s a x : Placed} → is_mark s (codes "*") ≡ true → is_word a (codes "as") ≡ true → is_name x ≡ true
       → NameSpaceImport (s ∷ a ∷ x ∷ [])
 
+-- a default binding, a NameSpaceImport or braces; or a default binding, a comma, and one of the latter two
 pub data ImportClause : List Placed → Type 0 where
   default_binding : {x : Placed} → is_name x ≡ true → ImportClause (x ∷ [])
   name_space : {tokens : List Placed} → NameSpaceImport tokens → ImportClause tokens
@@ -43,6 +43,7 @@ pub data ImportDeclaration : List Placed → Type 0 where
   effects : {s : Placed} → is_text s ≡ true → ImportDeclaration (s ∷ [])
   bindings : {clause from : List Placed} → ImportClause clause → FromClause from → ImportDeclaration (clause ++ from)
 
+-- `*`; `*` `as` and a name or a string; or braces
 pub data ExportFromClause : List Placed → Type 0 where
   star : {s : Placed} → is_mark s (codes "*") ≡ true → ExportFromClause (s ∷ [])
   star_as_name : {s a x : Placed} → is_mark s (codes "*") ≡ true → is_word a (codes "as") ≡ true

@@ -1,4 +1,18 @@
 -- Worked examples, as statements: what texts have for tokens, and what they ask for.
+--     TokenExamples                texts with their tokens, or with their first fault
+--     ValueExamples                string literals with their values
+--     OutlineExamples              tokens in their places, with what they ask for
+--     ManyExamples                 as many requests as may be, and one more
+--     ReadingExamples              whole texts with what they ask for, or with their first fault
+--     rounds count                 `(`, so many times
+--     span kind from to            a token as a caller is told it
+--     at kind from text depth behind     a token in its place, with the brackets that are open before it and behind it
+--     named_at from name, text_at from literal, mark_at from mark     a name, a string, a punctuator in no brackets
+--     asks_for asked               the outline of a module with these requests
+--     unreadable_at place          the fault at this place
+--     request from to text         a request, with where it stands and its text
+--     Reads text requests declares     the text has these requests, and is a module's or not
+--     FaultsAt text at             the text's first fault, an unreadable place, is there
 use Rattle.std.specs.Prelude.{◌≡◌, ℕ, ◌+◌, Bool, true, false, List, [], ◌∷◌, Some, None, Result, Ok, Err, codes}
 use Rattle.std.specs.Prelude.{replicate, length}
 use Rattle.module_spec.specs.declared.token.Kind.{Kind}

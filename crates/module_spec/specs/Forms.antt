@@ -12,6 +12,7 @@ pub data Form : Type 0 where
   alone : Form
   asks : ℕ → Form
 
+-- the form from one token earlier on: where it has a module specifier, one more token stands before that
 abbrev pub further : Form → Form
 further wrong = wrong
 further none = none
@@ -20,10 +21,12 @@ further (asks count) = asks (suc count)
 
 -- ---- what both share
 
+-- ModuleSpecifier: a string
 abbrev pub module_specifier : List Placed → Form
 module_specifier [] = wrong
 module_specifier (t ∷ rest) = if is_text t then asks 0 else wrong
 
+-- `from` ModuleSpecifier
 abbrev pub from_clause : List Placed → Form
 from_clause [] = wrong
 from_clause (t ∷ rest) = if is_word t (codes "from") then further (module_specifier rest) else wrong
@@ -75,6 +78,7 @@ abbrev pub begins_expression : List Placed → Bool
 begins_expression [] = false
 begins_expression (t ∷ rest) = is_mark t (codes "(") || is_mark t (codes ".")
 
+-- behind `import`: none where it begins an expression, and else the form of the declaration
 abbrev pub behind_import : List Placed → Form
 behind_import tokens = if begins_expression tokens then none else import_declaration tokens
 
@@ -93,11 +97,12 @@ export_all (t ∷ rest) =
     else if is_word t (codes "as") then further (module_export_name rest)
     else wrong
 
--- own: behind the braces, where nothing but a `from` and a module specifier is a part of the form
+-- own: behind the braces and `from`: a string is the module specifier, and without one the export asks for nothing
 abbrev pub named_specifier : List Placed → Form
 named_specifier [] = alone
 named_specifier (t ∷ rest) = if is_text t then asks 0 else alone
 
+-- own: behind the braces: a `from` and a module specifier are a part of the form, and nothing else is
 abbrev pub named_exports : List Placed → Form
 named_exports [] = alone
 named_exports (t ∷ rest) = if is_word t (codes "from") then further (named_specifier rest) else alone
@@ -134,10 +139,12 @@ abbrev pub begins_declaration : Placed → List Placed → Bool
 begins_declaration t rest =
     is_top t && is_word t (codes "import") && not (begins_expression rest) || is_top t && is_word t (codes "export")
 
+-- the word stands at the front
 abbrev pub begins_word : List ℕ → List Placed → Bool
 begins_word word [] = false
 begins_word word (t ∷ rest) = is_word t word
 
+-- `.` and the word `meta` stand at the front
 abbrev pub begins_meta : List Placed → Bool
 begins_meta [] = false
 begins_meta (t ∷ rest) = is_mark t (codes ".") && begins_word (codes "meta") rest

@@ -70,6 +70,7 @@ pub record ExportForms (tokens : List Placed) : Type 0 where
   pub refused : (export_declaration tokens ≡ wrong)
       ↔ ((Begins ExportAlone tokens → ⊥) × ((count : ℕ) → Asks ExportFrom tokens count → ⊥))
 
+-- whatever the tokens are, the forms behind `import` and those behind `export` are exactly the productions
 abbrev pub FormsAreProductions : Type 0
 FormsAreProductions = (tokens : List Placed) → ImportForms tokens × ExportForms tokens
 

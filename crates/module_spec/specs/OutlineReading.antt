@@ -43,6 +43,7 @@ abbrev pub begins_regex : List Lexeme → Bool
 begins_regex [] = true
 begins_regex (t ∷ before) = slash_after t.sort (plain_word (t ∷ before)) (innermost (open_brackets before))
 
+-- what comes of the rest, or the bytes as they are where there is none
 abbrev pub or_further : List ℕ → Option (List ℕ) → (List ℕ → List ℕ) → List ℕ
 or_further bytes None next = bytes
 or_further bytes (Some rest) next = next rest
@@ -59,6 +60,8 @@ next_of before rest =
 
 -- ---- the whole text
 
+-- what the text comes to by what comes behind these tokens: the outline at its end, a fault by its place, and else what
+-- `next` says behind one more token
 abbrev pub read_on : ℕ → List Lexeme → Next → (List Lexeme → List ℕ → Result Outline ModuleFault)
     → Result Outline ModuleFault
 read_on size before Ends next = outlined (reverse (places size before))

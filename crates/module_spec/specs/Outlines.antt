@@ -1,6 +1,6 @@
 -- What a module text asks for. ECMA-262, 16.2.2, 16.2.3 and 13.3.12.
 --     ReadsOutline text (Ok outline)      the requests of the text in their order, and whether it has declarations of
---                                         a module
+--                                         a module or `import.meta`
 --     ReadsOutline text (Err fault)      its first fault
 use Rattle.std.specs.Prelude.{◌≡◌, ℕ, zero, suc, ◌-◌, Bool, false, ◌||◌, ◌==◌, List, [], ◌∷◌, ◌++◌, if◌then◌else◌}
 use Rattle.std.specs.Prelude.{Option, Some, None, Result, Ok, Err, length, reverse}
@@ -18,6 +18,7 @@ use Rattle.module_spec.specs.Forms.{Form, declaration, begins_declaration, is_im
 use Rattle.module_spec.specs.Forms.Form.{wrong, none, alone, asks}
 use Rattle.module_spec.specs.StringValues.{string_value}
 
+-- the requests of a text in their order, and whether a declaration of a module or `import.meta` stands in it
 pub record Outline : Type 0 where
   pub requests : List Request
   pub declares : Bool
@@ -39,15 +40,19 @@ found t None none next = next None
 found t (Some zero) none next = specifier t ∷ next None
 found t (Some (suc count)) none next = next (Some count)
 
+-- what is found in the tokens, in their order; `asked` is the number of tokens before the module specifier that is to
+-- come, or none where none is
 abbrev pub findings : Option ℕ → List Placed → List Finding
 findings asked [] = []
 findings asked (t ∷ rest) = found t asked (declaration t rest) (λ next. findings next rest)
 
 -- ---- requests
 
+-- own: how many requests a text may have
 abbrev pub most_requests : ℕ
 most_requests = limit_number ModuleRequests
 
+-- the request of a module specifier: from where to where it stands, and the text that it has as its value
 abbrev pub asked_by : Placed → List ℕ → Request
 asked_by t text = record { from = t.token.from; to = t.token.to; text = text }
 
@@ -71,13 +76,16 @@ abbrev pub declares : List Placed → Bool
 declares [] = false
 declares (t ∷ rest) = begins_declaration t rest || (is_import_meta t rest || declares rest)
 
+-- the outline with these requests, or the fault that was there first
 abbrev pub outline_of : Result (List Request) ModuleFault → Bool → Result Outline ModuleFault
 outline_of (Ok asked) declared = Ok (record { requests = asked; declares = declared })
 outline_of (Err fault) declared = Err fault
 
+-- the outline of all tokens of a text, or the first fault of its forms and requests
 abbrev pub outlined : List Placed → Result Outline ModuleFault
 outlined tokens = outline_of (requests [] (findings None tokens)) (declares tokens)
 
+-- a fault among the tokens as one of the text: that of too many open brackets is told without its place
 abbrev pub lexical_fault : ℕ → lex_kinds.LexKind → ModuleFault
 lexical_fault at lex_kind.Unreadable = Unreadable at
 lexical_fault at lex_kind.TooDeep = TooDeep

@@ -35,6 +35,7 @@ places size (t ∷ before) = placed size before t ∷ places size before
 
 -- ---- what a token is to a form
 
+-- the kind is that of names; that of private names is another one
 abbrev pub is_name_kind : kinds.Kind → Bool
 is_name_kind kind.Name = true
 is_name_kind kind.Private = false
@@ -47,6 +48,7 @@ is_name_kind kind.TemplateTail = false
 is_name_kind kind.Regex = false
 is_name_kind kind.Punctuator = false
 
+-- the kind is that of string literals
 abbrev pub is_text_kind : kinds.Kind → Bool
 is_text_kind kind.Name = false
 is_text_kind kind.Private = false
@@ -59,6 +61,7 @@ is_text_kind kind.TemplateTail = false
 is_text_kind kind.Regex = false
 is_text_kind kind.Punctuator = false
 
+-- the kind is that of punctuators
 abbrev pub is_punctuator_kind : kinds.Kind → Bool
 is_punctuator_kind kind.Name = false
 is_punctuator_kind kind.Private = false

@@ -146,6 +146,7 @@ word text =
     else if is_statement_word text then Statement
     else Other
 
+-- the punctuator is `.` or `?.`
 abbrev pub is_dot_mark : Mark → Bool
 is_dot_mark OpenRound = false
 is_dot_mark OpenSquare = false
@@ -172,7 +173,7 @@ is_dot Regex = false
 is_dot (Punctuator mark) = is_dot_mark mark
 
 -- own: behind what a `{` opens an object literal. What comes of a function's or a class's braces is taken as a
--- block's, also where they are expressions
+-- block's, also where they are expressions, and so is what comes of braces behind `:`
 abbrev pub mark_before_value : Mark → Bool
 mark_before_value OpenRound = true
 mark_before_value OpenSquare = true
@@ -185,6 +186,7 @@ mark_before_value Step = false
 mark_before_value Stop = false
 mark_before_value Operator = true
 
+-- own: behind the word a `{` opens an object literal
 abbrev pub word_before_value : Word → Bool
 word_before_value Condition = false
 word_before_value For = false

@@ -62,6 +62,7 @@ has_base_letter [] = false
 has_base_letter (b ∷ rest) =
     b == 48 && (let c = slice_index rest 0 in c == 120 || c == 88 || c == 98 || c == 66 || c == 111 || c == 79)
 
+-- `+` or `-` stands at the front
 abbrev pub begins_sign : List ℕ → Bool
 begins_sign [] = false
 begins_sign (b ∷ rest) = b == 43 || b == 45

@@ -63,6 +63,7 @@ escaped_character c =
     else if c == 114 then 13
     else c
 
+-- LF stands at the front
 abbrev pub begins_line_feed : List ℕ → Bool
 begins_line_feed [] = false
 begins_line_feed (c ∷ rest) = c == 10
@@ -89,13 +90,13 @@ elements (suc count) (c ∷ rest) = elements count rest
 elements zero (c ∷ rest) =
     if c == 92 then (escape rest).1 ∷ elements (escape rest).0 rest else unit c ∷ elements zero rest
 
+-- the characters that come behind this one, with it at their front; none stays none
 abbrev pub behind_character : ℕ → Option (List ℕ) → Option (List ℕ)
 behind_character c None = None
 behind_character c (Some rest) = Some (c ∷ rest)
 
 -- ECMA-262, 11.1.3 and 11.1.4: the characters that the elements come to, behind a high surrogate that waits for the
--- low one. Own: none where a
--- surrogate is alone, or where a number is above that of every character
+-- low one. Own: none where a surrogate is alone, or where a number is above that of every character
 abbrev pub code_points : Option ℕ → List Element → Option (List ℕ)
 code_points None [] = Some []
 code_points (Some high) [] = None

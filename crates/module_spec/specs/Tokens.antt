@@ -28,18 +28,21 @@ use Rattle.module_spec.specs.Sorts.{is_for, is_await}
 
 -- ---- one token
 
+-- the sort of the token at the front and the bytes behind it, or none where no token can be read
 abbrev pub Piece : Type 0
 Piece = Option (Sort × List ℕ)
 
+-- a token of this sort by the bytes behind it, or none where it has no end
 abbrev pub as_piece : Sort → Option (List ℕ) → Piece
 as_piece sort None = None
 as_piece sort (Some rest) = Some (sort, rest)
 
--- ECMA-262, 12.9.6: a part of a template that begins with a backquote, and one that begins with a brace
+-- ECMA-262, 12.9.6: a part of a template that begins with a backquote: the whole template or its first part
 abbrev pub first_part : Option (Bool × List ℕ) → Piece
 first_part None = None
 first_part (Some part) = Some ((if part.0 then TemplateWhole else TemplateHead), part.1)
 
+-- ECMA-262, 12.9.6: a part that begins with a brace: the last one or a middle one
 abbrev pub later_part : Option (Bool × List ℕ) → Piece
 later_part None = None
 later_part (Some part) = Some ((if part.0 then TemplateTail else TemplateMiddle), part.1)
@@ -49,6 +52,7 @@ abbrev pub regex_piece : Option (List ℕ) → Piece
 regex_piece None = None
 regex_piece (Some rest) = Some (Regex, name_rest rest)
 
+-- the punctuator that was found at the front of the bytes, by its mark and its length
 abbrev pub punctuator_piece : List ℕ → Option (Mark × ℕ) → Piece
 punctuator_piece bytes None = None
 punctuator_piece bytes (Some found) = Some (Punctuator found.0, drop found.1 bytes)
@@ -88,11 +92,12 @@ pub record Lexeme : Type 0 where
 
 -- ---- words
 
--- own: what the last token says as a word; the name of a property isn't one. ECMA-262, 12.7.2 and 13.3
+-- ECMA-262, 13.3: the last token is `.` or `?.`, so that a name behind it is the name of a property
 abbrev pub is_property : List Lexeme → Bool
 is_property [] = false
 is_property (t ∷ before) = is_dot t.sort
 
+-- what a name says as a word; a token of another sort says nothing
 abbrev pub name_word : Sort → List ℕ → Word
 name_word Name text = word text
 name_word Private text = Other
@@ -105,6 +110,7 @@ name_word TemplateTail text = Other
 name_word Regex text = Other
 name_word (Punctuator mark) text = Other
 
+-- own: what the last token says as a word; the name of a property isn't one. ECMA-262, 12.7.2 and 13.3
 abbrev pub plain_word : List Lexeme → Word
 plain_word [] = Other
 plain_word (t ∷ before) = if is_property before then Other else name_word t.sort t.text
@@ -151,10 +157,12 @@ pub data Innermost : List Lexeme → List Lexeme → Type 0 where
   bracket : {o : Lexeme} {k : Bracket} {before at : List Lexeme} → Balanced before (o ∷ at) → opens o.sort ≡ Some k
       → Innermost before (o ∷ at)
 
+-- the bracket that the last token opens, none where there is no token
 abbrev pub opener : List Lexeme → Option Bracket
 opener [] = None
 opener (o ∷ at) = opens o.sort
 
+-- one for a bracket, and zero for none
 abbrev pub count : Option Bracket → ℕ
 count None = 0
 count (Some k) = 1
@@ -164,21 +172,24 @@ abbrev pub depth : List Lexeme → ℕ
 depth [] = 0
 depth (t ∷ before) = (depth before + count (opens t.sort)) - count (closes t.sort)
 
+-- own: how many brackets may be open at once
 abbrev pub most_brackets : ℕ
 most_brackets = limit_number Brackets
 
 -- ---- the slash
 
--- own: whether a `/` behind a closing bracket begins a regular expression, by what stands before the opening one
+-- own: whether a `/` behind a closing round bracket begins a regular expression, by what stands before the opening one:
+-- the word of a statement that goes on with the brackets and a statement
 abbrev pub closed_round : List Lexeme → Bool
 closed_round [] = false
 closed_round (o ∷ before) = after_control before
 
+-- own: the same behind a closing curly bracket: the opening one doesn't belong to an expression
 abbrev pub closed_curly : List Lexeme → Bool
 closed_curly [] = false
 closed_curly (o ∷ before) = not (before_value before)
 
--- ECMA-262, 14.7.5: the innermost open bracket is that of a `for`
+-- the bracket is a round one
 abbrev pub is_round : Option Bracket → Bool
 is_round None = false
 is_round (Some Round) = true
@@ -186,10 +197,13 @@ is_round (Some Square) = false
 is_round (Some Curly) = false
 is_round (Some Template) = false
 
+-- ECMA-262, 14.7.5: the innermost open bracket is that of a `for`
 abbrev pub in_for : List Lexeme → Bool
 in_for [] = false
 in_for (o ∷ before) = is_round (opens o.sort) && after_for before
 
+-- a `/` behind a name begins a regular expression, by what the name says as a word; behind `of` it does in the brackets
+-- of a `for`
 abbrev pub slash_after_word : Word → List Lexeme → Bool
 slash_after_word Condition at = false
 slash_after_word For at = false
@@ -199,6 +213,7 @@ slash_after_word Value at = true
 slash_after_word Statement at = true
 slash_after_word Other at = false
 
+-- a `/` behind a punctuator begins a regular expression; behind a closing bracket by what `at` says of the opening one
 abbrev pub slash_after_mark : Mark → List Lexeme → Bool
 slash_after_mark OpenRound at = true
 slash_after_mark OpenSquare at = true
@@ -211,6 +226,8 @@ slash_after_mark Step at = false
 slash_after_mark Stop at = true
 slash_after_mark Operator at = true
 
+-- a `/` behind a token of this sort begins a regular expression; `at` are the tokens up to the one that opened the
+-- bracket that the token closes or stands in
 abbrev pub slash_after : Sort → Word → List Lexeme → Bool
 slash_after Name w at = slash_after_word w at
 slash_after Private w at = false
@@ -232,11 +249,14 @@ pub data Slash : List Lexeme → Bool → Type 0 where
 
 -- ---- one step
 
+-- what comes behind some tokens: the end of the text; a fault, by how many bytes stand from its place to the text's
+-- end; or a token and the bytes behind it
 pub data Next : Type 0 where
   Ends : Next
   Faults : ℕ → LexKind → Next
   Gives : Lexeme → List ℕ → Next
 
+-- the bracket is there, and a closing one of this form closes it
 abbrev pub is_closed_by : Option Bracket → Bracket → Bool
 is_closed_by None k = false
 is_closed_by (Some opened) k = same_bracket opened k
@@ -247,18 +267,22 @@ refusal opened (Some k) innermost depth = if is_closed_by innermost k then None 
 refusal (Some k) None innermost depth = if depth == most_brackets then Some TooDeep else None
 refusal None None innermost depth = None
 
+-- the token of this sort at the front of the bytes, behind which the rest is left
 abbrev pub lexeme : Sort → List ℕ → List ℕ → Lexeme
 lexeme sort bytes rest = record { sort = sort; text = take (length bytes - length rest) bytes; left = length bytes }
 
+-- the token at the front, or its fault where it is refused
 abbrev pub unless_refused : Option LexKind → Sort → List ℕ → List ℕ → Next
 unless_refused (Some kind) sort bytes rest = Faults (length bytes) kind
 unless_refused None sort bytes rest = Gives (lexeme sort bytes rest) rest
 
+-- the token that was read at the front, or a fault where none was read or it is refused
 abbrev pub next_from : Option Bracket → ℕ → List ℕ → Piece → Next
 next_from innermost depth bytes None = Faults (length bytes) Unreadable
 next_from innermost depth bytes (Some found) =
     unless_refused (refusal (opens found.0) (closes found.0) innermost depth) found.0 bytes found.1
 
+-- the bracket is that of a template
 abbrev pub is_template : Option Bracket → Bool
 is_template None = false
 is_template (Some Round) = false
@@ -291,9 +315,11 @@ pub data Reaches (text : List ℕ) : List Lexeme → List ℕ → Type 0 where
 
 -- ---- the whole text
 
+-- the token that a caller is told: its kind, and from where to where it stands in a text of so many bytes
 abbrev pub token_of : ℕ → Lexeme → Token
 token_of size t = record { kind = kind_of t.sort; from = size - t.left; to = (size - t.left) + length t.text }
 
+-- the fault that a caller is told: its place in a text of so many bytes, by those that are left there, and its kind
 abbrev pub fault_of : ℕ → ℕ → LexKind → LexFault
 fault_of size left kind = record { at = size - left; kind = kind }
 

@@ -1,8 +1,15 @@
 -- The attributes of a start tag. HTML Standard, 13.2.5.32 to 13.2.5.39.
 --     before is_end bytes          the bytes up to the first one that ends them
 --     behind is_end bytes          that byte and those behind it
+--     skip_whitespace bytes        the bytes without the white space at their front
 --     Value                        an attribute's value: its text, and the tag's bytes from the value's begin on
+--     value text tail              the value of this text and tail
+--     ends_unquoted byte           the byte ends a value without quotes: white space, or `>`
+--     ends_attribute_name byte     the byte ends an attribute's name: white space, `/`, `>` or `=`
+--     is_in_name state             the state is that within an attribute's name
+--     begins_attribute state byte  an attribute's name begins with the byte
 --     attributes state bytes       the attributes in the rest of a tag, in order
+--     first_named name attributes  the value of the first of these attributes that has the name, in any case
 --     attribute name text          the value of the first attribute of that name in the tag; names are compared in
 --                                  lower case
 --     attribute_text name text     its text
@@ -51,6 +58,7 @@ value_behind tail (b ∷ rest) = if b == 61 then value_at (skip_whitespace rest)
 abbrev pub ends_attribute_name : ℕ → Bool
 ends_attribute_name b = ends_name b || b == 61
 
+-- an attribute: its name as it is written, and its value
 pub record Attribute : Type 0 where
   pub name : List ℕ
   pub value : Value

@@ -1,4 +1,13 @@
 -- Worked examples: pages with their pieces, start tags with their attributes, and what comes of a map and a page.
+--     PageExamples          a page with its pieces, and their places
+--     CommentExamples       comments, and where they end
+--     TextExamples          text, and where it ends
+--     TagExamples           tags, and where they end
+--     RawExamples           raw text, and where it begins and ends
+--     AttributeExamples     start tags with the value of an attribute
+--     ImportMapExamples     start tags that are those of import map elements, and such as aren't
+--     InjectionExamples     pages into which a map is put
+--     RefusalExamples       pages that keep a map out, and why
 use Rattle.std.specs.Prelude.{◌≡◌, ℕ, Bool, true, false, List, [], ◌∷◌, ◌++◌, codes, Some, None, Ok, Err}
 use Rattle.page_spec.specs.declared.kinds.InjectFault.TheVariants.{PageUnclear, TwoMaps, NoPlace}
 use Rattle.page_spec.specs.declared.kinds.Piece.{Piece}

@@ -1,9 +1,11 @@
 -- What keeps a map out of a page, in order of place. own, but for what an import map element may be (HTML Standard,
 -- 4.12.1).
 --     is_unclear p parts               the piece makes the page unclear; the parts are behind it
+--     holds_ampersand text             `&` stands in the text, where there is a text
 --     comment_at from bytes            the place of the first `<!--` in the bytes, from an offset on
 --     fault_at from seen p parts       the fault of the piece that begins at the offset; `seen`: an import map
 --                                      element came before
+--     or_later fault later             the fault, or the later one where there is none
 --     first_fault from seen parts      the first fault of the pieces
 -- A page is unclear where a piece is Broken, where it has a `base` (which changes what the map's addresses mean),
 -- where a script's type holds `&` (which may begin a character reference), where an import map element has a `src`,

@@ -1,11 +1,18 @@
 -- Import map elements. HTML Standard, 4.12.1, "The script element".
+--     is_start, is_end, is_raw, is_broken kind
+--                              the kind is that of a start tag, an end tag, raw text or a broken piece
 --     is_start_of name p       the piece is a start tag of that name
 --     is_end_of name p         the piece is an end tag of that name
---     is_map_start p           the piece is the start tag of a script whose type, without white space around it, is
---                              `importmap`
+--     is_script p              the piece is the start tag of a script
+--     stripped bytes           the bytes without the white space at their front and their end
+--     is_map_type text         there is a type, and it is that of an import map
+--     is_map_start p           the piece is the start tag of a script whose type, without white space around it and in
+--                              lower case, is `importmap`
 --     raw_behind parts         the raw text with which the pieces begin
 --     map_of p parts           the raw text of the import map element that begins with p, where one does; the parts
 --                              are behind p
+--     begins_map p parts       an import map element begins with p
+--     with_map map maps        the texts, with this one before them where there is one
 --     import_maps parts        the raw texts of all import map elements
 --     IsOneMap text page       the page has one import map element, and this is its raw text
 -- own: which element stands in which isn't known, so a script in a template or in a foreign element counts as well.

@@ -1,11 +1,16 @@
 -- A map put into a page. own, but for UTF-8 (Encoding Standard) and where import maps may stand (HTML Standard,
 -- 4.12.1).
 --     map_span from parts          where the raw text of the first import map element stands, from an offset on
+--     span_or from raw later       where this raw text stands, which begins at the offset; without one the later place
 --     is_place p                   a map may be put before the piece: a start tag of a script or link, or the head's
 --                                  end tag
 --     place from parts             where the first such piece begins
+--     start_tag, end_tag           the tags of the import map element that is put into a page
 --     element map                  the import map element of a map, and a line end
 --     replaced from to text page   the page with the text in place of what stands from one offset to the other
+--     put_into map page span from  the page with the map in place of the span; else with its element at the offset;
+--                                  or NoPlace, where there is neither
+--     unless_faulted fault out     the fault, or else what comes without one
 --     injected map page parts      what comes of the map and the page of these pieces
 --     Injection map page out       what comes of the map and the page: a page, or the fault that decides
 --     HasPage map page             the map can be put into the page

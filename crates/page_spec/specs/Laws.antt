@@ -14,6 +14,7 @@ use Rattle.page_spec.specs.Injection.{start_tag, end_tag, Injection, TakesMaps, 
 abbrev pub OnePieces : Type 0
 OnePieces = (page : List ℕ) (some other : List Part) → Pieces None page some → Pieces None page other → some ≡ other
 
+-- the page has a list of pieces
 pub record HasPieces (page : List ℕ) : Type 0 where
   pub parts : List Part
   pub pieces : Pieces None page parts
@@ -59,6 +60,7 @@ OneInjection =
     (text page : List ℕ) (some other : Result (List ℕ) InjectFault) → Injection text page some
     → Injection text page other → some ≡ other
 
+-- the map and the page have an outcome
 pub record HasInjection (text page : List ℕ) : Type 0 where
   pub out : Result (List ℕ) InjectFault
   pub injection : Injection text page out
@@ -67,6 +69,7 @@ pub record HasInjection (text page : List ℕ) : Type 0 where
 abbrev pub SomeInjection : Type 0
 SomeInjection = (text page : List ℕ) → HasInjection text page
 
+-- no map can be put into the page, whatever the map is, and the fault is one
 pub record AreKeptOut (page : List ℕ) : Type 0 where
   pub fault : InjectFault
   pub keeps : KeepsMapsOut page fault
@@ -81,6 +84,7 @@ pub record IsPlainMap (text : List ℕ) : Type 0 where
   pub utf8 : IsUtf8 text
   pub no_markup : All (λ b. (b == 60) ≡ false) text
 
+-- the pieces of the element that is put into a page for a map, with the line end behind it
 abbrev pub map_element : List ℕ → List Part
 map_element text = part Start start_tag ∷ part Raw text ∷ part End end_tag ∷ part Text (10 ∷ []) ∷ []
 

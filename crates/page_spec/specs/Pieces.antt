@@ -1,12 +1,19 @@
 -- The pieces of a page. HTML Standard, 13.2.5, "Tokenization", and 13.2.6, "Tree construction", for the elements with
 -- raw text.
 --     opening bytes                what a `<` before these bytes opens; None where the `<` is text
+--     ends_name byte               the byte ends a tag name: white space, `/` or `>`
 --     tag_name bytes               the tag name at the front, in lower case; None where the page ends before it does
+--     is_name wanted name          there is a name, and it is the one that is wanted
+--     name_of element              the tag name of the element
 --     closes element bytes         the element's end tag begins at the front
 --     behind_raw element bytes     what is left behind the element's raw text; None where no end tag of it comes
 --     behind_text bytes            what is left behind text
+--     front kind within rest       the front of this kind, element and rest
+--     broken                       the front that is a broken piece and all that is left
+--     started name rest            a start tag of the name; broken where it has no end, and where it is a `plaintext`
 --     first_piece within bytes     the piece at the front; `within` is the element whose raw text comes here
 --     Part                         a piece as its kind and its text
+--     part kind text               the part of this kind and text
 --     Pieces within bytes parts    the pieces of the bytes are these
 --     page_of parts                the texts of the pieces one behind the other
 -- own: a script's raw text ends at its first end tag, whatever `<!--` stands before it; `noscript` is read as with

@@ -2,6 +2,7 @@
 -- points".
 --     lowered bytes                the bytes in ASCII lowercase
 --     may_end state                a `>` in this state is the last byte of its tag or comment
+--     is_last state byte           the byte is the last one of its tag or comment
 --     next_state state byte        the state behind a byte that isn't the last one
 --     behind_markup state bytes    what is left behind the markup; None where the page ends before the markup does
 -- own: the tokenizer's states without those that change no place where markup ends: what stands behind a quoted

@@ -14,6 +14,7 @@ names_web_folder url =
     (bytes_eq url.scheme (codes "http") || bytes_eq url.scheme (codes "https")) && ends_in_slash url.path
     && not (has_credentials url) && not (is_some url.query) && not (is_some url.fragment)
 
+-- there is a URL, and it is that of a folder on the web
 abbrev pub is_web_folder : Option Parts → Bool
 is_web_folder None = false
 is_web_folder (Some url) = names_web_folder url

@@ -30,6 +30,7 @@ with_host (Some url) = has_host url
 unfoldable pub names_host : List ℕ → Bool
 names_host url = with_host (parts_of url)
 
+-- the path of the parts, empty where there are none
 abbrev pub path_or_empty : Option Parts → List ℕ
 path_or_empty None = []
 path_or_empty (Some url) = url.path

@@ -7,6 +7,7 @@ use Rattle.url.specs.Parts.{Parts, kind_of}
 use Rattle.url.specs.Scheme.{is_special}
 use Rattle.url_spec.specs.Parsing.{parts_of, parse_alone}
 
+-- the scheme of the parts, empty where there are none
 abbrev pub scheme_or_empty : Option Parts → List ℕ
 scheme_or_empty None = []
 scheme_or_empty (Some url) = url.scheme
