@@ -1,6 +1,6 @@
 -- The laws of Node's side. Each is the contract of a function of this crate. The first ones are of relative specifiers,
 -- records, targets and keys, the others of the rules as askings.
---     NamesAreDistinctIn outcome      no object in `exports` and `imports` of the record holds a name twice
+--     NamesAreDistinctIn r      no object in `exports` and `imports` of the record holds a name twice
 --     BeginsWithDotSlash out      a place begins with `./`
 --     under_conditions conditions rules      the same rules under other conditions
 --     IsSameSet conditions others      the same names stand in both lists

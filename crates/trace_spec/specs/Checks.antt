@@ -11,7 +11,7 @@
 --     text_wanted name specifier                   what a specifier asks for, by the web name of who asks: a relative
 --                                                  one for its URL, any other for its normalized text; or the cause why
 --                                                  it asks for nothing
---     wanted config referrer specifier             the same by the referrer, and of any bytes
+--     wanted config referrer specifier             the same by the referrer's web name, if it has one
 --     refused_by config referrer specifier cause   the request is refused by this cause
 --     wants config referrer specifier want         what is asked for; a cause why it is nothing refuses the request
 --     no_spelling                                  what stands for a spelling where there is none

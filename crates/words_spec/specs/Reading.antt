@@ -8,8 +8,8 @@
 --     spelling_as option word      whether the word spells this option
 --     entries_reading options words      `link` with these options and with the words as its entries, where each can be
 --         one
---     by_spelling spelling options entries next      `entries`, where the word is no option; else the rest is read by
---         `next`, which waits for the option's value or has it among the options
+--     by_spelling spelling options entries next      `entries`, where the word is no option; else `next` reads the
+--         rest, waiting for the option's value, or with that among the options, where it may be there
 --     with_number number next      what comes of a number, where there is one
 --     measure_reading words, unlink_reading words      what is asked for by the words after `measure`, after `unlink`
 --     without_more words asked      what is asked for, where no word is left
