@@ -11,17 +11,18 @@ use Rattle.config_spec.specs.Projects.{HoldsProject, Configures, IsConfigOf, IsC
 
 -- ---- words
 
--- own law: options set one thing, are refused in one way, and never both
+-- own: options set one thing, are refused in one way, and never both
 pub record OptionsDecide (options : LinkOptions) : Type 0 where
   pub one_settings : (some other : Settings) → Sets options some → Sets options other → some ≡ other
   pub one_fault : (some other : ConfigFault) → RefusesOptions options some → RefusesOptions options other → some ≡ other
   pub not_both : (settings : Settings) (fault : ConfigFault) → Sets options settings → RefusesOptions options fault → ⊥
   pub some : ((settings : Settings) × Sets options settings) ⊎ ((fault : ConfigFault) × RefusesOptions options fault)
 
+-- own law: whatever the options are, they set one thing or are refused in one way, and never both
 abbrev pub OptionsAreJudged : Type 0
 OptionsAreJudged = (options : LinkOptions) → OptionsDecide options
 
--- own law: words have one command or one fault at most, and never both; plain words have one of them, and others none
+-- own: words have one command or one fault at most, and never both; plain words have one of them, and others none
 pub record WordsDecide (words : List (List ℕ)) : Type 0 where
   pub one_command : (some other : Command) → IsCommandOf words some → IsCommandOf words other → some ≡ other
   pub one_fault : (some other : ConfigFault) → RefusesWords words some → RefusesWords words other → some ≡ other
@@ -30,28 +31,31 @@ pub record WordsDecide (words : List (List ℕ)) : Type 0 where
       (IsPlain words → ⊥)
       ⊎ (((command : Command) × IsCommandOf words command) ⊎ ((fault : ConfigFault) × RefusesWords words fault))
 
+-- own law: whatever the words are, they have no meaning, or one command, or one fault
 abbrev pub WordsAreJudged : Type 0
 WordsAreJudged = (words : List (List ℕ)) → WordsDecide words
 
 -- ---- projects
 
--- own law: what stands at the project's path holds one thing
+-- own: what stands at the project's path holds one thing
 pub record ProjectDecides (tree : Tree) : Type 0 where
   pub one :
       (some other : Result (Option Config) ProjectFault) → HoldsProject tree some → HoldsProject tree other
       → some ≡ other
   pub some : (found : Result (Option Config) ProjectFault) × HoldsProject tree found
 
+-- own law: in each tree, what stands at the project's path holds one thing: a config, nothing, or a fault
 abbrev pub ProjectsAreRead : Type 0
 ProjectsAreRead = (tree : Tree) → ProjectDecides tree
 
 -- ---- configs
 
+-- own: the two commands are one, and so are the two outcomes
 pub record SameConfiguring (some other : Command) (outcome second : Result Config ConfigFault) : Type 0 where
   pub one_command : some ≡ other
   pub one_outcome : outcome ≡ second
 
--- own law: words and a tree have one config or one fault for one command, and where the words ask for a command they
+-- own: words and a tree have one config or one fault for one command, and where the words ask for a command they
 -- have one
 pub record ConfigDecides (words : List (List ℕ)) (tree : Tree) : Type 0 where
   pub one :
@@ -61,6 +65,8 @@ pub record ConfigDecides (words : List (List ℕ)) (tree : Tree) : Type 0 where
       (command : Command) → IsCommandOf words command
       → (outcome : Result Config ConfigFault) × Configures words tree command outcome
 
+-- own law: of words and a tree comes at most one command with one config or fault, and one with each command that the
+-- words ask for
 abbrev pub ConfigsAreJudged : Type 0
 ConfigsAreJudged = (words : List (List ℕ)) (tree : Tree) → ConfigDecides words tree
 

@@ -14,6 +14,11 @@
 --     IsReadLimit, IsReadFault          how a project's file that is there can fail to be read
 --     RefusesAsked asked fault          a project, or the want of one, can refuse what is asked for so
 --     CanRefuseConfig words fault       no tree refuses them in another way
+--     read_fault fault                  a fault of the file's bytes, as a fault of the project
+--     read_outcome outcome              what its bytes give, as what the project's file gives
+--     without entry entries             the entries without this one
+--     config_in asked settings found    the config that a command takes from a project, or from none, or why there is
+--                                       none
 use Rattle.std.specs.FinMap.{get}
 use Rattle.std.specs.List.{IsDistinct, list_any}
 use Rattle.std.specs.Prelude.{◌≡◌, ◌≤◌, ◌<◌, ℕ, nat_lt, not, List, [], ◌∷◌, ◌++◌, length, filter, codes, bytes_eq}

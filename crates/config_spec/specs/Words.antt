@@ -3,10 +3,10 @@
 --     options_of asked                  the options that stand in the words
 --     Settings, Sets options settings   what the texts of the options give
 --     no_settings                       no option is given
---     RefusesOptions options fault        the text of an option is refused
+--     RefusesOptions options fault      the text of an option is refused
 --     IsPlain words                     the words have a meaning
 --     IsCommandOf words command         they ask for this command, and none of their texts is refused
---     RefusesWords words fault            plain words that ask for no command that is built, or have such a text
+--     RefusesWords words fault          plain words that ask for no command that is built, or have such a text
 use Rattle.std.specs.Prelude.{◌≡◌, ◌≢◌, ℕ, List, codes, Option, Some, None}
 use Rattle.tree_spec.specs.Paths.{IsPath}
 use Rattle.url_spec.specs.Bases.{base_of}
@@ -55,14 +55,17 @@ pub record IsPagePath (text : List ℕ) : Type 0 where
   pub is_path : IsPath text
   pub no_root : text ≢ codes "/"
 
+-- own: no text sets nothing, and a text that gives a base sets that
 pub data SetsBase : Option (List ℕ) → Option (List ℕ) → Type 0 where
   none : SetsBase None None
   given : (text url : List ℕ) → base_of text ≡ Some url → SetsBase (Some text) (Some url)
 
+-- own: no text sets nothing, and a text that is the path of a page sets itself
 pub data SetsPage : Option (List ℕ) → Option (List ℕ) → Type 0 where
   none : SetsPage None None
   given : (text : List ℕ) → IsPagePath text → SetsPage (Some text) (Some text)
 
+-- own: no text sets nothing, and a text whose names can be conditions sets these
 pub data SetsConditions : Option (List ℕ) → Option (List (List ℕ)) → Type 0 where
   none : SetsConditions None None
   given : (text : List ℕ) → AreConditions (names_in text) → SetsConditions (Some text) (Some (names_in text))

@@ -2,6 +2,8 @@
 --     difference_line all difference      the line of a difference, with the first spelling of its need
 --     difference_lines map all            one line for each need of a trace that the map doesn't serve, in their order
 --     check_status, check_lines           status and lines, by these and by the number of needs
+--     no_need                             what stands for a need where there is none
+--     spelling_at all number              how the need with a number is first spelled
 use Rattle.std.specs.Prelude.{ℕ, List, [], ◌∷◌, ◌++◌, length, map as each, slice_get, unwrap_or}
 use Rattle.import_map_spec.specs.ParsedMap.{ParsedMap}
 use Rattle.check_spec.specs.Differences.{Difference, differences}

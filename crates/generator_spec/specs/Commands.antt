@@ -15,6 +15,8 @@
 --     NewFile                             a file that is written: its path and its bytes
 --     map_and_project config map          the map's file, and then the project's
 --     Writes tree config map command files      with the map the command writes these files, in this order
+--     map_file_fault fault                a fault of the text of a map, as it is told of the map's file
+--     new_file path bytes                 the file with this path and these bytes
 use Rattle.std.specs.Prelude.{◌≡◌, ◌≤◌, ◌<◌, ⊤, ℕ, List, [], ◌∷◌, length, Some, None, Result, Ok, Err, codes}
 use Rattle.std.specs.FinMap.{get}
 use Rattle.tree_spec.specs.declared.Entry.TheVariants.{Stored, Directory}

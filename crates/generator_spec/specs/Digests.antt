@@ -1,6 +1,7 @@
 -- The digests of a map, by which a browser knows the bytes of each module (HTML, import maps: integrity).
 --     digests config modules sources      the URL of each module, with the digest of its bytes
 --     with_digests config all layout      the layout of a trace, with the digests of its modules
+--     with_digest url bytes others      the others, with the digest of the bytes under the URL, where there is one
 use Rattle.std.specs.FinMap.{empty, insert}
 use Rattle.std.specs.Prelude.{ℕ, List, [], ◌∷◌, Option, Some, None}
 use Rattle.import_map_spec.specs.ParsedMap.{Texts, ParsedMap}

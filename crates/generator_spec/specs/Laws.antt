@@ -45,6 +45,7 @@ NothingRefused =
 
 -- ---- outcomes
 
+-- the two statuses are one, and so are the lines and the trees
 pub record SameOutcome (status other : ℕ) (lines others : List (List ℕ)) (after last : Tree) : Type 0 where
   pub one_status : status ≡ other
   pub same_lines : lines ≡ others
@@ -57,6 +58,7 @@ OneOutcome =
     → IsPlain words → Outcome words tree status lines after → Outcome words tree other others last
     → SameOutcome status other lines others after last
 
+-- the words over this tree have an outcome
 pub record HasOutcome (words : List (List ℕ)) (tree : Tree) : Type 0 where
   pub status : ℕ
   pub lines : List (List ℕ)

@@ -4,6 +4,18 @@
 --     done_line all map               the same for a trace and its map
 --     differs_line referrer specifier wants gets      the line of a need that a map doesn't serve
 --     served_line needs, differences_line count       the last line of a check
+--     trace_status fault      the exit status of a fault of the trace
+--     inject_status, page_status, map_file_status      the same of a page that keeps maps out, of the page, of the
+--         map's file
+--     project_status, config_status      the same of the project's file, of the words and the project
+--     trace_line fault      the line of a fault of the trace
+--     inject_line, page_line, map_file_line, project_line, config_line      the same of each of those others
+--     end_of_line      the byte LF, which ends each line
+--     not_plain_line      the line of words that have no meaning
+--     memory_line      the line for want of memory
+--     read_fault_line, write_fault_line      the line of a look that failed, of a write that failed
+--     limit_line which      the line of this limit, with its number
+--     part_name part      the name of a part of an import map
 use Rattle.std.specs.Prelude.{ℕ, List, [], ◌∷◌, ◌++◌, length, codes, unwrap_or}
 use Rattle.std.specs.Fmt.{decimal}
 use Rattle.tree_spec.specs.declared.LimitName.{LimitName}

@@ -1,6 +1,6 @@
 -- The exit statuses.
 --     done_status               the map is written, or it serves each need
---     refused_status            a request or the page is refused
+--     refused_status            a request or the page is refused, or an entry isn't there to be taken out
 --     words_status              the words are wrong
 --     limit_status              a limit is passed
 --     read_fault_status         a look failed

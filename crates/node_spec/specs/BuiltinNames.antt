@@ -1,5 +1,8 @@
 -- The names of the modules that Node brings itself (Node.js, Modules: built-in modules). own: this list of names.
 --     is_builtin text           the text is one of them
+--     texts names               each name as its bytes
+--     first_names, last_names   the names from `assert` to `os`, and from `path` to `zlib`
+--     builtin_names             all of them
 use Rattle.std.specs.Prelude.{ℕ, Bool, List, [], ◌∷◌, ◌++◌, codes, bytes_eq, map}
 use Rattle.std.specs.List.{list_any}
 use Prim.Native.String.{String}

@@ -1,6 +1,9 @@
 -- The format of a file (Node.js, ECMAScript modules: ESM_FILE_FORMAT).
 --     Format                    what is known of the format before the file's text is read
 --     file_format path          the asking for it
+--     format_of_kind kind       the format of a `.js` file, by the kind of its package
+--     format_by_record read     the same by what is read at its scope: a record, none, or a refusal
+--     format_in scope           the asking for the same in a scope, or where there is none
 use Rattle.std.specs.Prelude.{ℕ, nat_eq, Bool, List, codes, if◌then◌else◌, Option, Some, None, Result, Ok, Err}
 use Rattle.std.specs.List.{ends_with}
 use Rattle.asking_spec.specs.Askings.{answered, and_then}

@@ -4,6 +4,7 @@
 --     is_file found, is_folder found      a file stands there; a folder does
 --     url_in folder text        the URL of a text that is joined to the URL of a folder
 --     check_url url             the same, where a text that has no such URL isn't well formed
+--     look_at_named path        what stands at the path, where there is one
 use Rattle.std.specs.Prelude.{ℕ, Bool, true, false, List, Option, Some, None, if◌then◌else◌}
 use Rattle.asking_spec.specs.Askings.{answered}
 use Rattle.tree_spec.specs.LookAskings.{LookAsking, look_at}

@@ -1,6 +1,6 @@
 -- The laws of Node's side. Each is the contract of a function of this crate. The first ones are of relative specifiers,
 -- records, targets and keys, the others of the rules as askings.
---     NamesAreDistinctIn outcome      no object in `exports` and `imports` of the record holds a name twice
+--     NamesAreDistinctIn r      no object in `exports` and `imports` of the record holds a name twice
 --     BeginsWithDotSlash out      a place begins with `./`
 --     under_conditions conditions rules      the same rules under other conditions
 --     IsSameSet conditions others      the same names stand in both lists
@@ -267,6 +267,7 @@ pub record IsRelativeNode (sights : Sights) (conditions : List (List ℕ)) (pare
       ≡ as_node (outcome sights (relative_resolution parent specifier))
   pub looks : looks sights (node conditions parent specifier) ≡ looks sights (relative_resolution parent specifier)
 
+-- ESM_RESOLVE: a relative specifier has the answer of the asking for relative ones, by the same looks
 abbrev pub RelativeNode : Type 0
 RelativeNode =
     (sights : Sights) (conditions : List (List ℕ)) (parent specifier : List ℕ) → is_relative specifier ≡ true
@@ -323,6 +324,7 @@ pub record IsTargetOutcome {X : Type 0} (sights : Sights) (bares : Bares X) (rul
   pub resolves : ResolvesTarget rules target asked came.out
   pub tells : Tells (λ text. bares.judge (outcome sights (bares.ask text))) asked
 
+-- PACKAGE_TARGET_RESOLVE: the asking for a target comes to what the target comes to by the answers to its bare texts
 abbrev pub FindsTarget : Type 0 → Type 0
 FindsTarget X =
     (sights : Sights) (bares : Bares X) (rules : Rules) (target : Json) (last : Option X)

@@ -2,6 +2,10 @@
 -- PACKAGE_RESOLVE, "If packageSubpath is equal to ".""). own: the list of the files that are tried.
 --     main_files main           the texts that are tried, in order
 --     main_file folder main     the URL of the first that names a file
+--     index_files               the files that are tried last, and alone where there is no `main`
+--     main_ends                 what is put behind the text of `main`, in order
+--     first_file folder texts   the URL of the first of these texts that names a file in the folder; NotFound without
+--                               one
 use Rattle.std.specs.Prelude.{◌&&◌, ◌++◌, not, ℕ, Bool, List, [], ◌∷◌, codes, map, if◌then◌else◌, Option, Some, None}
 use Rattle.asking_spec.specs.Askings.{and_then}
 use Rattle.tree_spec.specs.declared.Entry.{Entry}

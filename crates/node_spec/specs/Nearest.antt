@@ -4,6 +4,10 @@
 --     IsAtOrAbove above path            the one is the other, or stands above it
 --     IsDeepest search tree from found  this folder is the deepest one with the property
 --     IsNearest search tree from out    the same, or that no folder has it
+--     is_accepted search folder         the asking whether what stands at the folder's place is looked for
+--     nearest_in search folders         the asking for the first of these folders that is accepted, up to one that ends
+--                                       the search
+--     IsAccepted search tree folder     what stands at the folder's place in the tree is looked for
 use Rattle.std.specs.Prelude.{◌≡◌, ◌⊎◌, ℕ, List, [], ◌∷◌, Option, Some, None, Bool, true, false, if◌then◌else◌}
 use Rattle.std.specs.FinMap.{get}
 use Rattle.asking_spec.specs.Askings.{answered, and_then}

@@ -1,6 +1,11 @@
 -- What a package exports (Node.js, ECMAScript modules: PACKAGE_EXPORTS_RESOLVE).
 --     exported conditions folder subpath exports      the URL that the package at a folder gives for a subpath, which
 --         is `.` or begins with `./`
+--     is_dotted key, has_dotted members      the key begins with `.`; a key of the members does
+--     export_rules conditions      what a target in `exports` is judged by, where nothing stands for `*`
+--     main_target conditions folder target      the URL that this target of `.` gives
+--     export_paths conditions folder members      the members of `exports`, as an object of subpaths
+--     is_mixed_object exports      an object with both a key that begins with `.` and one that doesn't
 use Rattle.std.specs.Prelude.{◌&&◌, not, ℕ, Bool, false, List, codes, bytes_eq, if◌then◌else◌, None}
 use Rattle.std.specs.List.{list_any, list_all}
 use Rattle.json_spec.specs.Value.{Json, a_null, a_bool, a_number, a_text, a_list, an_object, Members, names_of}

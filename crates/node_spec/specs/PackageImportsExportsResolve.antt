@@ -1,6 +1,8 @@
 -- The target of a key in an object of subpaths (Node.js, ECMAScript modules: PACKAGE_IMPORTS_EXPORTS_RESOLVE).
 --     Subpaths                  an object in the record of the package at a folder, under these conditions
 --     by_key subpaths asked     the URL of the target of the key that is taken
+--     rules_for subpaths asked chosen      what the target of the key that is taken is judged by
+--     at_key subpaths asked chosen      the URL of that target; the cause `nothing` where no key is taken
 use Rattle.std.specs.Prelude.{ℕ, Bool, List, Option, Some, None}
 use Rattle.json_spec.specs.Value.{Members, names_of}
 use Rattle.node_spec.specs.NodeAnswers.{Url, Resolving, refuses}

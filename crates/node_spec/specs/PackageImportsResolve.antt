@@ -1,5 +1,9 @@
 -- A specifier that begins with `#` (Node.js, ECMAScript modules: PACKAGE_IMPORTS_RESOLVE).
 --     imports_resolve conditions from text      the URL that the scope's `imports` gives for it
+--     import_paths conditions scope members      the members of the scope's `imports`, as an object of subpaths
+--     imported_in conditions scope text record      the URL that the scope's record gives; ImportNotDefined without one
+--     imported_at conditions text scope      the same by the record that is read at the scope; ImportNotDefined without
+--         a scope
 use Rattle.std.specs.Prelude.{◌||◌, ℕ, true, List, codes, bytes_eq, if◌then◌else◌, Option, Some, None}
 use Rattle.asking_spec.specs.Askings.{and_then, and_ok}
 use Rattle.json_spec.specs.Value.{Json, a_null, a_bool, a_number, a_text, a_list, an_object, Members}

@@ -5,6 +5,12 @@
 --     name_length text                 how long the package name is at the front of a bare specifier
 --     is_package_name name             the name may be that of a package
 --     package_resolve conditions from text      the URL that the bare specifier has
+--     until_slash text                 how many bytes stand before the first `/`; without one, all
+--     split_at n text                  the first n bytes as the name, and the rest behind `.` as the subpath
+--     by_files folder subpath main     the URL without `exports`: for `.` that of the main file, else that of the
+--                                      subpath in the folder
+--     in_folder conditions subpath folder      the URL of the subpath in the package at a folder; NotFound without one
+--     in_modules conditions from asked      the same, where the package's folder is looked for from this one
 use Rattle.std.specs.Prelude.{◌≡◌, ◌&&◌, ◌||◌, ◌==◌, ◌+◌, ◌++◌, not, ℕ, nat_lt, Bool, true, false, List, [], ◌∷◌, codes}
 use Rattle.std.specs.Prelude.{bytes_eq, length, take, drop, if◌then◌else◌, Option, Some, None, option_map}
 use Rattle.std.specs.List.{list_any, prefix_len}

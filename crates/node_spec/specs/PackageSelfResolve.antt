@@ -2,6 +2,8 @@
 --     Subpath                   a package's name, with a subpath, which is `.` or begins with `./`
 --     is_null value             the value is null, or absent
 --     self_or rest conditions from asked      the scope's own answer, where it has the name and exports; else the rest
+--     has_name own name         there is a name, and it is this one
+--     self_at rest conditions asked scope      what `self_or` comes to by this scope, or by none
 use Rattle.std.specs.Prelude.{◌&&◌, not, ℕ, Bool, true, false, List, bytes_eq, if◌then◌else◌, Option, Some, None}
 use Rattle.asking_spec.specs.Askings.{and_then, and_ok}
 use Rattle.json_spec.specs.Value.{Json, a_null, a_bool, a_number, a_text, a_list, an_object}

@@ -3,9 +3,14 @@
 --     Bares X                          how bare texts are answered, and what a target makes of such an answer
 --     Came X                           what a target comes to, and the full answer to the bare text that was asked last
 --     target_comes bares rules target last      the target as an asking, where `last` is the answer so far
+--     items_come, members_come         the same of the items of a list, and of the members of an object; without any it
+--                                      is Undefined
 --     no_bares                         of a target in `exports`, which asks for none
 --     target_url folder nothing came   the URL in the package at a folder; `nothing` where the target gives nothing
 --     judge_bare found                 what a target makes of the answer to a bare text
+--     came out last                    this outcome, with this answer to the text that was asked last
+--     bare_comes bares value           what a bare text that is answered so comes to, with this answer
+--     Found                            the answer to a bare text in a package: a URL, or a refusal
 use Rattle.std.specs.Prelude.{ℕ, List, codes, if◌then◌else◌, Option, Some, None, Result, Ok, Err}
 use Rattle.asking_spec.specs.Askings.{answered, and_then}
 use Rattle.json_spec.specs.Value.{Json, a_null, a_bool, a_number, a_text, a_list, an_object, Items, no_items, an_item}

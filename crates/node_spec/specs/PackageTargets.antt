@@ -5,6 +5,8 @@
 --     ResolvesText, ResolvesMembers, ResolvesItems      the same of a string, of the members of an object, of the
 --         items of a list
 --     ResolvesUnder answers rules target out      the same where a map answers each text
+--     bare_outcome answer      what a bare text comes to by its answer
+--     is_undefined out      the outcome is Undefined
 use Rattle.std.specs.Cmp.Lexicographic.{slice_cmp}
 use Rattle.std.specs.FinMap.{FinMap, get}
 use Rattle.std.specs.List.{slice_split, list_any}

@@ -1,4 +1,6 @@
 -- Worked examples of keys that are chosen.
+--     three_keys           patterns that match texts below `./a/`
+--     PatternExamples      the key that is taken, and how it matches; and where none does
 use Rattle.std.specs.Prelude.{ℕ, List, [], ◌∷◌, codes}
 use Rattle.node_spec.specs.PatternKeys.{Itself, PatternMatch, IsChoice, MatchesNone}
 

@@ -4,6 +4,11 @@
 --     key_match asked key       how the key matches the text that is asked for, where it does
 --     first_key asked keys      of the keys that match, the one that no other precedes
 --     pattern_match asked found      what stands for `*`, where the key is a pattern
+--     pattern_trailer text      what stands behind the first `*`; without one, nothing
+--     pattern_at asked key base trailer      how the key with this base and trailer matches, where it does
+--     better_key key found later      this key, which matches so, unless the one that was found behind it goes before
+--         it
+--     with_key key found later      the same where the key matches; else what was found behind it
 use Rattle.std.specs.Prelude.{◌==◌, ◌&&◌, ◌||◌, ◌-◌, not, ℕ, nat_le, nat_lt, nat_eq, Bool, true, false, List, [], ◌∷◌}
 use Rattle.std.specs.Prelude.{take, drop, length, filter, bytes_eq, if◌then◌else◌, Option, Some, None}
 use Rattle.std.specs.List.{ends_with}

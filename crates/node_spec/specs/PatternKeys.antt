@@ -7,6 +7,7 @@
 --     IsChoice keys asked key found      among these keys the one that matches and that no other one that matches
 --         precedes
 --     MatchesNone keys asked      none of these keys matches
+--     StartsWith text front, EndsWith text end      the text starts with this; the text ends with this
 use Rattle.std.specs.Prelude.{◌≢◌, ℕ, List, All, ◌≡◌, ◌∷◌, ◌++◌, ◌≤◌, ◌⊎◌, [], length, ◌-◌, ◌<◌, Contains, ⊤}
 
 -- no `*` stands in the text

@@ -1,4 +1,5 @@
 -- Worked examples of records.
+--     RecordExamples      the bytes of a package.json, with their record or the reason for having none
 use Rattle.std.specs.Prelude.{◌∷◌, codes, replicate, Some, None, Ok, Err}
 use Rattle.json_spec.specs.Value.{a_null, a_text, an_object, no_members, a_member}
 use Rattle.node_spec.specs.Records.{InvalidRecord, DeepRecord, ReadsRecord}

@@ -2,6 +2,8 @@
 -- package.json field definitions).
 --     ReadsRecord bytes out      the file's bytes have the record, or the reason for having none, out
 --     record_of members      the record of an object with these members
+--     record_in value      the record of an object; no other JSON value has one
+--     record_outcome read      the same of what a JSON text is read as
 use Rattle.std.specs.Prelude.{ℕ, List, Option, bytes_eq, if◌then◌else◌, Some, None, codes, Result, Ok, Err, [], ◌∷◌}
 use Rattle.std.specs.Prelude.{unwrap_or}
 use Rattle.json_spec.specs.Grammar.{Fault, NotJson, TooDeep, ReadsJson}

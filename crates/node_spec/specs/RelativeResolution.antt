@@ -2,6 +2,8 @@
 -- "If specifier starts with "/", "./", or "../"" on).
 --     relative_resolution parent specifier      in the file at the path `parent`: a module, or the cause of a refusal
 --     named_path url                            the path that the URL's path spells, if it spells one
+--     url_judged url                            the answer by what stands at the URL; with an escaped separator it
+--                                               isn't well formed
 use Rattle.std.specs.Prelude.{◌&&◌, ℕ, List, Option, Some, None, if◌then◌else◌}
 use Rattle.std.specs.Str.{is_utf8}
 use Rattle.asking_spec.specs.Askings.{answered, ask}

@@ -64,10 +64,12 @@ FewRequests =
 
 -- ---- the first refusal
 
+-- what is refused by a failure: its own refusal, or the limit that stopped the evaluation
 abbrev pub refusal_by : Failure TraceFault LimitName → TraceFault
 refusal_by (refused refusal) = refusal
 refusal_by (halted limit) = Limit limit
 
+-- the walk of the config, begun before any look, first fails so that it is refused by this
 pub record IsFirst (sights : Sights) (config : Config) (refusal : TraceFault) : Type 0 where
   pub why : Failure TraceFault LimitName
   pub shown : refusal ≡ refusal_by why
@@ -85,6 +87,8 @@ pub record Decides (sights : Sights) (config : Config) : Type 0 where
   pub passes : (all : Gathered) → traced sights config ≡ Ok all ↔ AllVisitsPass sights config all
   pub refuses : (refusal : TraceFault) → traced sights config ≡ Err refusal ↔ IsFirst sights config refusal
 
+-- whatever stands at the paths, a config has a trace exactly where all visits pass, and is else refused by the first
+-- refusal
 abbrev pub FirstRefusalDecides : Type 0
 FirstRefusalDecides = (sights : Sights) (config : Config) → Decides sights config
 
@@ -117,9 +121,11 @@ NeverOutOfRoom =
 
 -- ---- the order
 
+-- what stands for a module where a request leads to none
 abbrev pub no_module : Module
 no_module = record { path = []; suffix = [] }
 
+-- what stands for the source of a module that has none
 abbrev pub no_source : Source
 no_source = record { bytes = []; specifiers = [] }
 
@@ -182,6 +188,7 @@ asked_in sights config visits =
     (λ referrer. opening referrer ++ map (asking_at config referrer) (specifiers sights config referrer))
     visits
 
+-- the visits of a trace: that of the page, and then those of its modules, in their order
 abbrev pub visits_of : Gathered → List (Referrer Module)
 visits_of all = the_page ∷ map a_module all.modules
 
@@ -192,6 +199,8 @@ pub record InOrder (sights : Sights) (config : Config) (all : Gathered) : Type 0
   pub sources : map Some all.sources ≡ map (source sights) all.modules
   pub asked : questions (always sights) (trace config) ≡ asked_in sights config (visits_of all)
 
+-- the tables of a trace hold its requests and sources in the order of its visits, and its questions are asked in this
+-- order
 abbrev pub GoesInOrder : Type 0
 GoesInOrder =
     (sights : Sights) (config : Config) (all : Gathered) → traced sights config ≡ Ok all → InOrder sights config all
@@ -211,6 +220,7 @@ abbrev pub if_checked : Question → Result Wanted TraceFault → List Question
 if_checked question (Ok want) = question ∷ []
 if_checked question (Err refusal) = []
 
+-- what a request asks, by the tables before it
 abbrev pub asked_for : Config → Gathered → Referrer Module → List ℕ → List Question
 asked_for config before referrer specifier =
     if_checked (asking_at config referrer specifier) (checked config before referrer specifier)
@@ -323,6 +333,7 @@ pub record AllPass (sights : Sights) (config : Config) (all : Gathered) (referre
   pub asks : requests sights config referrer ≡ Some specifiers
   pub pass : (specifier : List ℕ) → Contains specifiers specifier → Passes sights config all referrer specifier
 
+-- where there is a trace, all requests of whatever the page reaches pass
 abbrev pub RequestsPass : Type 0
 RequestsPass =
     (sights : Sights) (config : Config) (all : Gathered) → traced sights config ≡ Ok all
@@ -373,6 +384,7 @@ pub record NeedsAre (sights : Sights) (config : Config) (all : Gathered) : Type 
   pub spelled : AreSpelled sights config all.needs all.spellings
   pub no_clash : NoClash all.needs
 
+-- the needs of a trace are those of requests, each beside its spelling, and no two clash
 abbrev pub NeedsAreRequests : Type 0
 NeedsAreRequests =
     (sights : Sights) (config : Config) (all : Gathered) → traced sights config ≡ Ok all → NeedsAre sights config all
@@ -450,5 +462,6 @@ pub record LooksAre (sights : Sights) (config : Config) : Type 0 where
   pub decided : (other : Sights) → AgreesOn sights other (footprint sights (generation config))
       → traced sights config ≡ traced other config
 
+-- whatever stands at the paths, the looks of a generation are those of its questions, and they decide what it comes to
 abbrev pub LooksAreOfQuestions : Type 0
 LooksAreOfQuestions = (sights : Sights) (config : Config) → LooksAre sights config

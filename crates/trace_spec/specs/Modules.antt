@@ -5,6 +5,9 @@
 --     web_name config referrer   the URL at which it is served, before it is asked whether it is served there
 --     shown config referrer      its path and suffix, as they are shown to a user
 --     file_name config m         the web name of a module that is served there and is no folder's
+--     is_module one other        the two have the same path and the same suffix
+--     suffix_of referrer         the suffix of a module; that of the page is empty
+--     not_folder url             the URL, where there is one and it doesn't end in `/`
 use Rattle.std.specs.Prelude.{◌≡◌, ◌&&◌, ℕ, Bool, List, [], ◌++◌, bytes_eq, Option, Some, None, if◌then◌else◌}
 use Rattle.url_spec.specs.Specifiers.{ends_in_slash}
 use Rattle.url_spec.specs.WebNames.{web}

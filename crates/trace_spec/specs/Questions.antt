@@ -6,6 +6,9 @@
 --     put question                the question as an asking over looks
 --     answers sights              the answers by what stands at each path, where looks are counted; a limit stops them
 --     always sights               the answers without limits
+--     read_module is_detected path      the source of what stands at the path; `is_detected`: its text decides the
+--                                 format
+--     refuses_module reason       no source, for this reason, without a look
 use Rattle.std.specs.Prelude.{◌&&◌, not, ℕ, Bool, true, false, List, map, Option, Some, None, Result, Ok, Err}
 use Rattle.std.specs.Prelude.{if◌then◌else◌}
 use Rattle.std.specs.Str.{is_utf8}

@@ -6,6 +6,8 @@
 --     requests sights config referrer      what a referrer asks for, if it is a module
 --     targets sights config referrer       the modules that Node answers for these requests
 --     ReachedByPage sights config referrer     the page reaches it by requests
+--     if_ok result                the value of an `Ok`; of an `Err` nothing
+--     specifiers sights config referrer      what a referrer asks for; nothing, if it is no module
 use Rattle.std.specs.Prelude.{ℕ, List, [], Option, Some, None, Result, Ok, Err, filter_map, option_map, unwrap_or}
 use Rattle.asking_spec.specs.Askings.{Asking, through}
 use Rattle.asking_spec.specs.Evaluation.{Ended, ends, stopped, evaluated}

@@ -9,6 +9,7 @@
 --     visited rules before referrer    a referrer's visit: its opening, and then its requests
 --     walked rules room before place   the visits of the modules from a place on, in the order of the table
 --     walk rules                       the visit of the page, and then those of the modules
+--     where_some none some found       `some` of what was found, or `none` where nothing was
 use Rattle.std.specs.Prelude.{ℕ, zero, suc, Bool, List, [], ◌∷◌, ◌++◌, slice_get, Option, Some, None, Result, Ok, Err}
 use Rattle.std.specs.Prelude.{if◌then◌else◌}
 use Rattle.std.specs.List.{list_any}

@@ -2,6 +2,8 @@
 --     folders_from path         the path and the folders above it, the deepest first
 --     folder_of path            the folder in which the path stands; of the root, the root
 --     Climbs path folders       the same as `folders_from`, said by parents
+--     front_text path           the path's text; that of the root is empty
+--     second_or path folders    the second of the folders, or the path where there is none
 use Rattle.std.specs.Prelude.{◌≡◌, ◌==◌, ◌++◌, [], ◌∷◌, ℕ, List, codes, bytes_eq, map, if◌then◌else◌}
 use Rattle.tree_spec.specs.Paths.{IsParent}
 

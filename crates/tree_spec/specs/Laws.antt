@@ -107,6 +107,7 @@ pub record IsFootprintOf {X : Type 0} (sights : Sights) (asking : LookAsking X) 
   pub same_paths :
       (path : List ℕ) → is_seen path (footprint sights asking) ≡ is_seen path (looks sights asking)
 
+-- the footprint of an asking has each path at which it looks once, and no other
 abbrev pub FootprintIsSet : Type 0 → Type 0
 FootprintIsSet X = (sights : Sights) (asking : LookAsking X) → IsFootprintOf sights asking
 

@@ -10,6 +10,8 @@
 --                                      of looks at these paths one after another, the first that passes a limit
 --     new_size sights seen paths       the bytes of the files at the paths that weren't seen
 --     Counts sights before paths after      the trail has counted looks at these paths, none of which passed a limit
+--     seen_again trail path            the trail behind a look at a path that was counted
+--     seen_first trail path found      the trail behind the first look at a path, with the size of what stands there
 use Rattle.std.specs.Prelude.{◌≡◌, ◌+◌, ◌++◌, [], ◌∷◌, ℕ, nat_lt, List, length, Option, Some, None, Result, Ok, Err}
 use Rattle.std.specs.Prelude.{not, if◌then◌else◌}
 use Rattle.asking_spec.specs.Evaluation.{Ended, ends, stopped, Answers, evaluated}

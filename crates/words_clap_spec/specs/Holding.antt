@@ -2,6 +2,9 @@
 --     Holds asked found      the subcommand that was found, with its rows, is what is asked for
 --     HoldsLink options entries rows      the rows are those of `link` with these options and entries
 --     row id values          the row of an argument that the words give
+--     is_row id row      the row has this id
+--     option_name option      the id of the option's rows
+--     entries_row entries      the row of the entries, where there are any
 use Rattle.clap.specs.Walk.{reading_by}
 use Rattle.clap.specs.Words.{Row, Text}
 use Rattle.clap.specs.declared.builder.value_parser.Reading.{Reading}

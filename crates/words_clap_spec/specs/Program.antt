@@ -3,6 +3,7 @@
 --     top          the program without them
 --     link_command, unlink_command, measure_command      the commands that take words
 --     option_rule name, entries_rule, number_rule        their arguments
+--     plain_command name      a command that takes nothing
 use Rattle.clap.specs.Simple.{on_top}
 use Rattle.clap.specs.Words.{App, Rule, Text, new_app, new_rule, with_rule, with_subcommand}
 use Rattle.clap.specs.declared.builder.action.ArgAction.TheVariants.{Append}

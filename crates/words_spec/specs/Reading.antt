@@ -3,6 +3,17 @@
 --     link_reading words waiting options      the same of the words after `link` and these options
 --     spelling_of word      whether a word after `link` spells an option, with its value or without
 --     number_in text number      the number that the digits of a text go on to
+--     is_value text      the text isn't empty and doesn't begin with `-`
+--     or_else spelling other      what a word is by the one, or by the other where it is no option by that
+--     spelling_as option word      whether the word spells this option
+--     entries_reading options words      `link` with these options and with the words as its entries, where each can be
+--         one
+--     by_spelling spelling options entries next      `entries`, where the word is no option; else `next` reads the
+--         rest, waiting for the option's value, or with that among the options, where it may be there
+--     with_number number next      what comes of a number, where there is one
+--     measure_reading words, unlink_reading words      what is asked for by the words after `measure`, after `unlink`
+--     without_more words asked      what is asked for, where no word is left
+--     command_reading command rest      what is asked for by a command's name and the words behind it
 use Rattle.std.specs.List.{list_all}
 use Rattle.std.specs.Prelude.{◌==◌, ◌+◌, ◌-◌, ◌*◌, ◌&&◌, ◌||◌, not, false, Bool, ℕ, List, [], ◌∷◌, codes, bytes_eq}
 use Rattle.std.specs.Prelude.{Option, Some, None, if◌then◌else◌, nat_lt, is_some, option_map, option_and_then}
