@@ -1,10 +1,10 @@
 -- What one call says.
---     GivesToken text before rest token after      behind these tokens, with this rest, comes a lexeme; the token tells of
---         it, and the text has it at the token's span
---     NextIs text before rest answer after      behind these tokens, with this rest, comes the end, this token or this
---         fault, and then that is the rest
---     ReadsNext old new answer      so a reader goes on, seen as the text and what is left of it: the text stays, a token
---         that is given has its span there, some tokens stood before, and behind any that did comes the answer
+--     GivesToken text before rest token after      behind these tokens, with this rest, comes a lexeme; the token
+--         tells of it, and the text has it at the token's span
+--     NextIs text before rest answer after      behind these tokens, with this rest, comes the end, this token or
+--         this fault, and then that is the rest
+--     ReadsNext old new answer      so a reader goes on, seen as the text and what is left of it: the text stays, a
+--         token that is given has its span there, some tokens stood before, and behind any that did comes the answer
 use Rattle.std.specs.Prelude.{◌≡◌, ℕ, List, Option, Some, None, Result, Ok, Err, IfOk, IfSome, length, slice_range}
 use Rattle.module_spec.specs.declared.token.Token.{Token}
 use Rattle.module_spec.specs.declared.token.LexFault.{LexFault}

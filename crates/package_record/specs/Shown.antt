@@ -1,5 +1,10 @@
 -- What `read_package` answers, in the words of the record.
-use Rattle.std.specs.Prelude.{ℕ, List, ⊤, Err}
+--     record_shown found      the record that it is
+--     IsReadFrom bytes found      the bytes have this record, and in its `exports` and `imports` the keys of
+--         each object are distinct
+--     IsNoRecord bytes fault      the bytes have no record, for this reason, unless no memory was found
+use Rattle.std.specs.Prelude.{ℕ, List, ⊤, Ok, Err}
+use Rattle.json_spec.specs.Value.{HasDistinctNames}
 use Rattle.ordered_json.specs.Shown.{json_of}
 use Rattle.node_spec.specs.Records.{Record, InvalidRecord, DeepRecord, ReadsRecord}
 use Rattle.package_record.specs.declared.package_json.Package.{Package}
@@ -17,7 +22,11 @@ record_shown found =
           json_of found.imports;
     }
 
--- the bytes have no record, for this reason, unless no memory was found
+pub record IsReadFrom (bytes : List ℕ) (found : Package) : Type 0 where
+  pub reads : ReadsRecord bytes (Ok (record_shown found))
+  pub distinct : HasDistinctNames (json_of found.exports)
+  pub distinct_imports : HasDistinctNames (json_of found.imports)
+
 abbrev pub IsNoRecord : List ℕ → PackageFault → Type 0
 IsNoRecord bytes InvalidConfig = ReadsRecord bytes (Err InvalidRecord)
 IsNoRecord bytes TooDeep = ReadsRecord bytes (Err DeepRecord)

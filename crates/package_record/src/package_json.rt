@@ -1,11 +1,11 @@
-ghost use Rattle.std.specs.Prelude.{◌≡◌, MatchOption, MatchResult, IfOk, Ok, Err};
-ghost use Rattle.json_spec.specs.Value.{an_object, HasDistinctNames, Members as Spec};
-ghost use Rattle.node_spec.specs.Records.{InvalidRecord, ReadsRecord, after_mark, kind_of, record_in, record_of};
+ghost use Rattle.std.specs.Prelude.{◌≡◌, MatchOption, MatchResult, Err};
+ghost use Rattle.json_spec.specs.Value.{an_object, Members as Spec};
+ghost use Rattle.node_spec.specs.Records.{InvalidRecord, after_mark, kind_of, record_in, record_of};
 ghost use Rattle.node_spec.specs.Records.{text_in};
 ghost use Rattle.ordered_json.specs.Lists.{pairs_of};
 ghost use Rattle.ordered_json.specs.Shown.{json_of, members_of};
 ghost use Rattle.package_record.specs.Fields.{HoldsFields};
-ghost use Rattle.package_record.specs.Shown.{record_shown, IsNoRecord};
+ghost use Rattle.package_record.specs.Shown.{record_shown, IsReadFrom, IsNoRecord};
 
 use crate::fields::{Fields, fields_of};
 use node_spec::PackageKind;
@@ -43,10 +43,7 @@ pub enum PackageFault {
 
 /// The record of the bytes of a package.json. A byte order mark before the text is passed over.
 pub fn read_package(alloc: Global, bytes: &[u8]) -> Result<Package, PackageFault>
-    ensures reads { MatchResult result (λ found. ReadsRecord bytes.now (Ok (record_shown found)))
-        (IsNoRecord bytes.now) }
-    ensures distinct { IfOk result (λ found. HasDistinctNames (json_of found.exports)) }
-    ensures distinct_imports { IfOk result (λ found. HasDistinctNames (json_of found.imports)) }
+    ensures { MatchResult result (IsReadFrom bytes.now) (IsNoRecord bytes.now) }
 {
     match read(alloc, behind_mark(bytes)) {
         Ok(value) => match members_in(value) {
