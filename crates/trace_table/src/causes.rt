@@ -101,6 +101,34 @@ f => 1 refused: NotFound from "/index.html" for "f"
 #q => 0 ok: 1 modules, 1 requests, 1 mappings
 "##;
 
+/// What one module asks for, a kind of refusal after another.
+static BY_A_MODULE: &str = r##"
+/app.mjs: import "node:fs";
+./app.mjs => 1 refused: Builtin from "/app.mjs" for "node:fs"
+/app.mjs: import "@x";
+./app.mjs => 1 refused: InvalidSpecifier from "/app.mjs" for "@x"
+/app.mjs: import "a%b";
+./app.mjs => 1 refused: InvalidSpecifier from "/app.mjs" for "a%b"
+/app.mjs: import ".x";
+./app.mjs => 1 refused: InvalidSpecifier from "/app.mjs" for ".x"
+/app.mjs: import "ui/";
+./app.mjs => 1 refused: InvalidSpecifier from "/app.mjs" for "ui/"
+/app.mjs: import "./d/";
+/d/
+./app.mjs => 1 refused: TrailingSlash from "/app.mjs" for "./d/"
+/app.mjs: import "#q";
+./app.mjs => 1 refused: ImportNotDefined from "/app.mjs" for "#q"
+/app.mjs: import "p";
+/node_modules/p/package.json: {"exports":"../x"}
+./app.mjs => 1 refused: InvalidTarget from "/app.mjs" for "p"
+/app.mjs: import "p";
+/node_modules/p/package.json: {"name":
+./app.mjs => 1 refused: InvalidConfig from "/app.mjs" for "p"
+/app.mjs: import "p";
+/node_modules/p/package.json: {"exports":{".":"./i.mjs","x":"./i.mjs"}}
+./app.mjs => 1 refused: InvalidConfig from "/app.mjs" for "p"
+"##;
+
 #[test]
 fn outside(rt: HostRuntime) -> Result<(), Fail> {
     assert_eq!(rt; runs(rt.alloc(), OUTSIDE)?.as_str(), "13 runs");
@@ -122,5 +150,11 @@ fn slashes(rt: HostRuntime) -> Result<(), Fail> {
 #[test]
 fn nowhere(rt: HostRuntime) -> Result<(), Fail> {
     assert_eq!(rt; runs(rt.alloc(), NOWHERE)?.as_str(), "17 runs");
+    Ok(())
+}
+
+#[test]
+fn asked_by_a_module(rt: HostRuntime) -> Result<(), Fail> {
+    assert_eq!(rt; runs(rt.alloc(), BY_A_MODULE)?.as_str(), "10 runs");
     Ok(())
 }
