@@ -30,9 +30,9 @@ entry_by Folder = Some Directory
 entry_by (File bytes) = Some (Stored bytes)
 entry_by TooLarge = Some (Stored large_file)
 
-is_large : nat_lt look_limits.file (length large_file) ≡ true
+large_file_is_large : nat_lt look_limits.file (length large_file) ≡ true
 unfolding large_file
-is_large = (longer_than look_limits.file).1
+large_file_is_large = (longer_than look_limits.file).1
 
 within_twice : (look : Look) → within_limit (within_limit look) ≡ within_limit look
 within_twice Absent = refl
@@ -55,7 +55,7 @@ stands_as : (look : Look) → within_limit look ≡ look → seen_as (entry_by l
 stands_as Absent e = refl
 stands_as Folder e = refl
 stands_as (File bytes) e = e
-stands_as TooLarge e = cond-true _ _ _ is_large
+stands_as TooLarge e = cond-true _ _ _ large_file_is_large
 
 pub some_sights : SomeSights
 some_sights tree known = (
