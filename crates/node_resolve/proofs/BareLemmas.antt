@@ -1,5 +1,5 @@
 -- What a target in `imports` comes to, by what the object that answers its bare texts keeps.
---     calls_seen, calls_keep       calls of the object, by what it keeps
+--     calls_seen, names_keep       calls of the object, by what it keeps
 --     choice_answered, choice_lost      the whole target
 --     moved, chosen_fails          what is handed on
 use Rattle.std.proofs.Common.{◌≡◌, ℕ, List, [], ◌∷◌, ◌++◌, Bool, true, false, Option, Some, None, IfSome, refl, sym, ap, ◌∙◌, subst}
@@ -18,6 +18,7 @@ use Rattle.tree_spec.specs.declared.LimitName.{LimitName}
 use Rattle.tree_spec.specs.declared.LimitName.TheVariants.{File, Bytes, Looks, Modules, ModuleRequests, Requests, Specifier, Entries, Brackets, Depth, Session, Map, Choices}
 use Rattle.package_lookup.specs.declared.known.Known.{Known}
 use Rattle.node_resolve.specs.Responses.{by_node_fault}
+use Rattle.node_resolve.specs.declared.bare_texts.BareTexts.{BareTexts}
 use Rattle.node_resolve.specs.declared.fault.NodeFault.{NodeFault}
 use Rattle.node_resolve.specs.declared.fault.NodeFault.TheVariants.{Refused, ReadFault, Limit, Memory}
 use Rattle.node_spec.proofs.DecidingCall.{deciding_call_is_last}
@@ -38,7 +39,7 @@ use Rattle.package_lookup.specs.Responses.{Failing, passes, not_read, no_memory,
 use Rattle.package_lookup.proofs.Questions.{failed, carried, sees_still, limited_always, then_given, then_fails, now_given}
 use Rattle.node_resolve.proofs.Answering.{reframed}
 use Rattle.node_resolve.proofs.TargetLooks.{Hears, IsLook, hears_front, target_heard}
-use Rattle.node_resolve.specs.BareTexts.{Kept, GivesBare, a_value, a_fault, failing_of, lost_by}
+use Rattle.node_resolve.specs.BareTexts.{Kept, KeepsNames, GivesBare, a_value, a_fault, failing_of, lost_by}
 
 -- ---- a front of the calls
 
@@ -106,12 +107,22 @@ calls_seen gives see ask_of says old new (call ∷ more) calls =
           (calls_seen gives see ask_of says calls.0 new more calls.2),
     )
 
-pub calls_keep : {B N : Type 0} (gives : B → List ℕ → BareAnswer → B → Type 0) (name : B → N)
+calls_keep : {B N : Type 0} (gives : B → List ℕ → BareAnswer → B → Type 0) (name : B → N)
     → ((old new : B) (text : List ℕ) (answer : BareAnswer) → gives old text answer new → name new ≡ name old)
     → (old new : B) (asked : List Call) → Calls gives old asked new → name new ≡ name old
 calls_keep gives name keeps old new [] calls = ap name calls
 calls_keep gives name keeps old new (call ∷ more) calls =
     calls_keep gives name keeps calls.0 new more calls.2 ∙ keeps old calls.0 call.0 call.1 calls.1
+
+pub names_keep : {F : Type 0} (gives : BareTexts F → List ℕ → BareAnswer → BareTexts F → Type 0)
+    → ((old new : BareTexts F) (text : List ℕ) (answer : BareAnswer) → gives old text answer new → KeepsNames old new)
+    → (old new : BareTexts F) (asked : List Call) → Calls gives old asked new → KeepsNames old new
+names_keep gives keeps old new asked calls = record {
+  known = calls_keep gives (λ b. b.known.ghost_name) (λ b n text answer gave. (keeps b n text answer gave).known) old new asked calls;
+  folder = calls_keep gives (λ b. b.folder.ghost_name) (λ b n text answer gave. (keeps b n text answer gave).folder) old new asked calls;
+  trail = calls_keep gives (λ b. b.trail.ghost_name) (λ b n text answer gave. (keeps b n text answer gave).trail) old new asked calls;
+  last = calls_keep gives (λ b. b.last.ghost_name) (λ b n text answer gave. (keeps b n text answer gave).last) old new asked calls;
+}
 
 -- ---- one call, and what it tells
 
@@ -452,6 +463,6 @@ pub chosen_same : (asks : List ℕ → Resolving Url) (out : Outcome) (last othe
     → fault ≡ None → other ≡ last → response_of asks out last fault ≡ given (came out other)
 chosen_same asks out last other fault e l = ap (response_of asks out last) e ∙ ap (λ o. given (came out o)) (sym l)
 
-pub fault_same : (asks : List ℕ → Resolving Url) (out : Outcome) (last : Option Found) (fault : Option Failing) (failing : Failing)
+pub failing_same : (asks : List ℕ → Resolving Url) (out : Outcome) (last : Option Found) (fault : Option Failing) (failing : Failing)
     → fault ≡ Some failing → response_of asks out last fault ≡ failed (Came Found) failing
-fault_same asks out last fault failing e = ap (response_of asks out last) e
+failing_same asks out last fault failing e = ap (response_of asks out last) e

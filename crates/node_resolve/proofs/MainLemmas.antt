@@ -1,7 +1,7 @@
 -- The first file that is there.
 --     url_here                     the URL of a text in a folder
 --     served_lost, served_fails, served_there, served_absent      one text
---     none_first, first_fails, first_here, first_later            one text after another
+--     no_text_first, first_fails, first_here, first_later            one text after another
 --     file_fails, file_found, file_behind                         the main file, by the first file of some texts
 use Rattle.std.proofs.Common.{◌≡◌, ◌++◌, [], ◌∷◌, ℕ, List, true, false, Option, Some, None, Result, Ok, sym, ◌∙◌, subst}
 use Rattle.std.specs.Prelude.{codes}
@@ -51,9 +51,9 @@ module _ (before after : State) (wanted : Option Url) (url : Url) (e : wanted �
 
 -- ---- one text after another
 
-pub none_first : (before : State) (folder : List ℕ) (texts : List (List ℕ)) → texts ≡ []
+pub no_text_first : (before : State) (folder : List ℕ) (texts : List (List ℕ)) → texts ≡ []
     → Answered before (first_served folder texts) (given None) before
-none_first before folder texts e =
+no_text_first before folder texts e =
     subst (λ t. Answered before (first_served folder t) (given None) before) (sym e) (now_given before None)
 
 module _ (before middle : State) (folder text : List ℕ) (more texts : List (List ℕ)) (e : texts ≡ text ∷ more) where

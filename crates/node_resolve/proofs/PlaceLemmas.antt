@@ -68,8 +68,8 @@ module _ (url : List ℕ) (folder_only : Bool) (suffix : List ℕ) where
       ap (λ a. and_then a shown_node)
       (cond-true _ (answered (node.Refused InvalidSpecifier)) (judged_at url (named_path url)) (sym is.separator))
 
-  nameless_is : IsPlace url None folder_only false suffix → esm.judged url ≡ refuses NotFound
-  nameless_is is =
+  no_place_is : IsPlace url None folder_only false suffix → esm.judged url ≡ refuses NotFound
+  no_place_is is =
       ap (λ a. and_then a shown_node)
       (cond-false _ (answered (node.Refused InvalidSpecifier)) (judged_at url (named_path url)) (sym is.separator)
       ∙ ap (judged_at url) (named_none url (sym is.separator) is.named))
@@ -77,9 +77,9 @@ module _ (url : List ℕ) (folder_only : Bool) (suffix : List ℕ) where
   abbrev there : List ℕ → Option Entry → LookAsking (Result Module Refusal)
   there path found = answered (as_node (judged_there path folder_only suffix found))
 
-  named_is : (path : List ℕ) → IsPlace url (Some path) folder_only false suffix
+  place_is : (path : List ℕ) → IsPlace url (Some path) folder_only false suffix
       → esm.judged url ≡ and_then (look_at path) (there path)
-  named_is path is =
+  place_is path is =
       ap (λ a. and_then a shown_node)
       (cond-false _ (answered (node.Refused InvalidSpecifier)) (judged_at url (named_path url)) (sym is.separator)
       ∙ ap (judged_at url) (named_some url path is.named))
@@ -98,13 +98,13 @@ pub judged_nameless : (before : State) (url : List ℕ) (folder_only escaped : B
     → Answered before (esm.judged url) (given (Err (by_cause NotFound))) before
 judged_nameless before url folder_only escaped suffix is e =
     asking_as before before (refuses NotFound) (esm.judged url) (given (Err (by_cause NotFound)))
-    (sym (nameless_is url folder_only suffix (subst (λ b. IsPlace url None folder_only b suffix) e is)))
+    (sym (no_place_is url folder_only suffix (subst (λ b. IsPlace url None folder_only b suffix) e is)))
     (now_given before (Err (by_cause NotFound)))
 
 module _ (before after : State) (url path : List ℕ) (folder_only escaped : Bool) (suffix : List ℕ)
     (is : IsPlace url (Some path) folder_only escaped suffix) (plain : escaped ≡ false) where
   judged_same : and_then (look_at path) (there url folder_only suffix path) ≡ esm.judged url
-  judged_same = sym (named_is url folder_only suffix path (subst (λ b. IsPlace url (Some path) folder_only b suffix) plain is))
+  judged_same = sym (place_is url folder_only suffix path (subst (λ b. IsPlace url (Some path) folder_only b suffix) plain is))
 
   pub judged_seen : (found : Option Entry) (response : Response (Result Module Refusal))
       → Answered before (look_at path) (given found) after

@@ -6,6 +6,7 @@
 --     chosen_shown result last     what a target comes to, and the answer to the text that was asked for last
 --     Kept, kept state last fault  what the object that answers keeps
 --     GivesBare ask before text answer after      one call of it
+--     KeepsNames old new           the object writes where it wrote before
 use Rattle.std.specs.Prelude.{◌≡◌, ℕ, List, Option, Some, None, option_map, Result, Ok, Err}
 use Rattle.node_spec.specs.NodeAnswers as spec
 use Rattle.node_spec.specs.NodeAnswers.{Url, Resolving}
@@ -16,6 +17,7 @@ use Rattle.node_spec.specs.declared.BareAnswer.TheVariants.{Stop}
 use Rattle.node_spec.specs.declared.Outcome.{Outcome}
 use Rattle.package_lookup.specs.Answered.{State, Answered}
 use Rattle.package_lookup.specs.Responses.{Response, given, fails, Failing, passes, not_read, no_memory, never}
+use Rattle.node_resolve.specs.declared.bare_texts.BareTexts.{BareTexts}
 use Rattle.node_resolve.specs.declared.bare_texts.Refusal.{Refusal}
 use Rattle.node_resolve.specs.declared.bare_texts.Refusal.TheVariants.{ByCause, TooDeep}
 use Rattle.node_resolve.specs.declared.fault.NodeFault.{NodeFault}
@@ -70,3 +72,9 @@ pub data GivesBare (ask : List ℕ → Resolving Url) (before : Kept) (text : Li
       {failing : Failing} {answer : BareAnswer} {after : Kept}
       → Answered before.state (ask text) (fails failing) after.state → answer ≡ Stop → after.fault ≡ Some failing
       → GivesBare ask before text answer after
+
+pub record KeepsNames {F : Type 0} (old new : BareTexts F) : Type 0 where
+  pub known : new.known.ghost_name ≡ old.known.ghost_name
+  pub folder : new.folder.ghost_name ≡ old.folder.ghost_name
+  pub trail : new.trail.ghost_name ≡ old.trail.ghost_name
+  pub last : new.last.ghost_name ≡ old.last.ghost_name

@@ -10,7 +10,7 @@ ghost use Rattle.condition_match.specs.Choosing.{judged_by};
 ghost use Rattle.package_lookup.specs.Answered.{state, Answered};
 ghost use Rattle.package_lookup.specs.Responses.{itself};
 ghost use Rattle.node_resolve.specs.BareTexts.{chosen_shown, failing_of, found_shown};
-ghost use Rattle.node_resolve.specs.BareTexts.{last_shown, lost_by, split_shown};
+ghost use Rattle.node_resolve.specs.BareTexts.{last_shown, lost_by, split_shown, KeepsNames};
 ghost use Rattle.node_resolve.specs.Responses.{responded, Gives};
 
 use crate::NodeFault;
@@ -48,13 +48,11 @@ struct BareTexts<'a, F: Folder> {
 
 impl<'a, F: Folder> BareTarget for BareTexts<'a, F> {
     ghost use Rattle.node_spec.specs.PackageResolve.{package_resolve};
-    ghost use Rattle.node_resolve.specs.BareTexts.{kept, GivesBare};
+    ghost use Rattle.node_resolve.specs.BareTexts.{kept, GivesBare, KeepsNames};
     ghost use Rattle.package_lookup.specs.Answered.{state};
 
-    ghost gives = { λ old text answer new. (new.known.ghost_name ≡ old.known.ghost_name)
-        × (new.folder.ghost_name ≡ old.folder.ghost_name) × (new.trail.ghost_name ≡ old.trail.ghost_name)
-        × (new.last.ghost_name ≡ old.last.ghost_name)
-        × (new.package_folder ≡ old.package_folder) × (new.conditions ≡ old.conditions)
+    ghost gives = { λ old text answer new. KeepsNames old new × (new.package_folder ≡ old.package_folder)
+        × (new.conditions ≡ old.conditions)
         × GivesBare (package_resolve old.conditions.now old.package_folder.now)
         (kept (state (F.state old.folder.now) old.known.now old.trail.now) old.last.now old.fault) text answer
         (kept (state (F.state new.folder.now) new.known.now new.trail.now) new.last.now new.fault) };
@@ -187,10 +185,7 @@ fn chosen_by<F: Folder>(
 ) -> Result<Outcome, NodeFault>
     requires last { bares.now.last.now ≡ None }
     requires fault { bares.now.fault ≡ None }
-    ensures known { bares.new.known.ghost_name ≡ bares.old.known.ghost_name }
-    ensures folder { bares.new.folder.ghost_name ≡ bares.old.folder.ghost_name }
-    ensures trail { bares.new.trail.ghost_name ≡ bares.old.trail.ghost_name }
-    ensures last { bares.new.last.ghost_name ≡ bares.old.last.ghost_name }
+    ensures names { KeepsNames bares.old bares.new }
     ensures answered { Answered
         (state (F.state bares.old.folder.now) bares.old.known.now bares.old.trail.now)
         (target_comes (bares_from bares.old.conditions.now bares.old.package_folder.now)

@@ -2,12 +2,12 @@ use Rattle.std.proofs.Common.{◌++◌, ap}
 use Rattle.std.proofs.lemmas.List.{nil_from_length}
 use Rattle.std.specs.Prelude.{map}
 use Rattle.node_resolve.specs.MainFiles.{texts_of}
-use Rattle.node_resolve.proofs.MainLemmas.{none_first, first_fails, first_here, first_later}
+use Rattle.node_resolve.proofs.MainLemmas.{no_text_first, first_fails, first_here, first_later}
 use Rattle.node_resolve.proofs.legacy_main_resolve.+first_served.Goals as goal
 
 pub returns-in-None : goal.returns-in-None
 returns-in-None g t c = λ path e.
-    none_first _ path _
+    no_text_first _ path _
     (ap (λ l. map (λ end. c.args.front.now ++ end) (texts_of l)) (nil_from_length c.args.ends.now c.in-None.ensures.cases))
 
 pub returns-in-Err : goal.returns-in-Err

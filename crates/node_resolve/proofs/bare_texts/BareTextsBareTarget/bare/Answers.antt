@@ -5,10 +5,7 @@ use Rattle.node_resolve.proofs.bare_texts.BareTextsBareTarget.bare.Goals as goal
 
 pub returns-in-Ok-clause-answers : goal.returns-in-Ok-clause-answers
 returns-in-Ok-clause-answers g c = (
-  refl,
-  refl,
-  refl,
-  refl,
+  record { known = refl; folder = refl; trail = refl; last = refl },
   refl,
   refl,
   a_value {found = found_shown c.in-Ok.found}
@@ -18,10 +15,7 @@ returns-in-Ok-clause-answers g c = (
 
 pub returns-in-Err-clause-answers : goal.returns-in-Err-clause-answers
 returns-in-Err-clause-answers g c = (
-  refl,
-  refl,
-  refl,
-  refl,
+  record { known = refl; folder = refl; trail = refl; last = refl },
   refl,
   refl,
   a_fault {failing = failing_of c.in-Err.fault}
