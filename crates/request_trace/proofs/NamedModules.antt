@@ -1,16 +1,21 @@
 -- The modules of a trace with the texts of their names.
 --     named_at_base          names of a config are names at its base
 --     kept_url, made_url     the text of a module's name is its URL at the same base; and what is made is it at another
-use Rattle.std.proofs.Common.{◌≡◌, ℕ, zero, suc, List, [], ◌∷◌, Option, Some, Result, Ok, Err, sym, ap, ◌∙◌, subst}
+--     counted                the modules of a whole trace, counted
+use Rattle.std.proofs.Common.{◌≡◌, ◌≤◌, ℕ, zero, suc, List, [], ◌∷◌, length, Option, Some, Result, Ok, Err, sym, ap, ◌∙◌, subst}
 use Rattle.std.specs.Prelude.{slice_get, option_and_then, IfOk}
 use Rattle.std.specs.Map.{keys_of}
 use Rattle.std.proofs.lemmas.List.Elements.{All-head, All-tail, All-weaker}
+use Rattle.tree_spec.specs.declared.LimitName.TheVariants.{Modules}
+use Rattle.tree_spec.specs.Limits.{limit_number}
 use Rattle.trace_spec.proofs.Steps.{file_name_parts}
+use Rattle.trace_spec.specs.Checks.{Gathered}
 use Rattle.trace_spec.specs.Modules.{Config, Module}
 use Rattle.url_spec.specs.WebNames.{web}
 use Rattle.trace_walk.specs.declared.tables.Name.{Name}
-use Rattle.trace_walk.specs.Walking.{AllNamed, IsNamed}
+use Rattle.trace_walk.specs.Walking.{AllNamed, IsNamed, IsWhole}
 use Rattle.request_trace.specs.Naming.{AllNamedAt}
+use Rattle.request_trace.specs.Tracing.{CountsModules}
 
 abbrev IsNamedAt : List ℕ → Module × Name → Type 0
 IsNamedAt base entry = web base entry.0.path entry.0.suffix ≡ Some entry.1.text
@@ -63,3 +68,11 @@ module _ (base : List ℕ) (entries : List (Module × Name)) (modules : List Mod
       → IfOk result (λ found. found ≡ url_at base modules place)
   made_url (Ok found) is = is ∙ url_there
   made_url (Err fault) is = tt
+
+pub counted : (gathered : Gathered) (count : ℕ) → count ≡ length gathered.modules → IsWhole gathered
+    → CountsModules gathered count
+counted gathered count is whole = record {
+  modules = is;
+  sources = is ∙ sym whole.visited;
+  few = subst (λ n. n ≤ limit_number Modules) (sym is) whole.few;
+}

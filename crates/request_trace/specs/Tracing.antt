@@ -2,9 +2,10 @@
 --     IsOfFootprint config before known path       where a tree is told, the path is of the generation's footprint, by
 --                                                  all that looks tell
 --     Traces config before known result after later      the trace, or its first refusal
+--     CountsModules gathered count      as many modules as that, each with its source, and no more than there may be
 --     TakesSteps result count before after      no more steps than count tells of what was found, and never more than
 --                                               there may be modules and requests
-use Rattle.std.specs.Prelude.{◌≡◌, ◌≤◌, ◌+◌, ℕ, List, Contains, Result, Err, IfSome, IfOk, IfErr}
+use Rattle.std.specs.Prelude.{◌≡◌, ◌≤◌, ◌+◌, ℕ, List, length, Contains, Result, Err, IfSome, IfOk, IfErr}
 use Rattle.tree_spec.specs.declared.LimitName.TheVariants.{Modules, Requests}
 use Rattle.tree_spec.specs.Limits.{limit_number}
 use Rattle.tree_spec.specs.LookAskings.{Sights, footprint}
@@ -43,6 +44,12 @@ pub record Traces (config : Config) (before : FolderState) (known : Known) (resu
       Learns (known_of before known) (known_of after later) (result ≡ Err Memory) (IsOfFootprint config before known)
   pub looks : OnlyLooks before after (result ≡ Err ReadFault)
   pub kind : IfErr result (IsOfWalk config)
+
+-- own: each module has its source
+pub record CountsModules (gathered : Gathered) (count : ℕ) : Type 0 where
+  pub modules : count ≡ length gathered.modules
+  pub sources : count ≡ length gathered.sources
+  pub few : count ≤ limit_number Modules
 
 -- own: as many modules and requests as are counted of what was found; and whatever the result is, as many as there may
 -- be at most

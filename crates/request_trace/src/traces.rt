@@ -1,11 +1,12 @@
 ghost use Rattle.std.specs.Prelude.{◌≡◌, ◌≤◌, IfOk, length, slice_get, option_map, option_and_then, option_copied};
-ghost use Rattle.tree_spec.specs.declared.LimitName.TheVariants.{Modules, Requests};
+ghost use Rattle.tree_spec.specs.declared.LimitName.TheVariants.{Requests};
 ghost use Rattle.tree_spec.specs.Limits.{limit_number};
 ghost use Rattle.layout_spec.specs.Needs.{NoClash};
 ghost use Rattle.url_spec.specs.WebNames.{web};
 ghost use Rattle.trace_walk.specs.Shown.{before_of};
 ghost use Rattle.trace_walk.specs.Walking.{IsWhole, AreOfUrls};
 ghost use Rattle.request_trace.specs.Naming.{AllNamedAt};
+ghost use Rattle.request_trace.specs.Tracing.{CountsModules};
 
 use need_table::Needs;
 use primitives::{Memory, Text};
@@ -64,9 +65,7 @@ impl Trace {
 
     /// The number of modules.
     pub fn len(&self) -> usize
-        ensures modules { result ≡ length self.now.modules }
-        ensures sources { result ≡ length self.now.sources }
-        ensures few { result ≤ limit_number Modules }
+        ensures { CountsModules self.now result }
     {
         self.tables.modules.len()
     }

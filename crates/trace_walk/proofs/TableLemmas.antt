@@ -5,6 +5,7 @@ use Rattle.std.specs.Result.{IsErrAnd}
 use mathlib.Core.Logic.{inl, inr}
 use Rattle.std.specs.List.{list_any}
 use Rattle.std.specs.Map.{keys_of, lookup}
+use Rattle.std.proofs.option.Match.{None-if_not_some}
 use Rattle.std.proofs.lemmas.Bool.{cases_Bool, cond-true, cond-false, or_parts}
 use Rattle.std.proofs.lemmas.Map.Made.{is_some-lookup}
 use Rattle.std.proofs.lemmas.List.Elements.{All-push, All-head, All-tail}
@@ -42,12 +43,8 @@ not_among target entries e = sym (is_some-lookup (is_module target) entries) ∙
 pub is_among : {X : Type 0} (target : Module) (entries : List (Module × X)) (found : X) → lookup (is_module target) entries ≡ Some found → list_any (is_module target) (keys_of entries) ≡ true
 is_among target entries found e = sym (is_some-lookup (is_module target) entries) ∙ ap is_some e
 
-none_found_by : {X : Type 0} (found : Option X) → is_some found ≡ false → found ≡ None
-none_found_by None e = refl
-none_found_by (Some x) e = absurd (cc)
-
 pub none_found : {X : Type 0} (target : Module) (entries : List (Module × X)) → list_any (is_module target) (keys_of entries) ≡ false → lookup (is_module target) entries ≡ None
-none_found target entries fresh = none_found_by (lookup (is_module target) entries) (is_some-lookup (is_module target) entries ∙ fresh)
+none_found target entries fresh = None-if_not_some (lookup (is_module target) entries) (is_some-lookup (is_module target) entries ∙ fresh)
 
 named_as : (config : Config) (target : Module) (entries : List (Module × Name)) (found : Name) → lookup (is_module target) entries ≡ Some found → AllNamed config entries → IsNamed config target found
 named_as config target [] found e all = absurd (cc)
