@@ -1,5 +1,6 @@
 -- A question of a walk that is answered by looks, and the walk over these answers.
 --     answers_always       the answers are always the same, unless a limit stops them
+--     always_ready         an answerer that needs nothing to be ready
 --     met_by               a question
 --     traces_by            the walk
 --     traces_moved         the same beside another name for the state
@@ -8,7 +9,7 @@
 --     first_name, second_name, third_name      the references
 --     named_limit, limit_ends, look_ends      a limit that ends a walk
 use Rattle.std.proofs.Common.{◌≡◌, ℕ, List, Option, Some, None, Result, Ok, Err, IfSome, refl, sym, ap, ◌∙◌, subst, arith}
-use Rattle.std.specs.Prelude.{◌≢◌, [], ◌∷◌, Contains, IfErr}
+use Rattle.std.specs.Prelude.{◌≢◌, [], ◌∷◌, Contains, IfErr, OnOk, ⊤}
 use Rattle.std.proofs.lemmas.List.Elements.{Contains-append_left}
 use Rattle.asking_spec.specs.Askings.{Asking, answered, ask, questions}
 use Rattle.asking_spec.proofs.EvaluationLemmas.{ends_outcome}
@@ -42,6 +43,10 @@ use Rattle.trace_walk.specs.declared.tables.Tables.{Tables}
 use Rattle.request_trace.specs.Answering.{result_by, told_by, ToldBy, answers_of}
 use Rattle.request_trace.specs.Tracing.{known_of, IsOfFootprint, Traces}
 use Rattle.request_trace.proofs.FootprintPaths.{footprint_contains}
+
+pub always_ready : {A E : Type 0} (result : Result A E) → OnOk result ⊤
+always_ready (Ok value) = tt
+always_ready (Err fault) = tt
 
 abbrev Answering : Type 0
 Answering = Told Trail Question Answer

@@ -1,6 +1,6 @@
 ghost use Rattle.std.specs.Prelude.{◌+◌, length, IfOk};
-ghost use Rattle.trace_walk.specs.Shown.{before_of, traced_of};
-ghost use Rattle.trace_walk.specs.Walking.{AllNamed, IsWhole};
+ghost use Rattle.trace_walk.specs.Shown.{traced_of};
+ghost use Rattle.trace_walk.specs.Walked.{AreWalked};
 ghost use Rattle.request_trace.specs.Tracing.{TakesSteps, Traces};
 
 use crate::folder_answers::FolderAnswers;
@@ -41,8 +41,7 @@ fn tables_of<F: Folder, L: Ledger>(
 ) -> Result<Tables, TraceFault>
     ensures traces { Traces config.now (F.state folder.old) known.old (traced_of result)
         (F.state folder.new) known.new }
-    ensures whole { IfOk result (λ tables. IsWhole (before_of tables)) }
-    ensures named { IfOk result (λ tables. AllNamed config.now tables.modules.entries) }
+    ensures tables { IfOk result (AreWalked config.now) }
     ensures steps { TakesSteps result (λ tables. length tables.sources.items + tables.requests) steps.old steps.new }
 {
     let mut trail = Trail::new(alloc);

@@ -1,7 +1,7 @@
 -- Parts of the walk, and the one behind the other.
 use Rattle.std.proofs.Common.{◌≡◌, ◌≤◌, ◌<◌, ◌+◌, ◌++◌, ◌∷◌, [], ℕ, List, Result, Ok, Err, sym, subst, arith}
 use Rattle.std.specs.Result.{IsErrAnd}
-use Rattle.tree_spec.specs.declared.LimitName.TheVariants.{Requests}
+use Rattle.tree_spec.specs.declared.LimitName.TheVariants.{Modules, Requests}
 use Rattle.tree_spec.specs.Limits.{limit_number}
 use Rattle.url_spec.specs.Parsing.{IsUrl}
 use Rattle.trace_spec.specs.declared.TraceFault.{TraceFault}
@@ -10,6 +10,7 @@ use Rattle.module_sources.specs.declared.source.Source.{Source}
 use Rattle.trace_walk.specs.declared.tables.Tables.{Tables}
 use Rattle.trace_walk.specs.Kinds.{IsOfWalk}
 use Rattle.trace_walk.specs.Putting.{Puts}
+use Rattle.trace_walk.specs.Walked.{IsWalked}
 use Rattle.trace_walk.specs.Walking.{AreBeside, AreOfUrls, IsBounded, Advances, Walks}
 use Rattle.trace_walk.proofs.Visiting.{grows_begin, grows_on, grows_by_visit}
 
@@ -54,6 +55,11 @@ pub walks_refused : (config : Config) (visits most : ℕ) (asks : Type 0) (old n
     → Walks config visits most asks old new before after ready result
 walks_refused config visits most asks old new before after ready fault (Ok unit) is bounded kind = absurd is
 walks_refused config visits most asks old new before after ready fault (Err other) is bounded kind = record { advances = tt; bounded = bounded; kind = subst (IsOfWalk config) (sym is) kind }
+
+-- the whole walk that is refused
+pub walk_refused : (config : Config) (before after : ℕ) (fault : TraceFault) (result : Result Tables TraceFault) → IsErrAnd result (λ f. f ≡ fault) → after ≤ before + (limit_number Modules + limit_number Requests) → IsOfWalk config fault → IsWalked config result before after
+walk_refused config before after fault (Ok tables) is bounded kind = absurd is
+walk_refused config before after fault (Err other) is bounded kind = record { tables = tt; steps = tt; bounded = bounded; kind = subst (IsOfWalk config) (sym is) kind }
 
 -- a part that is refused behind others
 pub walks_stopped : (config : Config) (visits some others most : ℕ) (asks others_ask : Type 0) (old middle new : Tables) (before between after : ℕ) (first second ready : Type 0) (fault : TraceFault) (result : Result (Unit {0}) TraceFault) → some + others ≤ most → IsErrAnd result (λ f. f ≡ fault)

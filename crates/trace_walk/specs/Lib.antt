@@ -5,3 +5,5 @@ pub mod Walking
 pub mod Refusing
 pub mod Putting
 pub mod Configs
+pub mod Answering
+pub mod Walked

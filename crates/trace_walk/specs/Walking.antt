@@ -1,5 +1,7 @@
 -- What the parts of the walk keep and give.
 --     IsReferrer config referrer value      the code's referrer is this one
+--     IsReferrerAt module name value        the code's referrer has this module's path, and this name
+--     AreEmpty tables                       nothing is in the tables yet
 --     AllNamed config entries               each module stands with its web name, which is no folder's, and the text
 --                                           of that
 --     AreBeside tables                      each need has its spelling
@@ -20,7 +22,7 @@
 --                                           a part of the walk: what so many visits leave, unless it is refused; and
 --                                           whatever it ends with, no more steps than `most` visits and the free
 --                                           requests
-use Rattle.std.specs.Prelude.{◌≡◌, ◌≢◌, ◌≤◌, ◌+◌, ◌++◌, ℕ, List, length, Some, None, Result, Ok, Err, All, false}
+use Rattle.std.specs.Prelude.{◌≡◌, ◌≢◌, ◌≤◌, ◌+◌, ◌++◌, [], ℕ, List, length, Some, None, Result, Ok, Err, All, false}
 use Rattle.std.specs.Prelude.{IfErr, OnOk}
 use Rattle.std.specs.List.{list_any}
 use Rattle.tree_spec.specs.declared.LimitName.TheVariants.{Modules, Requests}
@@ -44,6 +46,20 @@ pub record IsReferrer (config : Config) (referrer : spec.Referrer Module) (value
   pub text : value.text ≡ value.name
   pub path : path_of config referrer ≡ value.path
   pub shown_so : shown config referrer ≡ value.shown
+
+-- a module as it makes requests
+pub record IsReferrerAt (m : Module) (name : Name) (value : Referrer) : Type 0 where
+  pub name_is : value.name ≡ name.url
+  pub text : value.text ≡ name.text
+  pub path : value.path ≡ m.path
+  pub shown_so : value.shown ≡ m.path ++ m.suffix
+
+pub record AreEmpty (tables : Tables) : Type 0 where
+  pub modules : tables.modules.entries ≡ []
+  pub sources : tables.sources.items ≡ []
+  pub needs : tables.needs ≡ []
+  pub spellings : tables.spellings.items ≡ []
+  pub requests : tables.requests ≡ 0
 
 pub record IsNamed (config : Config) (m : Module) (name : Name) : Type 0 where
   pub is : file_name config m ≡ Some name.url

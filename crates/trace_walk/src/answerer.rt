@@ -1,9 +1,9 @@
-ghost use Rattle.std.specs.Prelude.{◌≤◌, ◌+◌, ℕ, IfErr, OnOk};
+ghost use Rattle.std.specs.Prelude.{ℕ};
 ghost use Rattle.asking_spec.specs.Askings.{ask, answered};
 ghost use Rattle.trace_spec.specs.Questions.{of_module, of_request};
+ghost use Rattle.trace_walk.specs.Answering.{IsAnswered};
 ghost use Rattle.trace_walk.specs.Meeting.{AnswererState, Met, fine};
 ghost use Rattle.trace_walk.specs.Shown.{sources, resolutions};
-ghost use Rattle.trace_walk.specs.Kinds.{IsOfAnswers};
 ghost use Rattle.module_sources.specs.Shown.{NamesLimit};
 
 use condition_match::Conditions;
@@ -41,10 +41,8 @@ pub trait Answerer {
         requires ready { ready self.old }
         ensures met { Met (state self.old) (fine (ask (of_module path.now) answered)) (sources result)
             (state self.new) }
-        ensures steps { steps self.new ≤ steps self.old + 1 }
-        ensures ready { OnOk result (ready self.new) }
-        ensures limit { NamesLimit result }
-        ensures kind { IfErr result IsOfAnswers };
+        ensures answered { IsAnswered result (steps self.old) (steps self.new) (ready self.new) }
+        ensures limit { NamesLimit result };
 
     /// Where a specifier in the file at a path leads.
     fn request(
@@ -58,7 +56,5 @@ pub trait Answerer {
         ensures met { Met (state self.old)
             (fine (ask (of_request conditions.now parent.now specifier.now) answered)) (resolutions result)
             (state self.new) }
-        ensures steps { steps self.new ≤ steps self.old + 1 }
-        ensures ready { OnOk result (ready self.new) }
-        ensures kind { IfErr result IsOfAnswers };
+        ensures answered { IsAnswered result (steps self.old) (steps self.new) (ready self.new) };
 }

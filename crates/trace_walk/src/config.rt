@@ -31,15 +31,14 @@ impl Model for Config {
 }
 
 impl Config {
+    ghost use Rattle.trace_walk.specs.Configs.{ArePartsOf, IsConfigured};
+
     /// The config of these, where the page isn't the root and the entries are distinct and not too many.
     pub fn new(base: Base, page: Path, conditions: Conditions, entries: Listed<Text>) -> Config
         requires is_file { page ≢ codes "/" }
         requires distinct { IsDistinct bytes_eq entries }
         requires few { length entries ≤ limit_number Entries }
-        ensures base { result.base ≡ base }
-        ensures page { result.page ≡ page }
-        ensures conditions { result.conditions ≡ conditions }
-        ensures entries { result.entries ≡ entries }
+        ensures { result ≡ record { base = base; page = page; conditions = conditions; entries = entries } }
     {
         Config {
             base,
@@ -51,13 +50,8 @@ impl Config {
 
     /// The base, the page, the conditions and the entries, moved out.
     pub fn into_parts(self) -> (Base, Path, Conditions, Listed<Text>)
-        ensures base { result.0 ≡ self.base }
-        ensures page { result.1 ≡ self.page }
-        ensures conditions { result.2 ≡ self.conditions }
-        ensures entries { result.3 ≡ self.entries }
-        ensures is_file { self.page ≢ codes "/" }
-        ensures distinct { IsDistinct bytes_eq self.entries }
-        ensures few { length self.entries ≤ limit_number Entries }
+        ensures parts { ArePartsOf self result.0 result.1 result.2 result.3 }
+        ensures configured { IsConfigured self.page self.entries }
     {
         let Config {
             base,
@@ -93,8 +87,7 @@ impl Config {
     /// The specifiers that the page asks for.
     pub fn entries(&self) -> &[Text]
         ensures entries { result.now ≡ self.now.entries }
-        ensures distinct { IsDistinct bytes_eq self.now.entries }
-        ensures few { length self.now.entries ≤ limit_number Entries }
+        ensures configured { IsConfigured self.now.page self.now.entries }
     {
         self.entries.as_slice()
     }

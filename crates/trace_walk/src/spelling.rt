@@ -31,9 +31,7 @@ impl Model for Spelling {
 impl Spelling {
     pub(crate) fn new(referrer: Text, specifier: Text, target: Module) -> Spelling
         requires short { length specifier ≤ limit_number limit.Specifier }
-        ensures referrer { result.referrer ≡ referrer }
-        ensures specifier { result.specifier ≡ specifier }
-        ensures target { result.target ≡ target }
+        ensures { result ≡ record { referrer = referrer; specifier = specifier; target = target } }
     {
         Spelling {
             referrer,

@@ -11,7 +11,7 @@ ghost use Rattle.trace_spec.specs.Checks.{needed, led};
 ghost use Rattle.trace_walk.specs.Kinds.{IsOfWalk};
 ghost use Rattle.trace_walk.specs.Refusing.{IsMisnamed};
 ghost use Rattle.trace_walk.specs.Putting.{PutsNeed, Puts};
-ghost use Rattle.trace_walk.specs.Walking.{IsReferrer, AllNamed, AreBeside, IsNamed, IsGiven};
+ghost use Rattle.trace_walk.specs.Walking.{IsReferrer, AllNamed, AreBeside, AreEmpty, IsNamed, IsGiven};
 ghost use Rattle.trace_walk.specs.Shown.{before_of, done};
 
 use crate::config::Config;
@@ -50,11 +50,7 @@ pub struct Tables {
 impl Tables {
     /// Nothing yet.
     pub(crate) fn new(alloc: Global) -> Tables
-        ensures modules { result.modules.entries ≡ [] }
-        ensures sources { result.sources.items ≡ [] }
-        ensures needs { result.needs ≡ [] }
-        ensures spellings { result.spellings.items ≡ [] }
-        ensures requests { result.requests ≡ 0 }
+        ensures { AreEmpty result }
     {
         Tables {
             modules: IndexMap::new(alloc),

@@ -1,7 +1,7 @@
-ghost use Rattle.std.specs.Prelude.{◌≡◌, ◌≢◌, ◌≤◌, ◌<◌, ◌+◌, ◌++◌, ◌∷◌, [], length, Some, slice_get, suc, IfOk, IfErr};
+ghost use Rattle.std.specs.Prelude.{◌≡◌, ◌≢◌, ◌≤◌, ◌<◌, ◌++◌, ◌∷◌, [], length, Some, slice_get, suc, IfOk, IfErr};
 ghost use Rattle.std.specs.Prelude.{⊤, OnOk};
 ghost use Rattle.indexmap.specs.IndexMap.{keys};
-ghost use Rattle.tree_spec.specs.declared.LimitName.TheVariants.{Modules, Requests};
+ghost use Rattle.tree_spec.specs.declared.LimitName.TheVariants.{Modules};
 ghost use Rattle.tree_spec.specs.Limits.{limit_number};
 ghost use Rattle.url_spec.specs.Parsing.{IsUrl};
 ghost use Rattle.trace_spec.specs.Modules as spec;
@@ -9,9 +9,9 @@ ghost use Rattle.trace_spec.specs.Walking.{Referrer as Referring, the_page, a_mo
 ghost use Rattle.trace_spec.specs.Checks.{rules};
 ghost use Rattle.trace_spec.specs.Traces.{trace};
 ghost use Rattle.trace_spec.specs.Modules.{served_at};
-ghost use Rattle.trace_walk.specs.Kinds.{IsOfWalk};
 ghost use Rattle.trace_walk.specs.Meeting.{Met};
-ghost use Rattle.trace_walk.specs.Walking.{IsReferrer, AllNamed, AreBeside, IsWhole, IsUnserved, Walks};
+ghost use Rattle.trace_walk.specs.Walking.{IsReferrer, IsReferrerAt, AllNamed, AreBeside, IsUnserved, Walks};
+ghost use Rattle.trace_walk.specs.Walked.{IsWalked};
 ghost use Rattle.trace_walk.specs.Shown.{before_of, done, traced_of, specifiers_of};
 
 use crate::answerer::Answerer;
@@ -38,13 +38,7 @@ pub fn walk<A: Answerer>(
 ) -> Result<Tables, TraceFault>
     requires ready { A.ready answerer.old }
     ensures met { Met (A.state answerer.old) (trace config.now) (traced_of result) (A.state answerer.new) }
-    ensures named { IfOk result (λ tables. AllNamed config.now tables.modules.entries) }
-    ensures whole { IfOk result (λ tables. IsWhole (before_of tables)) }
-    ensures steps { IfOk result (λ tables. A.steps answerer.new
-        ≤ A.steps answerer.old + (length tables.sources.items + tables.requests)) }
-    ensures bounded { A.steps answerer.new
-        ≤ A.steps answerer.old + (limit_number Modules + limit_number Requests) }
-    ensures kind { IfErr result (IsOfWalk config.now) }
+    ensures walked { IsWalked config.now result (A.steps answerer.old) (A.steps answerer.new) }
 {
     let mut tables = Tables::new(alloc);
     visit_page(alloc, answerer, config, &mut tables)?;
@@ -202,10 +196,7 @@ fn push_source(sources: &mut Vec<Source>, source: Source) -> Result<(), Memory>
 
 // A module as it makes requests.
 fn referrer_of(alloc: Global, target: &Module, name: &Name) -> Result<Referrer, Memory>
-    ensures name { IfOk result (λ referrer. referrer.name ≡ name.now.url) }
-    ensures text { IfOk result (λ referrer. referrer.text ≡ name.now.text) }
-    ensures path { IfOk result (λ referrer. referrer.path ≡ target.now.path) }
-    ensures shown { IfOk result (λ referrer. referrer.shown ≡ target.now.path ++ target.now.suffix) }
+    ensures { IfOk result (IsReferrerAt target.now name.now) }
 {
     Ok(Referrer {
         name: name.url.copy(alloc)?,

@@ -16,4 +16,10 @@ returns-clause-traces g c =
     (ap g.F.Folder.state (search rules)) (search rules)
     (traces_by _ _ c.args.config.now (state old c.args.known.now c.new-trail.result)
     (state new c.walk.new.answerer.known.now c.walk.new.answerer.trail.now) (traced_of c.walk.result) c.new-trail.ensures
-    c.walk.ensures.met (traced_kind c.args.config.now c.walk.result c.walk.ensures.kind))
+    c.walk.ensures.met (traced_kind c.args.config.now c.walk.result c.walk.ensures.walked.kind))
+
+pub returns-clause-tables : goal.returns-clause-tables
+returns-clause-tables g c = c.walk.ensures.walked.tables
+
+pub returns-clause-steps : goal.returns-clause-steps
+returns-clause-steps g c = record { counted = c.walk.ensures.walked.steps; bounded = c.walk.ensures.walked.bounded }

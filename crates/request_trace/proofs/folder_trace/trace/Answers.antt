@@ -18,4 +18,7 @@ returns-in_err-base-clause-traces g c =
 pub of-requires-clause-named : goal.of-requires-clause-named
 of-requires-clause-named g c =
     named_at_base c.args.config.now c.in_ok-base.base c.in_ok-tables.tables.modules.entries
-    (c.in_ok-base.ensures ∙ c.base.ensures) c.in_ok-tables.ensures.named
+    (c.in_ok-base.ensures ∙ c.base.ensures) c.in_ok-tables.ensures.tables.named
+
+pub of-requires-clause-whole : goal.of-requires-clause-whole
+of-requires-clause-whole g c = c.in_ok-tables.ensures.tables.whole

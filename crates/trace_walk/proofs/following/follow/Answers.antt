@@ -47,18 +47,18 @@ returns-in_err-asked-clause-walks g c =
 
 pub returns-in_err-path-clause-walks : goal.returns-in_err-path-clause-walks
 returns-in_err-path-clause-walks g c =
-    walks_refused c.args.config.now 0 0 _ _ _ _ _ _ c.in_err-path.field-0.0 c.from_residual-in_err-path.result c.from_residual-in_err-path.ensures.1 (bounded_request c.args.tables.now _ _ c.in_err-path.ensures.steps c.in_ok-asked.ensures.room) (answers_kind c.args.config.now c.in_err-path.field-0.0 c.in_err-path.ensures.kind)
+    walks_refused c.args.config.now 0 0 _ _ _ _ _ _ c.in_err-path.field-0.0 c.from_residual-in_err-path.result c.from_residual-in_err-path.ensures.1 (bounded_request c.args.tables.now _ _ c.in_err-path.ensures.answered.steps c.in_ok-asked.ensures.room) (answers_kind c.args.config.now c.in_err-path.field-0.0 c.in_err-path.ensures.answered.kind)
 
 pub returns-in-Resolved-clause-walks : goal.returns-in-Resolved-clause-walks
-returns-in-Resolved-clause-walks g c = walks_put _ _ _ _ _ _ _ c.put.result c.in_ok-path.ensures.steps c.in_ok-asked.ensures.room c.in_ok-path.ensures.ready c.put.ensures.puts
+returns-in-Resolved-clause-walks g c = walks_put _ _ _ _ _ _ _ c.put.result c.in_ok-path.ensures.answered.steps c.in_ok-asked.ensures.room c.in_ok-path.ensures.answered.ready c.put.ensures.puts
 
 pub returns-in_ok-refusal-in-Refused-clause-walks : goal.returns-in_ok-refusal-in-Refused-clause-walks
 returns-in_ok-refusal-in-Refused-clause-walks g c =
-    walks_refused c.args.config.now 0 0 _ _ _ _ _ _ c.in_ok-refusal-in-Refused.field-0 (Err c.in_ok-refusal-in-Refused.field-0) refl (bounded_request c.args.tables.now _ _ c.in_ok-path.ensures.steps c.in_ok-asked.ensures.room)
+    walks_refused c.args.config.now 0 0 _ _ _ _ _ _ c.in_ok-refusal-in-Refused.field-0 (Err c.in_ok-refusal-in-Refused.field-0) refl (bounded_request c.args.tables.now _ _ c.in_ok-path.ensures.answered.steps c.in_ok-asked.ensures.room)
     (subst (IsOfWalk c.args.config.now) (sym c.in_ok-refusal-in-Refused.ensures) c.in_ok-asked.ensures.short)
 
 pub returns-in-TooDeep-clause-walks : goal.returns-in-TooDeep-clause-walks
-returns-in-TooDeep-clause-walks g c = walks_refused c.args.config.now 0 0 _ _ _ _ _ _ (Limit Depth) (Err (Limit Depth)) refl (bounded_request c.args.tables.now _ _ c.in_ok-path.ensures.steps c.in_ok-asked.ensures.room) tt
+returns-in-TooDeep-clause-walks g c = walks_refused c.args.config.now 0 0 _ _ _ _ _ _ (Limit Depth) (Err (Limit Depth)) refl (bounded_request c.args.tables.now _ _ c.in_ok-path.ensures.answered.steps c.in_ok-asked.ensures.room) tt
 
 pub returns-in_err-refusal-in-Refused-clause-walks : goal.returns-in_err-refusal-in-Refused-clause-walks
-returns-in_err-refusal-in-Refused-clause-walks g c = walks_refused c.args.config.now 0 0 _ _ _ _ _ _ Memory c.from_residual-in_err-refusal-in-Refused.result c.from_residual-in_err-refusal-in-Refused.ensures.1 (bounded_request c.args.tables.now _ _ c.in_ok-path.ensures.steps c.in_ok-asked.ensures.room) tt
+returns-in_err-refusal-in-Refused-clause-walks g c = walks_refused c.args.config.now 0 0 _ _ _ _ _ _ Memory c.from_residual-in_err-refusal-in-Refused.result c.from_residual-in_err-refusal-in-Refused.ensures.1 (bounded_request c.args.tables.now _ _ c.in_ok-path.ensures.answered.steps c.in_ok-asked.ensures.room) tt

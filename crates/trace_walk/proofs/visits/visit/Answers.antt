@@ -17,7 +17,7 @@ pub returns-clause-met : goal.returns-clause-met
 returns-clause-met g c = λ m at all.
     let entry : slice_get c.args.tables.now.modules.entries c.args.place ≡ Some (c.unwrap.result.0.now, c.unwrap.result.1.now) = sym c.get_index.ensures.entry ∙ ap (option_map deref_pair) c.unwrap.ensures in
     c.visit_module.ensures.met m
-    (is_referrer c.args.config.now c.args.tables.now.modules.entries c.args.place m (c.unwrap.result.0.now, c.unwrap.result.1.now) c.in_ok-referrer.referrer at entry all c.in_ok-referrer.ensures.name c.in_ok-referrer.ensures.text c.in_ok-referrer.ensures.path c.in_ok-referrer.ensures.shown) all
+    (is_referrer c.args.config.now c.args.tables.now.modules.entries c.args.place m (c.unwrap.result.0.now, c.unwrap.result.1.now) c.in_ok-referrer.referrer at entry all c.in_ok-referrer.ensures.name_is c.in_ok-referrer.ensures.text c.in_ok-referrer.ensures.path c.in_ok-referrer.ensures.shown_so) all
 
 pub returns-in_err-referrer-clause-met : goal.returns-in_err-referrer-clause-met
 returns-in_err-referrer-clause-met g c = λ m at all.
@@ -28,7 +28,7 @@ pub returns-clause-walks : goal.returns-clause-walks
 returns-clause-walks g c =
     let entry : slice_get c.args.tables.now.modules.entries c.args.place ≡ Some (c.unwrap.result.0.now, c.unwrap.result.1.now) = sym c.get_index.ensures.entry ∙ ap (option_map deref_pair) c.unwrap.ensures in
     walks_as _ 1 1 _ _ _ _ _ _ _ c.visit_module.result
-    (λ all. placed_url c.args.config.now c.args.tables.now.modules.entries c.args.place (c.unwrap.result.0.now, c.unwrap.result.1.now) c.in_ok-referrer.referrer c.requires.within entry all c.in_ok-referrer.ensures.name c.in_ok-referrer.ensures.text c.in_ok-referrer.ensures.path c.in_ok-referrer.ensures.shown)
+    (λ all. placed_url c.args.config.now c.args.tables.now.modules.entries c.args.place (c.unwrap.result.0.now, c.unwrap.result.1.now) c.in_ok-referrer.referrer c.requires.within entry all c.in_ok-referrer.ensures.name_is c.in_ok-referrer.ensures.text c.in_ok-referrer.ensures.path c.in_ok-referrer.ensures.shown_so)
     c.visit_module.ensures.walks
 
 pub returns-in_err-referrer-clause-walks : goal.returns-in_err-referrer-clause-walks

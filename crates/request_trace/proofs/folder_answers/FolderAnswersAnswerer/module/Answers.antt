@@ -1,10 +1,11 @@
+use Rattle.std.proofs.Common.{rules}
 use Rattle.std.specs.Prelude.{[], ◌∷◌}
 use Rattle.module_sources.specs.Shown.{source_in}
 use Rattle.package_lookup.specs.Responses.{looked}
 use Rattle.package_lookup.specs.Answered.{state}
 use Rattle.trace_spec.specs.Questions.{of_module}
 use Rattle.trace_walk.specs.Shown.{sources}
-use Rattle.request_trace.proofs.AnswerLemmas.{met_by}
+use Rattle.request_trace.proofs.AnswerLemmas.{always_ready, met_by}
 use Rattle.request_trace.proofs.folder_answers.FolderAnswersAnswerer.module.Goals as goal
 
 pub returns-clause-met : goal.returns-clause-met
@@ -14,3 +15,10 @@ returns-clause-met g c =
     (state (g.F.Folder.state c.args.self.now.folder.now) c.args.self.now.known.now c.args.self.now.trail.now)
     (state (g.F.Folder.state c.module_source-found.new.folder) c.module_source-found.new.known c.module_source-found.new.trail)
     (of_module c.args.path.now) (looked source_in c.module_source-found.result) (sources c.source_answer.result) c.source_answer.ensures.is c.module_source-found.ensures.answered
+
+pub returns-clause-answered : goal.returns-clause-answered
+returns-clause-answered g c = record {
+  steps = search rules;
+  ready = always_ready c.source_answer.result;
+  kind = c.source_answer.ensures.kind;
+}

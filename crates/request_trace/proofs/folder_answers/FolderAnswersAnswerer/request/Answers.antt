@@ -1,10 +1,11 @@
+use Rattle.std.proofs.Common.{rules}
 use Rattle.std.specs.Prelude.{[], ◌∷◌}
 use Rattle.node_resolve.specs.Places.{module_of}
 use Rattle.node_resolve.specs.Responses.{responded}
 use Rattle.package_lookup.specs.Answered.{state}
 use Rattle.trace_spec.specs.Questions.{of_request}
 use Rattle.trace_walk.specs.Shown.{resolutions}
-use Rattle.request_trace.proofs.AnswerLemmas.{met_by}
+use Rattle.request_trace.proofs.AnswerLemmas.{always_ready, met_by}
 use Rattle.request_trace.proofs.folder_answers.FolderAnswersAnswerer.request.Goals as goal
 
 pub returns-clause-met : goal.returns-clause-met
@@ -14,3 +15,10 @@ returns-clause-met g c =
     (state (g.F.Folder.state c.args.self.now.folder.now) c.args.self.now.known.now c.args.self.now.trail.now)
     (state (g.F.Folder.state c.resolve-found.new.folder) c.resolve-found.new.known c.resolve-found.new.trail)
     (of_request c.args.conditions.now c.args.parent.now c.args.specifier.now) (responded module_of c.resolve-found.result) (resolutions c.node_answer.result) c.node_answer.ensures.is c.resolve-found.ensures.answered
+
+pub returns-clause-answered : goal.returns-clause-answered
+returns-clause-answered g c = record {
+  steps = search rules;
+  ready = always_ready c.node_answer.result;
+  kind = c.node_answer.ensures.kind;
+}
