@@ -9,7 +9,8 @@ use Rattle.url_spec.specs.Bases.{base_of}
 use Rattle.config_spec.specs.declared.Command.{Command}
 use Rattle.config_spec.specs.declared.ConfigFault.{ConfigFault}
 use Rattle.config_spec.specs.declared.ConfigFault.TheVariants as config
-use Rattle.config_spec.specs.Words.{IsPagePath, IsPlain, RefusesOptions, RefusesWords, command_of, options_of}
+use Rattle.project_spec.specs.ProjectFiles.{IsPagePath}
+use Rattle.config_spec.specs.Words.{IsPlain, RefusesOptions, RefusesWords, command_of, options_of}
 use Rattle.words_spec.specs.PlainWords.{Asked}
 use Rattle.command_words.specs.declared.fault.WordsFault.{WordsFault}
 use Rattle.command_words.specs.declared.fault.WordsFault.TheVariants.{Told, NotPlain, Refused, Memory}

@@ -23,7 +23,7 @@ use Rattle.words_spec.specs.PlainWords.{Asked, Asks, LinkOptions, no_options, li
 use Rattle.words_spec.specs.PlainWords.{listing, injecting, editing, measuring}
 use Rattle.project_spec.proofs.ReadBack.{read_projects}
 use Rattle.project_spec.specs.ProjectFiles as project
-use Rattle.project_spec.specs.ProjectFiles.{IsProject, ReadsProject}
+use Rattle.project_spec.specs.ProjectFiles.{IsPagePath, IsProject, ReadsProject}
 use Rattle.config_spec.proofs.Entries.{filtered_distinct, filtered_fewer, onto_distinct, onto_holds}
 use Rattle.config_spec.proofs.Entries.{all_within, apart_without, without_lacks, without_within}
 use Rattle.config_spec.proofs.Options.{one_settings}
@@ -33,7 +33,7 @@ use Rattle.config_spec.specs.Projects.{config_by, config_in, HasEntriesOf, Holds
 use Rattle.config_spec.specs.Projects.{link_conditions, linked, new_project, once_onto, page_path, read_outcome}
 use Rattle.config_spec.specs.Projects.{set_over, unlinked, with_few, without}
 use Rattle.config_spec.specs.Projects.HoldsProject.{absent, folder, reads, too_large}
-use Rattle.config_spec.specs.Words.{command_of, IsPagePath, options_of, Sets, SetsBase, SetsConditions, SetsPage}
+use Rattle.config_spec.specs.Words.{command_of, options_of, Sets, SetsBase, SetsConditions, SetsPage}
 use Rattle.config_spec.specs.Words.{Settings}
 use Rattle.config_spec.specs.Words.SetsBase.{none as no_base, given as some_base}
 use Rattle.config_spec.specs.Words.SetsConditions.{none as no_names, given as some_names}
@@ -42,6 +42,7 @@ use Rattle.config_spec.specs.declared.Command.{Command}
 use Rattle.config_spec.specs.declared.ConfigFault.{ConfigFault}
 use Rattle.config_spec.specs.declared.ConfigFault.TheVariants.{NotLinked, TooManyEntries}
 use Rattle.config_spec.specs.declared.ProjectFault.{ProjectFault}
+use Rattle.config_spec.proofs.ProjectsRead.{Found}
 
 -- a config that can stand in a project's file, with no more entries than a project may have
 pub record Fits (config : Config) : Type 0 where
@@ -327,9 +328,6 @@ comes_in (measuring number) settings found result sets fits is =
     taken_comes (measuring number) settings Ok found result sets fits (same_fits (measuring number) result tt) is
 
 -- ---- the project that is held
-
-abbrev Found : Type 0
-Found = Result (Option Config) ProjectFault
 
 read_fits :
     (bytes : List ℕ) (outcome : Result Config project.Fault) (old : Config) → ReadsProject bytes outcome

@@ -34,6 +34,7 @@ use Rattle.config_spec.specs.declared.Command.{Command}
 use Rattle.config_spec.specs.declared.ConfigFault.{ConfigFault}
 use Rattle.config_spec.specs.declared.ConfigFault.TheVariants.{NotLinked, TooManyEntries}
 use Rattle.config_spec.specs.declared.ProjectFault.{ProjectFault}
+use Rattle.config_spec.proofs.ProjectsRead.{Found}
 
 -- ---- the file
 
@@ -51,9 +52,6 @@ pub read_fault_is :
 read_fault_is bytes (Ok config) fault read is = absurd (cc)
 read_fault_is bytes (Err (BadFile at)) fault read is = subst IsReadFault (cc) (not_project at)
 read_fault_is bytes (Err (PassesLimit which)) fault read is = subst IsReadFault (cc) (above which (read_limit bytes which read))
-
-abbrev Found : Type 0
-Found = Result (Option Config) ProjectFault
 
 pub held_fault :
     {tree : Tree} (found : Found) (fault : ProjectFault) → HoldsProject tree found → found ≡ Err fault

@@ -9,7 +9,8 @@ use Rattle.node_spec.specs.Conditions.{AreConditions, names_in}
 use Rattle.words_spec.specs.PlainWords.{LinkOptions, no_options}
 use Rattle.project_spec.proofs.SomeProject.{OrNot, conditions_or_not}
 use Rattle.config_spec.specs.Laws.{OptionsAreJudged}
-use Rattle.config_spec.specs.Words.{IsPagePath, RefusesOptions, Sets, SetsBase, SetsConditions, SetsPage, Settings}
+use Rattle.project_spec.specs.ProjectFiles.{IsPagePath}
+use Rattle.config_spec.specs.Words.{RefusesOptions, Sets, SetsBase, SetsConditions, SetsPage, Settings}
 use Rattle.config_spec.specs.Words.{no_settings}
 use Rattle.config_spec.specs.Words.RefusesOptions.{bad_base, bad_conditions, bad_path}
 use Rattle.config_spec.specs.Words.SetsBase.{none as no_base, given as some_base}

@@ -19,7 +19,7 @@ use Rattle.config_spec.specs.Projects.HoldsProject.{absent, folder, reads, too_l
 use Rattle.config_spec.specs.declared.ProjectFault.{ProjectFault}
 use Rattle.config_spec.specs.declared.ProjectFault.TheVariants.{TooLarge}
 
-abbrev Found : Type 0
+abbrev pub Found : Type 0
 Found = Result (Option Config) ProjectFault
 
 -- a file that is read isn't too large

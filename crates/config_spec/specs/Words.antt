@@ -7,10 +7,10 @@
 --     IsPlain words                     the words have a meaning
 --     IsCommandOf words command         they ask for this command, and none of their texts is refused
 --     RefusesWords words fault          plain words that ask for no command that is built, or have such a text
-use Rattle.std.specs.Prelude.{◌≡◌, ◌≢◌, ℕ, List, codes, Option, Some, None}
-use Rattle.tree_spec.specs.Paths.{IsPath}
+use Rattle.std.specs.Prelude.{◌≡◌, ℕ, List, Option, Some, None}
 use Rattle.url_spec.specs.Bases.{base_of}
 use Rattle.node_spec.specs.Conditions.{AreConditions, names_in}
+use Rattle.project_spec.specs.ProjectFiles.{IsPagePath}
 use Rattle.words_spec.specs.PlainWords.{Asked, Asks, LinkOptions, no_options, linking, unlinking, refreshing, checking}
 use Rattle.words_spec.specs.PlainWords.{listing, injecting, editing, measuring}
 use Rattle.config_spec.specs.declared.Command.{Command}
@@ -49,11 +49,6 @@ pub record Settings : Type 0 where
 
 abbrev pub no_settings : Settings
 no_settings = record { base = None; page = None; conditions = None }
-
--- own: a path other than `/`
-pub record IsPagePath (text : List ℕ) : Type 0 where
-  pub is_path : IsPath text
-  pub no_root : text ≢ codes "/"
 
 -- own: no text sets nothing, and a text that gives a base sets that
 pub data SetsBase : Option (List ℕ) → Option (List ℕ) → Type 0 where

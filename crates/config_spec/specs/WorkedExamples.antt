@@ -9,7 +9,7 @@ use Rattle.std.specs.List.{list_any}
 use Rattle.std.specs.Prelude.{◌≡◌, ◌<◌, ℕ, true, false, List, [], ◌∷◌, length, codes, bytes_eq, Some, None, Ok, Err}
 use Rattle.tree_spec.specs.Trees.{bare_tree, Tree}
 use Rattle.tree_spec.specs.declared.Entry.TheVariants.{Stored, Directory}
-use Rattle.tree_spec.specs.declared.LimitName.TheVariants.{File}
+use Rattle.tree_spec.specs.declared.LimitName.TheVariants.{Entries, File}
 use Rattle.tree_spec.specs.Limits.{limit_number}
 use Rattle.trace_spec.specs.Modules.{Config}
 use Rattle.words_spec.specs.PlainWords.{LinkOptions, no_options, linking, unlinking, refreshing, checking, injecting}
@@ -144,10 +144,10 @@ pub record ProjectExamples : Type 0 where
 
 pub record EntryExamples : Type 0 where
   pub one_more :
-      (old : Config) (entry : List ℕ) → length old.entries ≡ 1024 → list_any (bytes_eq entry) old.entries ≡ false
+      (old : Config) (entry : List ℕ) → length old.entries ≡ limit_number Entries → list_any (bytes_eq entry) old.entries ≡ false
       → config_by (linking no_options (entry ∷ [])) no_settings (Ok (Some old)) ≡ Err TooManyEntries
   pub there_already :
-      (old : Config) (entry : List ℕ) → length old.entries ≡ 1024 → list_any (bytes_eq entry) old.entries ≡ true
+      (old : Config) (entry : List ℕ) → length old.entries ≡ limit_number Entries → list_any (bytes_eq entry) old.entries ≡ true
       → config_by (linking no_options (entry ∷ [])) no_settings (Ok (Some old)) ≡ Ok old
 
 -- ---- whole words

@@ -56,11 +56,11 @@ module _ (config : Config) (before after : FolderState) where
   }
 
 module _ (path : List ℕ) (is_path : path ≡ map_path) (before after : FolderState) where
-  looked : (found : Look) → IsLooked before path map_file_limit (Ok found) after → OnlyLooks before after ⊥
-  looked found is = record { tree = is.tree; writes = is.writes; later = is.later; cause = λ e. absurd e; quiet = λ e. is.quiet (λ same. cc) }
+  only_looked : (found : Look) → IsLooked before path map_file_limit (Ok found) after → OnlyLooks before after ⊥
+  only_looked found is = record { tree = is.tree; writes = is.writes; later = is.later; cause = λ e. absurd e; quiet = λ e. is.quiet (λ same. cc) }
 
   no_text : (found : Look) (why : MapFileFault) → IsLooked before path map_file_limit (Ok found) after → ((config : Config) → IfSome before.holds (λ tree. RefusesMapFile tree config why)) → FindsMapText before (Err (Refused (MapFile why))) after
-  no_text found why is why_not = record { found = tt; asked = own_asked map_path path true before.asked after is_path is.asked; stopped = λ config. map_ends config before after why (looked found is) (why_not config) }
+  no_text found why is why_not = record { found = tt; asked = own_asked map_path path true before.asked after is_path is.asked; stopped = λ config. map_ends config before after why (only_looked found is) (why_not config) }
 
   text_absent : IsLooked before path map_file_limit (Ok look.Absent) after → FindsMapText before (Err (Refused (MapFile map_fault.Absent))) after
   text_absent is = no_text look.Absent map_fault.Absent is (λ config. if_some before.holds (λ tree e. refuses_map.absent (ap (get tree) (sym is_path) ∙ e) refl) is.entry)
@@ -75,7 +75,7 @@ module _ (path : List ℕ) (is_path : path ≡ map_path) (before after : FolderS
   text_found bytes is = record {
     found = record {
       is_text = if_some before.holds (λ tree e. record { stands = ap (get tree) (sym is_path) ∙ e.0; small = e.1 }) is.entry;
-      looks = looked (look.File bytes) is;
+      looks = only_looked (look.File bytes) is;
     };
     asked = own_asked map_path path true before.asked after is_path is.asked;
     stopped = tt;

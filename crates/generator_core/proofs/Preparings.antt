@@ -275,14 +275,14 @@ module _ (config : Config) (path : List ℕ) (is_page : path ≡ config.page) (b
 
   -- ---- the same, as the look tells it
 
-  told_by : (found : Look) (stop other : Stop) (exact : Look) → found ≡ exact → stop ≡ other → (IsLooked before path (limit_number File) (Ok exact) after → FindsPage config before (Err other) after) → IsLooked before path (limit_number File) (Ok found) after → FindsPage config before (Err stop) after
-  told_by found stop other exact f s ends is = subst (λ t. FindsPage config before (Err t) after) (sym s) (ends (subst (λ l. IsLooked before path (limit_number File) (Ok l) after) f is))
+  page_told_by : (found : Look) (stop other : Stop) (exact : Look) → found ≡ exact → stop ≡ other → (IsLooked before path (limit_number File) (Ok exact) after → FindsPage config before (Err other) after) → IsLooked before path (limit_number File) (Ok found) after → FindsPage config before (Err stop) after
+  page_told_by found stop other exact f s ends is = subst (λ t. FindsPage config before (Err t) after) (sym s) (ends (subst (λ l. IsLooked before path (limit_number File) (Ok l) after) f is))
 
   pub absent_end : (found : Look) (stop : Stop) → found ≡ look.Absent → stop ≡ Refused (Page Absent) → IsLooked before path (limit_number File) (Ok found) after → FindsPage config before (Err stop) after
-  absent_end found stop f s is = told_by found stop (Refused (Page Absent)) look.Absent f s page_absent is
+  absent_end found stop f s is = page_told_by found stop (Refused (Page Absent)) look.Absent f s page_absent is
 
   pub folder_end : (found : Look) (stop : Stop) → found ≡ look.Folder → stop ≡ Refused (Page Absent) → IsLooked before path (limit_number File) (Ok found) after → FindsPage config before (Err stop) after
-  folder_end found stop f s is = told_by found stop (Refused (Page Absent)) look.Folder f s page_folder is
+  folder_end found stop f s is = page_told_by found stop (Refused (Page Absent)) look.Folder f s page_folder is
 
   pub too_large_end : (found : Look) (stop : Stop) → found ≡ look.TooLarge → stop ≡ Refused (Page TooLarge) → IsLooked before path (limit_number File) (Ok found) after → FindsPage config before (Err stop) after
-  too_large_end found stop f s is = told_by found stop (Refused (Page TooLarge)) look.TooLarge f s page_too_large is
+  too_large_end found stop f s is = page_told_by found stop (Refused (Page TooLarge)) look.TooLarge f s page_too_large is

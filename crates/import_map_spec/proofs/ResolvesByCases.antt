@@ -92,8 +92,8 @@ module _ {A : Type 0} (answer : List ℕ → List ℕ → Option A) (text : List
 -- ---- a module specifier map
 
 module _ (addresses : Addresses) (url : Option (List ℕ)) (text : List ℕ) where
-  abbrev answered : Option Resolution
-  answered = resolve_imports_match url text (get addresses)
+  abbrev answer_here : Option Resolution
+  answer_here = resolve_imports_match url text (get addresses)
 
   -- what a key that is a prefix comes to
   below_meets : (key rest address : List ℕ) → Answers addresses url text key (Some address) → text ≡ key ++ rest → rest ≢ [] → (parsed : Option (List ℕ)) → parse_against address rest ≡ parsed → MatchesImports addresses url text (Some (below_address address parsed))
@@ -180,7 +180,7 @@ module _ (addresses : Addresses) (url : Option (List ℕ)) (text : List ℕ) whe
             | inr most ↦ omega (arith, length-take-le k text within)
           ]
 
-  imports_meet : MatchesImports addresses url text answered
+  imports_meet : MatchesImports addresses url text answer_here
   imports_meet =
       elim (cases_option (get addresses text)) [
         | inr (address, e) ↦ subst (MatchesImports addresses url text) (sym (key_order.exact (get addresses) url text address e)) (exact_meets address e)
@@ -190,18 +190,18 @@ module _ (addresses : Addresses) (url : Option (List ℕ)) (text : List ℕ) whe
         ]
       ]
     where
-      as_walk : get addresses text ≡ None → takes_prefixes url ≡ true → answered ≡ longest_front (prefix_key (get addresses)) text (length text)
+      as_walk : get addresses text ≡ None → takes_prefixes url ≡ true → answer_here ≡ longest_front (prefix_key (get addresses)) text (length text)
       as_walk none t = ap (λ o. option_or (exact_match o) (if takes_prefixes url then longest_front (prefix_key (get addresses)) text (length text) else None)) none ∙ cond-true _ _ _ t
 
-      by_search : get addresses text ≡ None → takes_prefixes url ≡ true → FoundFront (prefix_key (get addresses)) text (length text) ⊎ NoFront (prefix_key (get addresses)) text (length text) → MatchesImports addresses url text answered
+      by_search : get addresses text ≡ None → takes_prefixes url ≡ true → FoundFront (prefix_key (get addresses)) text (length text) ⊎ NoFront (prefix_key (get addresses)) text (length text) → MatchesImports addresses url text answer_here
       by_search none t (inl f) = subst (MatchesImports addresses url text) (sym (as_walk none t ∙ f.is)) (found_meets f.k f.found none t f.within f.here f.none)
       by_search none t (inr f) = subst (MatchesImports addresses url text) (sym (as_walk none t ∙ f.is)) (none_with_prefixes none f.none)
 
   -- and the other way: the key that answers is the one that the look-ups come to
-  at_whole : (key : List ℕ) (address : Option (List ℕ)) → Answers addresses url text key address → key ≡ text → answered ≡ exact_match (Some address)
+  at_whole : (key : List ℕ) (address : Option (List ℕ)) → Answers addresses url text key address → key ≡ text → answer_here ≡ exact_match (Some address)
   at_whole key address answers same = key_order.exact (get addresses) url text address (subst (λ k. get addresses k ≡ Some address) same answers.stands)
 
-  at_prefix : (key rest : List ℕ) (address : Option (List ℕ)) → Answers addresses url text key address → text ≡ key ++ rest → length key < length text → answered ≡ prefix_match (Some address) rest
+  at_prefix : (key rest : List ℕ) (address : Option (List ℕ)) → Answers addresses url text key address → text ≡ key ++ rest → length key < length text → answer_here ≡ prefix_match (Some address) rest
   at_prefix key rest address answers split shorter = go answers.applies
     where
       text_no_key : get addresses text ≡ None
@@ -216,23 +216,23 @@ module _ (addresses : Addresses) (url : Option (List ℕ)) (text : List ℕ) whe
         | inr (found, e) ↦ (let l = answers.longest (take j text) found e (prefix (drop j text) takes front.slash (sym (take-append-drop j text))) in absurd (omega (arith, length-take-le j text front.within)))
       ]
 
-      go : KeyApplies url text key → answered ≡ prefix_match (Some address) rest
+      go : KeyApplies url text key → answer_here ≡ prefix_match (Some address) rest
       go (itself same) = absurd (omega (arith, ap length same))
       go (prefix other takes slash parts) =
           key_order.prefix (get addresses) url text (length key) address text_no_key takes (folder_front text key rest split slash) (ap (get addresses) (front_taken text key rest split) ∙ answers.stands) (none_longer takes)
           ∙ ap (prefix_match (Some address)) (front_dropped text key rest split)
 
-  at_rest : (key rest : List ℕ) (address : Option (List ℕ)) → Answers addresses url text key address → text ≡ key ++ rest → rest ≢ [] → answered ≡ prefix_match (Some address) rest
+  at_rest : (key rest : List ℕ) (address : Option (List ℕ)) → Answers addresses url text key address → text ≡ key ++ rest → rest ≢ [] → answer_here ≡ prefix_match (Some address) rest
   at_rest key rest address answers split some =
       elim (whole_or_more text key rest split) [
         | inl (none, same) ↦ absurd (some none)
         | inr (more, shorter) ↦ at_prefix key rest address answers split shorter
       ]
 
-  null_is : (key : List ℕ) → Answers addresses url text key None → answered ≡ Some Blocked
+  null_is : (key : List ℕ) → Answers addresses url text key None → answer_here ≡ Some Blocked
   null_is key answers = go answers.applies
     where
-      go : KeyApplies url text key → answered ≡ Some Blocked
+      go : KeyApplies url text key → answer_here ≡ Some Blocked
       go (itself same) = at_whole key None answers same
       go (prefix rest takes slash split) =
           elim (whole_or_more text key rest split) [
@@ -240,7 +240,7 @@ module _ (addresses : Addresses) (url : Option (List ℕ)) (text : List ℕ) whe
             | inr (more, shorter) ↦ at_prefix key rest None answers split shorter
           ]
 
-  none_is : ((key : List ℕ) (address : Option (List ℕ)) → get addresses key ≡ Some address → KeyApplies url text key → ⊥) → answered ≡ None
+  none_is : ((key : List ℕ) (address : Option (List ℕ)) → get addresses key ≡ Some address → KeyApplies url text key → ⊥) → answer_here ≡ None
   none_is nothing =
       elim (cases_option (get addresses text)) [
         | inr (address, e) ↦ absurd (nothing text address e (itself refl))
@@ -254,7 +254,7 @@ module _ (addresses : Addresses) (url : Option (List ℕ)) (text : List ℕ) whe
       front_none t j front (inl none) = none
       front_none t j front (inr (address, e)) = absurd (nothing (take j text) address e (prefix (drop j text) t front.slash (sym (take-append-drop j text))))
 
-  imports_are : (answer : Option Resolution) → MatchesImports addresses url text answer → answered ≡ answer
+  imports_are : (answer : Option Resolution) → MatchesImports addresses url text answer → answer_here ≡ answer
   imports_are answer (no_key nothing) = none_is nothing
   imports_are answer (null_address key answers) = null_is key answers
   imports_are answer (at_key address answers) = at_whole text (Some address) answers refl

@@ -16,11 +16,11 @@ use Rattle.ordered_json.specs.declared.value.Value.{Value}
 use Rattle.node_spec.specs.Conditions.{names_in, AreConditions}
 use Rattle.trace_spec.specs.Modules.{Config}
 use Rattle.project_spec.proofs.OneProject.{same_members, same_parts, same_strings}
-use Rattle.project_spec.specs.ProjectFiles.{strings, HasParts, Describes, IsProject, Gives, a_project, no_json, deep_json, ReadsProject, reads_project}
+use Rattle.project_spec.specs.ProjectFiles.{IsPagePath, strings, HasParts, Describes, IsProject, Gives, a_project, no_json, deep_json, ReadsProject, reads_project}
 use Rattle.project_file.proofs.NameLemmas.{conditions_names, names_joined}
 use Rattle.project_file.proofs.StringLists.{text_is}
 use Rattle.project_file.specs.Names.{IsName, joined}
-use Rattle.project_file.specs.Parts.{Fills, IsFilled, IsWritten, NotWritten, IsPage, HoldsStrings, IsAnyList, HasNoParts, has_written}
+use Rattle.project_file.specs.Parts.{Fills, IsFilled, IsWritten, NotWritten, HoldsStrings, IsAnyList, HasNoParts, has_written}
 use Rattle.project_file.specs.Strings.{string_found, list_in, object_in, list_found}
 use Rattle.project_file.specs.Outcomes.{IsDescribed, IsNoProject, GivesNone}
 use Rattle.project_file.specs.declared.parts.Written.{Written}
@@ -113,7 +113,7 @@ describes value written config w f = record {
   is_project =
       record {
         base = bases_stay written.base.now config.base f.gives;
-        page = f.is_page.path;
+        page = f.is_page.is_path;
         no_root = f.is_page.no_root;
         conditions = f.are_conditions;
         distinct = f.distinct;
@@ -128,7 +128,7 @@ fills value written config w d =
     record {
       gives = ap base_of same.same_base ∙ d.gives;
       same_page = sym same.same_page;
-      is_page = record { path = d.is_project.page; no_root = d.is_project.no_root };
+      is_page = record { is_path = d.is_project.page; no_root = d.is_project.no_root };
       names = same.same_conditions;
       are_conditions = d.is_project.conditions;
       texts = same.same_entries;
@@ -176,8 +176,8 @@ pub ruleset texts_read = (no_list, not_so)
 pub no_base : (base page : List ℕ) (conditions entries : Items) → base_of base ≡ None → IsFilled base page conditions entries None
 no_base base page conditions entries none = λ config f. let e = f.gives in cc
 
-pub no_page : (base page : List ℕ) (conditions entries : Items) → (IsPage page → ⊥) → IsFilled base page conditions entries None
-no_page base page conditions entries none = λ config f. none (subst IsPage f.same_page f.is_page)
+pub no_page : (base page : List ℕ) (conditions entries : Items) → (IsPagePath page → ⊥) → IsFilled base page conditions entries None
+no_page base page conditions entries none = λ config f. none (subst IsPagePath f.same_page f.is_page)
 
 pub no_conditions : (base page : List ℕ) (conditions entries : Items) → HoldsStrings conditions AreConditions None → IsFilled base page conditions entries None
 no_conditions base page conditions entries none = λ config f. none config.conditions f.names f.are_conditions

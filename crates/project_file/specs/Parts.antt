@@ -4,20 +4,18 @@
 --     IsFilled base page conditions entries found    the config that parts written so give, or none
 --     HoldsStrings items Are found                   the list is these strings, and they are so; or it is no such list
 --     CanBeProject page entries                      the page isn't the root, and the entries are distinct
---     IsPage text                                    the text is the path of a page
 --     CanBeReadBack config                           it is a project of few entries, and its page and entries are UTF-8
 use Rattle.std.specs.List.{IsDistinct}
 use Rattle.std.specs.Prelude.{◌≡◌, ◌≢◌, ◌≤◌, ℕ, List, ⊤, Option, Some, None, All, IsUtf8, codes, bytes_eq, length}
 use Rattle.tree_spec.specs.declared.LimitName.TheVariants.{Entries}
 use Rattle.tree_spec.specs.Limits.{limit_number}
-use Rattle.tree_spec.specs.Paths.{IsPath}
 use Rattle.json_spec.specs.Value.{Json, an_object, Items, Members}
 use Rattle.url_spec.specs.Bases.{base_of}
 use Rattle.ordered_json.specs.Lists.{values_of}
 use Rattle.ordered_json.specs.Shown.{items_of}
 use Rattle.node_spec.specs.Conditions.{AreConditions}
 use Rattle.trace_spec.specs.Modules.{Config}
-use Rattle.project_spec.specs.ProjectFiles.{strings, HasParts, IsProject}
+use Rattle.project_spec.specs.ProjectFiles.{IsPagePath, strings, HasParts, IsProject}
 use Rattle.project_file.specs.declared.parts.Written.{Written}
 
 abbrev pub has_written : Members → Written → Type 0
@@ -36,10 +34,6 @@ pub record IsWritten (value : Json) (written : Written) : Type 0 where
 
 abbrev pub NotWritten : Json → Type 0
 NotWritten value = (members : Members) → value ≡ an_object members → HasNoParts members
-
-pub record IsPage (text : List ℕ) : Type 0 where
-  pub path : IsPath text
-  pub no_root : text ≢ codes "/"
 
 pub record CanBeProject (page : List ℕ) (entries : List (List ℕ)) : Type 0 where
   pub is_file : page ≢ codes "/"
@@ -62,7 +56,7 @@ HoldsStrings items Are (Some texts) = (items ≡ strings texts) × Are texts
 pub record Fills (base page : List ℕ) (conditions entries : Items) (config : Config) : Type 0 where
   pub gives : base_of base ≡ Some config.base
   pub same_page : config.page ≡ page
-  pub is_page : IsPage config.page
+  pub is_page : IsPagePath config.page
   pub names : conditions ≡ strings config.conditions
   pub are_conditions : AreConditions config.conditions
   pub texts : entries ≡ strings config.entries

@@ -5,8 +5,9 @@ ghost use Rattle.import_map_spec.specs.Parsing.{member};
 ghost use Rattle.ordered_json.specs.Lists.{pairs_of, values_of};
 ghost use Rattle.ordered_json.specs.Shown.{json_of, items_of, members_of};
 ghost use Rattle.node_spec.specs.Conditions.{AreConditions};
+ghost use Rattle.project_spec.specs.ProjectFiles.{IsPagePath};
 ghost use Rattle.project_file.specs.Strings.{list_found, object_in, string_found};
-ghost use Rattle.project_file.specs.Parts.{HasNoParts, HoldsStrings, IsFilled, IsPage, IsWritten, NotWritten};
+ghost use Rattle.project_file.specs.Parts.{HasNoParts, HoldsStrings, IsFilled, IsWritten, NotWritten};
 ghost use Rattle.project_file.specs.Parts.{has_written};
 
 use crate::lists::{are_distinct, are_names, joined, list_of, string_of, strings_in};
@@ -145,8 +146,8 @@ fn base_in(alloc: Global, text: &str) -> Result<Option<Base>, Memory>
 
 // The path of a page, which isn't the root.
 fn page_in(alloc: Global, text: &str) -> Result<Option<Path>, Memory>
-    ensures { IfOk result (λ found. MatchOption found (IsPage text.now → ⊥)
-        (λ page. (page ≡ text.now) × IsPage page)) }
+    ensures { IfOk result (λ found. MatchOption found (IsPagePath text.now → ⊥)
+        (λ page. (page ≡ text.now) × IsPagePath page)) }
 {
     match Path::parse(alloc, text) {
         Ok(path) => {

@@ -1,6 +1,7 @@
 -- The file of a project: what to generate for, as it is kept from one call to the next. All of it is this project's
 -- own.
 --     ReadsProject bytes out      the bytes have the config, or the fault, out
+--     IsPagePath text             a text can be the path of a page
 --     Describes value config      a JSON value is that of a project's file, and this is its config
 --     IsProject config            the config can stand in a project's file
 --     project_value config, project_text config      the config as a JSON value, and its text
@@ -33,6 +34,11 @@ pub record HasParts (members : Members) (base page : List ℕ) (conditions entri
   pub page_member : member (codes "page") members ≡ Some (a_text page)
   pub conditions_member : member (codes "conditions") members ≡ Some (a_list conditions)
   pub entries_member : member (codes "entries") members ≡ Some (a_list entries)
+
+-- own: a path other than `/`
+pub record IsPagePath (text : List ℕ) : Type 0 where
+  pub is_path : IsPath text
+  pub no_root : text ≢ codes "/"
 
 -- own: the base is one, the page is a path other than `/`, the conditions can be conditions, and no entry stands twice
 pub record IsProject (config : Config) : Type 0 where

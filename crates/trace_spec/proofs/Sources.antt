@@ -25,7 +25,7 @@ use Rattle.trace_spec.specs.Modules.{Module}
 use Rattle.trace_spec.specs.Questions.{Source, NoSource, not_module, of_module, by_outline, by_entry}
 use Rattle.trace_spec.specs.Questions.{by_format, always}
 use Rattle.trace_spec.specs.Traces.{if_ok, source}
-use Rattle.trace_spec.specs.Laws.{IsModuleFormat, named, detected, HasSource, SourcesAreRead}
+use Rattle.trace_spec.specs.Laws.{IsModuleFormat, stated, detected, HasSource, SourcesAreRead}
 
 -- ---- a source of an entry
 
@@ -141,7 +141,7 @@ module _ (sights : Sights) (m : Module) (own : Source) where
 
   by_format_has : (format : Result Format Refusal) → outcome sights (file_format m.path) ≡ format
       → outcome sights (by_format m.path format) ≡ Ok own → HasSource sights m own
-  by_format_has (Ok IsModule) is e = has_source false e (λ outline declares. named is)
+  by_format_has (Ok IsModule) is e = has_source false e (λ outline declares. stated is)
   by_format_has (Ok IsDetected) is e = has_source true e (λ outline declares. detected is (declares refl))
   by_format_has (Ok IsCommonJs) is e = absurd (cc)
   by_format_has (Ok IsJson) is e = absurd (cc)
@@ -158,7 +158,7 @@ module _ (sights : Sights) (m : Module) (own : Source) where
       → ((is_detected : Bool) → (is_detected ≡ true → outline.declares ≡ true)
       → by_entry is_detected (sights m.path) ≡ Ok own)
       → always sights (of_module m.path) ≡ Ok own
-  by_module_format outline (named is) gives =
+  by_module_format outline (stated is) gives =
       always_is ∙ (ap (λ format. outcome sights (by_format m.path format)) is
       ∙ gives false (λ d. absurd (let never : false ≡ true = d in cc)))
   by_module_format outline (detected is declares) gives =

@@ -49,12 +49,12 @@ module _ {T S Q : Type 0} {A : Q → Type 0} (answers : Answers T S Q A) where
       values_by next last after (evaluated answers state asking)
       (sym (evaluated_then answers state asking (on_ok next)) ∙ e)
 
-  refused_by : {X Y R : Type 0} (next : X → T → Ended (Result Y R) T S) (refusal : R) (middle : T) (why : Failure R S)
+  refused_after : {X Y R : Type 0} (next : X → T → Ended (Result Y R) T S) (refusal : R) (middle : T) (why : Failure R S)
       (after : T) → failed {X = Y} (refused refusal) middle ≡ failed why after
       → Fails (failed {X = X} (refused refusal) middle) next why after
-  refused_by next refusal middle (refused other) after e =
+  refused_after next refusal middle (refused other) after e =
       let p : refusal ≡ other = cc in let q : middle ≡ after = cc in at_once (λ i. ends (Err (p i)) (q i))
-  refused_by next refusal middle (halted stop) after e = absurd (cc)
+  refused_after next refusal middle (halted stop) after e = absurd (cc)
 
   stopped_by : {X Y R : Type 0} (next : X → T → Ended (Result Y R) T S) (stop : S) (middle : T) (why : Failure R S)
       (after : T) → failed {X = Y} (halted stop) middle ≡ failed why after
@@ -67,7 +67,7 @@ module _ {T S Q : Type 0} {A : Q → Type 0} (answers : Answers T S Q A) where
       (first : Ended (Result X R) T S) → then_ended first (λ r t. evaluated answers t (on_ok next r))
       ≡ failed why after → Fails first (λ x t. evaluated answers t (next x)) why after
   fails_by next why after (ends (Ok value) middle) e = later value middle refl e
-  fails_by next why after (ends (Err refusal) middle) e = refused_by _ refusal middle why after e
+  fails_by next why after (ends (Err refusal) middle) e = refused_after _ refusal middle why after e
   fails_by next why after (stopped stop middle) e = stopped_by _ stop middle why after e
 
   pub fails_of : {X Y R : Type 0} (state : T) (asking : Asking Q A (Result X R)) (next : X → Asking Q A (Result Y R))

@@ -286,7 +286,7 @@ RefusesInOrder =
 -- the name of the file, or the package.json of its scope, makes it a module; or they leave that to the text, and the
 -- text declares it (Node.js, ECMAScript modules: ESM_FILE_FORMAT)
 pub data IsModuleFormat (sights : Sights) (path : List ℕ) (outline : Outline) : Type 0 where
-  named : outcome sights (file_format path) ≡ Ok IsModule → IsModuleFormat sights path outline
+  stated : outcome sights (file_format path) ≡ Ok IsModule → IsModuleFormat sights path outline
   detected : outcome sights (file_format path) ≡ Ok IsDetected → outline.declares ≡ true
       → IsModuleFormat sights path outline
 

@@ -28,7 +28,8 @@ use Rattle.config_spec.proofs.Options.{no_settings_set}
 use Rattle.config_spec.proofs.TwoConditions.{two_conditions}
 use Rattle.config_spec.specs.Projects.{config_by, HoldsProject, project_path, RefusesConfig, with_few}
 use Rattle.config_spec.specs.Projects.HoldsProject.{absent, folder, too_large}
-use Rattle.config_spec.specs.Words.{command_of, IsPagePath, no_settings, options_of, Sets}
+use Rattle.project_spec.specs.ProjectFiles.{IsPagePath}
+use Rattle.config_spec.specs.Words.{command_of, no_settings, options_of, Sets}
 use Rattle.config_spec.specs.Words.RefusesOptions.{bad_base, bad_conditions, bad_path}
 use Rattle.config_spec.specs.Words.RefusesWords.{not_built}
 use Rattle.config_spec.specs.Words.SetsBase.{none as no_base, given as some_base}
