@@ -6,6 +6,5 @@ pub mod Responses
 pub mod Answered
 pub mod Learning
 pub mod Fetching
-pub mod Sighted
 pub mod Recorded
 pub mod Formats

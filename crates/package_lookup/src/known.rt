@@ -4,8 +4,7 @@ ghost use Rattle.std.specs.HashMap as map;
 ghost use Rattle.tree_spec.specs.LookAskings.{look_at};
 ghost use Rattle.tree_spec.specs.declared.Look.{Look};
 ghost use Rattle.package_lookup.specs.SeenLooks.{entry_of, look_seen};
-ghost use Rattle.package_lookup.specs.Readings.{IsReadingOf};
-ghost use Rattle.package_lookup.specs.Sighted.{LooksAndReads};
+ghost use Rattle.package_lookup.specs.Readings.{IsReadingOf, AreReadingsOf};
 ghost use Rattle.package_lookup.specs.Looked.{kept_at, known_at, laid_at, IsSameKnown};
 ghost use Rattle.package_lookup.specs.Responses.{looked};
 ghost use Rattle.package_lookup.specs.Answered.{state, Answered, Asks};
@@ -75,8 +74,12 @@ impl Known {
         path: &Path,
         trail: &mut Trail,
     ) -> Result<(Seen, Option<Reading>), LookupFault>
-        ensures { LooksAndReads (state (F.state folder.old) self.old trail.old) path.now result
-            (state (F.state folder.new) self.new trail.new) }
+        ensures answered { Answered (state (F.state folder.old) self.old trail.old) (look_at path.now)
+            (looked (λ sight. entry_of sight.0) result) (state (F.state folder.new) self.new trail.new) }
+        ensures asks { Asks (state (F.state folder.old) self.old trail.old) path.now
+            (looked (λ sight. entry_of sight.0) result) (state (F.state folder.new) self.new trail.new) }
+        ensures held { IfOk result (λ sight. known_at self.new path.now ≡ Some (look_seen sight.0)) }
+        ensures readings { IfOk result (λ sight. AreReadingsOf (look_seen sight.0) sight.1) }
     {
         if !trail.has_room(path) {
             return Err(limit(LimitName::Looks));
