@@ -11,7 +11,7 @@ use Rattle.config_spec.specs.Projects.{HoldsProject, Configures, IsConfigOf, IsC
 
 -- ---- words
 
--- own: options set one thing, are refused in one way, and never both
+-- own: options set one thing or are refused in one way, and never both
 pub record OptionsDecide (options : LinkOptions) : Type 0 where
   pub one_settings : (some other : Settings) → Sets options some → Sets options other → some ≡ other
   pub one_fault : (some other : ConfigFault) → RefusesOptions options some → RefusesOptions options other → some ≡ other

@@ -50,17 +50,17 @@ pub record Settings : Type 0 where
 abbrev pub no_settings : Settings
 no_settings = record { base = None; page = None; conditions = None }
 
--- own: no text sets nothing, and a text that gives a base sets that
+-- own: where no text is given, nothing is set; a text that gives a base sets that base
 pub data SetsBase : Option (List ℕ) → Option (List ℕ) → Type 0 where
   none : SetsBase None None
   given : (text url : List ℕ) → base_of text ≡ Some url → SetsBase (Some text) (Some url)
 
--- own: no text sets nothing, and a text that is the path of a page sets itself
+-- own: where no text is given, nothing is set; a text that is the path of a page sets itself
 pub data SetsPage : Option (List ℕ) → Option (List ℕ) → Type 0 where
   none : SetsPage None None
   given : (text : List ℕ) → IsPagePath text → SetsPage (Some text) (Some text)
 
--- own: no text sets nothing, and a text whose names can be conditions sets these
+-- own: where no text is given, nothing is set; a text whose names can be conditions sets these
 pub data SetsConditions : Option (List ℕ) → Option (List (List ℕ)) → Type 0 where
   none : SetsConditions None None
   given : (text : List ℕ) → AreConditions (names_in text) → SetsConditions (Some text) (Some (names_in text))

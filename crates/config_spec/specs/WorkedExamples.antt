@@ -144,10 +144,12 @@ pub record ProjectExamples : Type 0 where
 
 pub record EntryExamples : Type 0 where
   pub one_more :
-      (old : Config) (entry : List ℕ) → length old.entries ≡ limit_number Entries → list_any (bytes_eq entry) old.entries ≡ false
+      (old : Config) (entry : List ℕ) → length old.entries ≡ limit_number Entries
+      → list_any (bytes_eq entry) old.entries ≡ false
       → config_by (linking no_options (entry ∷ [])) no_settings (Ok (Some old)) ≡ Err TooManyEntries
   pub there_already :
-      (old : Config) (entry : List ℕ) → length old.entries ≡ limit_number Entries → list_any (bytes_eq entry) old.entries ≡ true
+      (old : Config) (entry : List ℕ) → length old.entries ≡ limit_number Entries
+      → list_any (bytes_eq entry) old.entries ≡ true
       → config_by (linking no_options (entry ∷ [])) no_settings (Ok (Some old)) ≡ Ok old
 
 -- ---- whole words

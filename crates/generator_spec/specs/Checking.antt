@@ -15,7 +15,7 @@ use Rattle.generator_spec.specs.Statuses.{done_status, differences_status}
 abbrev pub no_need : Need
 no_need = record { referrer = []; asked = []; target = [] }
 
--- the need with a number, counted from 0, and how it is first spelled
+-- the need with a number, counted from 0
 abbrev pub need_at : Gathered → ℕ → Need
 need_at all number = unwrap_or (slice_get all.needs number) no_need
 

@@ -16,7 +16,7 @@ use Rattle.generator_spec.specs.Lines.{counts_line}
 use Rattle.generator_spec.specs.Statuses.{done_status}
 
 -- own: a step for each module and for each request that the line tells, at most; of an output that tells nothing, no
--- line is known, and nothing is said but that it goes on so
+-- line is known, and nothing is said but that it goes on telling nothing
 pub record SpendsFew (out out_after : SinkState) (before after : ℕ) : Type 0 where
   pub modules : ℕ
   pub requests : ℕ

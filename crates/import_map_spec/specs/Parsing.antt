@@ -40,8 +40,8 @@ address_of base key (an_object ms) = None
 abbrev pub with_address : List ℕ → List ℕ → Json → Addresses → Addresses
 with_address base key value m = if is_empty key then m else insert m (normalized base key) (address_of base key value)
 
--- in written order, so that a later key replaces an earlier one (HTML, import maps: sorting and normalizing a module
--- specifier map)
+-- in written order, so that a later key that is normalized to the same replaces an earlier one (HTML, import maps:
+-- sorting and normalizing a module specifier map)
 abbrev pub addresses_onto : List ℕ → Addresses → Members → Addresses
 addresses_onto base m no_members = m
 addresses_onto base m (a_member key value more) = addresses_onto base (with_address base key value m) more
@@ -71,7 +71,8 @@ abbrev pub with_integrity : Option (List ℕ) → Json → Texts (List ℕ) → 
 with_integrity (Some url) (a_text text) m = insert m url text
 with_integrity _ _ m = m
 
--- in written order, so that a later key replaces an earlier one (HTML, import maps: normalizing a module integrity map)
+-- in written order, so that a later key with the same URL replaces an earlier one (HTML, import maps: normalizing a
+-- module integrity map)
 abbrev pub integrity_onto : List ℕ → Texts (List ℕ) → Members → Texts (List ℕ)
 integrity_onto base m no_members = m
 integrity_onto base m (a_member key value more) = integrity_onto base (with_integrity (as_url base key) value m) more

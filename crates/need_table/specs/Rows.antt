@@ -39,8 +39,8 @@ pub record ClashesAt (needs : List Need) (need : Need) (first : ℕ) : Type 0 wh
   pub found : list_any (clashes need) needs ≡ true
   pub none_before : list_any (clashes need) (take first needs) ≡ false
 
--- own: one part for each result, where memory is wanting for a need of a row of its own alone; and where the need isn't
--- a new one, the table is as it was
+-- own: one part for each result; memory is wanting only for a need of a row of its own; and unless the need is put
+-- there, the table is as it was
 pub record Adds (needs : List Need) (need : Need) (after : List Need) (result : Result Added NeedFault) : Type 0 where
   pub new : result ≡ Ok New → IsFresh needs need after
   pub known : result ≡ Ok Known → IsKnown needs need

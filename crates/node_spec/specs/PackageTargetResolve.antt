@@ -3,8 +3,8 @@
 --     Bares X                          how bare texts are answered, and what a target makes of such an answer
 --     Came X                           what a target comes to, and the full answer to the bare text that was asked last
 --     target_comes bares rules target last      the target as an asking, where `last` is the answer so far
---     items_come, members_come         the same of the items of a list, and of the members of an object; without any it
---                                      is Undefined
+--     items_come, members_come         the same of the items that are left of a list, and of the members that are left
+--                                      of an object; where none is left, it is Undefined
 --     no_bares                         of a target in `exports`, which asks for none
 --     target_url folder nothing came   the URL in the package at a folder; `nothing` where the target gives nothing
 --     judge_bare found                 what a target makes of the answer to a bare text

@@ -23,7 +23,7 @@ pub record KeyFound : Type 0 where
 abbrev pub star_count : List ℕ → ℕ
 star_count text = length (filter (λ b. b == 42) text)
 
--- what stands before the first `*`, and what stands behind it
+-- what stands before the first `*`; without one, all
 abbrev pub pattern_base : List ℕ → List ℕ
 pattern_base [] = []
 pattern_base (b ∷ text) = if b == 42 then [] else b ∷ pattern_base text

@@ -338,8 +338,8 @@ pub fn follows_target<T, S, X>()
     ensures { FollowsTarget T S X }
 {}
 
-/// An object that nothing had stopped, was asked for a target's bare texts and lost no answer, keeps what the target
-/// comes to as an asking.
+/// An object that nothing had stopped, if it was asked for a target's bare texts and lost no answer, keeps what the
+/// target comes to as an asking.
 pub fn target_answered<T, S, X>()
     ensures { TargetAnswered T S X }
 {}

@@ -9,7 +9,8 @@
 --     is_in_name state             the state is that within an attribute's name
 --     begins_attribute state byte  an attribute's name begins with the byte
 --     attributes state bytes       the attributes in the rest of a tag, in order
---     first_named name attributes  the value of the first of these attributes that has the name, in any case
+--     first_named name attributes  the value of the first of these attributes that has the name, in upper or
+--                                  lower case
 --     attribute name text          the value of the first attribute of that name in the tag; names are compared in
 --                                  lower case
 --     attribute_text name text     its text

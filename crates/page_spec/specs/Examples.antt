@@ -79,7 +79,7 @@ pub record RawExamples : Type 0 where
   pub unended : first_piece (Some Title) (codes "a</title") ≡ Some broken
   pub page_ends : first_piece (Some Script) [] ≡ Some broken
 
--- the first attribute of the name, in any case; its value, and where it begins
+-- the first attribute of the name, in upper or lower case; its value, and where it begins
 pub record AttributeExamples : Type 0 where
   pub first : attribute (codes "TYPE") (codes "<script a=b/c Type = ' x' type=y>")
       ≡ Some (value (codes " x") (codes " x' type=y>"))

@@ -10,8 +10,8 @@
 -- A page is unclear where a piece is Broken, where it has a `base` (which changes what the map's addresses mean),
 -- where a script's type holds `&` (which may begin a character reference), where an import map element has a `src`,
 -- and where a script's text holds `<!--` (behind which its end tag need not end it).
-use Rattle.std.specs.Prelude.{ℕ, ◌+◌, Bool, false, ◌&&◌, ◌||◌, ◌==◌, nat_eq, List, [], ◌∷◌, length, if◌then◌else◌, Option}
-use Rattle.std.specs.Prelude.{Some, None, option_map, is_some, codes}
+use Rattle.std.specs.Prelude.{ℕ, ◌+◌, Bool, false, ◌&&◌, ◌||◌, ◌==◌, nat_eq, List, [], ◌∷◌, length, if◌then◌else◌}
+use Rattle.std.specs.Prelude.{Option, Some, None, option_map, is_some, codes}
 use Rattle.std.specs.List.{list_any, starts_with}
 use Rattle.page_spec.specs.declared.kinds.InjectFault.{InjectFault}
 use Rattle.page_spec.specs.declared.kinds.InjectFault.TheVariants.{PageUnclear, TwoMaps}

@@ -69,7 +69,7 @@ pub record HasInjection (text page : List ℕ) : Type 0 where
 abbrev pub SomeInjection : Type 0
 SomeInjection = (text page : List ℕ) → HasInjection text page
 
--- no map can be put into the page, whatever the map is, and the fault is one
+-- no map can be put into the page, and the fault is the same for each
 pub record AreKeptOut (page : List ℕ) : Type 0 where
   pub fault : InjectFault
   pub keeps : KeepsMapsOut page fault

@@ -9,7 +9,7 @@
 --     behind_raw element bytes     what is left behind the element's raw text; None where no end tag of it comes
 --     behind_text bytes            what is left behind text
 --     front kind within rest       the front of this kind, element and rest
---     broken                       the front that is a broken piece and all that is left
+--     broken                       the front of a broken piece, which takes all that is left
 --     started name rest            a start tag of the name; broken where it has no end, and where it is a `plaintext`
 --     first_piece within bytes     the piece at the front; `within` is the element whose raw text comes here
 --     Part                         a piece as its kind and its text

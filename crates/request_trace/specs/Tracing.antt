@@ -2,7 +2,7 @@
 --     IsOfFootprint config before known path       where a tree is told, the path is of the generation's footprint, by
 --                                                  all that looks tell
 --     Traces config before known result after later      the trace, or its first refusal
---     CountsModules gathered count      as many modules as that, each with its source, and no more than there may be
+--     CountsModules gathered count      as many modules as that, as many sources, and no more than there may be
 --     TakesSteps result count before after      no more steps than count tells of what was found, and never more than
 --                                               there may be modules and requests
 use Rattle.std.specs.Prelude.{◌≡◌, ◌≤◌, ◌+◌, ℕ, List, length, Contains, Result, Err, IfSome, IfOk, IfErr}
@@ -45,7 +45,7 @@ pub record Traces (config : Config) (before : FolderState) (known : Known) (resu
   pub looks : OnlyLooks before after (result ≡ Err ReadFault)
   pub kind : IfErr result (IsOfWalk config)
 
--- own: each module has its source
+-- own: there are as many sources as modules
 pub record CountsModules (gathered : Gathered) (count : ℕ) : Type 0 where
   pub modules : count ≡ length gathered.modules
   pub sources : count ≡ length gathered.sources

@@ -11,14 +11,16 @@
 --     text_wanted name specifier                   what a specifier asks for, by the web name of who asks: a relative
 --                                                  one for its URL, any other for its normalized text; or the cause why
 --                                                  it asks for nothing
---     wanted config referrer specifier             the same by the referrer's web name, if it has one
+--     wanted config referrer specifier             the same by the referrer's web name; without one, or where the
+--                                                  specifier isn't UTF-8, it asks for nothing
 --     refused_by config referrer specifier cause   the request is refused by this cause
 --     wants config referrer specifier want         what is asked for; a cause why it is nothing refuses the request
 --     no_spelling                                  what stands for a spelling where there is none
 --     clash_with config referrer first second      the referrer's need, which it spells in the second way, clashes with
 --                                                  one that is spelled in the first
---     with_request before need spelling            the tables behind one more request: what it leads to, its need, and
---                                                  how it is spelled, each where it is new; and one more in the sum
+--     with_request before need spelling            the tables behind one more request: what it leads to, where that is
+--                                                  new; its need and how it is spelled, where the need is new; and one
+--                                                  more in the sum
 --     with_room before need spelling               the same, where there is room for what the request leads to
 --     needed config before referrer need spelling  the same, where its need also clashes with none before
 --     named config before referrer want spelling url      the same, by the URL at which what it leads to is served:

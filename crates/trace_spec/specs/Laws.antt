@@ -462,6 +462,7 @@ pub record LooksAre (sights : Sights) (config : Config) : Type 0 where
   pub decided : (other : Sights) → AgreesOn sights other (footprint sights (generation config))
       → traced sights config ≡ traced other config
 
--- whatever stands at the paths, the looks of a generation are those of its questions, and they decide what it comes to
+-- whatever stands at the paths, a generation looks at what its questions look at, its limits are those of these looks,
+-- and what stands at the paths of its footprint decides it
 abbrev pub LooksAreOfQuestions : Type 0
 LooksAreOfQuestions = (sights : Sights) (config : Config) → LooksAre sights config

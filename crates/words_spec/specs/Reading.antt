@@ -2,10 +2,11 @@
 --     reading_of words      what the words ask for, where they are plain
 --     link_reading words waiting options      the same of the words after `link` and these options
 --     spelling_of word      whether a word after `link` spells an option, with its value or without
+--     spelling_as option word      the same of this option alone
 --     number_in text number      the number that the digits of a text go on to
 --     is_value text      the text isn't empty and doesn't begin with `-`
---     or_else spelling other      what a word is by the one, or by the other where it is no option by that
---     spelling_as option word      whether the word spells this option
+--     or_else spelling other      what a word is by the first; where it is no option by the first, what it is by the
+--         other
 --     entries_reading options words      `link` with these options and with the words as its entries, where each can be
 --         one
 --     by_spelling spelling options entries next      `entries`, where the word is no option; else `next` reads the
