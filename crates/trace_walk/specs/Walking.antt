@@ -1,7 +1,7 @@
 -- What the parts of the walk keep and give.
 --     IsReferrer config referrer value      the code's referrer is this one
---     IsReferrerAt module name value        the code's referrer has this module's path and this name, and is shown as the
---                                           path with the suffix
+--     IsReferrerAt module name value        the code's referrer has this module's path and this name, and is shown as
+--                                           the path with the suffix
 --     AreEmpty tables                       nothing is in the tables yet
 --     AllNamed config entries               each module stands with its web name, which is no folder's, and the text
 --                                           of that
