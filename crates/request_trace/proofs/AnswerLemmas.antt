@@ -7,14 +7,16 @@
 --     traces_nothing       there is no memory for a walk
 --     traced_kind          why there is no trace
 --     first_name, second_name, third_name      the references
+--     takes_moved          the steps beside another name for what they end with
 --     named_limit, limit_ends, look_ends      a limit that ends a walk
-use Rattle.std.proofs.Common.{◌≡◌, ℕ, List, Option, Some, None, Result, Ok, Err, IfSome, refl, sym, ap, ◌∙◌, subst, arith}
-use Rattle.std.specs.Prelude.{◌≢◌, [], ◌∷◌, Contains, IfErr, OnOk, ⊤}
+use Rattle.std.proofs.Common.{◌≡◌, ◌≤◌, ◌+◌, ℕ, List, Option, Some, None, Result, Ok, Err, IfSome, refl, sym, ap, ◌∙◌, subst, arith}
+use Rattle.std.specs.Prelude.{◌≢◌, [], ◌∷◌, Contains, IfErr, IfOk, OnOk, ⊤}
 use Rattle.std.proofs.lemmas.List.Elements.{Contains-append_left}
 use Rattle.asking_spec.specs.Askings.{Asking, answered, ask, questions}
 use Rattle.asking_spec.proofs.EvaluationLemmas.{ends_outcome}
 use Rattle.asking_spec.specs.Evaluation.{Ended, ends, stopped, then_ended, evaluated, AreAlways}
 use Rattle.tree_spec.specs.declared.LimitName.{LimitName}
+use Rattle.tree_spec.specs.Limits.{limit_number}
 use Rattle.tree_spec.specs.declared.LimitName.TheVariants.{File, Bytes, Looks, Modules, ModuleRequests, Requests, Specifier, Entries, Brackets, Depth, Session, Map, Choices}
 use Rattle.trace_spec.proofs.Generations.{looks_are_of_questions}
 use Rattle.tree_spec.specs.LookAskings.{Sights, looks, footprint}
@@ -41,7 +43,7 @@ use Rattle.trace_walk.specs.Kinds.{IsOfWalk}
 use Rattle.trace_walk.specs.Shown.{traced_of}
 use Rattle.trace_walk.specs.declared.tables.Tables.{Tables}
 use Rattle.request_trace.specs.Answering.{result_by, told_by, ToldBy, answers_of}
-use Rattle.request_trace.specs.Tracing.{known_of, IsOfFootprint, Traces}
+use Rattle.request_trace.specs.Tracing.{known_of, IsOfFootprint, TakesSteps, Traces}
 use Rattle.request_trace.proofs.FootprintPaths.{footprint_contains}
 
 pub always_ready : {A E : Type 0} (result : Result A E) → OnOk result ⊤
@@ -260,6 +262,16 @@ second_name e = cc
 
 pub third_name : {a b c x y z : ℕ} → (a ∷ b ∷ c ∷ []) ≡ (x ∷ y ∷ z ∷ []) → c ≡ z
 third_name e = cc
+
+-- ---- steps
+
+pub takes_moved : {A E : Type 0} (result : Result A E) (count : A → ℕ) (before after later : ℕ) → after ≡ later
+    → IfOk result (λ found. after ≤ before + count found)
+    → after ≤ before + (limit_number Modules + limit_number Requests) → TakesSteps result count before later
+takes_moved result count before after later same counted bounded = record {
+  counted = subst (λ end. IfOk result (λ found. end ≤ before + count found)) same counted;
+  bounded = subst (λ end. end ≤ before + (limit_number Modules + limit_number Requests)) same bounded;
+}
 
 -- ---- why there is no trace
 

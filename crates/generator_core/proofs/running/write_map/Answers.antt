@@ -1,5 +1,7 @@
-use Rattle.std.proofs.Common.{subst}
+use Rattle.std.proofs.Common.{ℕ, subst}
 use Rattle.std.specs.Prelude.{⊤}
+use Rattle.tree_spec.specs.States.{SinkState}
+use Rattle.config_spec.specs.declared.Command.{Command}
 use Rattle.generator_spec.specs.Asked.{own_file}
 use Rattle.generator_spec.specs.Commands.{IsGenerating}
 use Rattle.generator_core.specs.Preparing.{Prepares}
@@ -8,14 +10,17 @@ use Rattle.generator_core.proofs.Endings.{stop_end, write_end, stop_spends, done
 use Rattle.generator_core.proofs.Preparings.{generates, still_few}
 use Rattle.generator_core.proofs.running.write_map.Goals as goal
 
+-- what a command that generates may take, any command may
+any_command : (command : Command) (out out_after : SinkState) (result steps later : ℕ) → CommandSpends ⊤ out out_after result steps later → CommandSpends (IsGenerating command) out out_after result steps later
+any_command command out out_after result steps later spends = record { told = λ _ zero. spends.told tt zero; bounded = spends.bounded }
+
 pub returns-in-Ok : goal.returns-in-Ok
 returns-in-Ok g c =
     λ command kept.
-    let spends : CommandSpends ⊤ (g.O.Sink.state c.args.out.now) (g.O.Sink.state c.finish.new.out) c.finish.result c.args.steps.now c.prepare_map.new.steps = done_spends c.in-Ok.prepared _ _ _ _ _ _ _ c.finish.ensures (rw c.in-Ok.is at c.prepare_map.ensures.steps) in
     record {
       end = λ words is_config. write_end words command c.args.config.now _ _ _ _ _ _ c.in-Ok.prepared (generates c.args.keeps kept) is_config (subst (λ r. Prepares command c.args.config.now (g.F.Folder.state c.args.folder.now) r (g.F.Folder.state c.prepare_map.new.folder)) c.in-Ok.is (c.prepare_map.ensures.prepares command kept)).ready c.finish.ensures;
       asked = still_few c.args.config.now (g.F.Folder.state c.args.folder.now).holds (own_file command c.args.config.now) _ (g.F.Folder.state c.prepare_map.new.folder) _ c.finish.ensures.asked (c.prepare_map.ensures.prepares command kept).asked;
-      spends = record { told = λ _ zero. spends.told tt zero; bounded = spends.bounded };
+      spends = any_command command _ _ _ _ _ (done_spends c.in-Ok.prepared _ _ _ _ _ _ _ c.finish.ensures (rw c.in-Ok.is at c.prepare_map.ensures.steps));
     }
 
 pub returns-in-Err : goal.returns-in-Err

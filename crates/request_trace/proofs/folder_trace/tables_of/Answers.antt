@@ -2,7 +2,7 @@ use Rattle.std.proofs.Common.{◌≡◌, rules, ap}
 use Rattle.package_lookup.specs.Answered.{state}
 use Rattle.trace_walk.specs.Meeting.{Kept}
 use Rattle.trace_walk.specs.Shown.{traced_of}
-use Rattle.request_trace.proofs.AnswerLemmas.{traces_by, traces_moved, first_name, second_name, traced_kind}
+use Rattle.request_trace.proofs.AnswerLemmas.{traces_by, traces_moved, first_name, second_name, third_name, takes_moved, traced_kind}
 use Rattle.request_trace.proofs.folder_trace.tables_of.Goals as goal
 
 pub returns-clause-traces : goal.returns-clause-traces
@@ -22,4 +22,7 @@ pub returns-clause-tables : goal.returns-clause-tables
 returns-clause-tables g c = c.walk.ensures.walked.tables
 
 pub returns-clause-steps : goal.returns-clause-steps
-returns-clause-steps g c = record { counted = c.walk.ensures.walked.steps; bounded = c.walk.ensures.walked.bounded }
+returns-clause-steps g c =
+    let names = ap (λ (keeps : Kept). keeps.references) c.walk.ensures.met.keeps in
+    let steps_named : c.walk.new.answerer.steps.ghost_name ≡ _ = third_name names in
+    takes_moved c.walk.result _ _ c.walk.new.answerer.steps.now _ (search rules) c.walk.ensures.walked.steps c.walk.ensures.walked.bounded
