@@ -1,5 +1,5 @@
 ghost use Rattle.std.specs.Prelude.{◌≡◌, ◌≢◌, ◌<◌, ◌≤◌, List, ℕ, ◌∷◌};
-ghost use Rattle.std.specs.Prelude.{length, MatchResult, IfOk, IfErr, OnOk, Ok};
+ghost use Rattle.std.specs.Prelude.{length, MatchResult, IfOk, OnOk, Ok};
 ghost use Rattle.json_spec.specs.Taken.{taken};
 ghost use Rattle.json_spec.specs.Grammar.{ReadsName};
 ghost use Rattle.ordered_json.specs.IsJson.{HasJson};
