@@ -1,4 +1,4 @@
-use Rattle.std.proofs.Common.{◌≡◌, Ok, Err, refl, sym, subst}
+use Rattle.std.proofs.Common.{◌≡◌, Ok, Err, refl, sym, subst, arith}
 use Rattle.tree_spec.specs.declared.LimitName.TheVariants.{Depth}
 use Rattle.trace_spec.specs.declared.TraceFault.TheVariants.{Limit, Memory}
 use Rattle.trace_walk.specs.Kinds.{IsOfWalk}
