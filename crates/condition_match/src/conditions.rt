@@ -1,5 +1,5 @@
-ghost use Rattle.std.specs.Prelude.{◌≡◌, ◌↔◌, ◌==◌, ◌∷◌, true, All, IfOk, IsTrue, IsErrOf, bytes_eq, length, slice_get};
-ghost use Rattle.std.specs.Prelude.{option_copied, option_map};
+ghost use Rattle.std.specs.Prelude.{◌≡◌, ◌↔◌, ◌==◌, ◌∷◌, true, All, IfOk, IsTrue, MatchResult, bytes_eq, length};
+ghost use Rattle.std.specs.Prelude.{slice_get, option_copied, option_map};
 ghost use Rattle.std.specs.List.{list_any, slice_split};
 ghost use Rattle.node_spec.specs.Conditions.{names_in, is_name_byte, IsCondition, AreConditions};
 ghost use Rattle.condition_match.specs.Names.{names_left};
@@ -49,9 +49,9 @@ impl Model for Conditions {
 impl Conditions {
     /// The conditions that a text names, between commas; the empty text names none.
     pub fn parse(alloc: Global, text: &str) -> Result<Conditions, ConditionsFault>
-        ensures names { IfOk result (λ conditions. conditions ≡ names_in text.now) }
+        ensures names { MatchResult result (λ conditions. conditions ≡ names_in text.now)
+            (λ fault. fault ≡ ConditionsFault.BadConditions → AreConditions (names_in text.now) → ⊥) }
         ensures allowed { IfOk result AreConditions }
-        ensures bad { IsErrOf result ConditionsFault.BadConditions → AreConditions (names_in text.now) → ⊥ }
     {
         let mut names = Listed::new(alloc);
         if text.is_empty() {

@@ -368,7 +368,7 @@ static IMPORTS: [(&str, &str, &str); 43] = [
 
 #[test]
 fn strings(rt: HostRuntime) -> Result<(), Fail> {
-    for (target, expected) in STRINGS.iter().copied() {
+    for &(target, expected) in &STRINGS {
         let text = chosen(rt.alloc(), target, None, false, "")?;
         assert_eq!(rt; text.as_str(), expected, "{target}");
     }
@@ -377,7 +377,7 @@ fn strings(rt: HostRuntime) -> Result<(), Fail> {
 
 #[test]
 fn stars(rt: HostRuntime) -> Result<(), Fail> {
-    for (target, star, expected) in STARS.iter().copied() {
+    for &(target, star, expected) in &STARS {
         let text = chosen(rt.alloc(), target, Some(star), false, "")?;
         assert_eq!(rt; text.as_str(), expected, "{target}");
     }
@@ -386,7 +386,7 @@ fn stars(rt: HostRuntime) -> Result<(), Fail> {
 
 #[test]
 fn objects(rt: HostRuntime) -> Result<(), Fail> {
-    for (target, expected) in OBJECTS.iter().copied() {
+    for &(target, expected) in &OBJECTS {
         let text = chosen(rt.alloc(), target, None, false, "")?;
         assert_eq!(rt; text.as_str(), expected, "{target}");
     }
@@ -395,7 +395,7 @@ fn objects(rt: HostRuntime) -> Result<(), Fail> {
 
 #[test]
 fn lists(rt: HostRuntime) -> Result<(), Fail> {
-    for (target, expected) in LISTS.iter().copied() {
+    for &(target, expected) in &LISTS {
         let text = chosen(rt.alloc(), target, None, false, "")?;
         assert_eq!(rt; text.as_str(), expected, "{target}");
     }
@@ -404,7 +404,7 @@ fn lists(rt: HostRuntime) -> Result<(), Fail> {
 
 #[test]
 fn imports(rt: HostRuntime) -> Result<(), Fail> {
-    for (target, answers, expected) in IMPORTS.iter().copied() {
+    for &(target, answers, expected) in &IMPORTS {
         let text = chosen(rt.alloc(), target, None, true, answers)?;
         assert_eq!(rt; text.as_str(), expected, "{target}");
     }
@@ -463,7 +463,7 @@ fn names(alloc: Global, conditions: &Conditions) -> Result<String, Fail> {
 
 #[test]
 fn conditions(rt: HostRuntime) -> Result<(), Fail> {
-    for (text, expected) in CONDITIONS {
+    for &(text, expected) in &CONDITIONS {
         let found = listed(rt.alloc(), text)?;
         assert_eq!(rt; found.as_str(), expected);
     }

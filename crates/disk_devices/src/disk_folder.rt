@@ -359,7 +359,7 @@ mod tests {
         let alloc = rt.alloc();
         let root = made(&rt, "looks")?;
         let mut folder = DiskFolder::new(rt, alloc, root.as_str());
-        for (path, limit, wanted) in LOOKS {
+        for &(path, limit, wanted) in &LOOKS {
             let path = Path::parse(alloc, path)?;
             assert_eq!(rt;
                 answered(folder.look(alloc, &path, limit)),
@@ -397,7 +397,7 @@ mod tests {
 
     #[test]
     fn a_file_that_grew_or_shrank(rt: HostRuntime) -> Result<(), Fail> {
-        for (size, limit, wanted) in SIZES {
+        for &(size, limit, wanted) in &SIZES {
             let found = match content(rt.alloc(), b"12345".as_slice(), size, limit) {
                 Ok(look) => answered(Ok(look)),
                 Err(_) => Seen::Failed,
@@ -432,7 +432,7 @@ mod tests {
     fn writes(rt: HostRuntime) -> Result<(), Fail> {
         let root = made(&rt, "writes")?;
         let mut folder = DiskFolder::new(rt, rt.alloc(), root.as_str());
-        for (path, before, is_written, after) in WRITES {
+        for &(path, before, is_written, after) in &WRITES {
             let found = rewritten(rt.alloc(), &mut folder, path)?;
             assert!(rt; found == (before, is_written, after), "at {path}");
         }

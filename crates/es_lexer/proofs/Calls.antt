@@ -4,7 +4,7 @@ use Rattle.module_spec.specs.declared.token.Bracket.{Bracket}
 use Rattle.module_spec.specs.declared.token.LexKind.{LexKind}
 use Rattle.module_spec.specs.declared.token.Sort.{Sort}
 use Rattle.module_spec.specs.declared.token.Kind.{Kind}
-use Rattle.module_spec.specs.declared.token.Token.{Token}
+use Rattle.module_spec.specs.Examples.{span}
 use Rattle.module_spec.specs.Sorts.{opens, closes, kind_of}
 use Rattle.module_spec.specs.Spellings.{hashbang_rest}
 use Rattle.module_spec.specs.Tokens.{Lexeme, Skips, Next, next_at, lexeme, refusal, opener, depth, is_property, IsNext, Reaches, most_brackets, fault_of}
@@ -84,9 +84,6 @@ behind {bytes} {after} {last} {new} {stack} {d} sort l e r m f =
     }
 
 -- ---- the answers of a call, where the lexer is told as a pair
-
-abbrev span : Kind → ℕ → ℕ → Token
-span kind from to = record { kind = kind; from = from; to = to }
 
 -- what a number or a flag tells of the tokens that were given
 abbrev Tells : {A : Type 0} → List ℕ × List ℕ → A → (List Lexeme → A) → Type 0

@@ -384,7 +384,7 @@ static NESTS: [(&str, &str, usize, &str, usize, bool, usize); 8] = [
 #[test]
 fn nests(rt: HostRuntime) -> Result<(), Fail> {
     let alloc = rt.alloc();
-    for (front, piece, times, back, count, is_deep, at) in NESTS {
+    for &(front, piece, times, back, count, is_deep, at) in &NESTS {
         let text = repeated(alloc, front, piece, times, back)?;
         let fault = if is_deep {
             too_deep(at)
@@ -409,7 +409,7 @@ static FULL: [(&str, &str, usize, &str, usize); 3] = [
 #[test]
 fn full(rt: HostRuntime) -> Result<(), Fail> {
     let alloc = rt.alloc();
-    for (front, piece, times, back, count) in FULL {
+    for &(front, piece, times, back, count) in &FULL {
         let text = repeated(alloc, front, piece, times, back)?;
         let tokens = tokens_of(alloc, text.as_str())?;
         assert_eq!(rt; tokens.len(), count);
@@ -493,7 +493,7 @@ static CUTS: [(usize, Cut); 25] = [
 
 fn cut_of(length: usize) -> Cut {
     let mut last = Cut::Clean;
-    for (from, cut) in CUTS {
+    for &(from, cut) in &CUTS {
         if from <= length {
             last = cut;
         }
@@ -513,7 +513,7 @@ fn cut_fault(length: usize) -> Option<LexFault> {
 // text ends with this fault.
 fn agrees(alloc: Global, text: &str, wanted: Option<LexFault>) -> Result<bool, Fail> {
     let mut lexer = Lexer::new(alloc, text)?;
-    for (kind, from, to) in WHOLE_TOKENS {
+    for &(kind, from, to) in &WHOLE_TOKENS {
         match lexer.next() {
             Ok(None) => return Ok(wanted.is_none() && from >= text.len()),
             Err(fault) => return Ok(wanted == Some(fault) && from >= fault.at),

@@ -393,7 +393,7 @@ static CUTS: [(usize, Cut); 41] = [
 
 fn cut_of(length: usize) -> Cut {
     let mut last = Cut::Open;
-    for (from, cut) in CUTS {
+    for &(from, cut) in &CUTS {
         if from <= length {
             last = cut;
         }
@@ -462,7 +462,7 @@ static LIMITS: [(&str, usize, &str, &str, &str, &str); 8] = [
 #[test]
 fn limits(rt: HostRuntime) -> Result<(), Fail> {
     let alloc = rt.alloc();
-    for (front, times, middle, piece, back, expected) in LIMITS {
+    for &(front, times, middle, piece, back, expected) in &LIMITS {
         let text = repeated(alloc, front, times, middle, piece, back)?;
         let told = shown(alloc, &text)?;
         assert!(rt; told.as_str().starts_with(expected), "{expected}");

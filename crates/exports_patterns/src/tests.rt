@@ -106,7 +106,7 @@ fn found(alloc: Global, object: &str, asked: &str) -> Result<Option<Match>, Json
 
 #[test]
 fn keys_are_chosen(rt: HostRuntime) -> Result<(), Fail> {
-    for (object, asked, expected) in CASES {
+    for &(object, asked, expected) in &CASES {
         let expected = expected.map(|(index, exact, from, to)| Match {
             index,
             exact,

@@ -202,7 +202,7 @@ fn comes(alloc: Global, page: &[u8], wanted: &str) -> Result<bool, Fail> {
 
 #[test]
 fn pages(rt: HostRuntime) -> Result<(), Fail> {
-    for (page, wanted) in PAGES {
+    for &(page, wanted) in &PAGES {
         assert!(rt; comes(rt.alloc(), page.as_bytes(), wanted)?, "{page}");
     }
     Ok(())
@@ -232,7 +232,7 @@ static PAGES_WITH_ODD_MARKUP: [(&str, &str); 12] = [
 
 #[test]
 fn pages_with_odd_markup(rt: HostRuntime) -> Result<(), Fail> {
-    for (page, wanted) in PAGES_WITH_ODD_MARKUP {
+    for &(page, wanted) in &PAGES_WITH_ODD_MARKUP {
         assert!(rt; comes(rt.alloc(), page.as_bytes(), wanted)?, "{page}");
     }
     Ok(())
@@ -259,7 +259,7 @@ static CUTS: [(usize, &str); 15] = [
 
 #[test]
 fn truncations(rt: HostRuntime) -> Result<(), Fail> {
-    for (length, wanted) in CUTS {
+    for &(length, wanted) in &CUTS {
         if let Some(page) = "<head></head>\n".get(..length) {
             assert!(rt; comes(rt.alloc(), page.as_bytes(), wanted)?, "{length}");
         }
@@ -291,7 +291,7 @@ static RANGES: [(usize, usize, &str); 8] = [
 ];
 
 fn range_of(length: usize) -> &'static str {
-    for (from, to, wanted) in RANGES {
+    for &(from, to, wanted) in &RANGES {
         if from <= length && length <= to {
             return wanted;
         }

@@ -127,7 +127,7 @@ fn shown(alloc: Global, text: &str) -> Result<String, Fail> {
 
 #[test]
 fn pages(rt: HostRuntime) -> Result<(), Fail> {
-    for (page, wanted) in PAGES {
+    for &(page, wanted) in &PAGES {
         let shown = shown(rt.alloc(), page)?;
         assert!(rt; shown.as_str() == wanted, "{page} has {shown}");
     }
@@ -156,7 +156,7 @@ static CUTS: [(usize, &str, &str, usize); 12] = [
 
 fn cut_of(alloc: Global, length: usize) -> Result<String, Fail> {
     let mut row = CUTS[0];
-    for cut in CUTS {
+    for &cut in &CUTS {
         if cut.0 <= length {
             row = cut;
         }
@@ -209,7 +209,7 @@ static VALUES: [(&str, &str, Option<(usize, usize)>); 16] = [
 
 #[test]
 fn values(rt: HostRuntime) -> Result<(), Fail> {
-    for (page, name, wanted) in VALUES {
+    for &(page, name, wanted) in &VALUES {
         let mut scanner = Scanner::new(page);
         let found = match scanner.next() {
             None => None,

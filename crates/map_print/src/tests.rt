@@ -44,7 +44,7 @@ fn scopes(alloc: Global, scopes: &[(&str, Pair)]) -> Result<Scopes, Fail> {
 #[test]
 fn maps(rt: HostRuntime) -> Result<(), Fail> {
     let alloc = rt.alloc();
-    for (rows, digests, expected) in MAPS {
+    for &(rows, digests, expected) in &MAPS {
         let layout = Layout {
             imports: Mappings::new(alloc),
             scopes: scopes(alloc, rows)?,
@@ -74,7 +74,7 @@ fn map_of_one(alloc: Global, size: usize) -> Result<Layout, Fail> {
 #[test]
 fn the_limit(rt: HostRuntime) -> Result<(), Fail> {
     let alloc = rt.alloc();
-    for (size, is_printed) in ADDRESSES {
+    for &(size, is_printed) in &ADDRESSES {
         let layout = map_of_one(alloc, size)?;
         match print_map(alloc, &layout, &Mappings::new(alloc)) {
             Ok(map) => {

@@ -79,14 +79,14 @@ fn source_at(alloc: Global, folder: &mut MemFolder, path: &Path) -> Result<Strin
 fn sources(rt: HostRuntime) -> Result<(), Fail> {
     let alloc = rt.alloc();
     let mut folder = MemFolder::new(alloc, &[], &[])?;
-    for (path, bytes, _) in FILES {
+    for &(path, bytes, _) in &FILES {
         folder.put(&Path::parse(alloc, path)?, Some(bytes))?;
     }
-    for (path, _, expected) in FILES {
+    for &(path, _, expected) in &FILES {
         let text = source_at(alloc, &mut folder, &Path::parse(alloc, path)?)?;
         assert_eq!(rt; text.as_str(), expected, "{path}");
     }
-    for (path, expected) in OTHERS {
+    for &(path, expected) in &OTHERS {
         let text = source_at(alloc, &mut folder, &Path::parse(alloc, path)?)?;
         assert_eq!(rt; text.as_str(), expected, "{path}");
     }

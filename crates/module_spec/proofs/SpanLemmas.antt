@@ -68,13 +68,13 @@ data GivesBound : Next → Type 0 where
   faults : {left : ℕ} {kind : LexKind} → GivesBound (Faults left kind)
   gives : {t : Lexeme} {after : List ℕ} → Tail 0 after → GivesBound (Gives t after)
 
-unless : (refused : Option LexKind) (sort : Sort) (bytes rest : List ℕ) → Tail 0 rest → GivesBound (unless_refused refused sort bytes rest)
-unless None sort bytes rest t = gives t
-unless (Some kind) sort bytes rest t = faults
+bound_unless : (refused : Option LexKind) (sort : Sort) (bytes rest : List ℕ) → Tail 0 rest → GivesBound (unless_refused refused sort bytes rest)
+bound_unless None sort bytes rest t = gives t
+bound_unless (Some kind) sort bytes rest t = faults
 
 found_bound : {found : Piece} (innermost : Option Bracket) (d : ℕ) (bytes : List ℕ) → PieceBounds found → GivesBound (next_from innermost d bytes found)
 found_bound innermost d bytes no_piece = faults
-found_bound innermost d bytes (a_piece {sort} {rest} t) = unless (refusal (opens sort) (closes sort) innermost d) sort bytes rest t
+found_bound innermost d bytes (a_piece {sort} {rest} t) = bound_unless (refusal (opens sort) (closes sort) innermost d) sort bytes rest t
 
 end_bound : (c : Bool) → GivesBound (if c then Ends else Faults 0 Unreadable)
 end_bound true = ends

@@ -254,13 +254,13 @@ pub data GivesBehind : Next → List ℕ → Type 0 where
   faults : {left : ℕ} {kind : LexKind} {bytes : List ℕ} → GivesBehind (Faults left kind) bytes
   gives : {t : Lexeme} {after bytes : List ℕ} → Suffix after bytes → GivesBehind (Gives t after) bytes
 
-unless : (refused : Option LexKind) (sort : Sort) (bytes rest end : List ℕ) → Suffix rest end → GivesBehind (unless_refused refused sort bytes rest) end
-unless None sort bytes rest end s = gives s
-unless (Some kind) sort bytes rest end s = faults
+suffix_unless : (refused : Option LexKind) (sort : Sort) (bytes rest end : List ℕ) → Suffix rest end → GivesBehind (unless_refused refused sort bytes rest) end
+suffix_unless None sort bytes rest end s = gives s
+suffix_unless (Some kind) sort bytes rest end s = faults
 
 found_behind : {found : Piece} {end : List ℕ} (innermost : Option Bracket) (depth : ℕ) (bytes : List ℕ) → PieceRests found end → GivesBehind (next_from innermost depth bytes found) end
 found_behind innermost depth bytes no_piece = faults
-found_behind {end} innermost depth bytes (a_piece {sort} {rest} s) = unless (refusal (opens sort) (closes sort) innermost depth) sort bytes rest end s
+found_behind {end} innermost depth bytes (a_piece {sort} {rest} s) = suffix_unless (refusal (opens sort) (closes sort) innermost depth) sort bytes rest end s
 
 end_behind : (c : Bool) → GivesBehind (if c then Ends else Faults 0 Unreadable) []
 end_behind true = ends

@@ -1,7 +1,7 @@
 -- Worked examples, as statements: what texts have for tokens, and what they ask for.
 --     TokenExamples                texts with their tokens, or with their first fault
---     ValueExamples                string literals with their values
---     OutlineExamples              tokens in their places, with what they ask for
+--     ValueExamples                string literals with their values, or with none
+--     OutlineExamples              tokens in their places, with what they ask for, or with their first fault
 --     ManyExamples                 as many requests as may be, and one more
 --     ReadingExamples              whole texts with what they ask for, or with their first fault
 --     rounds count                 `(`, so many times
@@ -12,7 +12,7 @@
 --     unreadable_at place          the fault at this place
 --     request from to text         a request, with where it stands and its text
 --     Reads text requests declares     the text has these requests, and is a module's or not
---     FaultsAt text at             the text's first fault, an unreadable place, is there
+--     FaultsAt text at             the text can't be read as a module text, and its first fault is there
 use Rattle.std.specs.Prelude.{◌≡◌, ℕ, ◌+◌, Bool, true, false, List, [], ◌∷◌, Some, None, Result, Ok, Err, codes}
 use Rattle.std.specs.Prelude.{replicate, length}
 use Rattle.module_spec.specs.declared.token.Kind.{Kind}

@@ -157,7 +157,7 @@ pub data Innermost : List Lexeme → List Lexeme → Type 0 where
   bracket : {o : Lexeme} {k : Bracket} {before at : List Lexeme} → Balanced before (o ∷ at) → opens o.sort ≡ Some k
       → Innermost before (o ∷ at)
 
--- the bracket that the last token opens, none where there is no token
+-- the bracket that the last token opens; none where it opens none, or there is no token
 abbrev pub opener : List Lexeme → Option Bracket
 opener [] = None
 opener (o ∷ at) = opens o.sort

@@ -1,6 +1,6 @@
 -- The need that is found where another asks alike.
 use Rattle.std.proofs.Common.{◌≡◌, ℕ, zero, suc, Bool, true, false, List, [], ◌∷◌, ◌++◌, Some, Result, Ok, Err, Contains, refl, sym, ap, ◌∙◌, subst, ⊎_elim}
-use Rattle.std.specs.Prelude.{◌≢◌, IfErr, IsErrAnd, not, slice_get, take, bytes_eq}
+use Rattle.std.specs.Prelude.{◌≢◌, IfErr, IfOk, IsErrAnd, not, slice_get, take, bytes_eq}
 use mathlib.Core.Logic.{inl, inr}
 use Rattle.std.specs.List.{find, list_any, IsDistinct, AllByRecursion}
 use Rattle.std.specs.Cmp.{first_so, second_so}
@@ -14,6 +14,7 @@ use Rattle.layout_spec.proofs.CountedNeeds.{need_itself}
 use Rattle.need_table.specs.declared.needs.NeedFault.{NeedFault}
 use Rattle.need_table.specs.declared.needs.NeedFault.TheVariants.{Clash, Memory}
 use Rattle.need_table.specs.declared.needs.Added.{Added}
+use Rattle.need_table.specs.declared.needs.Added.TheVariants.{New, Known}
 use Rattle.need_table.specs.Rows.{asks_alike, IsFresh, IsKnown, ClashesAt, Adds}
 
 pub find_passes : {X : Type 0} (test : X → Bool) (xs : List X) (x : X) → Some x ≡ find test xs → test x ≡ true
@@ -166,6 +167,15 @@ clash_by needs need other first (Ok added) rows stored alike is = tt
 clash_by needs need other first (Err fault) rows stored alike is = λ place e.
     let same : first ≡ place = (let f = is.0 in cc) in
     subst (ClashesAt needs need) same (clashes_at needs need other first rows stored alike is.1)
+
+-- a need that is judged is known
+pub not_new : (result : Result Added NeedFault) (P : Type 0) → IfOk result (λ added. (added ≡ Known) × P) → result ≡ Ok New → ⊥
+not_new (Ok added) P is e = absurd (let f = is.0 in cc)
+not_new (Err fault) P is e = absurd (cc)
+
+pub known_alike : (result : Result Added NeedFault) (P : Type 0) → IfOk result (λ added. (added ≡ Known) × P) → result ≡ Ok Known → P
+known_alike (Ok added) P is e = is.1
+known_alike (Err fault) P is e = absurd (cc)
 
 -- a fault of a need that is there isn't want of memory
 pub not_lost : (result : Result Added NeedFault) (first : ℕ) (P : Type 0) → IfErr result (λ fault. (fault ≡ Clash first) × P) → result ≡ Err Memory → ⊥

@@ -1,5 +1,5 @@
 ghost use Rattle.std.specs.Prelude.{◌≡◌, ◌≢◌, ◌==◌, ◌++◌, ◌∷◌, List, [], ℕ, Bool, length, true, false, slice_get};
-ghost use Rattle.std.specs.Prelude.{option_copied, Some, OnOk, OnErr, IfErr, MatchOption};
+ghost use Rattle.std.specs.Prelude.{option_copied, Some, OnOk, OnErr, IfErr, IfOk, MatchOption};
 ghost use Rattle.std.specs.List.{list_any, IsDistinct};
 ghost use Rattle.layout_spec.specs.Needs.{NoClash};
 ghost use Rattle.layout_spec.specs.declared.Need.{Need};
@@ -110,9 +110,8 @@ impl From<Memory> for NeedFault {
 
 // A need that asks as another one at this place does.
 fn judge(first: usize, other: &Need, need: &Need) -> Result<Added, NeedFault>
-    ensures known { result ≡ Ok Added.Known → other.now.target ≡ need.now.target }
+    ensures known { IfOk result (λ added. (added ≡ Added.Known) × (other.now.target ≡ need.now.target)) }
     ensures clash { IfErr result (λ fault. (fault ≡ NeedFault.Clash first) × (other.now.target ≢ need.now.target)) }
-    ensures not_new { result ≢ Ok Added.New }
 {
     if other.target == need.target {
         return Ok(Added::Known);

@@ -54,8 +54,8 @@ fn name_length(text: &str) -> Option<usize>
 /// How much stands before the first `/`.
 fn until_slash(text: &str) -> usize
     ensures is { result ≡ spec.until_slash text.now }
-    ensures at { IsCharBoundary text.now result }
-    ensures behind { result < length text.now → IsCharBoundary text.now (result + 1) }
+    ensures cuts { IsCharBoundary text.now result
+        × (result < length text.now → IsCharBoundary text.now (result + 1)) }
 {
     match text.find('/') {
         None => text.len(),

@@ -123,14 +123,14 @@ module _ (search : Search) (tree : Tree) where
   accepted_or_above path above false e free rest = rest (λ h. absurd (cc))
   accepted_or_above path above true e free rest = one_is path (itself path free e)
 
-  by_name : IsTree tree → (path : List ℕ) (above : LookAsking (Option (List ℕ))) (named : Bool)
+  by_folder_name : IsTree tree → (path : List ℕ) (above : LookAsking (Option (List ℕ))) (named : Bool)
       → search.ends_at path ≡ named
       → (search.ends_at path ≡ false → (IsAccepted search tree path → ⊥)
       → IsNearest search tree path (outcome (get tree) above))
       → IsNearest search tree path (outcome (get tree) (if named then answered None
       else and_then (is_accepted search path) (λ accepted. if accepted then answered (Some path) else above)))
-  by_name is path above true e rest = none_is (λ found s. blocked path found e s)
-  by_name is path above false e rest =
+  by_folder_name is path above true e rest = none_is (λ found s. blocked path found e s)
+  by_folder_name is path above false e rest =
       let place : List ℕ = search.place path in
       let next : Bool → LookAsking (Option (List ℕ)) = λ accepted. if accepted then answered (Some path) else above in
       let says : outcome (get tree) (is_accepted search path) ≡ search.accepts (get tree place) =
@@ -143,9 +143,9 @@ module _ (search : Search) (tree : Tree) where
   by_climbs : IsTree tree → (path : List ℕ) (folders : List (List ℕ)) → Climbs path folders
       → IsNearest search tree path (outcome (get tree) (nearest_in search folders))
   by_climbs is _ _ (at_root path top) =
-      by_name is path (answered None) (search.ends_at path) refl (λ free none. at_top path top none)
+      by_folder_name is path (answered None) (search.ends_at path) refl (λ free none. at_top path top none)
   by_climbs is _ _ (from_parent parent path folders p climbs) =
-      by_name is path (nearest_in search folders) (search.ends_at path) refl
+      by_folder_name is path (nearest_in search folders) (search.ends_at path) refl
       (λ free none. at_parent parent path _ p free none (by_climbs is parent folders climbs))
 
 pub finds_nearest : (search : Search) (tree : Tree) (from : List ℕ) → IsTree tree → IsPath from

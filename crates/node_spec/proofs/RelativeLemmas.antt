@@ -38,20 +38,20 @@ module _ (tree : Tree) where
   by_entry url path names (Some (Stored bytes)) e true s = subst (Judges tree url) (sym (cond-true _ (Refused NotFound) (Resolved path (suffix_of url)) s)) (no_folder path bytes names e s)
   by_entry url path names (Some (Stored bytes)) e false s = subst (Judges tree url) (sym (cond-false _ (Refused NotFound) (Resolved path (suffix_of url)) s)) (file path bytes names e s)
 
-  by_name : (url : List ℕ) → escapes_separator (url_path url) ≡ false → (test : Bool) → (is_utf8 (spelled_path (url_path url)) && is_path (spelled_path (url_path url))) ≡ test → Judges tree url (outcome (get tree) (judged_at url (named_path url)))
-  by_name url e true t =
+  by_utf8 : (url : List ℕ) → escapes_separator (url_path url) ≡ false → (test : Bool) → (is_utf8 (spelled_path (url_path url)) && is_path (spelled_path (url_path url))) ≡ test → Judges tree url (outcome (get tree) (judged_at url (named_path url)))
+  by_utf8 url e true t =
       let path : List ℕ = spelled_path (url_path url) in
       let parts = and_parts _ _ t in
       let names : NamesPath (url_path url) path = record { no_separator = e; spelled = refl; utf8 = IsUtf8-from_is_utf8 path parts.0; is_path = path_by_test path parts.1 } in
       subst (λ o. Judges tree url (outcome (get tree) (judged_at url o))) (sym (cond-true _ (Some path) None t)) (by_entry url path names (get tree path) refl (is_folder_path (url_path url)) refl)
-  by_name url e false t =
+  by_utf8 url e false t =
       let path : List ℕ = spelled_path (url_path url) in
       let none : (other : List ℕ) → NamesPath (url_path url) other → ⊥ = λ other names. true≢false (sym (names_pass (url_path url) other names) ∙ t) in
       subst (λ o. Judges tree url (outcome (get tree) (judged_at url o))) (sym (cond-false _ (Some path) None t)) (nameless e none)
 
   by_separator : (url : List ℕ) (escaped : Bool) → escapes_separator (url_path url) ≡ escaped → Judges tree url (outcome (get tree) (url_judged url))
   by_separator url true e = subst (λ a. Judges tree url (outcome (get tree) a)) (sym (cond-true _ (answered (Refused InvalidSpecifier)) (judged_at url (named_path url)) e)) (separator e)
-  by_separator url false e = subst (λ a. Judges tree url (outcome (get tree) a)) (sym (cond-false _ (answered (Refused InvalidSpecifier)) (judged_at url (named_path url)) e)) (by_name url e (is_utf8 (spelled_path (url_path url)) && is_path (spelled_path (url_path url))) refl)
+  by_separator url false e = subst (λ a. Judges tree url (outcome (get tree) a)) (sym (cond-false _ (answered (Refused InvalidSpecifier)) (judged_at url (named_path url)) e)) (by_utf8 url e (is_utf8 (spelled_path (url_path url)) && is_path (spelled_path (url_path url))) refl)
 
   by_host : (parent specifier url : List ℕ) → joined_url parent specifier ≡ Some url → (host : Bool) → names_host url ≡ host → Joins tree parent specifier (outcome (get tree) (joined_judged (Some url)))
   by_host parent specifier url e true h = subst (λ a. Joins tree parent specifier (outcome (get tree) a)) (sym (cond-true _ (answered (Refused InvalidSpecifier)) (url_judged url) h)) (other_host url e h)

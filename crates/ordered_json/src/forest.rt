@@ -78,8 +78,8 @@ impl Level {
     // Gives each list that waits its span of the block.
     fn fill(&mut self, block: &Option<Rc<Vec<Value>>>) -> Result<(), Memory>
         ensures filled { OnOk result (Fills block.now self.old self.new) }
-        ensures start { OnOk result (self.new.start ≡ self.old.start) }
-        ensures count { OnOk result (length self.new.values.items ≡ length self.old.values.items) }
+        ensures kept { OnOk result ((self.new.start ≡ self.old.start)
+            × (length self.new.values.items ≡ length self.old.values.items)) }
     {
         let count = self.values.as_slice().len();
         if let Some(block) = block {

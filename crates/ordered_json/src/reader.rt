@@ -1,5 +1,5 @@
 ghost use Rattle.std.specs.Prelude.{◌≡◌, ◌≢◌, ◌<◌, ◌≤◌, List, ℕ, ◌∷◌};
-ghost use Rattle.std.specs.Prelude.{length, MatchResult, IfOk, IfErr, OnOk, Ok};
+ghost use Rattle.std.specs.Prelude.{length, MatchResult, IfOk, OnOk, Ok};
 ghost use Rattle.json_spec.specs.Taken.{taken};
 ghost use Rattle.json_spec.specs.Grammar.{ReadsName};
 ghost use Rattle.ordered_json.specs.IsJson.{HasJson};
@@ -85,8 +85,8 @@ fn read_value<'a>(
     bytes: &'a [u8],
 ) -> Result<&'a [u8], Stop>
     requires { IsShown forest.old }
-    ensures reads { IfOk result (λ rest. Puts depth bytes.now forest.old forest.new rest.now) }
-    ensures fails { IfErr result (Unread depth bytes.now) }
+    ensures reads { MatchResult result (λ rest. Puts depth bytes.now forest.old forest.new rest.now)
+        (Unread depth bytes.now) }
     ensures shorter { IfOk result (λ rest. length rest.now < length bytes.now) }
 {
     let outside = forest.depth();
@@ -118,8 +118,8 @@ fn begin_value<'a>(
     bytes: &'a [u8],
 ) -> Result<(bool, &'a [u8]), Stop>
     requires { IsShown forest.old }
-    ensures begins { IfOk result (λ x. Begins depth bytes.now forest.old forest.new x.0 x.1.now) }
-    ensures fails { IfErr result (Unread depth bytes.now) }
+    ensures begins { MatchResult result (λ x. Begins depth bytes.now forest.old forest.new x.0 x.1.now)
+        (Unread depth bytes.now) }
     ensures shorter { IfOk result (λ x. length x.1.now < length bytes.now) }
 {
     let Some(inner) = after_byte(bytes, b'[') else {
@@ -145,8 +145,8 @@ fn begin_value<'a>(
 #[inline(always)]
 fn go_up<'a>(forest: &mut Forest, outside: usize, bytes: &'a [u8]) -> Result<(bool, &'a [u8]), Stop>
     requires { IsInside forest.old }
-    ensures goes { IfOk result (λ x. GoesUp outside bytes.now forest.old forest.new x.0 x.1.now) }
-    ensures stops { IfErr result (StopsAbove outside bytes.now forest.old) }
+    ensures goes { MatchResult result (λ x. GoesUp outside bytes.now forest.old forest.new x.0 x.1.now)
+        (StopsAbove outside bytes.now forest.old) }
     ensures shorter { IfOk result (λ x. length x.1.now ≤ length bytes.now) }
 {
     let mut rest = bytes;

@@ -78,8 +78,8 @@ impl Known {
             (looked (λ sight. entry_of sight.0) result) (state (F.state folder.new) self.new trail.new) }
         ensures asks { Asks (state (F.state folder.old) self.old trail.old) path.now
             (looked (λ sight. entry_of sight.0) result) (state (F.state folder.new) self.new trail.new) }
-        ensures held { IfOk result (λ sight. known_at self.new path.now ≡ Some (look_seen sight.0)) }
-        ensures readings { IfOk result (λ sight. AreReadingsOf (look_seen sight.0) sight.1) }
+        ensures held { IfOk result (λ sight. (known_at self.new path.now ≡ Some (look_seen sight.0))
+            × AreReadingsOf (look_seen sight.0) sight.1) }
     {
         if !trail.has_room(path) {
             return Err(limit(LimitName::Looks));

@@ -22,21 +22,21 @@ injected_by :
 injected_by text page parts fault span n f s p = λ i. unless_faulted (f i) (put_into text page (s i) (p i))
 
 module _ (page : List ℕ) (parts : List Part) (u : is_utf8 page ≡ true) (x : Pieces None page parts) where
-  comes :
+  injection_by :
       (text : List ℕ) (fault : Option InjectFault) (span : Option (ℕ × ℕ)) (n : Option ℕ)
       → first_fault 0 false parts ≡ fault → map_span 0 parts ≡ span → place 0 parts ≡ n
       → Injection text page (unless_faulted fault (put_into text page span n))
-  comes text fault span n f s p = subst (Injection text page) (injected_by text page parts fault span n f s p) (utf8 u x)
+  injection_by text fault span n f s p = subst (Injection text page) (injected_by text page parts fault span n f s p) (utf8 u x)
 
   by_outcome :
       (fault : Option InjectFault) (span : Option (ℕ × ℕ)) (n : Option ℕ) → first_fault 0 false parts ≡ fault
       → map_span 0 parts ≡ span → place 0 parts ≡ n → TakesMaps page ⊎ AreKeptOut page
   by_outcome (Some fault) span n f s p =
-      inr (record { fault = fault; keeps = λ text. comes text (Some fault) span n f s p })
+      inr (record { fault = fault; keeps = λ text. injection_by text (Some fault) span n f s p })
   by_outcome None (Some span) n f s p =
-      inl (λ text. record { new = _; injection = comes text None (Some span) n f s p })
-  by_outcome None None (Some n) f s p = inl (λ text. record { new = _; injection = comes text None None (Some n) f s p })
-  by_outcome None None None f s p = inr (record { fault = NoPlace; keeps = λ text. comes text None None None f s p })
+      inl (λ text. record { new = _; injection = injection_by text None (Some span) n f s p })
+  by_outcome None None (Some n) f s p = inl (λ text. record { new = _; injection = injection_by text None None (Some n) f s p })
+  by_outcome None None None f s p = inr (record { fault = NoPlace; keeps = λ text. injection_by text None None None f s p })
 
 takes_or_not : (page : List ℕ) → TakesMaps page ⊎ AreKeptOut page
 takes_or_not page = by_test (is_utf8 page) refl

@@ -1,6 +1,7 @@
 -- A question of a walk that is answered by looks, and the walk over these answers.
 --     answers_always       the answers are always the same, unless a limit stops them
 --     always_ready         an answerer that needs nothing to be ready
+--     kind_of, limit_of    the limits of a module's source
 --     met_by               a question
 --     traces_by            the walk
 --     traces_moved         the same beside another name for the state
@@ -10,7 +11,7 @@
 --     takes_moved          the steps beside another name for what they end with
 --     named_limit, limit_ends, look_ends      a limit that ends a walk
 use Rattle.std.proofs.Common.{◌≡◌, ◌≤◌, ◌+◌, ℕ, List, Option, Some, None, Result, Ok, Err, IfSome, refl, sym, ap, ◌∙◌, subst, arith}
-use Rattle.std.specs.Prelude.{◌≢◌, [], ◌∷◌, Contains, IfErr, IfOk, OnOk, ⊤}
+use Rattle.std.specs.Prelude.{◌≢◌, [], ◌∷◌, Contains, IfErr, IfOk, MatchResult, OnOk, ⊤}
 use Rattle.std.proofs.lemmas.List.Elements.{Contains-append_left}
 use Rattle.asking_spec.specs.Askings.{Asking, answered, ask, questions}
 use Rattle.asking_spec.proofs.EvaluationLemmas.{ends_outcome}
@@ -39,7 +40,10 @@ use Rattle.package_lookup.specs.Responses.{Response, given, fails, passes, not_r
 use Rattle.package_lookup.proofs.Questions.{sees_still, limited_always}
 use Rattle.package_lookup.proofs.Learnings.{learns_as, learns_by, learns_at, learns_nothing}
 use Rattle.trace_walk.specs.Meeting.{Told, Kept, IsTold, looks_of, IsAskedBy, Comes, Met, fine}
-use Rattle.trace_walk.specs.Kinds.{IsOfWalk}
+use Rattle.module_sources.specs.declared.source.Source.{Source}
+use Rattle.module_sources.specs.declared.source.NoSource.{NoSource}
+use Rattle.module_sources.specs.Shown.{IsOfSource, NamesLimit}
+use Rattle.trace_walk.specs.Kinds.{IsOfAnswers, IsOfWalk}
 use Rattle.trace_walk.specs.Shown.{traced_of}
 use Rattle.trace_walk.specs.declared.tables.Tables.{Tables}
 use Rattle.request_trace.specs.Answering.{result_by, told_by, ToldBy, answers_of}
@@ -49,6 +53,14 @@ use Rattle.request_trace.proofs.FootprintPaths.{footprint_contains}
 pub always_ready : {A E : Type 0} (result : Result A E) → OnOk result ⊤
 always_ready (Ok value) = tt
 always_ready (Err fault) = tt
+
+pub kind_of : (result : Result (Result Source NoSource) TraceFault) (P : Type 0) → MatchResult result (λ source. P → IfErr source IsOfSource) IsOfAnswers → IfErr result IsOfAnswers
+kind_of (Ok source) P is = tt
+kind_of (Err fault) P is = is
+
+pub limit_of : (result : Result (Result Source NoSource) TraceFault) (P : Type 0) → MatchResult result (λ source. P → IfErr source IsOfSource) IsOfAnswers → P → NamesLimit result
+limit_of (Ok source) P is holds = is holds
+limit_of (Err fault) P is holds = tt
 
 abbrev Answering : Type 0
 Answering = Told Trail Question Answer

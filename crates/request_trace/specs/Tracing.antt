@@ -5,6 +5,7 @@
 --     CountsModules gathered count      as many modules as that, as many sources, and no more than there may be
 --     TakesSteps result count before after      no more steps than count tells of what was found, and never more than
 --                                               there may be modules and requests
+--     TracesTables config before known result after later from to      the trace as the walk's tables, in so many steps
 use Rattle.std.specs.Prelude.{◌≡◌, ◌≤◌, ◌+◌, ℕ, List, length, Contains, Result, Err, IfSome, IfOk, IfErr}
 use Rattle.tree_spec.specs.declared.LimitName.TheVariants.{Modules, Requests}
 use Rattle.tree_spec.specs.Limits.{limit_number}
@@ -20,7 +21,10 @@ use Rattle.package_lookup.specs.declared.known.Known.{Known}
 use Rattle.package_lookup.specs.Looked.{Sees}
 use Rattle.package_lookup.specs.Answered.{State, state}
 use Rattle.package_lookup.specs.Learning.{Learns}
+use Rattle.trace_walk.specs.declared.tables.Tables.{Tables}
 use Rattle.trace_walk.specs.Meeting.{IsTold}
+use Rattle.trace_walk.specs.Shown.{traced_of}
+use Rattle.trace_walk.specs.Walked.{AreWalked}
 use Rattle.trace_walk.specs.Kinds.{IsOfWalk}
 
 -- what is known of a folder, where nothing was looked at yet
@@ -56,3 +60,9 @@ pub record CountsModules (gathered : Gathered) (count : ℕ) : Type 0 where
 pub record TakesSteps {A E : Type 0} (result : Result A E) (count : A → ℕ) (before after : ℕ) : Type 0 where
   pub counted : IfOk result (λ found. after ≤ before + count found)
   pub bounded : after ≤ before + (limit_number Modules + limit_number Requests)
+
+pub record TracesTables (config : Config) (before : FolderState) (known : Known) (result : Result Tables TraceFault)
+    (after : FolderState) (later : Known) (from to : ℕ) : Type 0 where
+  pub traces : Traces config before known (traced_of result) after later
+  pub tables : IfOk result (AreWalked config)
+  pub steps : TakesSteps result (λ tables. length tables.sources.items + tables.requests) from to

@@ -1,5 +1,5 @@
-ghost use Rattle.std.specs.Prelude.{◌≡◌, ◌≢◌, Result, IfErr};
-ghost use Rattle.module_sources.specs.Shown.{source_in, NamesLimit};
+ghost use Rattle.std.specs.Prelude.{◌≡◌, ◌≢◌, Result, IfErr, MatchResult};
+ghost use Rattle.module_sources.specs.Shown.{source_in, IsOfSource, NamesLimit};
 ghost use Rattle.node_resolve.specs.Places.{module_of};
 ghost use Rattle.node_resolve.specs.Responses.{responded};
 ghost use Rattle.node_spec.specs.NodeAnswers.{Module, Refusal};
@@ -78,8 +78,7 @@ fn source_answer(
 ) -> Result<Result<Source, NoSource>, TraceFault>
     requires { looked source_in found ≢ fails never }
     ensures is { sources result ≡ result_by (looked source_in found) }
-    ensures kind { IfErr result IsOfAnswers }
-    ensures limit { NamesLimit found → NamesLimit result }
+    ensures kind { MatchResult result (λ source. NamesLimit found → IfErr source IsOfSource) IsOfAnswers }
 {
     match found {
         Ok(source) => Ok(source),

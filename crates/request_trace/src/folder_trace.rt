@@ -1,7 +1,5 @@
-ghost use Rattle.std.specs.Prelude.{◌+◌, length, IfOk};
-ghost use Rattle.trace_walk.specs.Shown.{traced_of};
-ghost use Rattle.trace_walk.specs.Walked.{AreWalked};
-ghost use Rattle.request_trace.specs.Tracing.{TakesSteps, Traces};
+ghost use Rattle.std.specs.Prelude.{◌+◌, length};
+ghost use Rattle.request_trace.specs.Tracing.{TakesSteps, Traces, TracesTables};
 
 use crate::folder_answers::FolderAnswers;
 use crate::traces::Trace;
@@ -39,10 +37,8 @@ fn tables_of<F: Folder, L: Ledger>(
     config: &Config,
     steps: &mut Steps<L>,
 ) -> Result<Tables, TraceFault>
-    ensures traces { Traces config.now (F.state folder.old) known.old (traced_of result)
-        (F.state folder.new) known.new }
-    ensures tables { IfOk result (AreWalked config.now) }
-    ensures steps { TakesSteps result (λ tables. length tables.sources.items + tables.requests) steps.old steps.new }
+    ensures { TracesTables config.now (F.state folder.old) known.old result (F.state folder.new) known.new
+        steps.old steps.new }
 {
     let mut trail = Trail::new(alloc);
     let mut answers = FolderAnswers {

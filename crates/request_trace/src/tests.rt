@@ -57,7 +57,7 @@ static CASES: [(&str, &str); 4] = [
 
 fn folder(alloc: Global, failing: &[u64]) -> Result<MemFolder, Fail> {
     let mut folder = MemFolder::new(alloc, failing, &[])?;
-    for (path, text) in FILES {
+    for &(path, text) in &FILES {
         folder.put(&Path::parse(alloc, path)?, Some(text.as_bytes()))?;
     }
     Ok(folder)
@@ -185,7 +185,7 @@ fn traces(rt: HostRuntime) -> Result<(), Fail> {
     let alloc = rt.alloc();
     let mut folder = folder(alloc, &[])?;
     let mut known = Known::new(alloc);
-    for (entry, expected) in CASES {
+    for &(entry, expected) in &CASES {
         let text = trace_of(alloc, &mut folder, &mut known, entry)?;
         assert_eq!(rt; text.as_str(), expected);
     }

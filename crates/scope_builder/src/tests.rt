@@ -44,7 +44,7 @@ static PLACES: [(&str, &str); 6] = [
 #[test]
 fn places_of_referrers(rt: HostRuntime) -> Result<(), Fail> {
     let alloc = rt.alloc();
-    for (referrer, expected) in PLACES {
+    for &(referrer, expected) in &PLACES {
         let url = WebUrl::parse(alloc, referrer)?.ok_or("no URL")?;
         let mut line = String::new(alloc);
         for place in places(alloc, &url)?.as_slice() {

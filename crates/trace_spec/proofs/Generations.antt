@@ -3,7 +3,7 @@ use Rattle.std.specs.Prelude.{◌≡◌, ◌+◌, ◌++◌, ℕ, Bool, true, fal
 use Rattle.std.specs.Prelude.{if◌then◌else◌}
 use Rattle.std.proofs.Common.{refl, sym, ap, ◌∙◌, subst, arith}
 use Rattle.asking_spec.specs.Askings.{Asking, answered, ask, questions, through}
-use Rattle.asking_spec.specs.Evaluation.{Ended, ends, stopped, then_ended, evaluated}
+use Rattle.asking_spec.specs.Evaluation.{ends, stopped, then_ended, evaluated}
 use Rattle.asking_spec.proofs.AskingLemmas.{questions_then}
 use Rattle.asking_spec.proofs.EvaluationLemmas.{evaluated_then}
 use Rattle.tree_spec.specs.declared.Entry.{Entry}
@@ -12,7 +12,7 @@ use Rattle.tree_spec.specs.declared.LimitName.TheVariants.{File, Looks, Bytes}
 use Rattle.tree_spec.specs.LookAskings.{Sights, LookAsking, looks, with_seen}
 use Rattle.tree_spec.specs.LookLimits.{Trail, no_trail, begun, look_limits, size_at, told, limited, new_size}
 use Rattle.tree_spec.proofs.FootprintSets.{trail_of}
-use Rattle.tree_spec.proofs.LimitedLooks.{ends_counted, first_limit_stops, same_limited_law}
+use Rattle.tree_spec.proofs.LimitedLooks.{LookEnd, ends_counted, first_limit_stops, same_limited_law}
 use Rattle.trace_spec.specs.declared.TraceFault.{TraceFault}
 use Rattle.trace_spec.specs.Modules.{Config}
 use Rattle.trace_spec.specs.Questions.{Question, Answer, put, answers, always}
@@ -20,9 +20,6 @@ use Rattle.trace_spec.specs.Checks.{Gathered}
 use Rattle.trace_spec.specs.Traces.{trace, result_of, traced, generation}
 use Rattle.trace_spec.specs.Laws.{without_question, looks_of, CountsGeneration, StopsGeneration}
 use Rattle.trace_spec.specs.Laws.{LooksAreOfQuestions}
-
-abbrev LookEnd : Type 0 → Type 0
-LookEnd X = Ended X Trail LimitName
 
 -- ends that differ in the paths of the last question alone
 abbrev Alike : {X : Type 0} → LookEnd X → LookEnd X → Type 0

@@ -46,10 +46,10 @@ module _ (sights : Sights) (config : Config) where
       → evaluated told before asking ≡ end → evaluated (answers sights) before.state asking ≡ unlisted end
   without asking before end e = sym (evaluated_listed (answers sights) before asking) ∙ ap unlisted e
 
-  came_to : {X : Type 0} (asking : Asking Question Answer X) (before : Told) (value : X) (after : Told)
+  told_outcome : {X : Type 0} (asking : Asking Question Answer X) (before : Told) (value : X) (after : Told)
       → evaluated told before asking ≡ ends value after
       → IsOutcome (always sights) before.asked asking value after.asked
-  came_to asking before value after e =
+  told_outcome asking before value after e =
       evaluated_comes (answers sights) (always sights) (answers_always sights) before asking value after e
 
   keep_told : KeepsFew told (rules config) none_asked
@@ -149,7 +149,7 @@ module _ (sights : Sights) (config : Config) where
       → evaluated told state (visited (rules config) before referrer) ≡ ends (Ok after) later
       → Done after later (suc place)
   visit_done before after state later place referrer coming e =
-      let came = came_to (visited (rules config) before referrer) state (Ok after) later e in
+      let came = told_outcome (visited (rules config) before referrer) state (Ok after) later e in
       let new = new_modules is_module before.modules (targets sights config referrer) in
       let grown : after.modules ≡ before.modules ++ new =
       visited_modules (always sights) (rules config) (specifiers sights config) (leads sights config)
@@ -282,9 +282,9 @@ module _ (sights : Sights) (config : Config) where
   }
   refused_there before state referrer why after visits asked
       (by_request opened middle front specifier behind tables later f split pass fails) =
-      let opening_came = came_to (opens config before referrer) state (Ok opened) middle f in
+      let opening_came = told_outcome (opens config before referrer) state (Ok opened) middle f in
       let opens_so = (put_in sights config).opens before referrer opened (sym opening_came.is) in
-      let front_came = came_to (followed (rules config) opened.after referrer front) middle (Ok tables) later pass in
+      let front_came = told_outcome (followed (rules config) opened.after referrer front) middle (Ok tables) later pass in
       let puts =
       in_order (always sights) (rules config) (specifiers sights config) (leads sights config) opening asking
       (opening_put sights) (put_request sights config) (request_of sights config) (lead sights config)

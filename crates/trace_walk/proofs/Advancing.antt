@@ -11,7 +11,7 @@ use Rattle.trace_walk.specs.declared.tables.Tables.{Tables}
 use Rattle.trace_walk.specs.Kinds.{IsOfWalk}
 use Rattle.trace_walk.specs.Putting.{Puts}
 use Rattle.trace_walk.specs.Walked.{IsWalked}
-use Rattle.trace_walk.specs.Walking.{AreBeside, AreOfUrls, IsBounded, Advances, Walks}
+use Rattle.trace_walk.specs.Walking.{AreBeside, AreOfUrls, IsBounded, Advances, Walks, IsOneRequest}
 use Rattle.trace_walk.proofs.Visiting.{grows_begin, grows_on, grows_by_visit}
 
 -- nothing was done yet
@@ -78,15 +78,33 @@ walks_as config visits most asks others_ask old new before after ready (Ok unit)
 }
 walks_as config visits most asks others_ask old new before after ready (Err fault) so walks = record { advances = tt; bounded = walks.bounded; kind = walks.kind }
 
--- a request that is put into the tables, behind Node's answer
-pub walks_put : (config : Config) (referrer : List ℕ) (old new : Tables) (before after : ℕ) (ready : Type 0) (result : Result (Unit {0}) TraceFault) → after ≤ before + 1 → old.requests < limit_number Requests → ready
-    → Puts config referrer old new result → Walks config 0 0 (IsUrl referrer) old new before after ready result
-walks_put config referrer old new before after ready (Ok unit) step room is puts = record {
-  advances = record { grows = puts.grows; urls = puts.urls; steps = (let counts = puts.counts in omega (arith, counts, step)); ready = is };
-  bounded = bounded_request old before after step room;
-  kind = tt;
+-- one request that is refused
+pub one_refused : (config : Config) (asks : Type 0) (old new : Tables) (before after : ℕ) (ready : Type 0) (fault : TraceFault) (result : Result (Unit {0}) TraceFault) → IsErrAnd result (λ f. f ≡ fault) → after ≤ before + 1 → IsBounded 0 old before after → IsOfWalk config fault
+    → IsOneRequest config asks old new before after ready result
+one_refused config asks old new before after ready fault (Ok unit) is step bounded kind = absurd is
+one_refused config asks old new before after ready fault (Err other) is step bounded kind = record {
+  walks = walks_refused config 0 0 asks old new before after ready fault (Err other) is bounded kind;
+  step = step;
+  counts = tt;
 }
-walks_put config referrer old new before after ready (Err fault) step room is puts = record { advances = tt; bounded = bounded_request old before after step room; kind = puts.kind }
+
+-- one that is put into the tables, behind Node's answer
+pub one_put : (config : Config) (referrer : List ℕ) (old new : Tables) (before after : ℕ) (ready : Type 0) (result : Result (Unit {0}) TraceFault) → after ≤ before + 1 → old.requests < limit_number Requests → ready
+    → Puts config referrer old new result → IsOneRequest config (IsUrl referrer) old new before after ready result
+one_put config referrer old new before after ready (Ok unit) step room is puts = record {
+  walks = record {
+    advances = record { grows = puts.grows; urls = puts.urls; steps = (let counts = puts.counts in omega (arith, counts, step)); ready = is };
+    bounded = bounded_request old before after step room;
+    kind = tt;
+  };
+  step = step;
+  counts = puts.counts;
+}
+one_put config referrer old new before after ready (Err fault) step room is puts = record {
+  walks = record { advances = tt; bounded = bounded_request old before after step room; kind = puts.kind };
+  step = step;
+  counts = tt;
+}
 
 -- the requests of a module, behind the answerer's answer
 pub walks_visit : (config : Config) (asks : Type 0) (tables pushed new : Tables) (source : Source) (before between after : ℕ) (ready : Type 0) (result : Result (Unit {0}) TraceFault) → pushed.modules ≡ tables.modules → pushed.sources.items ≡ tables.sources.items ++ source ∷ [] → pushed.needs ≡ tables.needs

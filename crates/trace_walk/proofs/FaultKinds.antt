@@ -1,5 +1,5 @@
 -- What is refused where.
-use Rattle.std.proofs.Common.{◌≡◌, ◌≢◌, ℕ, List, Result, Ok, Err, IfErr, ap, subst, sym}
+use Rattle.std.proofs.Common.{◌≡◌, ◌≢◌, ℕ, List, Result, Ok, Err, ap}
 use Rattle.std.specs.Result.{IsErrAnd}
 use Rattle.trace_spec.specs.declared.TraceFault.{TraceFault}
 use Rattle.trace_spec.specs.declared.TraceFault.TheVariants.{Unservable, Refused, Clash, NotModule, Limit, ReadFault, Memory}
@@ -16,9 +16,6 @@ use Rattle.trace_walk.specs.Walking.{IsUnserved}
 pub handed : {X : Type 0} (result : Result X TraceFault) (fault : TraceFault) → IsErrAnd result (λ f. f ≡ fault) → result ≡ Err fault
 handed (Ok value) fault is = absurd is
 handed (Err other) fault is = ap Err is
-
-pub handed_kind : {X : Type 0} (config : Config) (result : Result X TraceFault) (fault : TraceFault) → IsErrAnd result (λ f. f ≡ fault) → IsOfWalk config fault → IfErr result (IsOfWalk config)
-handed_kind config result fault is kind = subst (λ r. IfErr r (IsOfWalk config)) (sym (handed result fault is)) kind
 
 pub unserved_kind : (config : Config) (r : Referrer Module) (fault : TraceFault) → (fault ≢ Memory → IsUnserved config (path_of config r) (suffix_of r) fault) → IsOfWalk config fault
 unserved_kind config r (Unservable path url) unserved =

@@ -23,6 +23,9 @@
 --                                           a part of the walk: what so many visits leave, unless it is refused; and
 --                                           whatever it ends with, no more steps than `most` visits and the free
 --                                           requests
+--     IsOneRequest config asks old new before after is_ready result
+--                                           a part of the walk that is one request: one step at most, and one request
+--                                           more in the tables, unless it is refused
 use Rattle.std.specs.Prelude.{◌≡◌, ◌≢◌, ◌≤◌, ◌+◌, ◌++◌, [], ℕ, List, length, Some, None, Result, Ok, Err, All, false}
 use Rattle.std.specs.Prelude.{IfErr, OnOk}
 use Rattle.std.specs.List.{list_any}
@@ -149,3 +152,10 @@ pub record Walks (config : Config) (visits most : ℕ) (asks : Type 0) (old new 
   pub advances : OnOk result (Advances config visits asks old new before after is_ready)
   pub bounded : IsBounded most old before after
   pub kind : IfErr result (IsOfWalk config)
+
+-- a part that is one request
+pub record IsOneRequest (config : Config) (asks : Type 0) (old new : Tables) (before after : ℕ) (is_ready : Type 0)
+    (result : Result (Unit {0}) TraceFault) : Type 0 where
+  pub walks : Walks config 0 0 asks old new before after is_ready result
+  pub step : after ≤ before + 1
+  pub counts : OnOk result (new.requests ≡ old.requests + 1)

@@ -1,10 +1,9 @@
 ghost use Rattle.std.specs.Prelude.{ℕ};
 ghost use Rattle.asking_spec.specs.Askings.{ask, answered};
 ghost use Rattle.trace_spec.specs.Questions.{of_module, of_request};
-ghost use Rattle.trace_walk.specs.Answering.{IsAnswered};
+ghost use Rattle.trace_walk.specs.Answering.{IsAnswered, IsSourceAnswered};
 ghost use Rattle.trace_walk.specs.Meeting.{AnswererState, Met, fine};
 ghost use Rattle.trace_walk.specs.Shown.{sources, resolutions};
-ghost use Rattle.module_sources.specs.Shown.{NamesLimit};
 
 use condition_match::Conditions;
 use module_sources::{NoSource, Source};
@@ -41,8 +40,7 @@ pub trait Answerer {
         requires ready { ready self.old }
         ensures met { Met (state self.old) (fine (ask (of_module path.now) answered)) (sources result)
             (state self.new) }
-        ensures answered { IsAnswered result (steps self.old) (steps self.new) (ready self.new) }
-        ensures limit { NamesLimit result };
+        ensures answered { IsSourceAnswered result (steps self.old) (steps self.new) (ready self.new) };
 
     /// Where a specifier in the file at a path leads.
     fn request(

@@ -1,4 +1,4 @@
-ghost use Rattle.std.specs.Prelude.{◌≡◌, ◌≢◌, ◌≤◌, ◌<◌, ◌+◌, ℕ, List, length, Some, Ok, IfOk, IfErr, OnOk};
+ghost use Rattle.std.specs.Prelude.{◌≡◌, ◌≢◌, ◌≤◌, ◌<◌, ℕ, List, length, Some, Ok, IfOk, IfErr, MatchResult};
 ghost use Rattle.tree_spec.specs.declared.LimitName.TheVariants.{Requests, Specifier};
 ghost use Rattle.tree_spec.specs.Limits.{limit_number};
 ghost use Rattle.url_spec.specs.Parsing.{IsUrl};
@@ -8,7 +8,7 @@ ghost use Rattle.trace_spec.specs.Checks.{Gathered, wanted_by, checked, follows}
 ghost use Rattle.trace_walk.specs.Kinds.{IsOfWalk};
 ghost use Rattle.trace_walk.specs.Meeting.{Met};
 ghost use Rattle.trace_walk.specs.Refusing.{IsUnwanted};
-ghost use Rattle.trace_walk.specs.Walking.{IsReferrer, AllNamed, AreBeside, IsGiven, wanted_of, Walks};
+ghost use Rattle.trace_walk.specs.Walking.{IsReferrer, AllNamed, AreBeside, IsGiven, wanted_of, IsOneRequest};
 ghost use Rattle.trace_walk.specs.Shown.{before_of, done};
 
 use crate::answerer::{Answerer, NodeAnswer};
@@ -38,10 +38,8 @@ pub(crate) fn follow<A: Answerer>(
         → AllNamed config.now tables.old.modules.entries
         → Met (A.state answerer.old) (follows config.now (before_of tables.old) r specifier.now)
         (done result tables.new) (A.state answerer.new) }
-    ensures walks { Walks config.now 0 0 (IsUrl referrer.now.text) tables.old tables.new
+    ensures one { IsOneRequest config.now (IsUrl referrer.now.text) tables.old tables.new
         (A.steps answerer.old) (A.steps answerer.new) (A.ready answerer.new) result }
-    ensures step { A.steps answerer.new ≤ A.steps answerer.old + 1 }
-    ensures counts { OnOk result (tables.new.requests ≡ tables.old.requests + 1) }
 {
     let asked = check(alloc, tables.requests, referrer, specifier)?;
     let conditions = config.conditions();
@@ -69,9 +67,9 @@ fn check(
     ensures checked { (config : spec.Config) (before : Gathered) (r : Referring spec.Module)
         → before.requests ≡ requests → IsReferrer config r referrer.now
         → IsGiven (checked config before r specifier.now) (wanted_of referrer.now.name result) }
-    ensures room { IfOk result (λ _. requests < limit_number Requests) }
-    ensures short { IfOk result (λ _. length specifier.now ≤ limit_number Specifier) }
-    ensures kind { IfErr result (λ fault. (config : spec.Config) → IsOfWalk config fault) }
+    ensures within { MatchResult result
+        (λ _. (requests < limit_number Requests) × (length specifier.now ≤ limit_number Specifier))
+        (λ fault. (config : spec.Config) → IsOfWalk config fault) }
 {
     if requests >= MOST_REQUESTS {
         return Err(TraceFault::Limit {

@@ -19,9 +19,8 @@ pub fn served_url(
     path: &Path,
     suffix: &Suffix,
 ) -> Result<WebUrl, TraceFault>
-    ensures name { IfOk result (λ url. web config.now.base path.now suffix.now ≡ Some url) }
-    ensures served { IfOk result (λ url. served_name config.now.base path.now
-        (web config.now.base path.now suffix.now) ≡ Some url) }
+    ensures served { IfOk result (λ url. (web config.now.base path.now suffix.now ≡ Some url)
+        × (served_name config.now.base path.now (web config.now.base path.now suffix.now) ≡ Some url)) }
     ensures unserved { IfErr result (λ fault. fault ≢ TraceFault.Memory
         → IsUnserved config.now path.now suffix.now fault) }
 {

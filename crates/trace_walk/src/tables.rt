@@ -1,5 +1,5 @@
 ghost use Rattle.std.specs.Prelude.{◌≡◌, ◌≢◌, ◌≤◌, ◌<◌, ◌++◌, ◌∷◌, [], ℕ, List, Option, Some, None, Ok, Err};
-ghost use Rattle.std.specs.Prelude.{true, false, length, slice_get, IfOk, IfErr, IfSome, OnOk};
+ghost use Rattle.std.specs.Prelude.{true, false, length, slice_get, IfOk, IfErr, IfSome, OnOk, MatchResult};
 ghost use Rattle.std.specs.List.{list_any};
 ghost use Rattle.indexmap.specs.IndexMap.{keys};
 ghost use Rattle.tree_spec.specs.declared.LimitName.TheVariants.{Modules, Requests, Specifier};
@@ -216,10 +216,9 @@ fn name_of(
     target: &Module,
 ) -> Result<Name, TraceFault>
     requires short { length specifier.now ≤ limit_number Specifier }
-    ensures named { IfOk result (IsNamed config.now target.now) }
+    ensures named { MatchResult result (IsNamed config.now target.now) (IsOfWalk config.now) }
     ensures misnamed { IfErr result (λ fault. fault ≢ TraceFault.Memory
         → IsMisnamed config.now referrer.now specifier.now target.now fault) }
-    ensures kind { IfErr result (IsOfWalk config.now) }
 {
     let url = served_url(alloc, config, target.path(), target.suffix())?;
     if is_folder_url(&url) {
@@ -238,10 +237,8 @@ fn known_text(
     ensures unknown { IfOk result (λ found. found ≡ None
         → list_any (spec.is_module target.now) (keys modules.now) ≡ false) }
     ensures known { IfOk result (λ found. IfSome found
-        (λ text. list_any (spec.is_module target.now) (keys modules.now) ≡ true)) }
-    ensures text { IfOk result (λ found. IfSome found
-        (λ text. (config : spec.Config) → AllNamed config modules.now.entries
-        → file_name config target.now ≡ Some text)) }
+        (λ text. (list_any (spec.is_module target.now) (keys modules.now) ≡ true)
+        × ((config : spec.Config) → AllNamed config modules.now.entries → file_name config target.now ≡ Some text))) }
 {
     match modules.get(target) {
         None => Ok(None),

@@ -68,8 +68,8 @@ fn visit_page<A: Answerer>(
 
 // The page as it makes requests, where it can be served.
 fn page_referrer(alloc: Global, config: &Config) -> Result<Referrer, TraceFault>
-    ensures is { IfOk result (IsReferrer config.now the_page) }
-    ensures served { IfOk result (λ referrer. served_at config.now the_page ≡ Some referrer.name) }
+    ensures served { IfOk result (λ referrer. IsReferrer config.now the_page referrer
+        × (served_at config.now the_page ≡ Some referrer.name)) }
     ensures unserved { IfErr result (λ fault. fault ≢ TraceFault.Memory
         → IsUnserved config.now config.now.page [] fault) }
 {

@@ -14,7 +14,7 @@ use Rattle.tree_spec.specs.declared.Entry.{Entry}
 use Rattle.tree_spec.specs.declared.LimitName.{LimitName}
 use Rattle.tree_spec.specs.declared.LimitName.TheVariants.{Looks, File, Bytes}
 
-abbrev LookEnd : Type 0 → Type 0
+abbrev pub LookEnd : Type 0 → Type 0
 LookEnd X = Ended X Trail LimitName
 
 -- the same end with this value

@@ -101,13 +101,13 @@ FoldersClimb = (path : List ℕ) → IsPath path → Climbs path (folders_from p
 abbrev pub FolderIsParent : Type 0
 FolderIsParent = (parent path : List ℕ) → IsParent parent path → folder_of path ≡ parent
 
--- own: a footprint has each path at which an asking looks once, and no other
+-- own: a footprint has, once each, the paths at which an asking looks, and no other
 pub record IsFootprintOf {X : Type 0} (sights : Sights) (asking : LookAsking X) : Type 0 where
   pub distinct : IsDistinct bytes_eq (footprint sights asking)
   pub same_paths :
       (path : List ℕ) → is_seen path (footprint sights asking) ≡ is_seen path (looks sights asking)
 
--- the footprint of an asking has each path at which it looks once, and no other
+-- the footprint of an asking has, once each, the paths at which it looks, and no other
 abbrev pub FootprintIsSet : Type 0 → Type 0
 FootprintIsSet X = (sights : Sights) (asking : LookAsking X) → IsFootprintOf sights asking
 

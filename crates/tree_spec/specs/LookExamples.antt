@@ -32,18 +32,15 @@ told_sights =
     ∷ ("/four", Stored (replicate 4 7))
     ∷ [])
 
-abbrev pub texts : List String → List (List ℕ)
-texts paths = map (λ (path : String). codes path) paths
-
 abbrev pub trail : List String → ℕ → List String → Trail
-trail paths size question = record { paths = texts paths; size = size; question = texts question }
+trail paths size question = record { paths = map codes paths; size = size; question = map codes question }
 
 abbrev pub Ends : Trail → List String → Trail → Type 0
-Ends before paths after = evaluated (limited few told_sights) before (look_at_each (texts paths)) ≡ ends tt after
+Ends before paths after = evaluated (limited few told_sights) before (look_at_each (map codes paths)) ≡ ends tt after
 
 abbrev pub Stops : Trail → List String → LimitName → Trail → Type 0
 Stops before paths name after =
-    evaluated (limited few told_sights) before (look_at_each (texts paths)) ≡ stopped name after
+    evaluated (limited few told_sights) before (look_at_each (map codes paths)) ≡ stopped name after
 
 pub record LimitExamples : Type 0 where
   pub nothing : Ends (trail [] 0 []) [] (trail [] 0 [])
@@ -71,12 +68,13 @@ pub record LimitExamples : Type 0 where
       (trail ("/three" ∷ "/a" ∷ []) 3 ("/three" ∷ []))
 
 pub record FootprintExamples : Type 0 where
-  pub each_once : footprint told_sights (look_at_each (texts ("/b" ∷ "/a" ∷ "/b" ∷ []))) ≡ texts ("/b" ∷ "/a" ∷ [])
+  pub each_once :
+      footprint told_sights (look_at_each (map codes ("/b" ∷ "/a" ∷ "/b" ∷ []))) ≡ map codes ("/b" ∷ "/a" ∷ [])
   pub none : footprint told_sights (look_at_each []) ≡ []
 
 pub record FolderExamples : Type 0 where
-  pub of_root : folders_from (codes "/") ≡ texts ("/" ∷ [])
-  pub of_file : folders_from (codes "/a/b.c/d") ≡ texts ("/a/b.c/d" ∷ "/a/b.c" ∷ "/a" ∷ "/" ∷ [])
+  pub of_root : folders_from (codes "/") ≡ map codes ("/" ∷ [])
+  pub of_file : folders_from (codes "/a/b.c/d") ≡ map codes ("/a/b.c/d" ∷ "/a/b.c" ∷ "/a" ∷ "/" ∷ [])
   pub root_of_root : folder_of (codes "/") ≡ codes "/"
   pub in_root : folder_of (codes "/a") ≡ codes "/"
   pub below : folder_of (codes "/a/b") ≡ codes "/a"

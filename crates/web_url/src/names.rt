@@ -38,9 +38,8 @@ impl From<AllocError> for WebFault {
 
 /// The web name of a module: its path and its suffix.
 pub fn web_of(alloc: Global, base: &Base, path: &Path, suffix: &Suffix) -> Result<WebUrl, WebFault>
-    ensures url { IfOk result (λ url. (web base.now path.now suffix.now ≡ Some url) × IsServed base.now url path.now) }
-    ensures file { IfOk result (λ url. suffix.now ≡ [] → path.now ≢ codes "/" → ends_with nat_eq url (codes "/")
-        ≡ false) }
+    ensures url { IfOk result (λ url. (web base.now path.now suffix.now ≡ Some url) × IsServed base.now url path.now
+        × (suffix.now ≡ [] → path.now ≢ codes "/" → ends_with nat_eq url (codes "/") ≡ false)) }
     ensures fault { IfErr result (IsUnservable base.now path.now suffix.now) }
 {
     let text = web_text(alloc, base, path, suffix)?;

@@ -20,7 +20,7 @@ static BASES: [(&str, &str); 8] = [
 
 #[test]
 fn bases(rt: HostRuntime) -> Result<(), Fail> {
-    for (text, expected) in BASES {
+    for &(text, expected) in &BASES {
         match Base::parse(rt.alloc(), text) {
             Ok(base) => assert_eq!(rt; base.as_str(), expected),
             Err(BaseFault::BadBase) => assert_eq!(rt; "bad", expected),
@@ -58,7 +58,7 @@ fn served_text(alloc: Global, base: &Base, url: &WebUrl) -> Result<String, Fail>
 #[test]
 fn names(rt: HostRuntime) -> Result<(), Fail> {
     let base = Base::parse(rt.alloc(), "https://app.test/")?.copy(rt.alloc())?;
-    for (path, suffix, expected) in NAMES {
+    for &(path, suffix, expected) in &NAMES {
         let url = name(rt.alloc(), &base, path, suffix)?;
         assert_eq!(rt; url.as_str(), expected);
         let back = served_text(rt.alloc(), &base, &url)?;
@@ -76,7 +76,7 @@ static PARSED: [(&str, &str); 4] = [
 
 #[test]
 fn parsed(rt: HostRuntime) -> Result<(), Fail> {
-    for (text, expected) in PARSED {
+    for &(text, expected) in &PARSED {
         match WebUrl::parse(rt.alloc(), text)? {
             Some(url) => {
                 let copy = url.copy(rt.alloc())?.into_text(rt.alloc())?;
@@ -111,7 +111,7 @@ fn asked_text(asked: &Result<Asked, AskFault>) -> &str {
 #[test]
 fn asked(rt: HostRuntime) -> Result<(), Fail> {
     let referrer = WebUrl::parse(rt.alloc(), "https://h/a/b.mjs")?.expect(&rt, "a URL");
-    for (specifier, expected) in ASKED {
+    for &(specifier, expected) in &ASKED {
         let asked = ask(rt.alloc(), specifier, &referrer);
         assert_eq!(rt; asked_text(&asked), expected);
     }
@@ -131,7 +131,7 @@ static SCHEMES: [(&str, Scheme); 8] = [
 
 #[test]
 fn schemes(rt: HostRuntime) -> Result<(), Fail> {
-    for (specifier, expected) in SCHEMES {
+    for &(specifier, expected) in &SCHEMES {
         let scheme = scheme_of(rt.alloc(), specifier)?;
         assert!(rt; scheme == expected);
     }
@@ -148,7 +148,7 @@ static NORMALIZED: [(&str, &str); 4] = [
 #[test]
 fn normal_forms(rt: HostRuntime) -> Result<(), Fail> {
     let referrer = WebUrl::parse(rt.alloc(), "https://h/a/b.mjs")?.expect(&rt, "a URL");
-    for (specifier, expected) in NORMALIZED {
+    for &(specifier, expected) in &NORMALIZED {
         let text = normalized(rt.alloc(), specifier, &referrer)?;
         assert_eq!(rt; text.as_str(), expected);
     }
@@ -164,7 +164,7 @@ static FILES: [(&str, bool, &str); 4] = [
 
 #[test]
 fn files(rt: HostRuntime) -> Result<(), Fail> {
-    for (path, folder, expected) in FILES {
+    for &(path, folder, expected) in &FILES {
         let path = Path::parse(rt.alloc(), path)?;
         let url = file_url(rt.alloc(), &path, folder)?.copy(rt.alloc())?;
         assert_eq!(rt; url.as_str(), expected);
@@ -218,7 +218,7 @@ fn path_text(place: &Place) -> &str {
 fn places(rt: HostRuntime) -> Result<(), Fail> {
     let file = Path::parse(rt.alloc(), "/a/b.mjs")?;
     let parent = file_url(rt.alloc(), &file, false)?;
-    for (text, expected) in JOINED {
+    for &(text, expected) in &JOINED {
         let place = joined_place(rt.alloc(), text, &parent)?;
         assert_eq!(rt; place.as_str(), expected);
     }

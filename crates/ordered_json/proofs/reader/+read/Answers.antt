@@ -126,8 +126,8 @@ read_other-returns-clause-left t c =
     left_of _ c.read_scalar.result (λ x. x.0) (λ x. x.1.now) c.read_scalar.ensures.whole
     (scalar_result_shorter _ c.read_scalar.result (λ x. json_of x.0) (λ x. x.1.now) c.read_scalar.ensures.reads)
 
-pub begin_value-returns-then-depth-eq0-clause-fails : goal.begin_value-returns-then-depth-eq0-clause-fails
-begin_value-returns-then-depth-eq0-clause-fails t c = deep_list _ _ _ _ c.if-depth-eq0.true c.in-Some.ensures refl
+pub begin_value-returns-then-depth-eq0-clause-begins : goal.begin_value-returns-then-depth-eq0-clause-begins
+begin_value-returns-then-depth-eq0-clause-begins t c = deep_list _ _ _ _ c.if-depth-eq0.true c.in-Some.ensures refl
 
 pub begin_value-put-requires : goal.begin_value-put-requires
 begin_value-put-requires t c = shown_inside (shown_kept c.in_ok-value.ensures.kept.shown c.requires)
@@ -154,11 +154,11 @@ read_value-loop-awaited-init t c = begins _ _ _
 pub read_value-begin_value-requires : goal.read_value-begin_value-requires
 read_value-begin_value-requires t c = (omega arith, shown_now c.loop-awaited.invariant.added c.requires)
 
-pub read_value-returns-in_err-awaited-clause-fails : goal.read_value-returns-in_err-awaited-clause-fails
-read_value-returns-in_err-awaited-clause-fails t c =
+pub read_value-returns-in_err-awaited-clause-reads : goal.read_value-returns-in_err-awaited-clause-reads
+read_value-returns-in_err-awaited-clause-reads t c =
     let p = err_from_is_err_and c.from_residual.result c.from_residual.ensures.1 in
     let awaits = c.loop-awaited.invariant in
-    rw (p.1, p.2) (read_fails awaits _ (left_is awaits _ _ c.depth.ensures c.depth-outside.ensures) _ c.in_err-awaited.ensures.fails)
+    rw (p.1, p.2) (read_fails awaits _ (left_is awaits _ _ c.depth.ensures c.depth-outside.ensures) _ c.in_err-awaited.ensures.begins)
 
 pub read_value-loop-awaited-preserved-then-awaited : goal.read_value-loop-awaited-preserved-then-awaited
 read_value-loop-awaited-preserved-then-awaited t c =
@@ -171,12 +171,12 @@ read_value-go_up-requires t c =
     let behind = begun awaits _ _ (left_is awaits _ _ c.depth.ensures c.depth-outside.ensures) false _ (rw c.if-awaited.false at c.in_ok-awaited.ensures.begins) c.in_ok-awaited.ensures.shorter in
     shown_inside (shown_now behind.added c.requires)
 
-pub read_value-returns-in_err-again-clause-fails : goal.read_value-returns-in_err-again-clause-fails
-read_value-returns-in_err-again-clause-fails t c =
+pub read_value-returns-in_err-again-clause-reads : goal.read_value-returns-in_err-again-clause-reads
+read_value-returns-in_err-again-clause-reads t c =
     let p = err_from_is_err_and c.from_residual-in_err-again.result c.from_residual-in_err-again.ensures.1 in
     let awaits = c.loop-awaited.invariant in
     let behind = begun awaits _ _ (left_is awaits _ _ c.depth.ensures c.depth-outside.ensures) false _ (rw c.if-awaited.false at c.in_ok-awaited.ensures.begins) c.in_ok-awaited.ensures.shorter in
-    rw (p.1, p.2) (stopped_above c.depth-outside.result _ c.depth-outside.ensures behind c.in_err-again.ensures.stops)
+    rw (p.1, p.2) (stopped_above c.depth-outside.result _ c.depth-outside.ensures behind c.in_err-again.ensures.goes)
 
 pub read_value-loop-awaited-preserved : goal.read_value-loop-awaited-preserved
 read_value-loop-awaited-preserved t c =

@@ -14,8 +14,8 @@ pub loop-forest-preserved : goal.loop-forest-preserved
 loop-forest-preserved c =
     record { passed = bracket_passed c.loop-forest.invariant.passed (omega (arith, c.loop-forest-test.true, c.depth.ensures)) (rw c.if-again.false at c.in_ok-again.ensures.goes); inside = (rw c.if-again.false at c.in_ok-again.ensures.goes).inside; shorter = omega (arith, c.loop-forest.invariant.shorter, c.in_ok-again.ensures.shorter) }
 
-pub returns-in_err-again-clause-stops : goal.returns-in_err-again-clause-stops
-returns-in_err-again-clause-stops c =
+pub returns-in_err-again-clause-goes : goal.returns-in_err-again-clause-goes
+returns-in_err-again-clause-goes c =
     let p = err_from_is_err_and c.from_residual.result c.from_residual.ensures.1 in
     rw (p.1, p.2) (c.loop-forest.invariant.passed.stops _ (stops_here (omega (arith, c.loop-forest-test.true, c.depth.ensures)) c.in_err-again.ensures.goes))
 

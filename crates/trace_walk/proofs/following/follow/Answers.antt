@@ -1,11 +1,11 @@
-use Rattle.std.proofs.Common.{◌≡◌, Ok, Err, refl, sym, subst}
+use Rattle.std.proofs.Common.{◌≡◌, Ok, Err, refl, sym, subst, arith}
 use Rattle.tree_spec.specs.declared.LimitName.TheVariants.{Depth}
 use Rattle.trace_spec.specs.declared.TraceFault.TheVariants.{Limit, Memory}
 use Rattle.trace_walk.specs.Kinds.{IsOfWalk}
 use Rattle.trace_walk.specs.Shown.{before_of, done, answer_of}
 use Rattle.trace_walk.specs.declared.answerer.NodeAnswer.TheVariants.{Refused, TooDeep}
 use Rattle.trace_walk.proofs.FaultKinds.{answers_kind}
-use Rattle.trace_walk.proofs.Advancing.{bounded_none, bounded_request, walks_refused, walks_put}
+use Rattle.trace_walk.proofs.Advancing.{bounded_none, bounded_request, one_refused, one_put}
 use Rattle.trace_walk.proofs.FollowedRequests.{follow_refused, follow_failed, follow_lost, follow_led, given_refused, given_too_deep}
 use Rattle.trace_walk.proofs.following.follow.Goals as goal
 
@@ -41,24 +41,27 @@ returns-in_err-refusal-in-Refused-clause-met g c = λ r is all.
     follow_lost _ _ c.args.config.now (before_of c.args.tables.now) r c.conditions-conditions.result.now c.args.referrer.now.path c.args.specifier.now (record { referrer = c.args.referrer.now.name; asked = c.in_ok-asked.asked }) (answer_of (Refused c.in-Refused.cause)) c.from_residual-in_err-refusal-in-Refused.result c.args.tables.now
     c.conditions-conditions.ensures is.path c.from_residual-in_err-refusal-in-Refused.ensures.1 ((c.in_ok-asked.ensures.checked c.args.config.now (before_of c.args.tables.now) r refl is).given (λ e. cc)) (rw (c.as_str.ensures, c.in-Refused.is) at c.in_ok-path.ensures.met)
 
-pub returns-in_err-asked-clause-walks : goal.returns-in_err-asked-clause-walks
-returns-in_err-asked-clause-walks g c =
-    walks_refused c.args.config.now 0 0 _ _ _ _ _ _ c.in_err-asked.field-0.0 c.from_residual.result c.from_residual.ensures.1 (bounded_none 0 c.args.tables.now _) (c.in_err-asked.ensures.kind c.args.config.now)
+pub returns-in_err-asked-clause-one : goal.returns-in_err-asked-clause-one
+returns-in_err-asked-clause-one g c =
+    one_refused c.args.config.now _ c.args.tables.now _ _ _ _ c.in_err-asked.field-0.0 c.from_residual.result c.from_residual.ensures.1 (omega arith) (bounded_none 0 c.args.tables.now _) (c.in_err-asked.ensures.within c.args.config.now)
 
-pub returns-in_err-path-clause-walks : goal.returns-in_err-path-clause-walks
-returns-in_err-path-clause-walks g c =
-    walks_refused c.args.config.now 0 0 _ _ _ _ _ _ c.in_err-path.field-0.0 c.from_residual-in_err-path.result c.from_residual-in_err-path.ensures.1 (bounded_request c.args.tables.now _ _ c.in_err-path.ensures.answered.steps c.in_ok-asked.ensures.room) (answers_kind c.args.config.now c.in_err-path.field-0.0 c.in_err-path.ensures.answered.kind)
+pub returns-in_err-path-clause-one : goal.returns-in_err-path-clause-one
+returns-in_err-path-clause-one g c =
+    one_refused c.args.config.now _ c.args.tables.now _ _ _ _ c.in_err-path.field-0.0 c.from_residual-in_err-path.result c.from_residual-in_err-path.ensures.1 c.in_err-path.ensures.answered.steps (bounded_request c.args.tables.now _ _ c.in_err-path.ensures.answered.steps c.in_ok-asked.ensures.within.0)
+    (answers_kind c.args.config.now c.in_err-path.field-0.0 c.in_err-path.ensures.answered.kind)
 
-pub returns-in-Resolved-clause-walks : goal.returns-in-Resolved-clause-walks
-returns-in-Resolved-clause-walks g c = walks_put _ _ _ _ _ _ _ c.put.result c.in_ok-path.ensures.answered.steps c.in_ok-asked.ensures.room c.in_ok-path.ensures.answered.ready c.put.ensures.puts
+pub returns-in-Resolved-clause-one : goal.returns-in-Resolved-clause-one
+returns-in-Resolved-clause-one g c = one_put _ _ _ _ _ _ _ c.put.result c.in_ok-path.ensures.answered.steps c.in_ok-asked.ensures.within.0 c.in_ok-path.ensures.answered.ready c.put.ensures.puts
 
-pub returns-in_ok-refusal-in-Refused-clause-walks : goal.returns-in_ok-refusal-in-Refused-clause-walks
-returns-in_ok-refusal-in-Refused-clause-walks g c =
-    walks_refused c.args.config.now 0 0 _ _ _ _ _ _ c.in_ok-refusal-in-Refused.field-0 (Err c.in_ok-refusal-in-Refused.field-0) refl (bounded_request c.args.tables.now _ _ c.in_ok-path.ensures.answered.steps c.in_ok-asked.ensures.room)
-    (subst (IsOfWalk c.args.config.now) (sym c.in_ok-refusal-in-Refused.ensures) c.in_ok-asked.ensures.short)
+pub returns-in_ok-refusal-in-Refused-clause-one : goal.returns-in_ok-refusal-in-Refused-clause-one
+returns-in_ok-refusal-in-Refused-clause-one g c =
+    one_refused c.args.config.now _ c.args.tables.now _ _ _ _ c.in_ok-refusal-in-Refused.field-0 (Err c.in_ok-refusal-in-Refused.field-0) refl c.in_ok-path.ensures.answered.steps (bounded_request c.args.tables.now _ _ c.in_ok-path.ensures.answered.steps c.in_ok-asked.ensures.within.0)
+    (subst (IsOfWalk c.args.config.now) (sym c.in_ok-refusal-in-Refused.ensures) c.in_ok-asked.ensures.within.1)
 
-pub returns-in-TooDeep-clause-walks : goal.returns-in-TooDeep-clause-walks
-returns-in-TooDeep-clause-walks g c = walks_refused c.args.config.now 0 0 _ _ _ _ _ _ (Limit Depth) (Err (Limit Depth)) refl (bounded_request c.args.tables.now _ _ c.in_ok-path.ensures.answered.steps c.in_ok-asked.ensures.room) tt
+pub returns-in-TooDeep-clause-one : goal.returns-in-TooDeep-clause-one
+returns-in-TooDeep-clause-one g c =
+    one_refused c.args.config.now _ c.args.tables.now _ _ _ _ (Limit Depth) (Err (Limit Depth)) refl c.in_ok-path.ensures.answered.steps (bounded_request c.args.tables.now _ _ c.in_ok-path.ensures.answered.steps c.in_ok-asked.ensures.within.0) tt
 
-pub returns-in_err-refusal-in-Refused-clause-walks : goal.returns-in_err-refusal-in-Refused-clause-walks
-returns-in_err-refusal-in-Refused-clause-walks g c = walks_refused c.args.config.now 0 0 _ _ _ _ _ _ Memory c.from_residual-in_err-refusal-in-Refused.result c.from_residual-in_err-refusal-in-Refused.ensures.1 (bounded_request c.args.tables.now _ _ c.in_ok-path.ensures.answered.steps c.in_ok-asked.ensures.room) tt
+pub returns-in_err-refusal-in-Refused-clause-one : goal.returns-in_err-refusal-in-Refused-clause-one
+returns-in_err-refusal-in-Refused-clause-one g c =
+    one_refused c.args.config.now _ c.args.tables.now _ _ _ _ Memory c.from_residual-in_err-refusal-in-Refused.result c.from_residual-in_err-refusal-in-Refused.ensures.1 c.in_ok-path.ensures.answered.steps (bounded_request c.args.tables.now _ _ c.in_ok-path.ensures.answered.steps c.in_ok-asked.ensures.within.0) tt

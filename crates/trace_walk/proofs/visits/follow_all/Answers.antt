@@ -22,7 +22,7 @@ loop-next-preserved g c =
       left = λ r is all.
           left_goes _ _ _ _ (follows c.args.config.now (before_of c.loop-next.tables) r c.unwrap-specifier.result.now) (λ after. followed (rules c.args.config.now) after r (drop (c.loop-next.next + 1) (specifiers_of c.args.specifiers))) (before_of c.follow.new.tables)
           (rw rest at (c.loop-next.invariant.left r is all)) (c.in_ok-follow.ensures.met r is (c.loop-next.invariant.advances.grows.named all));
-      advances = advances_on _ 0 0 _ _ _ _ _ _ _ _ _ _ (λ url. url) c.loop-next.invariant.advances c.in_ok-follow.ensures.walks.advances;
+      advances = advances_on _ 0 0 _ _ _ _ _ _ _ _ _ _ (λ url. url) c.loop-next.invariant.advances c.in_ok-follow.ensures.one.walks.advances;
     }
 
 pub returns-in_err-follow-clause-met : goal.returns-in_err-follow-clause-met
@@ -41,7 +41,7 @@ returns-clause-met g c = λ r is all.
 
 pub returns-in_err-follow-clause-walks : goal.returns-in_err-follow-clause-walks
 returns-in_err-follow-clause-walks g c =
-    walks_stopped c.args.config.now 0 0 0 0 _ _ _ _ _ _ _ _ _ _ _ c.in_err-follow.field-0.0 c.from_residual.result (omega arith) c.from_residual.ensures.1 c.loop-next.invariant.advances c.in_err-follow.ensures.walks
+    walks_stopped c.args.config.now 0 0 0 0 _ _ _ _ _ _ _ _ _ _ _ c.in_err-follow.field-0.0 c.from_residual.result (omega arith) c.from_residual.ensures.1 c.loop-next.invariant.advances c.in_err-follow.ensures.one.walks
 
 pub returns-clause-walks : goal.returns-clause-walks
 returns-clause-walks g c = walks_done _ 0 0 _ _ _ _ _ _ _ (omega arith) c.loop-next.invariant.advances

@@ -22,7 +22,7 @@ returns-in_ok-push_source-in-Ok-clause-met g c = λ m is all.
 pub returns-in_ok-push_source-in-Ok-clause-walks : goal.returns-in_ok-push_source-in-Ok-clause-walks
 returns-in_ok-push_source-in-Ok-clause-walks g c =
     let pushed : Tables = record { modules = c.args.tables.now.modules; sources = c.push_source.new.sources; needs = c.args.tables.now.needs; spellings = c.args.tables.now.spellings; requests = c.args.tables.now.requests } in
-    walks_visit c.args.config.now _ c.args.tables.now pushed c.follow_all.new.tables c.in-Ok.source _ _ _ _ c.follow_all.result refl c.in_ok-push_source-in-Ok.ensures refl refl c.in_ok-source.ensures.answered.steps c.follow_all.ensures.walks
+    walks_visit c.args.config.now _ c.args.tables.now pushed c.follow_all.new.tables c.in-Ok.source _ _ _ _ c.follow_all.result refl c.in_ok-push_source-in-Ok.ensures refl refl c.in_ok-source.ensures.answered.answered.steps c.follow_all.ensures.walks
 
 pub returns-in_err-source-clause-met : goal.returns-in_err-source-clause-met
 returns-in_err-source-clause-met g c = λ m is all.
@@ -46,18 +46,18 @@ returns-in_err-no_source-in-Err-clause-met g c = λ m is all.
 
 pub returns-in_err-source-clause-walks : goal.returns-in_err-source-clause-walks
 returns-in_err-source-clause-walks g c =
-    walks_refused c.args.config.now 1 1 _ _ _ _ _ _ c.in_err-source.field-0.0 c.from_residual.result c.from_residual.ensures.1 (bounded_module c.args.tables.now _ _ c.in_err-source.ensures.answered.steps) (answers_kind c.args.config.now c.in_err-source.field-0.0 c.in_err-source.ensures.answered.kind)
+    walks_refused c.args.config.now 1 1 _ _ _ _ _ _ c.in_err-source.field-0.0 c.from_residual.result c.from_residual.ensures.1 (bounded_module c.args.tables.now _ _ c.in_err-source.ensures.answered.answered.steps) (answers_kind c.args.config.now c.in_err-source.field-0.0 c.in_err-source.ensures.answered.answered.kind)
 
 pub returns-in_ok-no_source-in-Err-clause-walks : goal.returns-in_ok-no_source-in-Err-clause-walks
 returns-in_ok-no_source-in-Err-clause-walks g c =
-    walks_refused c.args.config.now 1 1 _ _ _ _ _ _ c.in_ok-no_source-in-Err.field-0 (Err c.in_ok-no_source-in-Err.field-0) refl (bounded_module c.args.tables.now _ _ c.in_ok-source.ensures.answered.steps)
-    (subst (IsOfWalk c.args.config.now) (sym c.in_ok-no_source-in-Err.ensures) (source_kind c.args.config.now c.args.referrer.now.shown c.in-Err.why (rw c.in-Err.is at c.in_ok-source.ensures.limit)))
+    walks_refused c.args.config.now 1 1 _ _ _ _ _ _ c.in_ok-no_source-in-Err.field-0 (Err c.in_ok-no_source-in-Err.field-0) refl (bounded_module c.args.tables.now _ _ c.in_ok-source.ensures.answered.answered.steps)
+    (subst (IsOfWalk c.args.config.now) (sym c.in_ok-no_source-in-Err.ensures) (source_kind c.args.config.now c.args.referrer.now.shown c.in-Err.why (rw c.in-Err.is at c.in_ok-source.ensures.answered.limit)))
 
 pub returns-in_err-requests-in-Ok-clause-walks : goal.returns-in_err-requests-in-Ok-clause-walks
-returns-in_err-requests-in-Ok-clause-walks g c = walks_refused c.args.config.now 1 1 _ _ _ _ _ _ Memory c.from_residual-in_err-requests-in-Ok.result c.from_residual-in_err-requests-in-Ok.ensures.1 (bounded_module c.args.tables.now _ _ c.in_ok-source.ensures.answered.steps) tt
+returns-in_err-requests-in-Ok-clause-walks g c = walks_refused c.args.config.now 1 1 _ _ _ _ _ _ Memory c.from_residual-in_err-requests-in-Ok.result c.from_residual-in_err-requests-in-Ok.ensures.1 (bounded_module c.args.tables.now _ _ c.in_ok-source.ensures.answered.answered.steps) tt
 
 pub returns-in_err-push_source-in-Ok-clause-walks : goal.returns-in_err-push_source-in-Ok-clause-walks
-returns-in_err-push_source-in-Ok-clause-walks g c = walks_refused c.args.config.now 1 1 _ _ _ _ _ _ Memory c.from_residual-in_err-push_source-in-Ok.result c.from_residual-in_err-push_source-in-Ok.ensures.1 (bounded_module c.args.tables.now _ _ c.in_ok-source.ensures.answered.steps) tt
+returns-in_err-push_source-in-Ok-clause-walks g c = walks_refused c.args.config.now 1 1 _ _ _ _ _ _ Memory c.from_residual-in_err-push_source-in-Ok.result c.from_residual-in_err-push_source-in-Ok.ensures.1 (bounded_module c.args.tables.now _ _ c.in_ok-source.ensures.answered.answered.steps) tt
 
 pub returns-in_err-no_source-in-Err-clause-walks : goal.returns-in_err-no_source-in-Err-clause-walks
-returns-in_err-no_source-in-Err-clause-walks g c = walks_refused c.args.config.now 1 1 _ _ _ _ _ _ Memory c.from_residual-in_err-no_source-in-Err.result c.from_residual-in_err-no_source-in-Err.ensures.1 (bounded_module c.args.tables.now _ _ c.in_ok-source.ensures.answered.steps) tt
+returns-in_err-no_source-in-Err-clause-walks g c = walks_refused c.args.config.now 1 1 _ _ _ _ _ _ Memory c.from_residual-in_err-no_source-in-Err.result c.from_residual-in_err-no_source-in-Err.ensures.1 (bounded_module c.args.tables.now _ _ c.in_ok-source.ensures.answered.answered.steps) tt

@@ -8,7 +8,7 @@ use Rattle.trace_walk.proofs.visits.visit_page.Goals as goal
 
 pub returns-clause-met : goal.returns-clause-met
 returns-clause-met g c = λ all.
-    page_done _ _ c.args.config.now (before_of c.args.tables.now) c.in_ok-referrer.referrer.name (done c.follow_all.result c.follow_all.new.tables) c.in_ok-referrer.ensures.served (rw c.entries.ensures.entries at (c.follow_all.ensures.met the_page c.in_ok-referrer.ensures.is all))
+    page_done _ _ c.args.config.now (before_of c.args.tables.now) c.in_ok-referrer.referrer.name (done c.follow_all.result c.follow_all.new.tables) c.in_ok-referrer.ensures.served.1 (rw c.entries.ensures.entries at (c.follow_all.ensures.met the_page c.in_ok-referrer.ensures.served.0 all))
 
 pub returns-in_err-referrer-clause-met : goal.returns-in_err-referrer-clause-met
 returns-in_err-referrer-clause-met g c = λ all.
@@ -16,7 +16,7 @@ returns-in_err-referrer-clause-met g c = λ all.
 
 pub returns-clause-walks : goal.returns-clause-walks
 returns-clause-walks g c =
-    walks_as _ 0 0 _ _ _ _ _ _ _ c.follow_all.result (λ page. referrer_url c.args.config.now the_page c.in_ok-referrer.referrer c.in_ok-referrer.ensures.is) c.follow_all.ensures.walks
+    walks_as _ 0 0 _ _ _ _ _ _ _ c.follow_all.result (λ page. referrer_url c.args.config.now the_page c.in_ok-referrer.referrer c.in_ok-referrer.ensures.served.0) c.follow_all.ensures.walks
 
 pub returns-in_err-referrer-clause-walks : goal.returns-in_err-referrer-clause-walks
 returns-in_err-referrer-clause-walks g c =

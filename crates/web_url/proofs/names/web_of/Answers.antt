@@ -14,12 +14,9 @@ pub returns-then-branch-clause-url : goal.returns-then-branch-clause-url
 returns-then-branch-clause-url c = (
   sym (web_is c.args.base.now c.args.path.now c.args.suffix.now _ c.in_ok-text.ensures.text) ∙ ap parse_alone (sym c.as_str.ensures.value) ∙ sym c.in_ok-parse.ensures.url ∙ c.in-Some.is,
   c.in_ok-serves-in-Some.ensures.0 c.if-branch.true,
+  file_named c.args.base.now c.args.path.now c.args.suffix.now _ c.in-Some.url (c.as_str.ensures.value ∙ c.in_ok-text.ensures.text) (subst (λ found. IfSome found (IsParsedAs c.as_str.result.now)) c.in-Some.is c.in_ok-parse.ensures.valid) c.in_ok-text.ensures.bytes
+      (c.in_ok-serves-in-Some.ensures.0 c.if-branch.true),
 )
-
-pub returns-then-branch-clause-file : goal.returns-then-branch-clause-file
-returns-then-branch-clause-file c =
-    file_named c.args.base.now c.args.path.now c.args.suffix.now _ c.in-Some.url (c.as_str.ensures.value ∙ c.in_ok-text.ensures.text) (subst (λ found. IfSome found (IsParsedAs c.as_str.result.now)) c.in-Some.is c.in_ok-parse.ensures.valid) c.in_ok-text.ensures.bytes
-    (c.in_ok-serves-in-Some.ensures.0 c.if-branch.true)
 
 pub returns-clause-fault : goal.returns-clause-fault
 returns-clause-fault c = (

@@ -16,13 +16,13 @@ loop-rest-init c = (
   subst AreConditions (sym c.new-names.ensures) no_conditions,
 )
 
-pub returns-then-not-is_condition-clause-bad : goal.returns-then-not-is_condition-clause-bad
-returns-then-not-is_condition-clause-bad c =
+pub returns-then-not-is_condition-clause-names : goal.returns-then-not-is_condition-clause-names
+returns-then-not-is_condition-clause-names c =
     λ bad are. no_condition _ c.loop-rest.names _ _ (name_taken _ c.loop-rest.names c.loop-rest.rest c.in-Some.left _ _ c.loop-rest.invariant.0 c.in-Some.is c.cut_name.ensures)
     (λ is. true≢false (sym (c.is_condition.ensures.1 is) ∙ c.if-not-is_condition.true)) are
 
-pub returns-then-holds-clause-bad : goal.returns-then-holds-clause-bad
-returns-then-holds-clause-bad c =
+pub returns-then-holds-clause-names : goal.returns-then-holds-clause-names
+returns-then-holds-clause-names c =
     λ bad are. stands_twice _ c.loop-rest.names _ _ (name_taken _ c.loop-rest.names c.loop-rest.rest c.in-Some.left _ _ c.loop-rest.invariant.0 c.in-Some.is c.cut_name.ensures) (sym c.holds.ensures ∙ c.if-holds.true) are
 
 pub loop-rest-preserved : goal.loop-rest-preserved

@@ -1,12 +1,12 @@
 use Rattle.std.proofs.Common.{refl}
-use Rattle.need_table.proofs.Found.{fresh, is_known, clash_by, not_lost, no_memory}
+use Rattle.need_table.proofs.Found.{fresh, is_known, not_new, known_alike, clash_by, not_lost, no_memory}
 use Rattle.need_table.proofs.needs.Needs.add.Goals as goal
 
 pub returns-in-Some : goal.returns-in-Some
 returns-in-Some c = record {
-  new = λ e. absurd (c.judge.ensures.not_new e);
+  new = λ e. absurd (not_new c.judge.result _ c.judge.ensures.known e);
   known = λ e. rw (← c.self.view_is, ← c.new-row.ensures)
-      (is_known c.self.inside.rows.keys c.new-row.result c.in-Some.other.now c.in-Some.first c.len-apart.ensures.unique c.in-Some.ensures.0 c.in-Some.ensures.1 (rw c.need.ensures at (c.judge.ensures.known e)));
+      (is_known c.self.inside.rows.keys c.new-row.result c.in-Some.other.now c.in-Some.first c.len-apart.ensures.unique c.in-Some.ensures.0 c.in-Some.ensures.1 (rw c.need.ensures at (known_alike c.judge.result _ c.judge.ensures.known e)));
   clash = rw (← c.self.view_is, ← c.new-row.ensures) (clash_by c.self.inside.rows.keys c.new-row.result c.in-Some.other.now c.in-Some.first c.judge.result c.len-apart.ensures.unique c.in-Some.ensures.0 c.in-Some.ensures.1 (rw c.need.ensures at c.judge.ensures.clash));
   lost = λ e. absurd (not_lost c.judge.result c.in-Some.first _ c.judge.ensures.clash e);
   same = λ _. refl;
