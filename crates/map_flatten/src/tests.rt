@@ -483,7 +483,7 @@ fn typed(alloc: Global, mappings: &[Three]) -> Result<String, Fail> {
 #[test]
 fn agreed_layouts(rt: HostRuntime) -> Result<(), Fail> {
     let alloc = rt.alloc();
-    for &(rows, expected) in &LAYOUTS {
+    for (rows, expected) in LAYOUTS {
         let layout = agreed(alloc, &needs_of(alloc, rows)?)?;
         assert_eq!(rt;
             told(alloc, &layout)?.as_str(),

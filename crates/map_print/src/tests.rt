@@ -44,7 +44,7 @@ fn scopes(alloc: Global, scopes: &[(&str, Pair)]) -> Result<Scopes, Fail> {
 #[test]
 fn maps(rt: HostRuntime) -> Result<(), Fail> {
     let alloc = rt.alloc();
-    for &(rows, digests, expected) in &MAPS {
+    for (rows, digests, expected) in MAPS {
         let layout = Layout {
             imports: Mappings::new(alloc),
             scopes: scopes(alloc, rows)?,
