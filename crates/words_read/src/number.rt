@@ -1,4 +1,5 @@
 ghost use Rattle.std.specs.Prelude.{◌≡◌, ◌≤◌};
+ghost use Rattle.words_spec.specs.PlainWords.{most_packages};
 ghost use Rattle.words_spec.specs.Reading as reading;
 
 const MOST: u64 = 2000;
@@ -19,7 +20,7 @@ pub(crate) fn number_in(text: &str) -> Option<u64>
 
 // A number that is 0 or passes the most ends the reading, so a leading zero does, and nothing can overflow.
 fn next_number(number: u64, digit: u8) -> Option<u64>
-    requires { number ≤ 2000 }
+    requires { number ≤ most_packages }
     ensures { result ≡ reading.next_number number digit }
 {
     if digit < b'0' || b'9' < digit {

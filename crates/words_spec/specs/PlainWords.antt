@@ -6,6 +6,7 @@
 --     Asked                              what words ask for: a command with its values
 --     LinkOptions, no_options            the values of the options of `link`, where they are given
 --     spelled option, value_of option options, with_value option value options      one option
+--     most_packages                      the largest number that can stand behind `measure`
 use Rattle.std.specs.Fmt.{decimal}
 use Rattle.std.specs.Prelude.{◌≡◌, ◌≢◌, ◌≤◌, ℕ, List, [], ◌∷◌, ◌++◌, codes, All, Option, Some, None}
 use Rattle.words_spec.specs.declared.LinkOption.{LinkOption}
@@ -64,7 +65,11 @@ pub data LinkWords : LinkOptions → List (List ℕ) → Asked → Type 0 where
       → IsValue value → value_of option options ≡ None → LinkWords (with_value option value options) rest asked
       → LinkWords options ((spelled option ++ 61 ∷ value) ∷ rest) asked
 
--- own: a command's name, and behind it what it takes; a number is decimal, from 1 to 2,000, without leading zeros
+-- own: the largest number that `measure` takes
+abbrev pub most_packages : ℕ
+most_packages = 2000
+
+-- own: a command's name, and behind it what it takes; a number is decimal, from 1 on, without leading zeros
 pub data Asks : List (List ℕ) → Asked → Type 0 where
   link :
       {words : List (List ℕ)} {asked : Asked} → LinkWords no_options words asked → Asks (codes "link" ∷ words) asked
@@ -77,5 +82,5 @@ pub data Asks : List (List ℕ) → Asked → Type 0 where
   inject : Asks (codes "inject" ∷ []) injecting
   session : Asks (codes "session" ∷ []) editing
   measure :
-      (number : ℕ) → 1 ≤ number → number ≤ 2000
+      (number : ℕ) → 1 ≤ number → number ≤ most_packages
       → Asks (codes "measure" ∷ decimal number ∷ []) (measuring number)

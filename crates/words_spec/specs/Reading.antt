@@ -22,6 +22,7 @@ use Rattle.words_spec.specs.declared.LinkOption.{LinkOption}
 use Rattle.words_spec.specs.declared.LinkOption.TheVariants.{Base, Page, Conditions}
 use Rattle.words_spec.specs.PlainWords.{Asked, LinkOptions, no_options, spelled, value_of, with_value, linking}
 use Rattle.words_spec.specs.PlainWords.{unlinking, refreshing, checking, listing, injecting, editing, measuring}
+use Rattle.words_spec.specs.PlainWords.{most_packages}
 
 abbrev pub is_value : List ℕ → Bool
 is_value [] = false
@@ -79,11 +80,11 @@ link_reading (word ∷ rest) None options =
 link_reading (value ∷ rest) (Some option) options =
     option_and_then (link_reading rest None) (one_more options option value)
 
--- one more digit, where it is one and the number stays from 1 to 2,000
+-- one more digit, where it is one and the number stays from 1 to the most
 abbrev pub next_number : ℕ → ℕ → Option ℕ
 next_number number digit =
     if nat_lt digit 48 || nat_lt 57 digit then None
-    else (if (number * 10 + (digit - 48)) == 0 || nat_lt 2000 (number * 10 + (digit - 48)) then None
+    else (if (number * 10 + (digit - 48)) == 0 || nat_lt most_packages (number * 10 + (digit - 48)) then None
     else Some (number * 10 + (digit - 48)))
 
 abbrev pub with_number : Option ℕ → (ℕ → Option ℕ) → Option ℕ
