@@ -86,11 +86,9 @@ set_is_project :
     → Sets options settings → IsBase base → IsPagePath page → AreConditions conditions → IsDistinct bytes_eq entries
     → IsProject (set_over settings base page conditions entries)
 set_is_project options settings base page conditions entries sets is_base is_page are distinct =
-    let on_page = page_fits page sets.page is_page in
     record {
       base = base_fits base sets.base is_base;
-      page = on_page.is_path;
-      no_root = on_page.no_root;
+      page = page_fits page sets.page is_page;
       conditions = names_fit conditions sets.conditions are;
       distinct = distinct;
     }
@@ -178,11 +176,10 @@ linked_comes options settings entries None result sets fits is =
     new_comes options settings settings.base entries result sets refl is
 linked_comes options settings entries (Some old) result sets fits is =
     let held = (fits old refl).is_project in
-    let on_page : IsPagePath old.page = record { is_path = held.page; no_root = held.no_root } in
     few_comes (linking options entries) settings _ result is
     (set_keeps settings old.base old.page old.conditions (once_onto old.entries entries))
     (set_is_project options settings old.base old.page old.conditions (once_onto old.entries entries) sets held.base
-    on_page held.conditions (onto_distinct old.entries entries held.distinct))
+    held.page held.conditions (onto_distinct old.entries entries held.distinct))
     (onto_holds old.entries entries)
 
 without_fits : (entry : List ℕ) (config : Config) → Fits config
@@ -196,7 +193,6 @@ without_fits entry config fits =
           record {
             base = is.base;
             page = is.page;
-            no_root = is.no_root;
             conditions = is.conditions;
             distinct = filtered_distinct (λ other. not (bytes_eq entry other)) config.entries is.distinct;
           };

@@ -70,7 +70,7 @@ module _ (words : List (List ℕ)) (tree : Tree) where
   config_for command config is = configs_are_projects words tree command config is
 
   pub page_is_path : (command : Command) (config : Config) → IsConfigOf words tree command config → IsPath config.page
-  page_is_path command config is = (config_for command config is).is_project.page
+  page_is_path command config is = (config_for command config is).is_project.page.is_path
 
 -- what words and a tree come to before the tree's files are asked for
 pub data Judged (words : List (List ℕ)) (tree : Tree) : Type 0 where

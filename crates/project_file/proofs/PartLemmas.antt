@@ -113,8 +113,7 @@ describes value written config w f = record {
   is_project =
       record {
         base = bases_stay written.base.now config.base f.gives;
-        page = f.is_page.is_path;
-        no_root = f.is_page.no_root;
+        page = f.is_page;
         conditions = f.are_conditions;
         distinct = f.distinct;
       };
@@ -128,7 +127,7 @@ fills value written config w d =
     record {
       gives = ap base_of same.same_base ∙ d.gives;
       same_page = sym same.same_page;
-      is_page = record { is_path = d.is_project.page; no_root = d.is_project.no_root };
+      is_page = d.is_project.page;
       names = same.same_conditions;
       are_conditions = d.is_project.conditions;
       texts = same.same_entries;

@@ -6,7 +6,6 @@ use Rattle.std.proofs.lemmas.Bool.{cases_lt, true≢false}
 use Rattle.std.proofs.lemmas.List.Elements.{All-nil, All-cons, All-head, All-tail}
 use Rattle.tree_spec.proofs.ByteLists.{by_test, number_same_or_not, text_same_or_not}
 use Rattle.tree_spec.specs.Limits.{limit_number}
-use Rattle.tree_spec.specs.Paths.{IsPath}
 use Rattle.tree_spec.specs.declared.LimitName.TheVariants.{Depth, Entries}
 use Rattle.json_spec.proofs.SomeJson.{some_json}
 use Rattle.json_spec.specs.Grammar as json
@@ -22,7 +21,7 @@ use Rattle.node_spec.specs.Conditions.{is_name_byte, IsCondition, AreConditions}
 use Rattle.trace_spec.specs.Modules.{Config}
 use Rattle.project_spec.proofs.OneProject.{same_parts, same_members, same_strings}
 use Rattle.project_spec.specs.Laws.{SomeProject}
-use Rattle.project_spec.specs.ProjectFiles.{strings, HasParts, Describes, Fault, BadFile, PassesLimit, Gives, a_project, many_entries, no_project, no_json, deep_json, reads_project}
+use Rattle.project_spec.specs.ProjectFiles.{strings, IsPagePath, HasParts, Describes, Fault, BadFile, PassesLimit, Gives, a_project, many_entries, no_project, no_json, deep_json, reads_project}
 
 abbrev pub OrNot : Type 0 → Type 0
 OrNot P = P ⊎ (P → ⊥)
@@ -179,8 +178,7 @@ base_or_not (Some base) = inl (base, refl)
 record ArePlain {object : Members} (parts : Parts object) : Type 0 where
   pub base : List ℕ
   pub gives : base_of parts.base ≡ Some base
-  pub page : IsPath parts.page
-  pub no_root : parts.page ≢ codes "/"
+  pub page : IsPagePath parts.page
   pub conditions : AreConditions parts.conditions
   pub distinct : IsDistinct bytes_eq parts.entries
 
@@ -190,12 +188,11 @@ plain_or_not parts =
     (λ is. record {
       base = is.0.0;
       gives = is.0.1;
-      page = is.1.0;
-      no_root = is.1.1.0;
+      page = record { is_path = is.1.0; no_root = is.1.1.0 };
       conditions = is.1.1.1.0;
       distinct = is.1.1.1.1;
     })
-    (λ are. ((are.base, are.gives), (are.page, (are.no_root, (are.conditions, are.distinct)))))
+    (λ are. ((are.base, are.gives), (are.page.is_path, (are.page.no_root, (are.conditions, are.distinct)))))
     (both (base_or_not (base_of parts.base)) (both (by_test (is_path parts.page) (path_by_test parts.page, test_by_path parts.page)) (both (not_so (text_same_or_not parts.page (codes "/"))) (both (conditions_or_not parts.conditions) (distinct_or_not parts.entries)))))
 
 abbrev HasConfig : Json → Type 0
@@ -214,7 +211,6 @@ config_of object is parts are = (
         record {
           base = bases_stay parts.base are.base are.gives;
           page = are.page;
-          no_root = are.no_root;
           conditions = are.conditions;
           distinct = are.distinct;
         };
@@ -237,8 +233,7 @@ own_plain object is parts (config, d) =
     record {
       base = config.base;
       gives = ap base_of same.same_base ∙ d.gives;
-      page = subst IsPath (sym same.same_page) d.is_project.page;
-      no_root = λ e. d.is_project.no_root (sym same.same_page ∙ e);
+      page = subst IsPagePath (sym same.same_page) d.is_project.page;
       conditions = subst AreConditions (sym (same_strings parts.conditions config.conditions same.same_conditions)) d.is_project.conditions;
       distinct = subst (IsDistinct bytes_eq) (sym (same_strings parts.entries config.entries same.same_entries)) d.is_project.distinct;
     }

@@ -40,11 +40,10 @@ pub record IsPagePath (text : List ℕ) : Type 0 where
   pub is_path : IsPath text
   pub no_root : text ≢ codes "/"
 
--- own: the base is one, the page is a path other than `/`, the conditions can be conditions, and no entry stands twice
+-- own: the base is one, the page's path can be one, the conditions can be conditions, and no entry stands twice
 pub record IsProject (config : Config) : Type 0 where
   pub base : IsBase config.base
-  pub page : IsPath config.page
-  pub no_root : config.page ≢ codes "/"
+  pub page : IsPagePath config.page
   pub conditions : AreConditions config.conditions
   pub distinct : IsDistinct bytes_eq config.entries
 
