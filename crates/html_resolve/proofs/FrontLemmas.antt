@@ -1,5 +1,5 @@
 -- The last `/` of a text, and the fronts of that text.
-use Rattle.std.proofs.Common.{◌≡◌, ◌≢◌, ℕ, zero, suc, ◌<◌, ◌≤◌, ◌+◌, ◌-◌, ◌++◌, true, false, List, [], ◌∷◌, take, drop, length, sym, ap, ◌∙◌, subst, arith, get_or, min}
+use Rattle.std.proofs.Common.{◌≡◌, ◌≢◌, ℕ, zero, suc, ◌<◌, ◌≤◌, ◌-◌, ◌++◌, true, false, List, [], ◌∷◌, take, drop, length, sym, ap, ◌∙◌, subst, arith, get_or, min}
 use Rattle.std.specs.Prelude.{nat_eq, codes, ◌&&◌}
 use Rattle.std.specs.Prelude.{IsUtf8, IsCharBoundary}
 use Rattle.std.proofs.lemmas.Str.{IsCharBoundary-from_take}

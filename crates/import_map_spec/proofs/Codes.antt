@@ -1,5 +1,5 @@
 -- The code by which a proof tells maps apart.
-use Rattle.std.specs.Prelude.{◌≡◌, ℕ, List, Option, refl}
+use Rattle.std.specs.Prelude.{ℕ, List, refl}
 use Rattle.std.specs.Coded.{Coded, code_by, coded×, coded_list, coded_option, coded_ℕ}
 use Rattle.std.specs.FinMap.{code}
 use Rattle.import_map_spec.specs.ParsedMap.{Addresses, ParsedMap, Texts}

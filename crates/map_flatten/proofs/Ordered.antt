@@ -11,7 +11,7 @@ use Rattle.std.proofs.lemmas.List.Elements.{All-head, All-tail}
 use Rattle.scope_builder.specs.Keys.{InKeyOrder}
 use Rattle.scope_builder.proofs.KeyOrder.{sorted, entries_of, same_keys}
 use Rattle.scope_builder.specs.Lists.{scope_entries, scope_entry}
-use Rattle.map_flatten.specs.Grouped.{Scope, addresses_of, grouped_scope, listed_scope}
+use Rattle.map_flatten.specs.Grouped.{Scope, grouped_scope, listed_scope}
 use Rattle.map_flatten.proofs.Updates.{mapped}
 
 pub entries_mapped : {X Y : Type 0} (f : X → Y) (es : List (List ℕ × X)) → InKeyOrder es → entries (from_entries {R = slice_cmp nat_cmp} (mapped f es)) ≡ mapped f es

@@ -1,17 +1,17 @@
 -- The printed lists have the sizes that are counted.
 use Rattle.std.proofs.Common.{◌≡◌, ℕ, zero, suc, ◌+◌, ◌*◌, List, [], ◌∷◌, ◌++◌, length, refl, sym, ap, ◌∙◌, arith}
 use Rattle.std.specs.Prelude.{codes}
-use Rattle.std.specs.List.{sum_by, flat_map}
+use Rattle.std.specs.List.{sum_by}
 use Rattle.std.proofs.lemmas.List.{length-append}
 use Rattle.std.proofs.lemmas.List.Sums.{sum_by-cons}
 use Rattle.json_spec.specs.PrintedString.{escaped_byte, escaped, quoted}
 use Rattle.json_spec.specs.PrintedValue.{margin, line, printed, printed_members}
-use Rattle.json_spec.specs.Value.{Json, a_text, an_object, no_members, a_member}
+use Rattle.json_spec.specs.Value.{Json, a_text, an_object, no_members}
 use Rattle.layout_spec.specs.PrintedMap.{members_of, with_part}
 use Rattle.scope_builder.specs.declared.keyed.Layout.{Layout}
 use Rattle.map_print.specs.PrintedLists.{mappings_value, layout_value}
 use Rattle.map_print.proofs.Appends.{part_before}
-use Rattle.map_print.specs.Sizes.{escaped_size, quoted_size, member_size, pair_size, mappings_size, scope_size, scopes_size, integrity_size, map_size}
+use Rattle.map_print.specs.Sizes.{escaped_size, quoted_size, member_size, mappings_size, scopes_size, integrity_size, map_size}
 
 escaped_length : (text : List ℕ) → length (escaped text) ≡ sum_by escaped_size text
 escaped_length [] = refl

@@ -1,6 +1,6 @@
 -- A slot names its module, or none.
-use Rattle.std.proofs.Common.{◌≡◌, ◌≢◌, ◌⊎◌, inl, inr, ℕ, List, Option, Some, None, refl, sym, ap, ◌∙◌, subst}
-use Rattle.slot_arena.specs.Slots.{Place, value_at, IsGiven, IsFresh, set_at, with_places}
+use Rattle.std.proofs.Common.{◌≡◌, ◌≢◌, ◌⊎◌, inl, inr, List, Some, None, refl, sym, ap, ◌∙◌}
+use Rattle.slot_arena.specs.Slots.{Place, value_at, IsGiven, set_at, with_places}
 use Rattle.slot_arena.specs.Calls as arena
 use Rattle.slot_arena.specs.declared.slot.Slot.{Slot}
 use Rattle.slot_arena.proofs.SlotLaws.{same_slot_or_not, given_once, is_given, each_inserts, each_writes, each_removes, each_grows}

@@ -1,14 +1,13 @@
 -- The modules of a graph stay well made through each change.
-use Rattle.std.proofs.Common.{◌≡◌, ◌≤◌, slice_get, inl, inr, ℕ, zero, suc, ◌+◌, ◌*◌, ◌<◌, ◌==◌, if◌then◌else◌, Bool, true, false, List, [], ◌∷◌, ◌++◌, length, get_or, slice_set, replicate, Option, Some, None, Result, Ok, Err, OnOk, OnErr, refl, sym, ap, ◌∙◌, subst, arith, length-set}
+use Rattle.std.proofs.Common.{◌≡◌, ◌≤◌, inl, inr, ℕ, zero, suc, ◌+◌, ◌*◌, ◌<◌, ◌==◌, if◌then◌else◌, Bool, true, false, List, [], ◌∷◌, length, slice_set, Option, Some, None, Result, Ok, Err, OnOk, OnErr, sym, ◌∙◌, subst, arith, length-set}
 use Rattle.std.proofs.lemmas.Grind.{common_steps}
 use Rattle.std.proofs.lemmas.Option.{slice_get_past}
 use Rattle.slot_arena.proofs.Times.{below_or_not}
-use Rattle.module_spec.specs.declared.request.Request.{Request}
 use Rattle.slot_arena.specs.Slots.{Place, place, place_at, value_at, set_at, with_places, taken_from}
 use Rattle.slot_arena.specs.Counts.{spare, wanted, GrewLess}
 use Rattle.slot_arena.specs.declared.slot.Slot.{Slot}
 use Rattle.module_graph.specs.declared.module.Module.{Module}
-use Rattle.module_graph.specs.Modules.{HasSpan, IsModule, with_target, SetsTarget}
+use Rattle.module_graph.specs.Modules.{HasSpan, IsModule, SetsTarget}
 use Rattle.module_graph.specs.Graphs.{AreModules}
 
 pub value_of_live : (g : List (Place Module)) (s : Slot) (m : Module) → value_at g s ≡ Some m → (place_at g s.index).value ≡ Some m

@@ -1,7 +1,7 @@
 -- What a caller may do with a graph, one call after another.
 --
 -- Calls start g     the calls led from start to g: they made places, added, connected, removed
-use Rattle.std.specs.Prelude.{◌≡◌, ℕ, ◌<◌, List, length, Some, None}
+use Rattle.std.specs.Prelude.{◌≡◌, ℕ, List, Some, None}
 use Rattle.slot_arena.specs.Slots.{Place, value_at, IsFresh, set_at, with_places}
 use Rattle.slot_arena.specs.declared.slot.Slot.{Slot}
 use Rattle.module_graph.specs.declared.module.Module.{Module}

@@ -4,7 +4,7 @@
 -- Connects old new from i to done     done, and the target of the i-th request of the module under `from` is set; or
 -- there is
 --                               no such module or request, and nothing changes
-use Rattle.std.specs.Prelude.{◌≡◌, ℕ, ◌<◌, ◌≤◌, Bool, true, false, List, length, Option, Some, None}
+use Rattle.std.specs.Prelude.{◌≡◌, ℕ, ◌<◌, ◌≤◌, Bool, true, false, List, length, Some}
 use Rattle.slot_arena.specs.Slots.{Place, place_at, value_at, set_at}
 use Rattle.slot_arena.specs.declared.slot.Slot.{Slot}
 use Rattle.module_graph.specs.declared.module.Module.{Module}

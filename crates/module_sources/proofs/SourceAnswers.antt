@@ -6,7 +6,6 @@ use Rattle.std.proofs.lemmas.Bool.{cond-true, cond-false, false_from_ne_true}
 use Rattle.std.proofs.lemmas.Str.{IsUtf8-from_is_utf8, is_utf8-from_IsUtf8}
 use Rattle.asking_spec.specs.Askings.{answered}
 use Rattle.tree_spec.specs.declared.Entry.{Entry}
-use Rattle.tree_spec.specs.declared.LimitName.{LimitName}
 use Rattle.tree_spec.specs.declared.LimitName.TheVariants.{Depth}
 use Rattle.tree_spec.specs.LookAskings.{look_at}
 use Rattle.module_spec.specs.declared.request.ModuleFault.{ModuleFault}

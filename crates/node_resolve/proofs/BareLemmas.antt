@@ -32,7 +32,6 @@ use Rattle.node_spec.specs.TargetCalls.{LookAnswers, Answerer, Calls}
 use Rattle.node_spec.specs.declared.BareAnswer.{BareAnswer}
 use Rattle.node_spec.specs.declared.BareAnswer.TheVariants as bare_answer
 use Rattle.node_spec.specs.declared.Outcome.{Outcome}
-use Rattle.condition_match.specs.Choosing as choosing
 use Rattle.package_lookup.specs.Answered.{State, state, Comes, Tells, Answered}
 use Rattle.package_lookup.specs.Looked.{Sees}
 use Rattle.package_lookup.specs.Responses.{Failing, passes, not_read, no_memory, never, Response, given, fails}

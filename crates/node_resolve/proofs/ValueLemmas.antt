@@ -6,7 +6,6 @@ use Rattle.std.specs.Prelude.{codes}
 use Rattle.std.proofs.lemmas.Bool.{cond-true, cond-false}
 use Rattle.std.specs.List.{list_all}
 use Rattle.json_spec.specs.Value.{Json, a_text, a_list, an_object, Items, Members, names_of}
-use Rattle.ordered_json.specs.declared.value.Value.TheVariants as value
 use Rattle.node_spec.specs.NodeAnswers.{refuses}
 use Rattle.node_spec.specs.PackageExportsResolve.{is_dotted, has_dotted, main_target, main_export, export_paths, subpath_export}
 use Rattle.node_spec.specs.PackageImportsExportsResolve.{by_key}

@@ -1,5 +1,4 @@
 use Rattle.asking_spec.specs.Askings.{answered}
-use Rattle.package_lookup.specs.Responses.{looked}
 use Rattle.package_lookup.specs.SeenLooks.{entry_of}
 use Rattle.package_lookup.specs.declared.fault.LookupFault.TheVariants.{Memory}
 use Rattle.package_lookup.proofs.Questions.{looked_err, unfinished}

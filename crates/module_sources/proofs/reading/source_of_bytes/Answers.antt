@@ -1,4 +1,4 @@
-use Rattle.std.proofs.Common.{◌≡◌, Ok, IfOk, sym, ◌∙◌}
+use Rattle.std.proofs.Common.{Ok, sym, ◌∙◌}
 use Rattle.std.proofs.lemmas.Result.{IfOk-weaker}
 use Rattle.es_module_parser.specs.Outlines.{as_outline}
 use Rattle.module_sources.proofs.SourceAnswers.{bad_bytes, good_bytes, outline_of}

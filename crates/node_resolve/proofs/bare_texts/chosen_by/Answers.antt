@@ -1,5 +1,5 @@
 use mathlib.Core.Logic.{inl, inr}
-use Rattle.std.proofs.Common.{◌≡◌, List, [], ◌∷◌, ℕ, refl, ap, ◌∙◌}
+use Rattle.std.proofs.Common.{◌≡◌, List, [], ◌∷◌, ℕ, refl, ap}
 use Rattle.node_spec.specs.PackageTargets.{Call}
 use Rattle.condition_match.specs.Choosing.{IsLeft}
 use Rattle.node_spec.specs.NodeAnswers.{Url, Resolving}

@@ -2,7 +2,7 @@ use Rattle.std.proofs.Common.{◌≡◌, ◌∙◌, sym, ℕ, List, MatchOption,
 use Rattle.std.specs.Prelude.{string_bytes}
 use Rattle.words_read.specs.declared.command.Command.{Command}
 use Rattle.words_read.specs.Shown.{AsksNothing, shown}
-use Rattle.words_spec.specs.PlainWords.{Asked, Asks}
+use Rattle.words_spec.specs.PlainWords.{Asks}
 use Rattle.words_spec.specs.Reading.{reading_of}
 use Rattle.words_spec.proofs.PlainIsRead.{plain_is_read}
 use Rattle.words_spec.proofs.ReadIsPlain.{read_is_plain}

@@ -1,6 +1,5 @@
-use Rattle.std.proofs.Common.{◌<◌, ◌≤◌, inl, inr, length, refl, arith}
+use Rattle.std.proofs.Common.{inl, inr, refl, arith}
 use Rattle.slot_arena.proofs.Times.{below_or_not}
-use Rattle.module_graph.specs.Modules.{HasSpan}
 use Rattle.module_graph.proofs.WellMade.{span-past, span-next}
 use Rattle.module_graph.proofs.module.Module.is_well_made.Goals as goal
 
