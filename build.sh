@@ -73,7 +73,8 @@ if ! is_fresh; then
     echo "build.sh: proving and building; build/log.CRATE has all that is said of a crate"
     crates | xargs -P "$(side_by_side)" -L 1 ./build.sh prove || true
     if ! is_fresh; then
-        tail -n 20 $(ls -t build/log.* | head -n 1) >&2
+        failed=$(grep -ls '^not proved: ' build/log.* | head -n 1)
+        tail -n 20 "${failed:-build/log.generator_cli}" >&2
         echo "build.sh: not proved" >&2
         exit 1
     fi
