@@ -36,7 +36,7 @@ if ! is_fresh; then
     rm -f "$program"
     echo "build.sh: proving and building; all sources are read once first; build/log has it all"
     prove 2>&1 </dev/null | tee build/log | awk -v total="$(grep -c '^[a-z_]*:' crates.txt)" '
-        /^== / { crate++; print "build.sh: crate " crate " of " total ": " $2; fflush() }
+        /^== / && $2 != "summary" { crate++; print "build.sh: crate " crate " of " total ": " $2; fflush() }
         /^so far: / && $3 > 0 { print "build.sh:   " $3 " of " $5 " functions"; fflush() }'
     if ! is_fresh; then
         tail -n 20 build/log >&2
