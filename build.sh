@@ -1,7 +1,6 @@
 #!/bin/sh
 # Leaves the program as build/salimgub: the one that was built last, where it is newer than all sources, and else a
-# new one, which is proved first. Crates that don't wait for each other are proved side by side; meanwhile it says
-# which crate has been proved, and how far it is.
+# new one, which is proved first. Meanwhile it says which crate is being proved, and how far.
 set -eu
 cd "$(dirname "$0")"
 program=crates/generator_cli/out/generator_cli
@@ -13,17 +12,23 @@ is_fresh() {
     [ -z "$newer" ]
 }
 
-# How many crates go side by side: one a processor, where there are 4 GiB of memory for each.
-side_by_side() {
-    awk -v processors="$(nproc)" '/^MemAvailable:/ { memory = int($2 / 4194304) }
-        END { n = processors < memory ? processors : memory; print n < 1 ? 1 : n }' /proc/meminfo
-}
-
-# Checks all crates, and then builds the program over them. It also runs the program, without words, which the program
-# refuses: so its status says nothing.
-prove() {
-    (cd crates && rt all check --jobs "$(side_by_side)") || true
-    (cd crates/generator_cli && rt run) || true
+# How many crates of this repository the program is made of, itself among them.
+crates() {
+    awk '/^#/ || !/:/ { next }
+        { name = $1; sub(/:$/, "", name); own[name] = 1; for (i = 2; i <= NF; i++) uses[name] = uses[name] " " $i }
+        END {
+            wanted["generator_cli"] = 1
+            do {
+                more = 0
+                for (crate in wanted) {
+                    n = split(uses[crate], below, " ")
+                    for (i = 1; i <= n; i++)
+                        if (below[i] in own && !(below[i] in wanted)) { wanted[below[i]] = 1; more = 1 }
+                }
+            } while (more)
+            for (crate in wanted) total++
+            print total
+        }' crates.txt
 }
 
 mkdir -p build
@@ -34,10 +39,11 @@ if ! is_fresh; then
     fi
     # A program that is there already would stay as it is where only the sources' times have changed.
     rm -f "$program"
-    echo "build.sh: proving and building; all sources are read once first; build/log has it all"
-    prove 2>&1 </dev/null | tee build/log | awk -v total="$(grep -c '^[a-z_]*:' crates.txt)" '
-        /^== / && $2 != "summary" { crate++; print "build.sh: crate " crate " of " total ": " $2; fflush() }
-        /^so far: / && $3 > 0 { print "build.sh:   " $3 " of " $5 " functions"; fflush() }'
+    echo "build.sh: proving and building; build/log has it all"
+    # It also runs the program, without words, which the program refuses: so its status says nothing.
+    { (cd crates/generator_cli && rt run) 2>&1 </dev/null || true; } | tee build/log | awk -v total="$(crates)" '
+        /^rt: chose --jobs/ { crate++; print "build.sh: crate " crate " of " total ": " $NF; fflush() }
+        /^so far: / { print "build.sh:   " $3 " of " $5 " functions"; fflush() }'
     if ! is_fresh; then
         tail -n 20 build/log >&2
         echo "build.sh: not proved" >&2
