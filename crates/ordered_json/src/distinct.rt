@@ -17,7 +17,8 @@ const FEW: usize = 8;
 type Weighed = (u64, Text);
 
 /// Whether no name stands twice among the pairs. It takes n log n comparisons of names, whatever they are, so names
-/// that somebody made up for it cost no more than others.
+/// that somebody made up for it cost no more than others. (A hash with a seed that comes of the text wouldn't do: who
+/// writes the text can choose the seed.)
 pub fn are_distinct(alloc: Global, pairs: &[(Text, Value)]) -> Result<bool, Memory>
     ensures { IfOk result (λ distinct. IsTrue distinct → AreDistinct (members_of pairs.now)) }
 {
