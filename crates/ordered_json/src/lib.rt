@@ -2,11 +2,8 @@
 //! with its place, and `print_text` the printed form of a string.
 #![tactic(auto)]
 
-mod distinct;
 mod escapes;
 mod fault;
-mod forest;
-mod gathered;
 mod numbers;
 mod quoting;
 mod reader;
