@@ -1,6 +1,7 @@
 -- The ordered value that a value of the code is.
 --     json_of value      that value;        items_of, members_of      the same of what a list and an object hold
-use Rattle.std.specs.Prelude.{ℕ, List, [], ◌∷◌, map}
+--     IsNoList json, IsNoObject json      the ordered value is another one
+use Rattle.std.specs.Prelude.{◌≢◌, ℕ, List, [], ◌∷◌, map}
 use Rattle.json_spec.specs.Value.{Json, a_null, a_bool, a_number, a_text, a_list, an_object}
 use Rattle.json_spec.specs.Value.{Items, no_items, an_item, Members, no_members, a_member}
 use Rattle.ordered_json.specs.declared.value.Value.{Value, fold-Value}
@@ -37,3 +38,9 @@ items_of values = items_from (map json_of values)
 
 abbrev pub members_of : List (List ℕ × Value) → Members
 members_of pairs = members_from (map (λ (pair : List ℕ × Value). (pair.0, json_of pair.1)) pairs)
+
+abbrev pub IsNoList : Json → Type 0
+IsNoList json = (items : Items) → json ≢ a_list items
+
+abbrev pub IsNoObject : Json → Type 0
+IsNoObject json = (members : Members) → json ≢ an_object members

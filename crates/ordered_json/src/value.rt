@@ -31,6 +31,57 @@ pub struct Members {
     pairs: Vec<(Text, Value)>,
 }
 
+impl Value {
+    ghost use Rattle.std.specs.Prelude.{◌≡◌, ◌↔◌, IsTrue, MatchOption};
+    ghost use Rattle.json_spec.specs.Value.{a_null, a_list, an_object};
+    ghost use Rattle.ordered_json.specs.Lists.{values_of, pairs_of};
+    ghost use Rattle.ordered_json.specs.Shown.{json_of, items_of, members_of, IsNoList, IsNoObject};
+
+    /// Whether it is `null`.
+    pub fn is_null(&self) -> bool
+        ensures { IsTrue result ↔ (json_of self.now ≡ a_null) }
+    {
+        match self {
+            Value::Null => true,
+            Value::Bool(_) => false,
+            Value::Number(_) => false,
+            Value::Text(_) => false,
+            Value::List(_) => false,
+            Value::Object(_) => false,
+        }
+    }
+
+    /// The list that it is.
+    pub fn as_list(&self) -> Option<&Items>
+        ensures { MatchOption result (IsNoList (json_of self.now))
+            (λ list. json_of self.now ≡ a_list (items_of (values_of list.now))) }
+    {
+        match self {
+            Value::List(items) => Some(items),
+            Value::Null => None,
+            Value::Bool(_) => None,
+            Value::Number(_) => None,
+            Value::Text(_) => None,
+            Value::Object(_) => None,
+        }
+    }
+
+    /// The members of the object that it is.
+    pub fn as_object(&self) -> Option<&Members>
+        ensures { MatchOption result (IsNoObject (json_of self.now))
+            (λ object. json_of self.now ≡ an_object (members_of (pairs_of object.now))) }
+    {
+        match self {
+            Value::Object(members) => Some(members),
+            Value::Null => None,
+            Value::Bool(_) => None,
+            Value::Number(_) => None,
+            Value::Text(_) => None,
+            Value::List(_) => None,
+        }
+    }
+}
+
 impl Items {
     /// The values of a `Vec`, which is moved.
     pub(crate) fn from_vec(values: Vec<Value>) -> Items
