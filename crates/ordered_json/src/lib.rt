@@ -5,11 +5,8 @@
 //! is read by a call of its own. The bound of brackets keeps these calls shallow.
 #![tactic(auto)]
 
-mod distinct;
 mod escapes;
 mod fault;
-mod forest;
-mod gathered;
 mod numbers;
 mod quoting;
 mod reader;

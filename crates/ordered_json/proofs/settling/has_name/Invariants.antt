@@ -3,7 +3,7 @@ use Rattle.std.specs.List.{list_any}
 use Rattle.std.specs.Prelude.{bytes_eq}
 use Rattle.json_spec.specs.Value.{names_of}
 use Rattle.ordered_json.specs.Shown.{members_of}
-use Rattle.ordered_json.proofs.distinct.has_name.Given as goal
+use Rattle.ordered_json.proofs.settling.has_name.Given as goal
 
 abbrev pub invariant-loop-pair : goal.invariant-loop-pair
 invariant-loop-pair l =

@@ -2,7 +2,7 @@ use Rattle.std.proofs.Common.{◌≡◌, length, reverse}
 use Rattle.json_spec.specs.Value.{settled, settled_onto}
 use Rattle.ordered_json.specs.Pairs.{IsIndexed}
 use Rattle.ordered_json.specs.Shown.{members_of}
-use Rattle.ordered_json.proofs.settling.settle.Given as goal
+use Rattle.ordered_json.proofs.settling.settle_many.Given as goal
 
 abbrev pub invariant-loop-name : goal.invariant-loop-name
 invariant-loop-name l = record {

@@ -1,6 +1,6 @@
 use Rattle.std.proofs.Common.{◌∙◌, sym}
 use Rattle.ordered_json.proofs.NamesLemmas.{distinct_before, distinct_at_end}
-use Rattle.ordered_json.proofs.distinct.few_are_distinct.Goals as goal
+use Rattle.ordered_json.proofs.settling.few_are_distinct.Goals as goal
 
 pub loop-pair-preserved : goal.loop-pair-preserved
 loop-pair-preserved c = λ distinct.
