@@ -2,7 +2,7 @@
 --     ReadsOutline text (Ok outline)      the requests of the text in their order, and whether it has declarations of
 --                                         a module or `import.meta`
 --     ReadsOutline text (Err fault)      its first fault
-use Rattle.std.specs.Prelude.{◌≡◌, ℕ, zero, suc, ◌-◌, Bool, false, ◌||◌, ◌==◌, List, [], ◌∷◌, ◌++◌, if◌then◌else◌}
+use Rattle.std.specs.Prelude.{◌≡◌, ℕ, zero, suc, ◌-◌, Bool, true, false, ◌||◌, ◌==◌, List, [], ◌∷◌, ◌++◌, if◌then◌else◌}
 use Rattle.std.specs.Prelude.{Option, Some, None, Result, Ok, Err, length, reverse}
 use Rattle.tree_spec.specs.declared.LimitName.TheVariants.{ModuleRequests}
 use Rattle.tree_spec.specs.Limits.{limit_number}
@@ -53,10 +53,41 @@ findings before asked [] = []
 findings before asked (t ∷ rest) =
     with_call (called before t) (found t asked (declaration t rest) (λ next. findings (t ∷ before) next rest))
 
--- the same without the import calls
+-- ---- declarations and import calls apart
+
+-- what is found where no import call is looked for
 abbrev pub declared : Option ℕ → List Placed → List Finding
 declared asked [] = []
 declared asked (t ∷ rest) = found t asked (declaration t rest) (λ next. declared next rest)
+
+-- the strings of all import calls in the tokens, behind those before, the last one first
+abbrev pub and_call : Option Placed → List Placed → List Placed
+and_call None more = more
+and_call (Some s) more = s ∷ more
+
+abbrev pub calls : List Placed → List Placed → List Placed
+calls before [] = []
+calls before (t ∷ rest) = and_call (called before t) (calls (t ∷ before) rest)
+
+-- what was found but the import calls; and these alone
+abbrev pub without_calls : List Finding → List Finding
+without_calls [] = []
+without_calls (wrong_form at ∷ rest) = wrong_form at ∷ without_calls rest
+without_calls (specifier t ∷ rest) = specifier t ∷ without_calls rest
+without_calls (import_call s ∷ rest) = without_calls rest
+
+abbrev pub only_calls : List Finding → List Placed
+only_calls [] = []
+only_calls (wrong_form at ∷ rest) = only_calls rest
+only_calls (specifier t ∷ rest) = only_calls rest
+only_calls (import_call s ∷ rest) = s ∷ only_calls rest
+
+-- each word has a form
+abbrev pub all_right : List Finding → Bool
+all_right [] = true
+all_right (wrong_form at ∷ rest) = false
+all_right (specifier t ∷ rest) = all_right rest
+all_right (import_call s ∷ rest) = all_right rest
 
 -- ---- requests
 
