@@ -2,8 +2,9 @@ ghost use Rattle.std.specs.Prelude.{◌≡◌, IfOk, IfSome};
 ghost use Rattle.module_spec.specs.Spans.{IsSpan};
 ghost use Rattle.module_spec.specs.StringValues.{string_value};
 ghost use Rattle.es_module_parser.specs.Progress.{begun, may_begin, moved, moved_wrong, stepped, value_at, cut, ended};
-ghost use Rattle.es_module_parser.specs.Progress.{fault_asked, requests_asked, or_outside, progress_behind, requests_behind};
-ghost use Rattle.es_module_parser.specs.Progress.{progress_asked, progress_called, requests_called, progress_heard, requests_heard};
+ghost use Rattle.es_module_parser.specs.Progress.{fault_asked, requests_asked, or_outside};
+ghost use Rattle.es_module_parser.specs.Progress.{progress_behind, requests_behind, progress_called, requests_called};
+ghost use Rattle.es_module_parser.specs.Progress.{progress_heard, requests_heard};
 
 use crate::expect::{Expect, Seen, Turn};
 use crate::literals::string_value;

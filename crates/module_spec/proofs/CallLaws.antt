@@ -1,16 +1,16 @@
 -- Import calls beside declarations.
-use Rattle.std.specs.Prelude.{◌↔◌, slice_get}
-use Rattle.std.proofs.Common.{◌≡◌, ◌+◌, ℕ, zero, suc, Bool, true, false, ◌&&◌, ◌||◌, codes, List, [], ◌∷◌, ◌++◌, length, if◌then◌else◌, Option, Some, None, refl, sym, ap, ◌∙◌, subst, arith, append_assoc}
+use Rattle.std.specs.Prelude.{slice_get}
+use Rattle.std.proofs.Common.{◌≡◌, ℕ, zero, suc, Bool, true, false, ◌&&◌, ◌||◌, codes, List, [], ◌∷◌, ◌++◌, length, if◌then◌else◌, Option, Some, None, refl, sym, ap, ◌∙◌, subst, arith, append_assoc}
 use Rattle.std.proofs.lemmas.List.{length-append}
 use Rattle.module_spec.specs.Places.{Placed, is_text, is_word, is_mark, is_top}
 use Rattle.module_spec.specs.Forms.{Form, declaration, begins_expression, behind_import, import_declaration, export_declaration, called, begins_call, is_argument}
 use Rattle.module_spec.specs.Forms.Form.{wrong, none, alone, asks}
-use Rattle.module_spec.specs.Declarations.{FromClause, ImportDeclaration, ExportFrom, Asks}
+use Rattle.module_spec.specs.Declarations.{ImportDeclaration, ExportFrom}
 use Rattle.module_spec.specs.Declarations.FromClause.{from_module}
 use Rattle.module_spec.specs.Declarations.ImportDeclaration.{effects, bindings}
 use Rattle.module_spec.specs.Declarations.ExportFrom.{exports}
 use Rattle.module_spec.specs.Outlines.{Finding, found, with_call, and_call, findings, declared, calls, without_calls, only_calls, all_right, requests, declares, outline_of}
-use Rattle.module_spec.specs.Outlines.Finding.{wrong_form, specifier, import_call}
+use Rattle.module_spec.specs.Outlines.Finding.{specifier}
 use Rattle.module_spec.specs.Laws.{IsImportCall, CallsAreImportCalls, DeclarationsStay, CallsAreFound, SameWithoutCalls, OneKindOfRequest}
 use Rattle.module_spec.proofs.Terminals.{name_no_mark, word_is_name}
 use Rattle.module_spec.proofs.FormLaws.{forms_are_productions}

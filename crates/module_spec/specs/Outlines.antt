@@ -115,7 +115,7 @@ requests so_far (import_call t ∷ rest) = asked_for t (string_value t.text) so_
 
 -- ---- the whole text
 
--- own: an import or export declaration, or `import.meta`, stands among the tokens; an import call is no sign of a module
+-- own: an import or export declaration, or `import.meta`, stands among the tokens. An import call shows nothing
 abbrev pub declares : List Placed → Bool
 declares [] = false
 declares (t ∷ rest) = begins_declaration t rest || (is_import_meta t rest || declares rest)
