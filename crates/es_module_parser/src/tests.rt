@@ -109,9 +109,9 @@ static CASES: &str = "\
 ¶a;import b;import \"c\"⇒! 2\
 ¶import \"a\";import b⇒! 11\
 ¶⇒-\
-¶import(\"a\")⇒-\
-¶import (\"a\")⇒-\
-¶import/**/(\"a\")⇒-\
+¶import(\"a\")⇒-  7..10 a\
+¶import (\"a\")⇒-  8..11 a\
+¶import/**/(\"a\")⇒-  11..14 a\
 ¶import.x⇒-\
 ¶import.m\\u0065ta⇒-\
 ¶a.import \"b\"⇒-\
@@ -173,7 +173,7 @@ static CASES: &str = "\
 ¶export default async()=>{}⇒m\
 ¶export default{a}⇒m\
 ¶export default from \"a\"⇒m\
-¶export default import(\"a\")⇒m\
+¶export default import(\"a\")⇒m  22..25 a\
 ¶export default import.meta⇒m\
 ¶export var a⇒m\
 ¶export let a⇒m\
