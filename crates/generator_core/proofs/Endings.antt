@@ -372,6 +372,7 @@ module _ (words : List (List ℕ)) (command : Command) (config : Config) (before
     command = command;
     config = config;
     is_config = of;
+    page_is_file = is.page_is_file;
     opens = written_is_opened tree config (map_text (with_digests config ready.all ready.layout)) new_here command ready.writes;
     generates = record { all = ready.all; is_traced = ready.is_traced; layout = ready.layout; agreed = ready.agreed; text = refl; within = ready.within };
     says = λ i. counts_line (ready.modules i) (ready.requests i) (ready.mappings i);
@@ -398,6 +399,8 @@ module _ (words : List (List ℕ)) (command : Command) (config : Config) (before
   stops_told (Some tree) told of ready some = record {
     map = map_text (with_digests config ready.all ready.layout);
     generated = generated_of tree of ready;
+    serves = sound tree config (map_text (with_digests config ready.all ready.layout)) is.page_is_file (generated_of tree of ready).generates;
+    knows = modules_are_known tree config (map_text (with_digests config ready.all ready.layout)) (generated_of tree of ready).generates;
     files = new_here;
     writes = ready.writes;
     count = some.count;

@@ -6,6 +6,7 @@ use Rattle.std.specs.Prelude.{◌≡◌, ℕ, suc, true, List, [], ◌∷◌, Re
 use Rattle.url_spec.proofs.KeptUrls.{kept_urls}
 use Rattle.import_map_spec.proofs.OneMap.{one_map}
 use Rattle.import_map_spec.specs.ParsedMap.{ParsedMap, MapFault}
+use Rattle.import_map_spec.specs.Parsing.{ParsesMap}
 use Rattle.import_map_spec.specs.Resolving.{Resolved}
 use Rattle.check_spec.proofs.NeedLemmas.{specifiers_agree}
 use Rattle.check_spec.specs.Differences.{gets, is_url, differences, differences_from}
@@ -20,7 +21,7 @@ use Rattle.soundness.proofs.Kept.{map_kept}
 use Rattle.soundness.proofs.Leading.{need_leads}
 use Rattle.soundness.proofs.Reaching.{needs_name}
 use Rattle.soundness.proofs.Sound.{no_capture, of_needs}
-use Rattle.soundness.specs.Soundness.{NamesUrls, NothingDiffers}
+use Rattle.soundness.specs.Soundness.{NamesUrls, NothingDiffers, WrittenMapsDifferNowhere}
 
 served : (m : ParsedMap) (need : Need) → gets m need ≡ Resolved need.target → is_url (gets m need) need.target ≡ true
 served m need e = ap (λ r. is_url r need.target) e ∙ (bytes_eq-Decides need.target need.target).1 refl
@@ -50,3 +51,9 @@ nothing_differs tree config all layout parsed base traces page_is_file agreed na
     subst (λ (map : ParsedMap). differences map all.needs ≡ [])
     (same_map m parsed (one_map base (map_text m) (Ok m) (Ok parsed) (texts_read_back base m kept) parses))
     (all_served m 0 all.needs (gets_target all.needs m captures mapped files))
+
+pub written_maps_differ_nowhere : WrittenMapsDifferNowhere
+written_maps_differ_nowhere words tree map line is base parsed named parses =
+    let generates = is.generates in
+    nothing_differs tree is.config generates.all generates.layout parsed base generates.is_traced is.page_is_file
+    generates.agreed named (subst (λ (text : List ℕ). ParsesMap base text (Ok parsed)) generates.text parses)

@@ -35,7 +35,7 @@ use Rattle.soundness.proofs.Digested.{captures_none, has_digests, is_known, is_o
 use Rattle.soundness.proofs.Kept.{map_kept}
 use Rattle.soundness.proofs.Leading.{need_leads}
 use Rattle.soundness.proofs.Reaching.{IsNamed, reached, is_named, needs_name, asked_by_file}
-use Rattle.soundness.specs.Soundness.{HasDigests, NamesUrls, MapsServe, AgreedMapsServe, ModulesAreKnown, Soundness, MapsArePlain, OneMapInPage}
+use Rattle.soundness.specs.Soundness.{HasDigests, NamesUrls, MapsServe, AgreedMapsServe, ModulesAreKnown, Soundness, GeneratedReadsBack, MapsArePlain, OneMapInPage}
 
 -- through a map each need is led to its target, whatever text it is asked for by
 abbrev pub AreLed : Gathered → ParsedMap → Type 0
@@ -124,6 +124,12 @@ module _ (tree : Tree) (config : Config) (all : Gathered) (traces : traced (get 
   agreed_text_serves page_is_file bytes text =
       text_serves tree config all traces digested of_needs digests (no_capture page_is_file) bytes text
 
+  pub reads_back : (base bytes : List ℕ) → web_name config the_page ≡ Some base → bytes ≡ map_text digested → ParsesMap base bytes (Ok digested)
+  reads_back base bytes named text =
+      let is_page = page tree config all traces digested of_needs digests in
+      subst (λ name. ParsesMap name bytes (Ok digested)) (same_Some is_page.name base (sym is_page.named ∙ named))
+      (text_parses tree config all traces digested of_needs digests bytes text)
+
   agreed_text_is_plain : (bytes : List ℕ) → bytes ≡ map_text digested → IsPlainMap bytes
   agreed_text_is_plain bytes text = text_is_plain tree config all traces digested of_needs digests bytes text
 
@@ -146,6 +152,10 @@ agreed_maps_serve tree config all layout traces page_is_file agreed =
 pub sound : Soundness
 sound tree config bytes page_is_file is =
     agreed_text_serves tree config is.all is.is_traced is.layout is.agreed page_is_file bytes is.text
+
+pub generated_reads_back : GeneratedReadsBack
+generated_reads_back tree config base bytes is named =
+    reads_back tree config is.all is.is_traced is.layout is.agreed base bytes named is.text
 
 pub modules_are_known : ModulesAreKnown
 modules_are_known tree config bytes is =
