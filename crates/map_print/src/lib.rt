@@ -1,8 +1,9 @@
-//! The printed form of a map: one text for one layout.
+//! The printed form of a map: one text for one layout, with short addresses beside the page.
 #![tactic(auto)]
 
+mod least_size;
+mod map_folder;
 mod print;
-mod size;
 #[cfg(test)]
 mod tests;
 
