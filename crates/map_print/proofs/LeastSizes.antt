@@ -80,9 +80,6 @@ module _ {X : Type 0} (name : X → List ℕ) (value : X → Json) (least : X �
       omega arith
 
 module _ (base : List ℕ) where
-
-
-
   pair_holds : (values : Values) (level : ℕ) (pair : List ℕ × List ℕ) (rest : List ℕ) → pair_least (length (folder_text base)) pair + length rest ≤ length (quoted pair.0 ++ (codes ": " ++ printed level (a_text (value_text values base pair.1)) rest))
   pair_holds values level pair rest =
       let text : List ℕ = quoted (value_text values base pair.1) ++ rest in

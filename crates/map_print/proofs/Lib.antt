@@ -3,3 +3,4 @@ mod Listing
 mod LeastSizes
 mod Limits
 mod FolderLemmas
+mod PlainPaths

@@ -35,5 +35,5 @@ module _ (base : List ℕ) (layout : Layout) (integrity : List (List ℕ × List
 pub far_above_limit : (base : List ℕ) (layout : Layout) (integrity : List (List ℕ × List ℕ)) (size : ℕ) → size ≡ length (folder_text base) → limit_number Map < map_least size layout integrity → (m : ParsedMap) → Lists layout integrity m → limit_number Map < length (map_text base m)
 far_above_limit base layout integrity size is above m l =
     let least : map_least size layout integrity ≤ length (printed 0 (layout_value base layout integrity) (10 ∷ [])) =
-        subst (λ n. map_least n layout integrity ≤ length (printed 0 (layout_value base layout integrity) (10 ∷ []))) (sym is) (map_is_larger base layout integrity) in
+    subst (λ n. map_least n layout integrity ≤ length (printed 0 (layout_value base layout integrity) (10 ∷ []))) (sym is) (map_is_larger base layout integrity) in
     subst (λ (whole : List ℕ). limit_number Map < length whole) (lists_text base layout integrity m l) (omega (arith, above, least))

@@ -199,14 +199,7 @@ fn push_scope(
     push_line(out, 2)?;
     push_short(alloc, out, scope.0.as_str(), folder)?;
     out.extend_from_slice(b": ".as_slice())?;
-    push_mappings(
-        alloc,
-        out,
-        2,
-        Values::Addresses,
-        scope.1.as_slice(),
-        folder,
-    )
+    push_mappings(alloc, out, 2, Values::Addresses, scope.1.as_slice(), folder)
 }
 
 // An object of texts whose opening brace stands on a line at this level.
@@ -282,12 +275,7 @@ fn push_value(
 }
 
 // The short form of a URL.
-fn push_short(
-    alloc: Global,
-    out: &mut Vec<u8>,
-    url: &str,
-    folder: &MapFolder,
-) -> Result<(), Memory>
+fn push_short(alloc: Global, out: &mut Vec<u8>, url: &str, folder: &MapFolder) -> Result<(), Memory>
     ensures { OnOk result (out.new.items ≡ out.old.items ++ quoted (short folder.now url.now)) }
 {
     match folder.behind(url) {
