@@ -2,7 +2,7 @@
 use Rattle.std.proofs.Common.{refl, sym, ap, ◌∙◌, subst}
 use Rattle.std.proofs.lemmas.Bool.{cond-true}
 use Rattle.std.proofs.lemmas.Slice.Eq.{bytes_eq-Decides}
-use Rattle.std.specs.Prelude.{◌≡◌, ℕ, suc, true, List, [], ◌∷◌, Result, Ok, Contains}
+use Rattle.std.specs.Prelude.{◌≡◌, ℕ, suc, true, List, [], ◌∷◌, Result, Ok, Contains, unwrap_or}
 use Rattle.url_spec.proofs.KeptUrls.{kept_urls}
 use Rattle.import_map_spec.proofs.OneMap.{one_map}
 use Rattle.import_map_spec.specs.ParsedMap.{ParsedMap, MapFault}
@@ -48,8 +48,10 @@ nothing_differs tree config all layout parsed base traces page_is_file agreed na
     let captures : NoCapture all.needs m = no_capture tree config all traces layout agreed page_is_file in
     let mapped : OfNeeds all.needs m = of_needs tree config all traces layout agreed in
     let kept = map_kept base (kept_urls.2 _ _ _ _ named) all.needs m mapped files (has_digests tree config all traces layout) in
+    let read : ParsesMap base (map_text base m) (Ok parsed) =
+        subst (λ text. ParsesMap base text (Ok parsed)) (ap (λ found. map_text (unwrap_or found []) m) named) parses in
     subst (λ (map : ParsedMap). differences map all.needs ≡ [])
-    (same_map m parsed (one_map base (map_text m) (Ok m) (Ok parsed) (texts_read_back base m kept) parses))
+    (same_map m parsed (one_map base (map_text base m) (Ok m) (Ok parsed) (texts_read_back base m kept) read))
     (all_served m 0 all.needs (gets_target all.needs m captures mapped files))
 
 pub written_maps_differ_nowhere : WrittenMapsDifferNowhere

@@ -38,7 +38,7 @@ use Rattle.trace_spec.specs.Traces.{traced}
 use Rattle.trace_spec.specs.Walking.{the_page}
 use Rattle.generator_spec.specs.Digests.{with_digests}
 use Rattle.generator_spec.specs.Ending.{IsGenerated}
-use Rattle.generator_spec.specs.Generation.{PageIsFile, Generates}
+use Rattle.generator_spec.specs.Generation.{PageIsFile, Generates, map_base}
 use Rattle.generator_spec.specs.Serves.{KnowsModules, Serves}
 
 -- own: in the map's integrity stand texts under URLs, whatever they are
@@ -50,7 +50,8 @@ HasDigests m = (url text : List ℕ) → get m.integrity url ≡ Some text → I
 abbrev pub MapsServe : Type 0
 MapsServe =
     (tree : Tree) (config : Config) (all : Gathered) (m : ParsedMap) → traced (get tree) config ≡ Ok all
-    → NoCapture all.needs m → OfNeeds all.needs m → HasDigests m → Serves tree config (map_text m)
+    → NoCapture all.needs m → OfNeeds all.needs m → HasDigests m
+    → Serves tree config (map_text (map_base config) m)
 
 -- own: referrer and target of the need are URLs, and what is asked for stands for itself and is no folder's
 pub record NamesUrls (need : Need) : Type 0 where
@@ -63,14 +64,14 @@ pub record NamesUrls (need : Need) : Type 0 where
 abbrev pub MapsReadBack : Type 0
 MapsReadBack =
     (base : List ℕ) (needs : List Need) (m : ParsedMap) → IsUrl base → OfNeeds needs m
-    → ((need : Need) → Contains needs need → NamesUrls need) → HasDigests m → ParsesMap base (map_text m) (Ok m)
+    → ((need : Need) → Contains needs need → NamesUrls need) → HasDigests m → ParsesMap base (map_text base m) (Ok m)
 
 -- own law: the text of the agreed layout of the trace's needs, with the digests of its modules, serves
 abbrev pub AgreedMapsServe : Type 0
 AgreedMapsServe =
     (tree : Tree) (config : Config) (all : Gathered) (layout : ParsedMap) → traced (get tree) config ≡ Ok all
     → PageIsFile config → IsAgreedLayout all.needs layout
-    → Serves tree config (map_text (with_digests config all layout))
+    → Serves tree config (map_text (map_base config) (with_digests config all layout))
 
 -- own law: what that text is read as, against the page's URL, serves each of the trace's needs
 abbrev pub NothingDiffers : Type 0
@@ -78,7 +79,7 @@ NothingDiffers =
     (tree : Tree) (config : Config) (all : Gathered) (layout parsed : ParsedMap) (base : List ℕ)
     → traced (get tree) config ≡ Ok all → PageIsFile config → IsAgreedLayout all.needs layout
     → web_name config the_page ≡ Some base
-    → ParsesMap base (map_text (with_digests config all layout)) (Ok parsed) → differences parsed all.needs ≡ []
+    → ParsesMap base (map_text (map_base config) (with_digests config all layout)) (Ok parsed) → differences parsed all.needs ≡ []
 
 -- own law: what is generated is read, against the page's URL, as exactly the layout of the trace's needs with the
 -- digests of its modules

@@ -1,7 +1,7 @@
 use Rattle.std.proofs.Common.{subst}
 use Rattle.web_url.specs.Serving.{IsUnservable}
 use Rattle.generation.proofs.Generatings.{unserved_by}
-use Rattle.generation.proofs.page.page_is_served.Goals as goal
+use Rattle.generation.proofs.page.page_url.Goals as goal
 
 pub returns-in-Err-Unservable-clause-stopped : goal.returns-in-Err-Unservable-clause-stopped
 returns-in-Err-Unservable-clause-stopped c =
