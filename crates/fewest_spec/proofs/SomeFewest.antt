@@ -34,7 +34,7 @@ after_trans : (a b c : List ℕ) → Before a b → Before b c → Before a c
 after_trans a b c e f = nat_list_cmp_total.trans a b c e f
 
 -- what stands in a list with one text more
-put_either : (text : List ℕ) (more : List (List ℕ)) (x : List ℕ) → Contains (put_text text more) x → (text ≡ x) ⊎ Contains more x
+pub put_either : (text : List ℕ) (more : List (List ℕ)) (x : List ℕ) → Contains (put_text text more) x → (text ≡ x) ⊎ Contains more x
 put_either text [] x c = elim (contains_cases x text [] c) [ inl same ↦ inl same | inr none ↦ absurd (contains_none x none) ]
 put_either text (other ∷ more) x c = by (slice_cmp nat_cmp text other) c (put_either text more x)
   where
@@ -49,7 +49,7 @@ put_either text (other ∷ more) x c = by (slice_cmp nat_cmp text other) c (put_
       ]
     ]
 
-put_there : (text : List ℕ) (more : List (List ℕ)) (x : List ℕ) → (text ≡ x) ⊎ Contains more x → Contains (put_text text more) x
+pub put_there : (text : List ℕ) (more : List (List ℕ)) (x : List ℕ) → (text ≡ x) ⊎ Contains more x → Contains (put_text text more) x
 put_there text [] x (inl same) = subst (Contains (text ∷ [])) same (contains_here text [])
 put_there text [] x (inr c) = absurd (contains_none x c)
 put_there text (other ∷ more) x c = by (slice_cmp nat_cmp text other) refl c (put_there text more x)
@@ -65,7 +65,7 @@ put_there text (other ∷ more) x c = by (slice_cmp nat_cmp text other) refl c (
       | inr later ↦ contains_there x other (put_text text more) (inner (inr later))
     ]
 
-put_ascending : (text : List ℕ) (more : List (List ℕ)) → Ascending more → Ascending (put_text text more)
+pub put_ascending : (text : List ℕ) (more : List (List ℕ)) → Ascending more → Ascending (put_text text more)
 put_ascending text [] up = ((λ x c. absurd (contains_none x c)), tt)
 put_ascending text (other ∷ more) up = by (slice_cmp nat_cmp text other) refl (put_ascending text more up.1)
   where

@@ -79,7 +79,7 @@ module _ (needs : List Need) (asked : List ℕ) (ps : List (List ℕ)) (wish : W
       let found = are.only p at in
       are.all found.0 q found.1.is_need found.1.asks (higher_place found.0.referrer p q found.1.under c))
 
-  is_wish : IsWish wish
+  pub is_wish : IsWish wish
   is_wish = record {
     sorted = of.sorted;
     asked = subst (Contains wish.targets) (sym of.asked_is) of.itself;

@@ -2,7 +2,8 @@
 --     Ascending, Descending texts      in the order of their bytes, each once
 --     ArePlaces needs asked ps      the places of the referrers of these needs, the last one first
 --     AreTargets needs asked ts      the targets of these needs
---     HasTooManyChoices needs      of some specifier there are more places times targets than are looked at
+--     HasManyChoices needs asked      these places times these targets are more than are looked at
+--     HasTooManyChoices needs      so it is for some specifier
 --     IsWishOf needs asked wish      the targets are in order, and those fit a place that its needs have
 use Rattle.std.specs.Prelude.{◌≡◌, ◌<◌, ◌↔◌, ◌*◌, ℕ, true, List, [], ◌∷◌, length, Contains, ⊤}
 use Rattle.tree_spec.specs.Limits.{limit_number}
@@ -43,15 +44,18 @@ pub record AreTargets (needs : List Need) (asked : List ℕ) (ts : List (List �
   pub only :
       (t : List ℕ) → Contains ts t → (need : Need) × Contains needs need × (need.asked ≡ asked) × (need.target ≡ t)
 
--- own: the number of the places of the referrers that need some specifier, times the number of its targets, passes the
+-- own: the number of the places of the referrers that need the specifier, times the number of its targets, passes the
 -- limit
-pub record HasTooManyChoices (needs : List Need) : Type 0 where
-  pub asked : List ℕ
+pub record HasManyChoices (needs : List Need) (asked : List ℕ) : Type 0 where
   pub ps : List (List ℕ)
   pub ts : List (List ℕ)
   pub places : ArePlaces needs asked ps
   pub targets : AreTargets needs asked ts
   pub many : limit_number Choices < length ps * length ts
+
+-- own: some specifier has so many choices
+abbrev pub HasTooManyChoices : List Need → Type 0
+HasTooManyChoices needs = (asked : List ℕ) × HasManyChoices needs asked
 
 -- a need for the specifier whose referrer is the place
 pub record IsAt (needs : List Need) (asked place : List ℕ) (need : Need) : Type 0 where

@@ -4,5 +4,5 @@ pub mod Growing
 pub mod Joining
 mod Sorting
 pub mod Steps
-mod TooMany
+pub mod TooMany
 mod Walking

@@ -9,7 +9,7 @@ use Rattle.fewest_spec.specs.Wishes.{Ascending, ArePlaces}
 use Rattle.fewest_spec.proofs.Amounts.{no_more as no_more_than}
 use Rattle.fewest_spec.proofs.Counts.{Apart}
 use Rattle.fewest_spec.proofs.Orders.{never_itself}
-use Rattle.place_nodes.specs.Building.{IsBuilt, BuiltSo, IsOver, AreTooMany}
+use Rattle.place_nodes.specs.Building.{IsBuilt, BuiltSo, IsOver, AreOver}
 use Rattle.place_nodes.specs.Nodes.{places_of}
 use Rattle.place_nodes.specs.declared.nodes.Node.{Node}
 use Rattle.place_nodes.proofs.Building.{place_node}
@@ -37,7 +37,7 @@ pub none_over : (nodes : List Node) (width : ℕ) → nodes ≡ [] → IsOver (l
 none_over nodes width none over = let n = ap length none in let z = mul-le (length nodes) width 0 width (omega (arith, n)) (omega arith) in absurd (omega (arith, z, over))
 
 -- so these are too many, where those that are built are
-pub way_over : (rows left : List Need) (targets : List (List ℕ)) (nodes : List Node) (last : Option Need) (width : ℕ) → IsOnWay rows targets nodes last left → IsOver (length nodes) width → AreTooMany rows width
+pub way_over : (rows left : List Need) (targets : List (List ℕ)) (nodes : List Node) (last : Option Need) (width : ℕ) → IsOnWay rows targets nodes last left → IsOver (length nodes) width → AreOver rows width
 way_over rows left targets nodes last width w over asked ps alike are = by last w.built
   where
     within : (need : Need) → Contains w.done need → Contains rows need

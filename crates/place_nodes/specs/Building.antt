@@ -2,7 +2,7 @@
 --     IsBuilt done targets nodes      they are the places of these needs, and each says which target its need has
 --     InTurn needs      the referrers stand in the order of their bytes
 --     IsOver places targets      so many places with so many targets are too many choices
---     AreTooMany needs targets      the referrers have too many places for this number of targets
+--     AreOver needs targets      the referrers have too many places for this number of targets
 --     common one other      how many bytes two texts have in common from the front on
 use Rattle.std.specs.Prelude.{◌≡◌, ◌⊎◌, ◌==◌, ◌+◌, ◌*◌, ◌<◌, ℕ, if◌then◌else◌, List, [], ◌∷◌, ◌++◌, Option, Some, None, length, slice_get, Contains, ⊤}
 use Rattle.tree_spec.specs.Limits.{limit_number}
@@ -70,7 +70,7 @@ abbrev pub IsOver : ℕ → ℕ → Type 0
 IsOver places targets = limit_number Choices < places * targets
 
 -- own: so are those of these needs, where all of them ask for one specifier
-abbrev pub AreTooMany : List Need → ℕ → Type 0
-AreTooMany needs targets =
+abbrev pub AreOver : List Need → ℕ → Type 0
+AreOver needs targets =
     (asked : List ℕ) (ps : List (List ℕ)) → ((need : Need) → Contains needs need → need.asked ≡ asked)
     → ArePlaces needs asked ps → IsOver (length ps) targets

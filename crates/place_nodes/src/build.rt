@@ -1,7 +1,7 @@
 ghost use Rattle.std.specs.Prelude.{◌≡◌, ◌≤◌, ◌↔◌, IsTrue, [], Some, OnOk, IfOk, MatchOption, Contains, slice_get, option_copied, length};
 ghost use Rattle.layout_spec.specs.declared.Need.{Need};
 ghost use Rattle.place_nodes.specs.Building as definition;
-ghost use Rattle.place_nodes.specs.Building.{InTurn, IsBuilt, CanAdd, IsRowAdded, IsOver, AreTooMany};
+ghost use Rattle.place_nodes.specs.Building.{InTurn, IsBuilt, CanAdd, IsRowAdded, IsOver, AreOver};
 
 use crate::nodes::{Node, add_places};
 use crate::rows::Row;
@@ -20,7 +20,7 @@ pub fn nodes_of(
 ) -> Result<Option<Vec<Node>>, Memory>
     requires turn { InTurn rows.now }
     requires there { (need : Need) → Contains rows.now need → Contains targets.now need.target }
-    ensures { IfOk result (λ found. MatchOption found (AreTooMany rows.now width)
+    ensures { IfOk result (λ found. MatchOption found (AreOver rows.now width)
         (λ nodes. IsBuilt rows.now targets.now nodes.items × (IsOver (length nodes.items) width → ⊥))) }
 {
     let mut nodes = Vec::new(alloc);
