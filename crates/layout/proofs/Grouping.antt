@@ -7,7 +7,8 @@ use Rattle.std.specs.BTreeSet.{insert_key}
 use Rattle.std.specs.Cmp.Lexicographic.{slice_cmp}
 use Rattle.std.specs.FinMap.Entries.{by_order}
 use Rattle.std.specs.Ordering.{nat_cmp, match_ordering}
-use Rattle.std.specs.Prelude.{◌≡◌, ◌≢◌, ◌⊎◌, ◌↔◌, ℕ, zero, suc, ◌≤◌, ◌+◌, List, [], ◌∷◌, ◌++◌, length, take, drop, Contains, IsTrue, true, false, Bool}
+use Rattle.std.specs.Prelude.{◌≡◌, ◌≢◌, ◌⊎◌, ◌↔◌, ℕ, zero, suc, ◌≤◌, ◌+◌, List, [], ◌∷◌, ◌++◌, length, take, drop, Contains, IsTrue, true, false, Bool, Option, Some, None, MatchOption}
+use Rattle.std.proofs.lemmas.Option.{none-some, same_Some}
 use Rattle.std.specs.declared.cmp.Ordering.{Ordering}
 use Rattle.std.specs.declared.cmp.Ordering.TheVariants.{Less, Equal, Greater}
 use mathlib.Core.Logic.{inl, inr}
@@ -130,3 +131,16 @@ targets_on all texts after left more row target so e same put =
 
 pub targets_done : (all texts : List (List ℕ)) (left : List Need) → targets_onto texts left ≡ all → length left ≡ 0 → texts ≡ all
 targets_done all texts left so none = ap (targets_onto texts) (sym (nil_from_length left none)) ∙ so
+
+pub with_put : (items after texts : List (List ℕ)) (text copy : List ℕ) → items ≡ after → after ≡ insert_key (slice_cmp nat_cmp) texts copy → copy ≡ text → items ≡ put_text text texts
+with_put items after texts text copy e put same = e ∙ (put ∙ (insert_is_put texts copy ∙ ap (λ t. put_text t texts) same))
+
+-- ---- what a match tells
+
+pub matched_none : (X N : Type 0) (S : X → Type 0) (o : Option X) → o ≡ None → MatchOption o N S → N
+matched_none X N S None e m = m
+matched_none X N S (Some x) e m = absurd (none-some x (sym e))
+
+pub matched_some : (X N : Type 0) (S : X → Type 0) (o : Option X) (x : X) → o ≡ Some x → MatchOption o N S → S x
+matched_some X N S None x e m = absurd (none-some x e)
+matched_some X N S (Some y) x e m = subst S (same_Some y x e) m

@@ -161,3 +161,26 @@ few_short group asked target are short m =
     let z = mul-le (length m.ps) (length m.ts) (places_at_most group) 1 p t in
     let many = m.many in
     absurd (omega (arith, z, many, short))
+
+-- ---- one target
+
+pub alone_there : (target : List ℕ) (texts : List (List ℕ)) (group : List Need) → texts ≡ target ∷ [] → ((need : Need) → Contains group need → need.target ≡ target) → (need : Need) → Contains group need → Contains texts need.target
+alone_there target texts group e one need c = subst (λ ts. Contains ts need.target) (sym e) (subst (Contains (target ∷ [])) (sym (one need c)) (contains_here target []))
+
+pub judged_short : (asked target : List ℕ) (group : List Need) → IsAsking asked group → ((need : Need) → Contains group need → need.target ≡ target) → places_at_most group ≤ limit_number Choices → IsJudged asked group true
+judged_short asked target group is one short = record {
+  few_is = λ e m. few_short group asked target (one_target_is asked target group is one) short m;
+  many_is = λ e. absurd (true≢false e);
+}
+
+pub judged_many : (asked target : List ℕ) (group : List Need) → IsAsking asked group → ((need : Need) → Contains group need → need.target ≡ target) → AreOver group 1 → IsJudged asked group false
+judged_many asked target group is one over = record {
+  few_is = λ e. absurd (true≢false (sym e));
+  many_is = λ e. many_over group asked (target ∷ []) is.alike (one_target_is asked target group is one) over;
+}
+
+pub judged_built : (asked target : List ℕ) (group : List Need) (targets : List (List ℕ)) (nodes : List Node) → IsAsking asked group → ((need : Need) → Contains group need → need.target ≡ target) → IsBuilt group targets nodes × (IsOver (length nodes) 1 → ⊥) → IsJudged asked group true
+judged_built asked target group targets nodes is one built = record {
+  few_is = λ e m. few_built group asked (target ∷ []) targets nodes (one_target_is asked target group is one) built.0 built.1 m;
+  many_is = λ e. absurd (true≢false e);
+}

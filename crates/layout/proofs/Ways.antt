@@ -9,14 +9,14 @@ use Rattle.std.proofs.lemmas.Slice.Eq.{bytes_eq-Decides}
 use Rattle.std.specs.Cmp.Lexicographic.{slice_cmp, nat_list_cmp_total}
 use Rattle.std.specs.FinMap.{get, empty, slice_cmp-IsAntisymmetric, nat_cmp-IsAntisymmetric}
 use Rattle.std.specs.Ordering.{nat_cmp, ordering_then, is_gt}
-use Rattle.std.specs.Prelude.{◌≡◌, ◌≢◌, ◌⊎◌, ◌↔◌, ℕ, ◌<◌, ◌*◌, Bool, true, false, List, [], ◌∷◌, ◌++◌, length, option_map, Option, Some, None, bytes_eq, Contains, ⊤}
+use Rattle.std.specs.Prelude.{◌≡◌, ◌≢◌, ◌⊎◌, ◌↔◌, ℕ, ◌<◌, ◌*◌, Bool, true, false, List, [], ◌∷◌, ◌++◌, length, option_map, unwrap_or, Option, Some, None, bytes_eq, Contains, ⊤}
 use Rattle.std.specs.declared.cmp.Ordering.{Ordering}
 use Rattle.std.specs.declared.cmp.Ordering.TheVariants.{Less, Equal, Greater}
 use mathlib.Core.Logic.{inl, inr}
 use Rattle.tree_spec.specs.Limits.{limit_number}
 use Rattle.tree_spec.specs.declared.LimitName.TheVariants.{Choices}
 use Rattle.import_map_spec.proofs.Entries.{get_nowhere}
-use Rattle.import_map_spec.specs.ParsedMap.{ParsedMap}
+use Rattle.import_map_spec.specs.ParsedMap.{Addresses, ParsedMap}
 use Rattle.layout_spec.proofs.Contained.{contains_here, contains_there, contains_cases, contains_none}
 use Rattle.layout_spec.specs.Needs.{NoClash}
 use Rattle.layout_spec.specs.PutMappings.{nothing_mapped}
@@ -107,7 +107,7 @@ pub record IsOnWay (rows left : List Need) (m : ParsedMap) : Type 0 where
 
 nothing_held : (asked place : List ℕ) → held nothing_mapped asked place ≡ None
 nothing_held asked [] = get_nowhere asked
-nothing_held asked (b ∷ rest) = get_nowhere asked
+nothing_held asked (b ∷ rest) = ap (λ (scope : Addresses). get scope asked) (ap (λ (o : Option Addresses). unwrap_or o empty) (get_nowhere (b ∷ rest))) ∙ get_nowhere asked
 
 -- where there are many choices there is a need
 some_need : (needs : List Need) (asked : List ℕ) → HasManyChoices needs asked → (need : Need) × Contains needs need × (need.asked ≡ asked)
