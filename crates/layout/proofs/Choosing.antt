@@ -1,30 +1,29 @@
 -- From the first place to the last each takes what then costs least.
 use Rattle.std.proofs.Common.{refl, sym, ap, ◌∙◌, subst, arith}
-use Rattle.std.proofs.lemmas.Bool.{cases_Bool, cond-true, cond-false, true≢false, eqb-true, eqb-false}
-use Rattle.std.proofs.lemmas.List.{take_more, drop_more, drop_all, take_all, map_push, same_from_push, length_push, reverse-append, length-map, length-reverse, length-drop}
+use Rattle.std.proofs.lemmas.Bool.{cases_Bool, cond-true, cond-false, true≢false}
+use Rattle.std.proofs.lemmas.List.{take_more, drop_all, take_all, map_push, same_from_push, length_push, reverse-append, length-map, length-reverse, length-drop}
 use Rattle.std.proofs.lemmas.Option.{same_Some, none-some, slice_get-map, slice_get_within, get_or_from_slice_get}
 use Rattle.std.proofs.lemmas.List.Elements.{Contains-append_cases}
 use Rattle.std.specs.FinMap.{get, insert, empty}
 use Rattle.std.specs.List.{find}
-use Rattle.std.specs.Prelude.{◌≡◌, ◌⊎◌, ℕ, zero, suc, ◌<◌, ◌≤◌, ◌+◌, ◌==◌, Bool, true, false, cond, List, [], ◌∷◌, ◌++◌, Option, Some, None, map, take, drop, get_or, reverse, length, slice_get, option_map, unwrap_or, Contains}
+use Rattle.std.specs.Prelude.{◌≡◌, ◌⊎◌, ℕ, zero, suc, ◌≤◌, ◌+◌, ◌==◌, Bool, true, false, cond, List, [], ◌∷◌, ◌++◌, Option, Some, None, map, take, drop, reverse, length, slice_get, option_map, unwrap_or, Contains}
 use mathlib.Core.Logic.{inl, inr}
 use Rattle.import_map_spec.proofs.Entries.{same_key, same_key_is, same_key_itself, get_inserted, get_nowhere, cases_option}
 use Rattle.import_map_spec.specs.ParsedMap.{Addresses, ParsedMap}
 use Rattle.layout_spec.proofs.Contained.{contains_here, contains_there, contains_at, contains_cases, contains_none}
-use Rattle.layout_spec.specs.Places.{place_above}
 use Rattle.layout_spec.specs.PutMappings.{mapped_at}
 use Rattle.layout_spec.specs.Serving.{addresses_at, held, IsTidy}
 use Rattle.fewest_spec.specs.Choosing.{Wish, Weights, no_weight, is_best, penalty, reduced, from_above, first_best, settled, chosen}
 use Rattle.fewest_spec.specs.Fewest.{Choice, value_by, Before}
 use Rattle.fewest_spec.specs.Wishes.{Ascending}
 use Rattle.fewest_spec.proofs.Orders.{never_itself}
-use Rattle.fewest_spec.proofs.Values.{value_step, from_top, from_next, get_here, get_before, put_cases, value_before, from_above_put}
+use Rattle.fewest_spec.proofs.Values.{value_step, from_top, from_next, get_here, put_cases, value_before}
 use Rattle.fewest_spec.proofs.Weighing.{IsWish, IsWide, some_best, best_from, reduced_wide}
 use Rattle.layout.specs.Choices.{first_free, free_or, choice_at, IsLaid, number_from, IsLaidAt, IsAskedFor}
 use Rattle.layout.specs.Settled.{weights_of, settled_row, settled_rows}
 use Rattle.place_nodes.specs.Nodes.{IsAbove, places_of, AreNodes}
 use Rattle.place_nodes.specs.declared.nodes.Node.{Node}
-use Rattle.layout.proofs.Settling.{drop_at, reverse_more, in_front}
+use Rattle.layout.proofs.Settling.{drop_at, reverse_more}
 
 -- ---- what is chosen is held at these places alone
 
@@ -70,7 +69,7 @@ module _ (wish : Wish) (weights : Weights) (place : List ℕ) where
           | inr at ↦ at
         ] in
         let more : first_free (map (penalty wish weights place) (first ∷ ts)) ≡ suc (first_free (map (penalty wish weights place) ts)) =
-            cond-false _ 0 (first_free (map (penalty wish weights place) ts) + 1) (penalty_at first ∙ other) ∙ omega arith in
+        cond-false _ 0 (first_free (map (penalty wish weights place) ts) + 1) (penalty_at first ∙ other) ∙ omega arith in
         let found : find (is_best wish weights place) (first ∷ ts) ≡ find (is_best wish weights place) ts = cond-false _ (Some first) (find (is_best wish weights place) ts) other in
         ap (slice_get (first ∷ ts)) more ∙ (first_found ts d t later e ∙ ap (λ o. Some (unwrap_or o d)) (sym found))
   ]

@@ -1,18 +1,18 @@
 -- Needs are taken group by group, and targets are gathered.
 use Rattle.std.proofs.Common.{refl, sym, ap, ◌∙◌, subst, arith, append_assoc}
 use Rattle.std.proofs.Math.Seq.{drop-append_seam, take-append_seam}
-use Rattle.std.proofs.lemmas.List.{take-append-drop, length-append, length_push, append-nil, nil_from_length}
+use Rattle.std.proofs.lemmas.List.{take-append-drop, length_push, nil_from_length}
 use Rattle.std.proofs.lemmas.List.Elements.{Contains-append_cases}
 use Rattle.std.specs.BTreeSet.{insert_key}
 use Rattle.std.specs.Cmp.Lexicographic.{slice_cmp}
 use Rattle.std.specs.FinMap.Entries.{by_order}
 use Rattle.std.specs.Ordering.{nat_cmp, match_ordering}
-use Rattle.std.specs.Prelude.{◌≡◌, ◌≢◌, ◌⊎◌, ◌↔◌, ℕ, zero, suc, ◌≤◌, ◌+◌, List, [], ◌∷◌, ◌++◌, length, take, drop, Contains, IsTrue, true, false, Bool, Option, Some, None, MatchOption}
+use Rattle.std.specs.Prelude.{◌≡◌, ◌≢◌, ◌⊎◌, ℕ, zero, suc, ◌+◌, List, [], ◌∷◌, ◌++◌, length, take, drop, Contains, Option, Some, None, MatchOption}
 use Rattle.std.proofs.lemmas.Option.{none-some, same_Some}
 use Rattle.std.specs.declared.cmp.Ordering.{Ordering}
 use Rattle.std.specs.declared.cmp.Ordering.TheVariants.{Less, Equal, Greater}
 use mathlib.Core.Logic.{inl, inr}
-use Rattle.layout_spec.proofs.Contained.{contains_here, contains_there, contains_cases, contains_none}
+use Rattle.layout_spec.proofs.Contained.{contains_here, contains_cases, contains_none}
 use Rattle.layout_spec.specs.declared.Need.{Need}
 use Rattle.fewest_spec.specs.Making.{put_text}
 use Rattle.layout.specs.Groups.{IsFront, IsGroup, targets_onto}

@@ -3,15 +3,14 @@ use Rattle.std.proofs.Common.{refl, sym, ap, ◌∙◌, subst}
 use Rattle.std.proofs.lemmas.Bool.{cases_Bool, true≢false}
 use Rattle.std.proofs.lemmas.Slice.Eq.{bytes_eq-Decides}
 use Rattle.std.specs.FinMap.{empty}
-use Rattle.std.specs.Prelude.{◌≡◌, ◌≢◌, ◌⊎◌, ℕ, List, [], ◌∷◌, length, reverse, bytes_eq, Contains, Option, Some, None, Result, Ok, Err, OnOk, IfErr, ⊤}
+use Rattle.std.specs.Prelude.{◌≡◌, ◌≢◌, ℕ, List, [], ◌∷◌, length, reverse, bytes_eq, Contains, Result, Ok, Err, OnOk, IfErr, ⊤}
 use mathlib.Core.Logic.{inl, inr}
 use Rattle.import_map_spec.specs.ParsedMap.{ParsedMap}
-use Rattle.layout_spec.specs.PutMappings.{mapped_at}
 use Rattle.layout_spec.specs.declared.Need.{Need}
 use Rattle.fewest_spec.specs.Choosing.{Wish, chosen, no_weight}
-use Rattle.fewest_spec.specs.Fewest.{Choice, at_top}
+use Rattle.fewest_spec.specs.Fewest.{at_top}
 use Rattle.fewest_spec.specs.Making.{put_text, asking, fits_in}
-use Rattle.fewest_spec.specs.Wishes.{AreTargets, IsWishOf, HasManyChoices}
+use Rattle.fewest_spec.specs.Wishes.{IsWishOf, HasManyChoices}
 use Rattle.fewest_spec.proofs.OneTarget.{one_target, no_target}
 use Rattle.fewest_spec.proofs.SomeFewest.{wish_is, put_ascending, put_there}
 use Rattle.fewest_spec.proofs.Wanted.{is_wish}

@@ -1,14 +1,14 @@
 -- What the code reckons for a place are the penalties of its targets.
 use Rattle.std.proofs.Common.{refl, sym, ap, ◌∙◌, subst, arith}
-use Rattle.std.proofs.lemmas.Bool.{cases_Bool, cond-true, cond-false, true≢false, eqb-true, eqb-false, eq-eqb, ne_eqb, false_from_ne_true}
+use Rattle.std.proofs.lemmas.Bool.{cases_Bool, true≢false, eq-eqb, ne_eqb, false_from_ne_true}
 use Rattle.std.proofs.lemmas.Option.{same_Some, none-some}
 use Rattle.std.proofs.lemmas.Slice.Eq.{bytes_eq-Decides}
-use Rattle.std.specs.Prelude.{◌≡◌, ◌⊎◌, ℕ, zero, suc, ◌<◌, ◌≤◌, ◌+◌, ◌==◌, Bool, true, false, cond, min, List, [], ◌∷◌, Option, Some, None, map, slice_get, bytes_eq, Contains}
+use Rattle.std.specs.Prelude.{◌≡◌, ℕ, zero, suc, ◌<◌, ◌≤◌, ◌+◌, ◌==◌, true, false, cond, min, List, [], ◌∷◌, Option, Some, None, map, slice_get, bytes_eq, Contains}
 use mathlib.Core.Logic.{inl, inr}
 use Rattle.layout_spec.proofs.Contained.{contains_here, contains_there, contains_cases, contains_none, contains_at}
 use Rattle.fewest_spec.specs.Choosing.{Wish, Weights, is_best, penalty}
 use Rattle.fewest_spec.proofs.Counts.{Apart}
-use Rattle.fewest_spec.proofs.Weighing.{IsBest, best_is, best_from}
+use Rattle.fewest_spec.proofs.Weighing.{best_is, best_from}
 use Rattle.layout.specs.Costs.{least_from, least_of, more_than, other_than, penalties}
 use Rattle.place_nodes.specs.Nodes.{IsOwn}
 
@@ -55,9 +55,9 @@ module _ (wish : Wish) (weights : Weights) (place : List ℕ) where
         let m = least_of_above (weights place) (weights place t) wish.targets t c (λ s d. b.least s d (all s)) in
         best ∙ sym (eq-eqb _ _ (omega (arith, l, m)))
     | inr other ↦ other ∙ sym (ne_eqb _ _ (λ e. true≢false (sym (best_from wish weights place t (record {
-        fits = all t;
-        least = λ s d f. let l = least_of_each (weights place) wish.targets s d in omega (arith, l, e);
-      })) ∙ other)))
+      fits = all t;
+      least = λ s d f. let l = least_of_each (weights place) wish.targets s d in omega (arith, l, e);
+    })) ∙ other)))
   ]
 
   more_row : ((value : List ℕ) → wish.fits place value ≡ true) → (ts : List (List ℕ)) → ((t : List ℕ) → Contains ts t → Contains wish.targets t) → more_than (least_of (map (weights place) wish.targets)) (map (weights place) ts) ≡ map (penalty wish weights place) ts

@@ -1,21 +1,19 @@
 -- Places are settled from the last to the first.
 use Rattle.std.proofs.Common.{refl, sym, ap, ◌∙◌, subst, arith}
-use Rattle.std.proofs.lemmas.Bool.{cases_Bool, cond-true, cond-false, true≢false}
+use Rattle.std.proofs.lemmas.Bool.{cases_Bool, cond-true, cond-false}
 use Rattle.std.proofs.lemmas.List.{take_more, drop_more, drop_all, take_all, map_push, same_from_push, length_push, reverse-append, length-map, length-replicate, length-set}
 use Rattle.std.proofs.lemmas.Option.{same_Some, none-some, slice_get-map, slice_get_within, get_or_from_slice_get}
 use Rattle.std.proofs.lemmas.Slice.Eq.{bytes_eq-Decides}
-use Rattle.std.specs.Prelude.{◌≡◌, ◌⊎◌, ℕ, zero, suc, ◌<◌, ◌≤◌, ◌+◌, ◌==◌, Bool, true, false, cond, List, [], ◌∷◌, ◌++◌, Option, Some, None, map, take, drop, set, get_or, reverse, replicate, length, slice_get, option_map, bytes_eq, Contains}
+use Rattle.std.specs.Prelude.{◌≡◌, ℕ, zero, suc, ◌<◌, ◌≤◌, ◌+◌, true, false, cond, List, [], ◌∷◌, ◌++◌, Option, Some, None, map, take, drop, set, get_or, reverse, replicate, length, slice_get, option_map, bytes_eq, Contains}
 use mathlib.Core.Logic.{inl, inr}
 use Rattle.layout_spec.proofs.Contained.{contains_here, contains_there, contains_at, contains_cases, contains_none}
 use Rattle.layout_spec.specs.Places.{place_above}
 use Rattle.fewest_spec.specs.Choosing.{Wish, Weights, no_weight, penalty, reduced, is_above_at}
 use Rattle.fewest_spec.proofs.Counts.{Apart}
-use Rattle.fewest_spec.proofs.Orders.{never_itself}
-use Rattle.fewest_spec.specs.Wishes.{Ascending}
 use Rattle.layout.specs.Costs.{added, penalties, IsCharged}
 use Rattle.layout.specs.Settled.{weights_of, row_of, settled_row, settled_rows}
 use Rattle.place_nodes.proofs.TooMany.{apart_up}
-use Rattle.place_nodes.specs.Nodes.{IsOwn, IsAbove, places_of, AreNodes}
+use Rattle.place_nodes.specs.Nodes.{IsAbove, places_of, AreNodes}
 use Rattle.place_nodes.specs.declared.nodes.Node.{Node}
 use Rattle.layout.proofs.Penalties.{penalties_row}
 
@@ -184,8 +182,8 @@ paid_settled nodes width was front after rows costs row node above s e at row_is
     let put_is : after ≡ set front above (added (row_of wish step.after up.0) row) = put (row_of wish step.after up.0) paying in
     let same_length : length after ≡ length front = ap length put_is ∙ length-set front above (added (row_of wish step.after up.0) row) in
     let changed : after ≡ map (row_of wish (reduced wish node.place step.after)) qs =
-        put_is ∙ ((λ i. set (step.front_is i) above (added (row_of wish step.after up.0) (settled i))) ∙ (ap (set (map (row_of wish step.after) qs) above) (paid_row wish step.after node.place up.0 up.1)
-        ∙ one_row (row_of wish step.after) (row_of wish (reduced wish node.place step.after)) qs above up.0 up.2 (apart_front (length front) ps (apart_up ps are.sorted)) (λ q c apart. other_row wish step.after node.place up.0 q up.1 apart))) in
+    put_is ∙ ((λ i. set (step.front_is i) above (added (row_of wish step.after up.0) (settled i))) ∙ (ap (set (map (row_of wish step.after) qs) above) (paid_row wish step.after node.place up.0 up.1)
+    ∙ one_row (row_of wish step.after) (row_of wish (reduced wish node.place step.after)) qs above up.0 up.2 (apart_front (length front) ps (apart_up ps are.sorted)) (λ q c apart. other_row wish step.after node.place up.0 q up.1 apart))) in
     record {
       opened = changed ∙ ((λ i. map (row_of wish (sym step.weights_is i)) qs) ∙ (λ i. map (row_of wish (weights_of wish (drop (sym same_length i) ps))) (take (sym same_length i) ps)));
       settled = ap (λ r. rows ++ r ∷ []) settled ∙ (step.rows_is ∙ (λ i. reverse (settled_rows wish (drop (sym same_length i) ps))));

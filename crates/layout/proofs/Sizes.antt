@@ -1,20 +1,18 @@
 -- How many places and targets there are.
-use Rattle.std.proofs.Common.{refl, sym, ap, ◌∙◌, subst, arith}
-use Rattle.std.proofs.lemmas.Bool.{cases_Bool, cond-true, cond-false, true≢false}
+use Rattle.std.proofs.Common.{sym, ap, ◌∙◌, subst, arith}
+use Rattle.std.proofs.lemmas.Bool.{true≢false}
 use Rattle.std.proofs.lemmas.List.{length-append, length-map}
 use Rattle.std.proofs.lemmas.Nat.{mul-le}
-use Rattle.std.specs.Prelude.{◌≡◌, ◌⊎◌, ℕ, zero, suc, ◌≤◌, ◌<◌, ◌+◌, ◌*◌, Bool, true, false, List, [], ◌∷◌, ◌++◌, length, take, flat_map, if◌then◌else◌, IsTrue, Contains, Option, Some, None, MatchOption}
+use Rattle.std.specs.Prelude.{◌≡◌, ◌⊎◌, ℕ, zero, suc, ◌≤◌, ◌+◌, Bool, true, false, List, [], ◌∷◌, length, take, flat_map, if◌then◌else◌, Contains}
 use mathlib.Core.Logic.{inl, inr}
 use Rattle.tree_spec.specs.Limits.{limit_number}
 use Rattle.tree_spec.specs.declared.LimitName.TheVariants.{Choices}
 use Rattle.layout_spec.proofs.Contained.{contains_here, contains_there, contains_cases, contains_none, contains_flat}
-use Rattle.layout_spec.specs.Needs.{NoClash}
-use Rattle.layout_spec.specs.Places.{places, above, folders, is_folder}
+use Rattle.layout_spec.specs.Places.{places, folders, is_folder}
 use Rattle.layout_spec.specs.declared.Need.{Need}
-use Rattle.fewest_spec.specs.Making.{put_text, targets_for, places_for}
+use Rattle.fewest_spec.specs.Making.{put_text, places_for}
 use Rattle.fewest_spec.specs.Wishes.{Ascending, ArePlaces, AreTargets, HasManyChoices}
 use Rattle.fewest_spec.proofs.Amounts.{no_more}
-use Rattle.fewest_spec.proofs.Counts.{Apart}
 use Rattle.fewest_spec.proofs.SomeFewest.{places_are, put_ascending, put_either, put_there}
 use Rattle.fewest_spec.proofs.Wanted.{apart_down}
 use Rattle.place_nodes.proofs.TooMany.{apart_up}
@@ -54,8 +52,8 @@ all_count (need ∷ more) =
 pub few_places : (group : List Need) (asked : List ℕ) (ps : List (List ℕ)) → ArePlaces group asked ps → length ps ≤ places_at_most group
 few_places group asked ps are =
     let l = no_more ps (all_places group) (apart_down ps are.down) (λ p c.
-        let found = are.only p c in
-        contains_flat (λ (need : Need). places need.referrer) found.0 p group found.1.is_need found.1.under) in
+    let found = are.only p c in
+    contains_flat (λ (need : Need). places need.referrer) found.0 p group found.1.is_need found.1.under) in
     let a = all_count group in
     omega (arith, l, a)
 
@@ -146,8 +144,8 @@ many_over group asked us alike are over = record {
 pub few_built : (group : List Need) (asked : List ℕ) (us targets : List (List ℕ)) (nodes : List Node) → AreTargets group asked us → IsBuilt group targets nodes → (IsOver (length nodes) (length us) → ⊥) → HasManyChoices group asked → ⊥
 few_built group asked us targets nodes are built few m =
     let l = no_more m.ps (places_of nodes) (apart_down m.ps m.places.down) (λ p c.
-        let found = m.places.only p c in
-        built.all found.0 p found.1.is_need found.1.under) in
+    let found = m.places.only p c in
+    built.all found.0 p found.1.is_need found.1.under) in
     let n = length-map nodes (λ (node : Node). node.place) in
     let t = targets_count group asked m.ts us m.targets are in
     let z = mul-le (length m.ps) (length m.ts) (length nodes) (length us) (omega (arith, l, n)) t in

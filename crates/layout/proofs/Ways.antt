@@ -9,7 +9,7 @@ use Rattle.std.proofs.lemmas.Slice.Eq.{bytes_eq-Decides}
 use Rattle.std.specs.Cmp.Lexicographic.{slice_cmp, nat_list_cmp_total}
 use Rattle.std.specs.FinMap.{get, empty, slice_cmp-IsAntisymmetric, nat_cmp-IsAntisymmetric}
 use Rattle.std.specs.Ordering.{nat_cmp, ordering_then, is_gt}
-use Rattle.std.specs.Prelude.{◌≡◌, ◌≢◌, ◌⊎◌, ◌↔◌, ℕ, ◌<◌, ◌*◌, Bool, true, false, List, [], ◌∷◌, ◌++◌, length, option_map, unwrap_or, Option, Some, None, bytes_eq, Contains, ⊤}
+use Rattle.std.specs.Prelude.{◌≡◌, ◌⊎◌, ◌↔◌, ℕ, ◌<◌, ◌*◌, List, [], ◌∷◌, ◌++◌, length, option_map, unwrap_or, Option, Some, None, bytes_eq, Contains}
 use Rattle.std.specs.declared.cmp.Ordering.{Ordering}
 use Rattle.std.specs.declared.cmp.Ordering.TheVariants.{Less, Equal, Greater}
 use mathlib.Core.Logic.{inl, inr}
@@ -20,19 +20,18 @@ use Rattle.import_map_spec.specs.ParsedMap.{Addresses, ParsedMap}
 use Rattle.layout_spec.proofs.Contained.{contains_here, contains_there, contains_cases, contains_none}
 use Rattle.layout_spec.specs.Needs.{NoClash}
 use Rattle.layout_spec.specs.PutMappings.{nothing_mapped}
-use Rattle.layout_spec.specs.Serving.{held, IsTidy}
+use Rattle.layout_spec.specs.Serving.{held}
 use Rattle.layout_spec.specs.declared.Need.{Need}
 use Rattle.scope_builder.specs.Lists.{Lists}
 use Rattle.scope_builder.specs.declared.keyed.Layout.{Layout}
-use Rattle.fewest_spec.specs.Fewest.{Choice, Before, IsFewest, IsFewestLayout, Holds}
-use Rattle.fewest_spec.specs.Wishes.{ArePlaces, AreTargets, IsUnder, HasManyChoices, HasTooManyChoices}
+use Rattle.fewest_spec.specs.Fewest.{Choice, Before, IsFewest, Holds}
+use Rattle.fewest_spec.specs.Wishes.{ArePlaces, HasManyChoices, HasTooManyChoices}
 use Rattle.fewest_spec.proofs.Alike.{SameFor, same_back, fewest_alike, places_alike, targets_alike, fewest_in_any_order}
 use Rattle.fewest_spec.proofs.Laws.{one_fewest}
 use Rattle.fewest_spec.proofs.OneTarget.{no_target}
 use Rattle.fewest_spec.proofs.Orders.{never_itself}
 use Rattle.place_nodes.specs.Building.{InTurn}
 use Rattle.place_nodes.specs.Rows.{UpTo, InOrder, IsTable}
-use Rattle.layout.specs.Choices.{IsLaid}
 use Rattle.layout.specs.Groups.{IsGroup, IsAsking, IsGroupLaid}
 use Rattle.layout.specs.Layouts.{HasFewest, FewestLists}
 

@@ -1,5 +1,4 @@
 ghost use Rattle.std.specs.Prelude.{◌≡◌, IfOk, IfErr, OnOk, Contains, List, ℕ};
-ghost use Rattle.fewest_spec.specs.Fewest.{IsFewestLayout};
 ghost use Rattle.fewest_spec.specs.Wishes.{HasManyChoices, HasTooManyChoices};
 ghost use Rattle.layout.specs.declared.fault.LayoutFault.TheVariants.{TooManyChoices};
 ghost use Rattle.layout.specs.Groups.{IsAsking, IsGroupLaid};

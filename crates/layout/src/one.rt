@@ -45,12 +45,7 @@ fn lay_at_top(alloc: Global, laid: &mut Laid, asked: &Text, target: &Text) -> Re
 
 // Whether the places, of which a text has no more than bytes and one, are as many as are looked at. They are found only
 // where the texts don't tell it.
-fn has_few_places(
-    alloc: Global,
-    asked: &Text,
-    target: &Text,
-    group: &[Row],
-) -> Result<bool, Memory>
+fn has_few_places(alloc: Global, asked: &Text, target: &Text, group: &[Row]) -> Result<bool, Memory>
     requires asking { IsAsking asked.now group.now }
     requires one { (need : Need) → Contains group.now need → need.target ≡ target.now }
     ensures { IfOk result (IsJudged asked.now group.now) }

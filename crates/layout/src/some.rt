@@ -39,11 +39,7 @@ pub(crate) fn lay_some(
 }
 
 // The specifier stands among the targets, since it is what a referrer gets where no place holds any.
-fn with_asked(
-    alloc: Global,
-    mut targets: BTreeSet<Text>,
-    asked: &Text,
-) -> Result<Vec<Text>, Memory>
+fn with_asked(alloc: Global, mut targets: BTreeSet<Text>, asked: &Text) -> Result<Vec<Text>, Memory>
     ensures { IfOk result (λ texts. texts.items ≡ put_text asked.now targets.keys) }
 {
     targets.insert(asked.copy(alloc)?)?;

@@ -15,9 +15,9 @@ pub returns-in_err-lay_group-clause-many : goal.returns-in_err-lay_group-clause-
 returns-in_err-lay_group-clause-many c =
     let p = err_from_is_err_and c.from_residual.result c.from_residual.ensures.1 in
     rw (p.1, p.2) (λ same.
-      way_many c.args.rows.now c.loop-group.left.now c.in-Some.group.now c.in-Some.more.now (laid_map c.loop-group.laid) c.requires c.loop-group.invariant c.in-Some.ensures
-      (c.in_err-lay_group.ensures.many same c.in-Some.ensures.first.asked
-      (group_asking c.args.rows.now c.loop-group.left.now c.in-Some.group.now c.in-Some.more.now (laid_map c.loop-group.laid) c.requires c.loop-group.invariant c.in-Some.ensures)))
+    way_many c.args.rows.now c.loop-group.left.now c.in-Some.group.now c.in-Some.more.now (laid_map c.loop-group.laid) c.requires c.loop-group.invariant c.in-Some.ensures
+    (c.in_err-lay_group.ensures.many same c.in-Some.ensures.first.asked
+    (group_asking c.args.rows.now c.loop-group.left.now c.in-Some.group.now c.in-Some.more.now (laid_map c.loop-group.laid) c.requires c.loop-group.invariant c.in-Some.ensures)))
 
 pub loop-group-preserved : goal.loop-group-preserved
 loop-group-preserved c =

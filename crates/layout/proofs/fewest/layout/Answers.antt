@@ -14,7 +14,7 @@ pub returns-in_err-laid-clause-many : goal.returns-in_err-laid-clause-many
 returns-in_err-laid-clause-many c =
     let p = err_from_is_err_and c.from_residual-in_err-laid.result c.from_residual-in_err-laid.ensures.1 in
     rw (p.1, p.2) (λ same.
-      too_many_too c.in_ok-rows.rows.items c.args.needs.now (back_again c.args.needs.now c.in_ok-rows.rows.items c.in_ok-rows.ensures.same) (subst HasTooManyChoices c.as_slice.ensures.value (c.in_err-laid.ensures.many same)))
+    too_many_too c.in_ok-rows.rows.items c.args.needs.now (back_again c.args.needs.now c.in_ok-rows.rows.items c.in_ok-rows.ensures.same) (subst HasTooManyChoices c.as_slice.ensures.value (c.in_err-laid.ensures.many same)))
 
 pub returns-clause-fewest : goal.returns-clause-fewest
 returns-clause-fewest c =
