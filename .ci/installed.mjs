@@ -3,8 +3,9 @@
 // that one names for bundlers is linked as the only entry, and then all that have a map as the entries of one. Where
 // `link` writes a map, Node's resolver walks the same modules, each request is resolved through the map as the HTML
 // Standard says, and Node has to take each file for a module; where `link` refuses a request, Node has to fail at it,
-// or to take the file for something else. Each difference is printed; it ends with 1 where there is one, and with 77
-// without es-module-lexer.
+// or to take the file for something else. Requests are those of declarations and of import calls of a string, as
+// es-module-lexer finds them. Each difference is printed; it ends with 1 where there is one, and with 77 without
+// es-module-lexer.
 import { createHash } from "node:crypto";
 import { spawnSync } from "node:child_process";
 import { existsSync, readFileSync, readdirSync, rmSync, statSync } from "node:fs";
@@ -116,10 +117,16 @@ async function nodeFormat(url) {
   return import(`${file}?format`).then((answer) => answer.default).catch((error) => error.code);
 }
 
+// An import call has a place of its own, and a name only where its first argument is a string and nothing else.
+function isCall(found) {
+  return found.d > -1 && found.n !== undefined;
+}
+
 // The requests of the modules that entries lead to, and these modules.
 function walk(entries) {
   const requests = [];
   const modules = new Set();
+  let calls = 0;
   const ask = (specifier, referrer) => {
     const target = nodeAnswers(specifier, referrer);
     requests.push({ referrer, specifier, target });
@@ -130,11 +137,12 @@ function walk(entries) {
   entries.forEach((entry) => ask(entry, PAGE));
   for (const module of modules) {
     const [found] = parse(bytesOf(module).toString("utf8"));
-    for (const request of found.filter((one) => one.d === -1)) {
+    for (const request of found.filter((one) => one.d === -1 || isCall(one))) {
       ask(request.n, module);
     }
+    calls += found.filter(isCall).length;
   }
-  return { requests, modules };
+  return { requests, modules, calls };
 }
 
 // ---- both
@@ -188,8 +196,9 @@ function otherDigests(map, modules) {
 // What differs of a map that was written; its requests are counted.
 async function differencesOf(entries, counts) {
   const map = JSON.parse(readFileSync(`${SITE}/importmap.json`, "utf8"));
-  const { requests, modules } = walk(entries);
+  const { requests, modules, calls } = walk(entries);
   counts.requests += requests.length;
+  counts.calls += calls;
   return [...ledElsewhere(map, requests), ...(await otherFormats(modules)), ...otherDigests(map, modules)];
 }
 
@@ -229,7 +238,7 @@ async function wrongRefusal(line) {
   return isRight ? [] : [`${line}, where Node has ${answer}`];
 }
 
-const counts = { entries: 0, maps: 0, requests: 0, refusals: {}, differences: 0 };
+const counts = { entries: 0, maps: 0, requests: 0, calls: 0, refusals: {}, differences: 0 };
 
 function told(name, differences) {
   counts.differences += differences.length;

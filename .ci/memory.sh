@@ -1,17 +1,17 @@
 #!/bin/sh
-# Lets each allocation of a run of `link` over packages fail in turn, outside the gate. The program of
-# crates/worked_rows is that run. It first makes as many allocations as its input says, so one build serves for them
-# all: allocation LAST fails, and a smaller input moves the failure further back in the run. Prints how often the run
-# ended in which way.
-LAST=${1:-1000}
+# Lets each allocation of a run of `link` over packages fail in turn, outside the gate. The run is the one of
+# crates/run_rows/data/packages.txt. Where its input is a number, the program first makes so many allocations, so one
+# build serves for them all: allocation LAST fails, and a smaller input moves the failure further back. Prints how often
+# the run ended in which way; the first allocations that fail are those with which the row itself is read.
+LAST=${1:-2000}
 kept=$(mktemp -d) || exit 1
 trap 'rm -rf "$kept"' EXIT
 mkdir "$kept/inputs"
 for number in $(seq 0 $((LAST - 1))); do
     echo "$number" >"$kept/inputs/$number"
 done
-cd "$(dirname "$0")/../crates/worked_rows" || exit 1
-rt try --cases "$kept/inputs" --fail-alloc "$LAST" >"$kept/out" 2>"$kept/log" || {
+cd "$(dirname "$0")/../crates/run_rows" || exit 1
+rt try --cases "$kept/inputs" --fail-alloc "$LAST" -- data/packages.txt >"$kept/out" 2>"$kept/log" || {
     tail -n 20 "$kept/log" >&2
     exit 1
 }

@@ -80,7 +80,7 @@ mkdir "$kept/escaped" && echo 'import "./a%62.mjs";' >"$kept/escaped/app.mjs" &&
 row escaped ./app.mjs 0 'ok: 2 modules, 2 requests, 1 mappings' <<'MAP'
 {
   "imports": {
-    "https://app.test/a%62.mjs": "https://app.test/ab.mjs"
+    "https://app.test/a%62.mjs": "./ab.mjs"
   },
   "integrity": {
     "https://app.test/ab.mjs": "sha384-OLBgp1GsljhM2TJ+sbHjaiH9txEUvgdDTAzHv2P24donTt6/529l+9Ua0vFImLlb",
@@ -125,9 +125,9 @@ file ui/node_modules/ui/node_modules/@ui/core/lib/index.mjs 'export const h = 1;
 row ui ./src/main.js 0 'ok: 5 modules, 6 requests, 3 mappings' <<'MAP'
 {
   "imports": {
-    "@ui/core": "https://app.test/node_modules/ui/node_modules/@ui/core/lib/index.mjs",
-    "ui": "https://app.test/node_modules/ui/b.js",
-    "ui/x/menu": "https://app.test/node_modules/ui/x/menu.js"
+    "@ui/core": "./node_modules/ui/node_modules/@ui/core/lib/index.mjs",
+    "ui": "./node_modules/ui/b.js",
+    "ui/x/menu": "./node_modules/ui/x/menu.js"
   },
   "integrity": {
     "https://app.test/node_modules/ui/b.js": "sha384-fTcfCsVu7yvt3g9LFfritgiUikMnzZIA/dqPyUjnKoSENf1koQGxmoHfLywoFTKk",
@@ -146,9 +146,9 @@ file order/node_modules/ui/package.json '{"name":"ui","type":"module","exports":
 row order ./src/main.js 0 'ok: 5 modules, 5 requests, 3 mappings' <<'MAP'
 {
   "imports": {
-    "@ui/core": "https://app.test/node_modules/ui/node_modules/@ui/core/lib/index.mjs",
-    "ui": "https://app.test/node_modules/ui/n.js",
-    "ui/x/menu": "https://app.test/node_modules/ui/x/menu.js"
+    "@ui/core": "./node_modules/ui/node_modules/@ui/core/lib/index.mjs",
+    "ui": "./node_modules/ui/n.js",
+    "ui/x/menu": "./node_modules/ui/x/menu.js"
   },
   "integrity": {
     "https://app.test/node_modules/ui/n.js": "sha384-eVYa5/aOGk/vpqRCoKm8w+PIvo26WOQ7DatXj0ggBM+Hrbvb/r11FnPNdzaBL5xX",
@@ -172,11 +172,11 @@ row versions ./app.mjs 0 'ok: 5 modules, 5 requests, 2 mappings' <<'MAP'
 {
   "imports": {},
   "scopes": {
-    "https://app.test/a/": {
-      "c": "https://app.test/a/node_modules/c/index.mjs"
+    "./a/": {
+      "c": "./a/node_modules/c/index.mjs"
     },
-    "https://app.test/b/": {
-      "c": "https://app.test/b/node_modules/c/index.mjs"
+    "./b/": {
+      "c": "./b/node_modules/c/index.mjs"
     }
   },
   "integrity": {
@@ -197,7 +197,7 @@ file fallback/fb.mjs ''
 row fallback ./app.mjs 0 'ok: 2 modules, 2 requests, 1 mappings' <<'MAP'
 {
   "imports": {
-    "#d": "https://app.test/fb.mjs"
+    "#d": "./fb.mjs"
   },
   "integrity": {
     "https://app.test/app.mjs": "sha384-s6a8r1PXN9L5JpteOj2engtZjWTdrGN1hUb4CBHiDkvlVAo1Ez7u9TTBEMDFTExO",
@@ -227,7 +227,7 @@ mkdir -p "$kept/package/node_modules/ui" &&
 row package ./app.mjs 0 'ok: 2 modules, 3 requests, 1 mappings' <<'MAP'
 {
   "imports": {
-    "ui/x.mjs": "https://app.test/node_modules/ui/x.mjs"
+    "ui/x.mjs": "./node_modules/ui/x.mjs"
   },
   "integrity": {
     "https://app.test/app.mjs": "sha384-95SHRkT0zBY5QSGZ80yJ4ZVQoL+0gk0JJhCzk9eIeSypT0+t74qdJEsk2P3vrXvd",
@@ -465,7 +465,7 @@ if [ $? != 0 ] ||
 PROJECT
 <head><script type="importmap">{
   "imports": {
-    "c": "https://app.test/node_modules/c/n.mjs"
+    "c": "./node_modules/c/n.mjs"
   },
   "integrity": {
     "https://app.test/node_modules/c/n.mjs": "sha384-OLBgp1GsljhM2TJ+sbHjaiH9txEUvgdDTAzHv2P24donTt6/529l+9Ua0vFImLlb",

@@ -33,7 +33,7 @@ def address(i):
 
 
 def scope(i):
-    return f'    "{BASE}node_modules/p{i}/": {{\n      "c": "{BASE}node_modules/c/index.mjs"\n    }}'
+    return f'    "./node_modules/p{i}/": {{\n      "c": "./node_modules/c/index.mjs"\n    }}'
 
 
 def digest(i):
@@ -44,7 +44,7 @@ def printed(size):
     """Keys, scopes and digests, a third of the text each, in the form that `link` prints."""
     third = (size - 100) // 3
     parts = [
-        ("imports", entries(third, lambda i: f'    "p{i}": "{address(i)}"')),
+        ("imports", entries(third, lambda i: f'    "p{i}": "./node_modules/p{i}/index.js"')),
         ("scopes", entries(third, scope)),
         ("integrity", entries(third, digest)),
     ]

@@ -61,11 +61,11 @@ def main():
     named = (line.split('#')[0] for line in (root / 'crates.txt').read_text().splitlines())
     names = [line.split(':')[0].split()[0] for line in named if line.strip()]
     rows = [(name, row_of(root / 'crates' / name)) for name in names]
-    print('| Crate | ' + ' | '.join(COLUMNS) + ' |')
-    print('|' + '---|' * (len(COLUMNS) + 1))
+    print('Crate|' + '|'.join(COLUMNS))
+    print('---' + '|---' * len(COLUMNS))
     for name, row in rows:
-        print(f'| `{name}` | ' + ' | '.join(str(number) for number in row) + ' |')
-    print('| together | ' + ' | '.join(str(sum(numbers)) for numbers in zip(*(row for _, row in rows))) + ' |')
+        print(f'`{name}`|' + '|'.join(str(number) for number in row))
+    print('together|' + '|'.join(str(sum(numbers)) for numbers in zip(*(row for _, row in rows))))
 
 
 main()

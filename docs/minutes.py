@@ -118,11 +118,11 @@ def minutes(seconds):
 def table(file, before):
     """prints the table, and the sums of an earlier run beside its own"""
     told = [json.load(open(it, encoding='utf8')) for it in (file, before) if it]
-    print('| Crate | Proofs | Tests | Edits | Runs |\n|---|---|---|---|---|')
+    print('Crate|Proofs|Tests|Edits|Runs\n---|---|---|---|---')
     for crate, row in sorted(told[0]['rows'].items(), key=lambda it: -sum(it[1].values())):
-        print(f'| `{crate}` | ' + ' | '.join(minutes(row[kind]) for kind in KINDS) + ' |')
+        print(f'`{crate}`|' + '|'.join(minutes(row[kind]) for kind in KINDS))
     for name, it in zip(('together', 'before'), told):
-        print(f'| {name} | ' + ' | '.join(f'{sums(it)[kind]:.0f}' for kind in KINDS) + ' |')
+        print(f'{name}|' + '|'.join(f'{sums(it)[kind]:.0f}' for kind in KINDS))
     for name, it in zip(('This run', 'The one before'), told):
         print(f'\n{name}: {it["whole"] / 60:.0f} processor minutes as the system counts them, {it["clock"] / 60:.0f} by the clock.')
 

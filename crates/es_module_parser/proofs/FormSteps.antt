@@ -5,8 +5,9 @@ use Rattle.std.proofs.lemmas.Bool.{ne_eqb}
 use Rattle.std.proofs.Math.Bool.{and-false}
 use Rattle.module_spec.specs.declared.request.Request.{Request}
 use Rattle.module_spec.specs.declared.request.ModuleFault.{ModuleFault}
+use Rattle.module_spec.specs.declared.request.ModuleFault.TheVariants.{Unreadable}
 use Rattle.module_spec.specs.Places.{Placed, is_name, is_text, is_word, is_mark, is_top}
-use Rattle.module_spec.specs.Forms.{Form, further, module_specifier, from_clause, imported_binding, name_space_import, braces, second_binding, behind_default, behind_import, module_export_name, export_all, named_specifier, named_exports, is_exported, export_declaration}
+use Rattle.module_spec.specs.Forms.{Form, further, module_specifier, from_clause, imported_binding, name_space_import, braces, second_binding, behind_default, behind_import, module_export_name, export_all, named_specifier, named_exports, is_exported, export_declaration, declaration}
 use Rattle.module_spec.specs.Forms.Form.{wrong, none, alone, asks}
 use Rattle.module_spec.specs.Outlines.{Finding, found, findings, requests}
 use Rattle.module_spec.specs.Outlines.Finding.{wrong_form, specifier}
@@ -222,104 +223,117 @@ turns_of NamedSpecifier t later d = if_turns (is_text t) (λ c. asked (text_begi
 
 -- ---- one token
 
--- what is found from where the parser stands on: `inner` is a word inside of the form that has none
-abbrev pub opened : ℕ → Option ℕ → Form → (Option ℕ → List Finding) → List Finding
-opened word inner wrong next = wrong_form word ∷ []
-opened word None none next = next None
-opened word None alone next = next None
-opened word None (asks count) next = next (Some count)
-opened word (Some at) none next = wrong_form at ∷ []
-opened word (Some at) alone next = wrong_form at ∷ []
-opened word (Some at) (asks count) next = wrong_form at ∷ []
+-- what is found from where the parser stands on
+abbrev pub opened : ℕ → Form → (Option ℕ → List Finding) → List Finding
+opened word wrong next = wrong_form word ∷ []
+opened word none next = next None
+opened word alone next = next None
+opened word (asks count) next = next (Some count)
 
-abbrev pub finished : Progress → List Request → List Placed → Result (List Request) ModuleFault
-finished Outside so_far later = requests so_far (findings None later)
-finished (Inside e word inner) so_far later = requests so_far (opened word inner (form e later) (λ n. findings n later))
-finished (Broken fault) so_far later = Err fault
+-- and where there is a fault inside of the form
+abbrev pub broken : ℕ → ModuleFault → Form → Result (List Request) ModuleFault
+broken word inner wrong = Err (Unreadable word)
+broken word inner none = Err inner
+broken word inner alone = Err inner
+broken word inner (asks count) = Err inner
 
-abbrev pub finished_behind : Next → Placed → List Request → List Placed → Result (List Request) ModuleFault
-finished_behind (Goes progress) t so_far later = finished progress so_far later
-finished_behind Specifier t so_far later = requests so_far (specifier t ∷ findings None later)
+-- what comes of the text, behind these tokens, the last one first
+abbrev pub finished : List Placed → Progress → List Request → List Placed → Result (List Request) ModuleFault
+finished before Outside so_far later = requests so_far (findings before None later)
+finished before (Inside e word None) so_far later = requests so_far (opened word (form e later) (λ n. findings before n later))
+finished before (Inside e word (Some inner)) so_far later = broken word inner (form e later)
+finished before (Broken fault) so_far later = Err fault
+
+abbrev pub finished_behind : List Placed → Next → Placed → List Request → List Placed → Result (List Request) ModuleFault
+finished_behind before (Goes progress) t so_far later = finished before progress so_far later
+finished_behind before Specifier t so_far later = requests so_far (specifier t ∷ findings before None later)
+
+-- the same where the next token is known, and the call that it ends is heard; `before` has that token
+abbrev pub resumed : List Placed → Progress → List Request → Placed → List Placed → Result (List Request) ModuleFault
+resumed before Outside so_far t later = requests so_far (found t None (declaration t later) (λ n. findings before n later))
+resumed before (Inside e word None) so_far t later = requests so_far (opened word (form e (t ∷ later)) (λ a. found t a (declaration t later) (λ n. findings before n later)))
+resumed before (Inside e word (Some inner)) so_far t later = broken word inner (form e (t ∷ later))
+resumed before (Broken fault) so_far t later = Err fault
 
 abbrev begun_form : Bool → Bool → List Placed → Form
 begun_form c d later = if c then behind_import later else if d then export_declaration later else none
 
-found_none : (t : Placed) (f : Form) (next : Option ℕ → List Finding) → found t None f next ≡ opened t.token.from None f next
+found_none : (t : Placed) (f : Form) (next : Option ℕ → List Finding) → found t None f next ≡ opened t.token.from f next
 found_none t wrong next = refl
 found_none t none next = refl
 found_none t alone next = refl
 found_none t (asks count) next = refl
 
-begun_by : (t : Placed) (later : List Placed) (so_far : List Request) (c d : Bool) → requests so_far (found t None (begun_form c d later) (λ n. findings n later)) ≡ finished (if c then Inside ImportDeclaration t.token.from None else if d then Inside ExportDeclaration t.token.from None else Outside) so_far later
-begun_by t later so_far true d = ap (requests so_far) (found_none t (behind_import later) (λ n. findings n later))
-begun_by t later so_far false true = ap (requests so_far) (found_none t (export_declaration later) (λ n. findings n later))
-begun_by t later so_far false false = refl
+begun_by : (before : List Placed) (t : Placed) (later : List Placed) (so_far : List Request) (c d : Bool) → requests so_far (found t None (begun_form c d later) (λ n. findings before n later)) ≡ finished before (if c then Inside ImportDeclaration t.token.from None else if d then Inside ExportDeclaration t.token.from None else Outside) so_far later
+begun_by before t later so_far true d = ap (requests so_far) (found_none t (behind_import later) (λ n. findings before n later))
+begun_by before t later so_far false true = ap (requests so_far) (found_none t (export_declaration later) (λ n. findings before n later))
+begun_by before t later so_far false false = refl
 
-pub begun_step : (t : Placed) (later : List Placed) (so_far : List Request) → requests so_far (findings None (t ∷ later)) ≡ finished (begun (seen_of t) t.text) so_far later
-begun_step t later so_far = begun_by t later so_far (is_top t && is_word t (codes "import")) (is_top t && is_word t (codes "export"))
+pub begun_step : (before : List Placed) (t : Placed) (later : List Placed) (so_far : List Request) → resumed before Outside so_far t later ≡ finished before (begun (seen_of t) t.text) so_far later
+begun_step before t later so_far = begun_by before t later so_far (is_top t && is_word t (codes "import")) (is_top t && is_word t (codes "export"))
 
-plain_case : (t : Placed) (later : List Placed) (so_far : List Request) (word : ℕ) (g : Form) → requests so_far (opened word None (further g) (λ a. found t a none (λ n. findings n later))) ≡ requests so_far (opened word None g (λ a. findings a later))
-plain_case t later so_far word wrong = refl
-plain_case t later so_far word none = refl
-plain_case t later so_far word alone = refl
-plain_case t later so_far word (asks count) = refl
+plain_case : (before : List Placed) (t : Placed) (later : List Placed) (so_far : List Request) (word : ℕ) (g : Form) → requests so_far (opened word (further g) (λ a. found t a none (λ n. findings before n later))) ≡ requests so_far (opened word g (λ a. findings before a later))
+plain_case before t later so_far word wrong = refl
+plain_case before t later so_far word none = refl
+plain_case before t later so_far word alone = refl
+plain_case before t later so_far word (asks count) = refl
 
-word_case : (t : Placed) (later : List Placed) (so_far : List Request) (word : ℕ) (g b : Form) → (g ≡ wrong) ⊎ (b ≡ wrong) → requests so_far (opened word None (further g) (λ a. found t a b (λ n. findings n later))) ≡ requests so_far (opened word (Some t.token.from) g (λ a. findings a later))
-word_case t later so_far word wrong b p = refl
-word_case t later so_far word none b (inl e) = absurd (cc)
-word_case t later so_far word none b (inr e) = rw e refl
-word_case t later so_far word alone b (inl e) = absurd (cc)
-word_case t later so_far word alone b (inr e) = rw e refl
-word_case t later so_far word (asks count) b (inl e) = absurd (cc)
-word_case t later so_far word (asks count) b (inr e) = rw e refl
+word_case : (before : List Placed) (t : Placed) (later : List Placed) (so_far : List Request) (word : ℕ) (g b : Form) → (g ≡ wrong) ⊎ (b ≡ wrong) → requests so_far (opened word (further g) (λ a. found t a b (λ n. findings before n later))) ≡ broken word (Unreadable t.token.from) g
+word_case before t later so_far word wrong b p = refl
+word_case before t later so_far word none b (inl e) = absurd (cc)
+word_case before t later so_far word none b (inr e) = rw e refl
+word_case before t later so_far word alone b (inl e) = absurd (cc)
+word_case before t later so_far word alone b (inr e) = rw e refl
+word_case before t later so_far word (asks count) b (inl e) = absurd (cc)
+word_case before t later so_far word (asks count) b (inr e) = rw e refl
 
-go_case : (t : Placed) (later : List Placed) (so_far : List Request) (word : ℕ) (e : Expect) (top i x : Bool) → ((top && (i || x)) ≡ false) ⊎ NoneBegins later (form e later)
-    → requests so_far (opened word None (further (form e later)) (λ a. found t a (begun_form (top && i) (top && x) later) (λ n. findings n later))) ≡ finished (if top && (i || x) then Inside e word (Some t.token.from) else Inside e word None) so_far later
-go_case t later so_far word e false i x p = plain_case t later so_far word (form e later)
-go_case t later so_far word e true false false p = plain_case t later so_far word (form e later)
-go_case t later so_far word e true true x (inl p) = absurd (cc)
-go_case t later so_far word e true true x (inr (inl g)) = word_case t later so_far word (form e later) (behind_import later) (inl g)
-go_case t later so_far word e true true x (inr (inr b)) = word_case t later so_far word (form e later) (behind_import later) (inr b.0)
-go_case t later so_far word e true false true (inl p) = absurd (cc)
-go_case t later so_far word e true false true (inr (inl g)) = word_case t later so_far word (form e later) (export_declaration later) (inl g)
-go_case t later so_far word e true false true (inr (inr b)) = word_case t later so_far word (form e later) (export_declaration later) (inr b.1)
+go_case : (before : List Placed) (t : Placed) (later : List Placed) (so_far : List Request) (word : ℕ) (e : Expect) (top i x : Bool) → ((top && (i || x)) ≡ false) ⊎ NoneBegins later (form e later)
+    → requests so_far (opened word (further (form e later)) (λ a. found t a (begun_form (top && i) (top && x) later) (λ n. findings before n later))) ≡ finished before (if top && (i || x) then Inside e word (Some (Unreadable t.token.from)) else Inside e word None) so_far later
+go_case before t later so_far word e false i x p = plain_case before t later so_far word (form e later)
+go_case before t later so_far word e true false false p = plain_case before t later so_far word (form e later)
+go_case before t later so_far word e true true x (inl p) = absurd (cc)
+go_case before t later so_far word e true true x (inr (inl g)) = word_case before t later so_far word (form e later) (behind_import later) (inl g)
+go_case before t later so_far word e true true x (inr (inr b)) = word_case before t later so_far word (form e later) (behind_import later) (inr b.0)
+go_case before t later so_far word e true false true (inl p) = absurd (cc)
+go_case before t later so_far word e true false true (inr (inl g)) = word_case before t later so_far word (form e later) (export_declaration later) (inl g)
+go_case before t later so_far word e true false true (inr (inr b)) = word_case before t later so_far word (form e later) (export_declaration later) (inr b.1)
 
-asked_case : (t : Placed) (later : List Placed) (so_far : List Request) (top i x : Bool) → (top && (i || x)) ≡ false → requests so_far (found t (Some 0) (begun_form (top && i) (top && x) later) (λ n. findings n later)) ≡ requests so_far (specifier t ∷ findings None later)
-asked_case t later so_far false i x p = refl
-asked_case t later so_far true false false p = refl
-asked_case t later so_far true true x p = absurd (cc)
-asked_case t later so_far true false true p = absurd (cc)
+asked_case : (before : List Placed) (t : Placed) (later : List Placed) (so_far : List Request) (top i x : Bool) → (top && (i || x)) ≡ false → requests so_far (found t (Some 0) (begun_form (top && i) (top && x) later) (λ n. findings before n later)) ≡ requests so_far (specifier t ∷ findings before None later)
+asked_case before t later so_far false i x p = refl
+asked_case before t later so_far true false false p = refl
+asked_case before t later so_far true true x p = absurd (cc)
+asked_case before t later so_far true false true p = absurd (cc)
 
-inside_step : (t : Placed) (later : List Placed) (so_far : List Request) (word : ℕ) {turn : Turn} {f : Form} → Turns t later turn f → requests so_far (opened word None f (λ a. findings a (t ∷ later))) ≡ finished_behind (moved word turn (seen_of t) t.text) t so_far later
-inside_step t later so_far word (goes e p) = go_case t later so_far word e (is_top t) (is_word t (codes "import")) (is_word t (codes "export")) p
-inside_step t later so_far word fails = refl
-inside_step t later so_far word (asked p) = asked_case t later so_far (is_top t) (is_word t (codes "import")) (is_word t (codes "export")) p
-inside_step t later so_far word leaves = begun_step t later so_far
-inside_step t later so_far word calls = begun_step t later so_far
+inside_step : (before : List Placed) (t : Placed) (later : List Placed) (so_far : List Request) (word : ℕ) {turn : Turn} {f : Form} → Turns t later turn f → requests so_far (opened word f (λ a. found t a (declaration t later) (λ n. findings before n later))) ≡ finished_behind before (moved word turn (seen_of t) t.text) t so_far later
+inside_step before t later so_far word (goes e p) = go_case before t later so_far word e (is_top t) (is_word t (codes "import")) (is_word t (codes "export")) p
+inside_step before t later so_far word fails = refl
+inside_step before t later so_far word (asked p) = asked_case before t later so_far (is_top t) (is_word t (codes "import")) (is_word t (codes "export")) p
+inside_step before t later so_far word leaves = begun_step before t later so_far
+inside_step before t later so_far word calls = begun_step before t later so_far
 
-wrong_case : (word inner : ℕ) (so_far : List Request) (g : Form) (next more : Option ℕ → List Finding) → requests so_far (opened word (Some inner) (further g) next) ≡ requests so_far (opened word (Some inner) g more)
-wrong_case word inner so_far wrong next more = refl
-wrong_case word inner so_far none next more = refl
-wrong_case word inner so_far alone next more = refl
-wrong_case word inner so_far (asks count) next more = refl
+broken_further : (word : ℕ) (inner : ModuleFault) (g : Form) → broken word inner (further g) ≡ broken word inner g
+broken_further word inner wrong = refl
+broken_further word inner none = refl
+broken_further word inner alone = refl
+broken_further word inner (asks count) = refl
 
-wrong_step : (t : Placed) (later : List Placed) (so_far : List Request) (word inner : ℕ) {turn : Turn} {f : Form} → Turns t later turn f → requests so_far (opened word (Some inner) f (λ a. findings a (t ∷ later))) ≡ finished (moved_wrong word inner turn) so_far later
-wrong_step t later so_far word inner (goes e p) = wrong_case word inner so_far (form e later) (λ a. findings a (t ∷ later)) (λ a. findings a later)
-wrong_step t later so_far word inner fails = refl
-wrong_step t later so_far word inner (asked p) = refl
-wrong_step t later so_far word inner leaves = refl
-wrong_step t later so_far word inner calls = refl
+wrong_step : (before : List Placed) (t : Placed) (later : List Placed) (so_far : List Request) (word : ℕ) (inner : ModuleFault) {turn : Turn} {f : Form} → Turns t later turn f → broken word inner f ≡ finished before (moved_wrong word inner turn) so_far later
+wrong_step before t later so_far word inner (goes e p) = broken_further word inner (form e later)
+wrong_step before t later so_far word inner fails = refl
+wrong_step before t later so_far word inner (asked p) = refl
+wrong_step before t later so_far word inner leaves = refl
+wrong_step before t later so_far word inner calls = refl
 
 abbrev pub Deep : Progress → ℕ → Type 0
 Deep Outside d = Unit {0}
 Deep (Broken fault) d = Unit {0}
 Deep (Inside e word inner) d = InBraces e d
 
-pub step_finished : (p : Progress) (t : Placed) (later : List Placed) (so_far : List Request) → Deep p t.depth → finished p so_far (t ∷ later) ≡ finished_behind (stepped p (seen_of t) t.text) t so_far later
-step_finished Outside t later so_far d = begun_step t later so_far
-step_finished (Broken fault) t later so_far d = refl
-step_finished (Inside e word None) t later so_far d = inside_step t later so_far word (turns_of e t later d)
-step_finished (Inside e word (Some inner)) t later so_far d = wrong_step t later so_far word inner (turns_of e t later d)
+pub step_resumed : (before : List Placed) (p : Progress) (t : Placed) (later : List Placed) (so_far : List Request) → Deep p t.depth → resumed before p so_far t later ≡ finished_behind before (stepped p (seen_of t) t.text) t so_far later
+step_resumed before Outside t later so_far d = begun_step before t later so_far
+step_resumed before (Broken fault) t later so_far d = refl
+step_resumed before (Inside e word None) t later so_far d = inside_step before t later so_far word (turns_of e t later d)
+step_resumed before (Inside e word (Some inner)) t later so_far d = wrong_step before t later so_far word inner (turns_of e t later d)
 
 -- ---- and it keeps that a bracket is open inside of braces
 
@@ -373,7 +387,7 @@ deep_begun d from true x = tt
 deep_begun d from false true = tt
 deep_begun d from false false = tt
 
-deep_inside : (e : Expect) (d word from : ℕ) (c : Bool) → InBraces e d → Deep (if c then Inside e word (Some from) else Inside e word None) d
+deep_inside : (e : Expect) (d word from : ℕ) (c : Bool) → InBraces e d → Deep (if c then Inside e word (Some (Unreadable from)) else Inside e word None) d
 deep_inside e d word from true i = i
 deep_inside e d word from false i = i
 
@@ -383,7 +397,7 @@ deep_moved t word deep_fail = tt
 deep_moved t word deep_asked = tt
 deep_moved t word deep_leave = deep_begun t.behind t.token.from (is_top t && is_word t (codes "import")) (is_top t && is_word t (codes "export"))
 
-deep_wrong : {turn : Turn} {d : ℕ} (word inner : ℕ) → DeepTurn d turn → Deep (moved_wrong word inner turn) d
+deep_wrong : {turn : Turn} {d : ℕ} (word : ℕ) (inner : ModuleFault) → DeepTurn d turn → Deep (moved_wrong word inner turn) d
 deep_wrong word inner (deep_go i) = i
 deep_wrong word inner deep_fail = tt
 deep_wrong word inner deep_asked = tt

@@ -114,12 +114,12 @@ moved word turns.Wrong seen text = Goes (Broken (Unreadable word))
 moved word turns.Asked seen text = Specifier
 moved word turns.Leave seen text = Goes (begun seen text)
 moved word (turns.Go next) seen text =
-    Goes (if may_begin seen text then Inside next word (Some seen.from) else Inside next word None)
+    Goes (if may_begin seen text then Inside next word (Some (Unreadable seen.from)) else Inside next word None)
 
-abbrev pub moved_wrong : ℕ → ℕ → Turn → Progress
+abbrev pub moved_wrong : ℕ → ModuleFault → Turn → Progress
 moved_wrong word inner turns.Wrong = Broken (Unreadable word)
-moved_wrong word inner turns.Asked = Broken (Unreadable inner)
-moved_wrong word inner turns.Leave = Broken (Unreadable inner)
+moved_wrong word inner turns.Asked = Broken inner
+moved_wrong word inner turns.Leave = Broken inner
 moved_wrong word inner (turns.Go next) = Inside next word (Some inner)
 
 abbrev pub stepped : Progress → Seen → List ℕ → Next
@@ -128,14 +128,21 @@ stepped (Broken fault) seen text = Goes (Broken fault)
 stepped (Inside expect word None) seen text = moved word (turned expect seen text) seen text
 stepped (Inside expect word (Some inner)) seen text = Goes (moved_wrong word inner (turned expect seen text))
 
--- the value of a token that is a module specifier
+-- the value of a token that is a string
 abbrev pub value_at : List ℕ → Token → Option (List ℕ)
 value_at text token = string_value (slice_range text token.from token.to)
 
--- behind a module specifier, by its value and the requests before it
+-- behind a string that asks for a module, by its value and the requests before it
+abbrev pub fault_asked : Token → Option (List ℕ) → List Request → Option ModuleFault
+fault_asked token None asked = Some (Unreadable token.from)
+fault_asked token (Some text) asked = if length asked == most_requests then Some TooManyRequests else None
+
+abbrev pub or_outside : Option ModuleFault → Progress
+or_outside None = Outside
+or_outside (Some fault) = Broken fault
+
 abbrev pub progress_asked : Token → Option (List ℕ) → List Request → Progress
-progress_asked token None asked = Broken (Unreadable token.from)
-progress_asked token (Some text) asked = if length asked == most_requests then Broken TooManyRequests else Outside
+progress_asked token value asked = or_outside (fault_asked token value asked)
 
 abbrev pub requests_asked : Token → Option (List ℕ) → List Request → List Request
 requests_asked token None asked = asked
@@ -150,6 +157,28 @@ progress_behind Specifier token value asked = progress_asked token value asked
 abbrev pub requests_behind : Next → Token → Option (List ℕ) → List Request → List Request
 requests_behind (Goes progress) token value asked = asked
 requests_behind Specifier token value asked = requests_asked token value asked
+
+-- where an import call of a string ends its first argument, by the string's value and the requests before it
+abbrev pub progress_called : Progress → Token → Option (List ℕ) → List Request → Progress
+progress_called Outside token value asked = progress_asked token value asked
+progress_called (Inside e word None) token value asked = Inside e word (fault_asked token value asked)
+progress_called (Inside e word (Some inner)) token value asked = Inside e word (Some inner)
+progress_called (Broken fault) token value asked = Broken fault
+
+abbrev pub requests_called : Progress → Token → Option (List ℕ) → List Request → List Request
+requests_called Outside token value asked = requests_asked token value asked
+requests_called (Inside e word None) token value asked = requests_asked token value asked
+requests_called (Inside e word (Some inner)) token value asked = asked
+requests_called (Broken fault) token value asked = asked
+
+-- and where there may be none
+abbrev pub progress_heard : Progress → List ℕ → Option Token → List Request → Progress
+progress_heard progress text None asked = progress
+progress_heard progress text (Some token) asked = progress_called progress token (value_at text token) asked
+
+abbrev pub requests_heard : Progress → List ℕ → Option Token → List Request → List Request
+requests_heard progress text None asked = asked
+requests_heard progress text (Some token) asked = requests_called progress token (value_at text token) asked
 
 -- ---- at the text's end
 
@@ -169,10 +198,10 @@ cut ExportBraces word = Some (Unreadable word)
 cut NamedExports word = None
 cut NamedSpecifier word = None
 
-abbrev pub or_inner : Option ModuleFault → Option ℕ → Option ModuleFault
+abbrev pub or_inner : Option ModuleFault → Option ModuleFault → Option ModuleFault
 or_inner (Some fault) inner = Some fault
 or_inner None None = None
-or_inner None (Some inner) = Some (Unreadable inner)
+or_inner None (Some inner) = Some inner
 
 abbrev pub ended : Progress → Option ModuleFault
 ended Outside = None

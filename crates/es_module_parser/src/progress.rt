@@ -1,8 +1,10 @@
-ghost use Rattle.std.specs.Prelude.{◌≡◌, IfOk};
+ghost use Rattle.std.specs.Prelude.{◌≡◌, IfOk, IfSome};
 ghost use Rattle.module_spec.specs.Spans.{IsSpan};
 ghost use Rattle.module_spec.specs.StringValues.{string_value};
 ghost use Rattle.es_module_parser.specs.Progress.{begun, may_begin, moved, moved_wrong, stepped, value_at, cut, ended};
-ghost use Rattle.es_module_parser.specs.Progress.{progress_asked, requests_asked, progress_behind, requests_behind};
+ghost use Rattle.es_module_parser.specs.Progress.{fault_asked, requests_asked, or_outside};
+ghost use Rattle.es_module_parser.specs.Progress.{progress_behind, requests_behind, progress_called, requests_called};
+ghost use Rattle.es_module_parser.specs.Progress.{progress_heard, requests_heard};
 
 use crate::expect::{Expect, Seen, Turn};
 use crate::literals::string_value;
@@ -17,9 +19,9 @@ use tree_spec::MOST_MODULE_REQUESTS;
 pub enum Progress {
     /// No declaration is being read.
     Outside,
-    /// A declaration is being read: what comes, where its word stands, and where a word stands inside of it that would
-    /// begin a declaration of its own. Where this one has its form, that word has none.
-    Inside(Expect, usize, Option<usize>),
+    /// A declaration is being read: what comes, where its word stands, and the first fault inside of it, which counts
+    /// where the declaration has its form: a word that would begin a declaration of its own has none there.
+    Inside(Expect, usize, Option<ModuleFault>),
     /// This is the first fault, if no later token can't be read.
     Broken(ModuleFault),
 }
@@ -61,7 +63,8 @@ fn go(word: usize, turn: Turn, seen: Seen, text: &[u8]) -> Next
         Turn::Leave => Next::Goes(begin(seen, text)),
         Turn::Go(next) => {
             if may_begin(seen, text) {
-                Next::Goes(Progress::Inside(next, word, Some(seen.from)))
+                let fault = ModuleFault::Unreadable { at: seen.from };
+                Next::Goes(Progress::Inside(next, word, Some(fault)))
             } else {
                 Next::Goes(Progress::Inside(next, word, None))
             }
@@ -69,40 +72,49 @@ fn go(word: usize, turn: Turn, seen: Seen, text: &[u8]) -> Next
     }
 }
 
-// The same where a word inside has no form: it is the first fault, unless the declaration itself has none.
-fn go_wrong(word: usize, inner: usize, turn: Turn) -> Progress
+// The same where there is a fault inside: it is the first one, unless the declaration itself has no form.
+fn go_wrong(word: usize, inner: ModuleFault, turn: Turn) -> Progress
     ensures { result ≡ moved_wrong word inner turn }
 {
     match turn {
         Turn::Wrong => Progress::Broken(ModuleFault::Unreadable { at: word }),
-        Turn::Asked => Progress::Broken(ModuleFault::Unreadable { at: inner }),
-        Turn::Leave => Progress::Broken(ModuleFault::Unreadable { at: inner }),
+        Turn::Asked => Progress::Broken(inner),
+        Turn::Leave => Progress::Broken(inner),
         Turn::Go(next) => Progress::Inside(next, word, Some(inner)),
     }
 }
 
-// The value of a module specifier becomes a request.
+// The value of a string becomes a request, or is a fault.
 fn ask(
     alloc: Global,
     literal: &str,
     token: Token,
     asked: &mut Listed<Request>,
-) -> Result<Progress, Memory>
-    ensures progress { IfOk result (λ p. p ≡ progress_asked token (string_value literal.now) asked.old) }
-    ensures requests { IfOk result (λ p. asked.new ≡ requests_asked token (string_value literal.now) asked.old) }
+) -> Result<Option<ModuleFault>, Memory>
+    ensures fault { IfOk result (λ f. f ≡ fault_asked token (string_value literal.now) asked.old) }
+    ensures requests { IfOk result (λ f. asked.new ≡ requests_asked token (string_value literal.now) asked.old) }
 {
     let Some(text) = string_value(alloc, literal)? else {
-        return Ok(Progress::Broken(ModuleFault::Unreadable { at: token.from }));
+        return Ok(Some(ModuleFault::Unreadable { at: token.from }));
     };
     if asked.len() == MOST_MODULE_REQUESTS {
-        return Ok(Progress::Broken(ModuleFault::TooManyRequests));
+        return Ok(Some(ModuleFault::TooManyRequests));
     }
     asked.push(Request {
         from: token.from,
         to: token.to,
         text,
     })?;
-    Ok(Progress::Outside)
+    Ok(None)
+}
+
+fn or_outside(fault: Option<ModuleFault>) -> Progress
+    ensures { result ≡ or_outside fault }
+{
+    match fault {
+        None => Progress::Outside,
+        Some(fault) => Progress::Broken(fault),
+    }
 }
 
 impl Progress {
@@ -130,8 +142,50 @@ impl Progress {
             Progress::Inside(expect, word, inner) => match (cut(expect, word), inner) {
                 (Some(fault), _) => Some(fault),
                 (None, None) => None,
-                (None, Some(inner)) => Some(ModuleFault::Unreadable { at: inner }),
+                (None, Some(inner)) => Some(inner),
             },
+        }
+    }
+
+    fn call(
+        self,
+        alloc: Global,
+        literal: &str,
+        token: Token,
+        asked: &mut Listed<Request>,
+    ) -> Result<Progress, Memory>
+        ensures progress { IfOk result (λ p. p ≡ progress_called self token (string_value literal.now) asked.old) }
+        ensures asked { IfOk result (λ p. asked.new ≡ requests_called self token (string_value literal.now) asked.old) }
+    {
+        match self {
+            Progress::Outside => Ok(or_outside(ask(alloc, literal, token, asked)?)),
+            Progress::Inside(expect, word, None) => {
+                let inner = ask(alloc, literal, token, asked)?;
+                Ok(Progress::Inside(expect, word, inner))
+            }
+            Progress::Inside(expect, word, Some(inner)) => {
+                Ok(Progress::Inside(expect, word, Some(inner)))
+            }
+            Progress::Broken(fault) => Ok(Progress::Broken(fault)),
+        }
+    }
+
+    /// Where it stands, with what was asked for so far, where the string of an import call, if there is one, ends the
+    /// call's first argument.
+    pub fn heard(
+        self,
+        alloc: Global,
+        text: &str,
+        called: Option<Token>,
+        asked: &mut Listed<Request>,
+    ) -> Result<Progress, Memory>
+        requires { IfSome called (λ token. IsSpan text.now token) }
+        ensures progress { IfOk result (λ p. p ≡ progress_heard self text.now called asked.old) }
+        ensures asked { IfOk result (λ p. asked.new ≡ requests_heard self text.now called asked.old) }
+    {
+        match called {
+            None => Ok(self),
+            Some(token) => self.call(alloc, &text[token.from..token.to], token, asked),
         }
     }
 }
@@ -151,7 +205,12 @@ impl Next {
     {
         match self {
             Next::Goes(progress) => Ok(progress),
-            Next::Specifier => ask(alloc, &text[token.from..token.to], token, asked),
+            Next::Specifier => Ok(or_outside(ask(
+                alloc,
+                &text[token.from..token.to],
+                token,
+                asked,
+            )?)),
         }
     }
 }

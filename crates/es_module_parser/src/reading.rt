@@ -48,7 +48,7 @@ fn begins_declaration(text: &[u8]) -> bool
     text == b"import".as_slice() || text == b"export".as_slice()
 }
 
-// Between declarations a token that is neither of their words changes nothing.
+// Between declarations and calls a token that is neither of their words changes nothing.
 fn is_idle(progress: Progress, after: After, kind: Kind, text: &[u8]) -> bool
     ensures { OnTrue result (IsIdle progress after kind text.now) }
 {
@@ -58,6 +58,8 @@ fn is_idle(progress: Progress, after: After, kind: Kind, text: &[u8]) -> bool
         Progress::Outside => match after {
             After::Import(_) => false,
             After::Dot => false,
+            After::Call => false,
+            After::Argument(_) => false,
             After::Other => !(begins_declaration(text) && is_name(kind)),
         },
     }
@@ -111,9 +113,11 @@ pub fn outline<L: Ledger>(
                     continue;
                 }
                 let seen = seen_at(token, plain, depth, lexer.depth());
+                let called = after.call(seen, spelled);
+                let heard = progress.heard(alloc, text, called, &mut asked)?;
                 declares = after.declares(declares, seen, spelled);
-                after = after.token(seen, spelled);
-                let next = progress.step(seen, spelled);
+                after = after.token(token, seen, spelled);
+                let next = heard.step(seen, spelled);
                 progress = next.progress(alloc, text, token, &mut asked)?;
             }
         }

@@ -31,6 +31,7 @@ use Rattle.generator_spec.specs.declared.Refusal.{Refusal}
 use Rattle.generator_spec.specs.declared.Refusal.TheVariants.{Trace}
 use Rattle.generator_spec.specs.Commands.{IsGenerating, Opens, Refuses, IsRefusalOf}
 use Rattle.generator_spec.specs.Digests.{with_digests}
+use Rattle.generator_spec.specs.Generation.{map_base}
 use Rattle.generation.specs.declared.generated.Generated.{Generated}
 use Rattle.generation.specs.declared.stop.Stop.{Stop}
 use Rattle.generation.specs.declared.stop.Stop.TheVariants.{Refused, ReadFault, Memory}
@@ -50,7 +51,7 @@ IfRefused P Memory = ⊤
 pub record IsMapOf (config : Config) (all : Gathered) (generated : Generated) : Type 0 where
   pub layout : ParsedMap
   pub agreed : IsAgreedLayout all.needs layout
-  pub map : generated.map.items ≡ map_text (with_digests config all layout)
+  pub map : generated.map.items ≡ map_text (map_base config) (with_digests config all layout)
   pub within : length generated.map.items ≤ limit_number Map
   pub modules : generated.modules ≡ length all.modules
   pub requests : generated.requests ≡ all.requests
@@ -59,7 +60,7 @@ pub record IsMapOf (config : Config) (all : Gathered) (generated : Generated) : 
 pub record HasLargeMap (config : Config) (all : Gathered) : Type 0 where
   pub layout : ParsedMap
   pub agreed : IsAgreedLayout all.needs layout
-  pub large : limit_number Map < length (map_text (with_digests config all layout))
+  pub large : limit_number Map < length (map_text (map_base config) (with_digests config all layout))
 
 -- own: the map of the tree's trace
 pub record IsMapOfTree (tree : Tree) (config : Config) (generated : Generated) : Type 0 where

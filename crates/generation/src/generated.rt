@@ -1,10 +1,10 @@
 ghost use Rattle.std.specs.Prelude.{◌≡◌, ◌+◌, Err, IfOk};
 ghost use Rattle.request_trace.specs.Tracing.{TakesSteps};
-ghost use Rattle.generator_spec.specs.Generation.{PageIsFile};
+ghost use Rattle.generator_spec.specs.Generation.{PageIsFile, map_base};
 ghost use Rattle.generation.specs.Generating.{Generating, IsMapOf, HasLargeMap};
 
 use crate::digests::digests;
-use crate::page::page_is_served;
+use crate::page::page_url;
 use crate::stop::{Stop, too_large};
 use crate::tracing::traced;
 use map_flatten::{agreed, mappings};
@@ -14,6 +14,7 @@ use request_trace::{Config, Trace};
 use std::alloc::Global;
 use std::sync::ledger::Ledger;
 use tree_model::Folder;
+use web_url::WebUrl;
 
 /// A map's text, and the counts that are told of it: the modules of its trace without the page, its requests, and the
 /// mappings of its layout.
@@ -37,25 +38,27 @@ pub fn generate<F: Folder, L: Ledger>(
     ensures page { IfOk result (λ found. PageIsFile config.now) }
     ensures steps { TakesSteps result (λ found. found.modules + found.requests) steps.old steps.new }
 {
-    match page_is_served(alloc, config) {
+    match page_url(alloc, config) {
         Err(stop) => Err(stop),
-        Ok(()) => generated_from(alloc, folder, config, steps),
+        Ok(page) => generated_from(alloc, folder, config, &page, steps),
     }
 }
 
-// The same, where the page is served.
+// The same, where the page is served at this URL.
 fn generated_from<F: Folder, L: Ledger>(
     alloc: Global,
     folder: &mut F,
     config: &Config,
+    page: &WebUrl,
     steps: &mut Steps<L>,
 ) -> Result<Generated, Stop>
+    requires { map_base config.now ≡ page.now }
     ensures generates { Generating config.now (F.state folder.old) result (F.state folder.new) }
     ensures steps { TakesSteps result (λ found. found.modules + found.requests) steps.old steps.new }
 {
     match traced(alloc, folder, config, steps) {
         Err(stop) => Err(stop),
-        Ok(trace) => match map_of(alloc, config, &trace) {
+        Ok(trace) => match map_of(alloc, config, page, &trace) {
             Ok(generated) => Ok(generated),
             Err(PrintFault::MapTooLarge) => Err(too_large()),
             Err(PrintFault::Memory) => Err(Stop::Memory),
@@ -64,13 +67,19 @@ fn generated_from<F: Folder, L: Ledger>(
 }
 
 // The map of a trace, with its counts.
-fn map_of(alloc: Global, config: &Config, trace: &Trace) -> Result<Generated, PrintFault>
+fn map_of(
+    alloc: Global,
+    config: &Config,
+    page: &WebUrl,
+    trace: &Trace,
+) -> Result<Generated, PrintFault>
+    requires { map_base config.now ≡ page.now }
     ensures map { IfOk result (IsMapOf config.now trace.now) }
     ensures too_large { result ≡ Err PrintFault.MapTooLarge → HasLargeMap config.now trace.now }
 {
     let layout = agreed(alloc, trace.needs())?;
     let digests = digests(alloc, config, trace)?;
-    let map = print_map(alloc, &layout, &digests)?;
+    let map = print_map(alloc, &layout, &digests, page)?;
     let Some(mappings) = mappings(&layout) else {
         return Err(PrintFault::Memory);
     };

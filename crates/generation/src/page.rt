@@ -1,7 +1,7 @@
 ghost use Rattle.std.specs.Prelude.{◌≡◌, IfOk, IfErr, Some, MatchOption, ⊤, [], option_map};
 ghost use Rattle.url_spec.specs.ServedPaths.{IsServed};
 ghost use Rattle.url_spec.specs.WebNames.{web};
-ghost use Rattle.generator_spec.specs.Generation.{PageIsFile};
+ghost use Rattle.generator_spec.specs.Generation.{PageIsFile, map_base};
 ghost use Rattle.generation.specs.Paging.{IsUnserved, IsUnservedAt};
 
 use crate::stop::Stop;
@@ -12,14 +12,16 @@ use std::alloc::Global;
 use trace_spec::TraceFault;
 use web_url::{Suffix, WebFault, WebUrl, web_of};
 
-/// Whether the page is served at its URL, which then is no folder's; or why nothing is traced from there.
-pub(crate) fn page_is_served(alloc: Global, config: &Config) -> Result<(), Stop>
-    ensures file { IfOk result (λ done. PageIsFile config.now) }
+/// The page's URL, against which a map is parsed: the page is served there, and it is no folder's; or why nothing is
+/// traced from there.
+pub(crate) fn page_url(alloc: Global, config: &Config) -> Result<WebUrl, Stop>
+    ensures page { IfOk result (λ url. map_base config.now ≡ url) }
+    ensures file { IfOk result (λ url. PageIsFile config.now) }
     ensures stopped { IfErr result (IsUnserved config.now) }
 {
     let suffix = Suffix::none(alloc);
     match web_of(alloc, config.base(), config.page(), &suffix) {
-        Ok(_) => Ok(()),
+        Ok(url) => Ok(url),
         Err(WebFault::Unservable { url }) => Err(unserved(alloc, config, url)),
         Err(WebFault::Memory) => Err(Stop::Memory),
     }

@@ -34,7 +34,7 @@ use Rattle.generator_spec.proofs.Endings.{one_line_text}
 use Rattle.generator_spec.specs.Commands.{IsGenerating, HoldsMap, NewFile, new_file, map_path, Writes, Writes as writes_file}
 use Rattle.generator_spec.specs.Checking.{difference_line, difference_lines, check_status}
 use Rattle.generator_spec.specs.Digests.{with_digests}
-use Rattle.generator_spec.specs.Generation.{Generates, PageIsFile}
+use Rattle.generator_spec.specs.Generation.{Generates, PageIsFile, map_base}
 use Rattle.config_spec.specs.declared.ConfigFault.{ConfigFault}
 use Rattle.config_spec.specs.declared.ConfigFault.TheVariants as config
 use Rattle.config_spec.specs.declared.ProjectFault.{ProjectFault}
@@ -367,12 +367,13 @@ module _ (words : List (List ℕ)) (command : Command) (config : Config) (before
   counted : IsCounted words done_here
   counted = record { command = command; config = config; is_config = is_config.can; generating = generating; modules = prepared.modules; requests = prepared.requests; mappings = prepared.mappings; says = refl }
 
-  generated_of : (tree : Tree) → IsConfigOf words tree command config → (ready : IsPrepared command config tree prepared) → IsGenerated words tree (map_text (with_digests config ready.all ready.layout)) done_here
+  generated_of : (tree : Tree) → IsConfigOf words tree command config → (ready : IsPrepared command config tree prepared) → IsGenerated words tree (map_text (map_base config) (with_digests config ready.all ready.layout)) done_here
   generated_of tree of ready = record {
     command = command;
     config = config;
     is_config = of;
-    opens = written_is_opened tree config (map_text (with_digests config ready.all ready.layout)) new_here command ready.writes;
+    page_is_file = is.page_is_file;
+    opens = written_is_opened tree config (map_text (map_base config) (with_digests config ready.all ready.layout)) new_here command ready.writes;
     generates = record { all = ready.all; is_traced = ready.is_traced; layout = ready.layout; agreed = ready.agreed; text = refl; within = ready.within };
     says = λ i. counts_line (ready.modules i) (ready.requests i) (ready.mappings i);
   }
@@ -383,21 +384,23 @@ module _ (words : List (List ℕ)) (command : Command) (config : Config) (before
   written_told None told of ready written = tt
   written_told (Some tree) told of ready written =
       let so = generated_of tree of ready in
-      (written.after, record { files = new_here; comes = comes.written command config (map_text (with_digests config ready.all ready.layout)) of so.generates ready.writes refl (ap (λ line. line ∷ []) so.says); placed = written.placed }, written.is_told)
+      (written.after, record { files = new_here; comes = comes.written command config (map_text (map_base config) (with_digests config ready.all ready.layout)) of so.generates ready.writes refl (ap (λ line. line ∷ []) so.says); placed = written.placed }, written.is_told)
 
   linked_told : (held told : Option Tree) → IfSome held (λ tree. IsConfigOf words tree command config) → IfSome held (λ tree. IsPrepared command config tree prepared) → IfSome held (λ tree. AreWritten tree new_here told) → IfSome held (λ tree. IsDone words tree told)
   unfolding generated_of
   linked_told None told of ready written = tt
   linked_told (Some tree) told of ready written =
-      done.linked (linked words tree (map_text (with_digests config ready.all ready.layout)) done_here new_here told (generated_of tree of ready) is.page_is_file ready.writes written)
+      done.linked (linked words tree (map_text (map_base config) (with_digests config ready.all ready.layout)) done_here new_here told (generated_of tree of ready) is.page_is_file ready.writes written)
 
   -- those before the one that failed were written
   stops_told : (held told : Option Tree) → IfSome held (λ tree. IsConfigOf words tree command config) → IfSome held (λ tree. IsPrepared command config tree prepared) → IfSome held (λ tree. AreSome new_here tree told) → IfSome held (λ tree. StopsWriting words tree done_here told)
   unfolding generated_of
   stops_told None told of ready some = tt
   stops_told (Some tree) told of ready some = record {
-    map = map_text (with_digests config ready.all ready.layout);
+    map = map_text (map_base config) (with_digests config ready.all ready.layout);
     generated = generated_of tree of ready;
+    serves = sound tree config (map_text (map_base config) (with_digests config ready.all ready.layout)) is.page_is_file (generated_of tree of ready).generates;
+    knows = modules_are_known tree config (map_text (map_base config) (with_digests config ready.all ready.layout)) (generated_of tree of ready).generates;
     files = new_here;
     writes = ready.writes;
     count = some.count;

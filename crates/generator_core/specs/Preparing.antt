@@ -24,7 +24,7 @@ use Rattle.config_spec.specs.declared.Command.{Command}
 use Rattle.config_spec.specs.declared.Command.TheVariants.{Link, Unlink, Refresh, Inject}
 use Rattle.generator_spec.specs.Commands.{IsPage, Refuses, IsRefusalOf, map_path, NewFile, new_file}
 use Rattle.generator_spec.specs.Commands.{map_and_project, Writes}
-use Rattle.generator_spec.specs.Generation.{PageIsFile}
+use Rattle.generator_spec.specs.Generation.{PageIsFile, map_base}
 use Rattle.generator_spec.specs.Digests.{with_digests}
 use Rattle.generator_spec.specs.Asked.{AsksOwn, AsksFew, own_file}
 use Rattle.generation.specs.declared.generated.Generated.{Generated}
@@ -94,12 +94,12 @@ pub record IsPrepared (command : Command) (config : Config) (tree : Tree) (prepa
   pub is_traced : traced (get tree) config ≡ Ok all
   pub layout : ParsedMap
   pub agreed : IsAgreedLayout all.needs layout
-  pub within : length (map_text (with_digests config all layout)) ≤ limit_number Map
+  pub within : length (map_text (map_base config) (with_digests config all layout)) ≤ limit_number Map
   pub modules : prepared.modules ≡ length all.modules
   pub requests : prepared.requests ≡ all.requests
   pub mappings : prepared.mappings ≡ mapping_count layout
   pub writes :
-      Writes tree config (map_text (with_digests config all layout)) command (shown_files prepared)
+      Writes tree config (map_text (map_base config) (with_digests config all layout)) command (shown_files prepared)
 
 pub record IsReady (command : Command) (config : Config) (before after : FolderState)
     (prepared : Prepared) : Type 0 where

@@ -17,7 +17,7 @@ use Rattle.import_map_spec.proofs.examples.WrittenMaps.{looked, get_map_of}
 use Rattle.import_map_spec.specs.ParsedMap.{ParsedMap, Texts}
 use Rattle.import_map_spec.specs.WrittenMaps.{Lists, map_of, map_of_lists}
 use Rattle.url_spec.specs.Bases.{base_of}
-use Rattle.url_spec.specs.Parsing.{text_of, parse_alone}
+use Rattle.url_spec.specs.Parsing.{text_of, parse_alone, parse_against}
 use Rattle.url_spec.specs.Specifiers.{ends_in_slash}
 use Rattle.url_spec.specs.WebNames.{escaped, web}
 use Rattle.integrity_spec.specs.DigestTexts.{digest_text}
@@ -25,6 +25,7 @@ use Rattle.layout_spec.proofs.examples.LaidLists.{listed_layout, layout_listed}
 use Rattle.layout_spec.proofs.examples.PrintedLists.{listed_text, lists_text}
 use Rattle.layout_spec.specs.Counting.{mapping_count}
 use Rattle.layout_spec.specs.PrintedMap.{map_text}
+use Rattle.layout_spec.specs.ShortForms.{short}
 use Rattle.layout_spec.specs.declared.Need.{Need}
 use Rattle.layout_spec.proofs.SomeAgreed.{is_among, disagrees, agreed, agreed_above, stands_at}
 use Rattle.trace_spec.specs.Modules.{Config}
@@ -47,7 +48,7 @@ use Rattle.generator_spec.specs.declared.PageFault.TheVariants.{Absent}
 use Rattle.generator_spec.specs.declared.Refusal.TheVariants.{Config as Configured, Page, Trace}
 use Rattle.generator_spec.proofs.MapPaths.{map_is_path, map_in_root, project_in_root}
 use Rattle.generator_spec.specs.Digests.{digests}
-use Rattle.generator_spec.specs.Generation.{Generates, PageIsFile}
+use Rattle.generator_spec.specs.Generation.{Generates, PageIsFile, map_base}
 use Rattle.generator_spec.specs.Lines.{counts_line, done_line}
 use Rattle.generator_spec.specs.Commands.{IsPage, map_path}
 use Rattle.generator_spec.specs.Commands.Opens.{nothing}
@@ -182,13 +183,23 @@ digested needs pairs = with_pairs (listed_layout needs) pairs
 abbrev with_integrity : ParsedMap → Texts (List ℕ) → ParsedMap
 with_integrity layout digests = record { imports = layout.imports; scopes = layout.scopes; integrity = digests }
 
-abbrev generated : (files : Files) (config : Config) (all : Gathered) (pairs : List (List ℕ × List ℕ)) (text : List ℕ) → IsTraced files config all → digests config all.modules all.sources ≡ map_of pairs → listed_text (digested all.needs pairs) ≡ text → length text ≤ limit_number Map → Generates (tree_of files) config text
-generated files config all pairs text is_traced are e small = record {
+-- the URL of their page, which is the map base
+abbrev page_url : List ℕ
+page_url = codes "https://app.test/index.html"
+
+page_named : (entries : List String) → map_base (based "https://app.test/" entries) ≡ page_url
+unfolding web escaped parse_alone text_of url_on_literals
+page_named entries = refl
+
+abbrev generated : (files : Files) (config : Config) (all : Gathered) (pairs : List (List ℕ × List ℕ)) (text : List ℕ) → IsTraced files config all → map_base config ≡ page_url → digests config all.modules all.sources ≡ map_of pairs → listed_text page_url (digested all.needs pairs) ≡ text → length text ≤ limit_number Map → Generates (tree_of files) config text
+generated files config all pairs text is_traced named are e small = record {
   all = all;
   is_traced = is_traced;
   layout = map_of_lists (listed_layout all.needs);
   agreed = layout_listed all.needs;
-  text = sym (ap (λ found. map_text (with_integrity (map_of_lists (listed_layout all.needs)) found)) are ∙ (lists_text (digested all.needs pairs) ∙ e));
+  text =
+      sym (ap (λ url. map_text url (with_integrity (map_of_lists (listed_layout all.needs)) (digests config all.modules all.sources))) named
+      ∙ (ap (λ found. map_text page_url (with_integrity (map_of_lists (listed_layout all.needs)) found)) are ∙ (lists_text page_url (digested all.needs pairs) ∙ e)));
   within = small;
 }
 
@@ -226,16 +237,16 @@ packages_digests : digests (based "https://app.test/" ("./app.js" ∷ [])) packa
 unfolding web escaped parse_alone text_of url_on_literals
 packages_digests = refl
 
-spelling_text : listed_text (digested spelling_all.needs spelling_pairs) ≡ spelling_map
-unfolding parse_alone text_of url_on_literals is_among disagrees agreed agreed_above stands_at
+spelling_text : listed_text page_url (digested spelling_all.needs spelling_pairs) ≡ spelling_map
+unfolding parse_alone parse_against short text_of url_on_literals is_among disagrees agreed agreed_above stands_at
 spelling_text = refl
 
-site_text : listed_text (digested site_all.needs site_pairs) ≡ site_map
-unfolding parse_alone text_of url_on_literals is_among disagrees agreed agreed_above stands_at
+site_text : listed_text page_url (digested site_all.needs site_pairs) ≡ site_map
+unfolding parse_alone parse_against short text_of url_on_literals is_among disagrees agreed agreed_above stands_at
 site_text = refl
 
-packages_text : listed_text (digested packages_all.needs packages_pairs) ≡ packages_map
-unfolding parse_alone text_of url_on_literals is_among disagrees agreed agreed_above stands_at
+packages_text : listed_text page_url (digested packages_all.needs packages_pairs) ≡ packages_map
+unfolding parse_alone parse_against short text_of url_on_literals is_among disagrees agreed agreed_above stands_at
 packages_text = refl
 
 -- each map is short, whatever its digests are
@@ -276,19 +287,19 @@ mapped files asked text is = record {
 }
 
 abbrev spelling_generates : Generates (tree_of spelling) (based "https://app.test/" ("./app.mjs" ∷ [])) spelling_map
-spelling_generates = generated spelling _ spelling_all spelling_pairs spelling_map spelling_traced spelling_digests spelling_text spelling_short
+spelling_generates = generated spelling _ spelling_all spelling_pairs spelling_map spelling_traced (page_named _) spelling_digests spelling_text spelling_short
 
 abbrev site_generates : Generates (tree_of site) (based "https://app.test/" ("./app.mjs" ∷ [])) site_map
-site_generates = generated site _ site_all site_pairs site_map site_traced site_digests site_text site_short
+site_generates = generated site _ site_all site_pairs site_map site_traced (page_named _) site_digests site_text site_short
 
 abbrev paged_generates : Generates (tree_of paged) (based "https://app.test/" ("./app.mjs" ∷ [])) spelling_map
-paged_generates = generated paged _ spelling_all spelling_pairs spelling_map paged_traced spelling_digests spelling_text spelling_short
+paged_generates = generated paged _ spelling_all spelling_pairs spelling_map paged_traced (page_named _) spelling_digests spelling_text spelling_short
 
 abbrev kept_generates : Generates (tree_of kept) (based "https://app.test/" ("./app.mjs" ∷ [])) spelling_map
-kept_generates = generated kept _ spelling_all spelling_pairs spelling_map kept_traced spelling_digests spelling_text spelling_short
+kept_generates = generated kept _ spelling_all spelling_pairs spelling_map kept_traced (page_named _) spelling_digests spelling_text spelling_short
 
 abbrev packages_generate : Generates (tree_of packages) (based "https://app.test/" ("./app.js" ∷ [])) packages_map
-packages_generate = generated packages _ packages_all packages_pairs packages_map packages_traced packages_digests packages_text packages_short
+packages_generate = generated packages _ packages_all packages_pairs packages_map packages_traced (page_named _) packages_digests packages_text packages_short
 
 map_examples : MapExamples
 map_examples = record {
@@ -300,12 +311,12 @@ map_examples = record {
 -- ---- ends
 
 spelling_mappings : mapping_count (map_of_lists (listed_layout spelling_all.needs)) ≡ 1
-unfolding parse_alone text_of url_on_literals is_among disagrees agreed agreed_above stands_at
+unfolding parse_alone parse_against short text_of url_on_literals is_among disagrees agreed agreed_above stands_at
 spelling_mappings = counts (listed_layout spelling_all.needs) ∙ refl
 
 -- of two needs for one specifier with one target
 site_mappings : mapping_count (map_of_lists (listed_layout site_all.needs)) ≡ 1
-unfolding parse_alone text_of url_on_literals is_among disagrees agreed agreed_above stands_at
+unfolding parse_alone parse_against short text_of url_on_literals is_among disagrees agreed agreed_above stands_at
 site_mappings = counts (listed_layout site_all.needs) ∙ refl
 
 -- the map stands in the root

@@ -115,11 +115,11 @@ packages_imports =
     lines
     ("{"
     ∷ "  \"imports\": {"
-    ∷ "    \"#ui\": \"https://app.test/node_modules/ui/b.js\","
-    ∷ "    \"@ui/core\": \"https://app.test/node_modules/ui/node_modules/@ui/core/lib/index.mjs\","
-    ∷ "    \"me/own.js\": \"https://app.test/own.js\","
-    ∷ "    \"ui\": \"https://app.test/node_modules/ui/b.js\","
-    ∷ "    \"ui/x/menu\": \"https://app.test/node_modules/ui/x/menu.js\""
+    ∷ "    \"#ui\": \"./node_modules/ui/b.js\","
+    ∷ "    \"@ui/core\": \"./node_modules/ui/node_modules/@ui/core/lib/index.mjs\","
+    ∷ "    \"me/own.js\": \"./own.js\","
+    ∷ "    \"ui\": \"./node_modules/ui/b.js\","
+    ∷ "    \"ui/x/menu\": \"./node_modules/ui/x/menu.js\""
     ∷ "  },"
     ∷ "  \"integrity\": {"
     ∷ [])

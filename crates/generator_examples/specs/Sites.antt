@@ -146,7 +146,7 @@ spelling_imports =
     lines
     ("{"
     ∷ "  \"imports\": {"
-    ∷ "    \"https://app.test/a%62.mjs\": \"https://app.test/ab.mjs\""
+    ∷ "    \"https://app.test/a%62.mjs\": \"./ab.mjs\""
     ∷ "  },"
     ∷ "  \"integrity\": {"
     ∷ [])
@@ -262,7 +262,7 @@ site_imports =
     lines
     ("{"
     ∷ "  \"imports\": {"
-    ∷ "    \"https://app.test/pages/[id].mjs\": \"https://app.test/pages/%5Bid%5D.mjs\""
+    ∷ "    \"https://app.test/pages/[id].mjs\": \"./pages/%5Bid%5D.mjs\""
     ∷ "  },"
     ∷ "  \"integrity\": {"
     ∷ [])

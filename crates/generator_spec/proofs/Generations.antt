@@ -16,7 +16,7 @@ use Rattle.trace_spec.specs.Modules.{Config}
 use Rattle.trace_spec.specs.Checks.{Gathered}
 use Rattle.trace_spec.specs.Traces.{traced}
 use Rattle.generator_spec.specs.Digests.{with_digests}
-use Rattle.generator_spec.specs.Generation.{Generates, IsTooLarge}
+use Rattle.generator_spec.specs.Generation.{Generates, IsTooLarge, map_base}
 use Rattle.generator_spec.specs.Laws.{IsTextOf, OneGeneration, SomeGeneration, NothingRefused}
 
 same_trace : (found : Result Gathered TraceFault) (all other : Gathered) → found ≡ Ok all → found ≡ Ok other → all ≡ other
@@ -48,14 +48,14 @@ pub one_text :
 one_text tree config second bytes others same a b =
     let traces = one_trace tree config second bytes others same a b in
     let layouts = one_layout tree config second bytes others same a b in
-    a.text ∙ ((λ i. map_text (with_digests (same i) (traces i) (layouts i))) ∙ sym b.text)
+    a.text ∙ ((λ i. map_text (map_base (same i)) (with_digests (same i) (traces i) (layouts i))) ∙ sym b.text)
 
 pub one_generation : OneGeneration
 one_generation tree config some other a b = one_text tree config config some other refl a b
 
 module _ (tree : Tree) (config : Config) (all : Gathered) (traces : traced (get tree) config ≡ Ok all) (layout : ParsedMap) (agreed : IsAgreedLayout all.needs layout) where
   abbrev text : List ℕ
-  text = map_text (with_digests config all layout)
+  text = map_text (map_base config) (with_digests config all layout)
 
   generated : length text ≤ limit_number Map → Generates tree config text
   generated small = record { all = all; is_traced = traces; layout = layout; agreed = agreed; text = refl; within = small }
@@ -73,7 +73,7 @@ module _ (tree : Tree) (config : Config) (all : Gathered) (traces : traced (get 
 pub some_generation : SomeGeneration
 some_generation tree config all traces =
     let found = some_agreed_layout all.needs in
-    let text = map_text (with_digests config all found.0) in
+    let text = map_text (map_base config) (with_digests config all found.0) in
     let is_text : IsTextOf config all text = record { layout = found.0; agreed = found.1; text = refl } in
     (text, is_text, generated_or_too_large tree config all traces found.0 found.1)
 
@@ -88,9 +88,9 @@ module _ (tree : Tree) (config : Config) (bytes : List ℕ) (generates : Generat
   not_too_large is =
       let traces = same_trace (traced (get tree) config) generates.all is.all generates.is_traced is.is_traced in
       let layouts = agreed_layout generates.all is.all generates.layout is.layout traces generates.agreed is.agreed in
-      let same : map_text (with_digests config generates.all generates.layout) ≡ map_text (with_digests config is.all is.layout)
-      = λ i. map_text (with_digests config (traces i) (layouts i)) in
-      let n : length bytes ≡ length (map_text (with_digests config is.all is.layout)) = ap length (generates.text ∙ same) in
+      let same : map_text (map_base config) (with_digests config generates.all generates.layout) ≡ map_text (map_base config) (with_digests config is.all is.layout)
+      = λ i. map_text (map_base config) (with_digests config (traces i) (layouts i)) in
+      let n : length bytes ≡ length (map_text (map_base config) (with_digests config is.all is.layout)) = ap length (generates.text ∙ same) in
       let small = generates.within in
       let large = is.large in
       omega (arith, small, large, n)

@@ -23,7 +23,7 @@ use Rattle.generator_spec.specs.declared.Refusal.{Refusal}
 use Rattle.generator_spec.specs.declared.Refusal.TheVariants.{Config as Configured}
 use Rattle.generator_spec.specs.Checking.{check_status, check_lines}
 use Rattle.generator_spec.specs.Commands.{IsGenerating, IsMapText, Opens, IsRefusalOf, NewFile, Writes}
-use Rattle.generator_spec.specs.Generation.{Generates}
+use Rattle.generator_spec.specs.Generation.{PageIsFile, Generates}
 use Rattle.generator_spec.specs.Serves.{Serves, KnowsModules}
 use Rattle.generator_spec.specs.Statuses.{done_status, words_status, read_fault_status, write_fault_status}
 use Rattle.generator_spec.specs.Statuses.{memory_status}
@@ -39,12 +39,13 @@ pub record AreWritten (tree : Tree) (files : List NewFile) (told : Option Tree) 
   pub is_told : told ≡ Some after
   pub placed : FilesPlaced tree files after
 
--- own: the map is generation's, for the tree and the config that the words give; what their command needs is there;
--- and the line says of what
+-- own: the map is generation's, for the tree and the config that the words give, whose page is no folder's; what their
+-- command needs is there; and the line says of what
 pub record IsGenerated (words : List (List ℕ)) (tree : Tree) (map line : List ℕ) : Type 0 where
   pub command : Command
   pub config : Config
   pub is_config : IsConfigOf words tree command config
+  pub page_is_file : PageIsFile config
   pub opens : Opens tree config command
   pub generates : Generates tree config map
   pub says : line ≡ done_line generates.all generates.layout
@@ -140,10 +141,13 @@ pub data Shaped (words : List (List ℕ)) (status : ℕ) (lines : List (List ℕ
   done : (line : List ℕ) → status ≡ done_status → lines ≡ line ∷ [] → IsCounted words line → Shaped words status lines
   checked : IsChecked words status lines → Shaped words status lines
 
--- own: there is a map, whose files were written up to one of them, with which this line would have been said
+-- own: there is a map, whose files were written up to one of them, with which this line would have been said; it serves
+-- as that of a command that is done
 pub record StopsWriting (words : List (List ℕ)) (tree : Tree) (line : List ℕ) (told : Option Tree) : Type 0 where
   pub map : List ℕ
   pub generated : IsGenerated words tree map line
+  pub serves : Serves tree generated.config map
+  pub knows : KnowsModules tree generated.config map
   pub files : List NewFile
   pub writes : Writes tree generated.config map generated.command files
   pub count : ℕ

@@ -1,7 +1,8 @@
 -- Generation: the one map of a tree and a config.
+--     map_base config      the URL of the page, against which a map is parsed
 --     Generates tree config bytes      the bytes are the map's text for them
 --     IsTooLarge tree config      there would be a map for them, but its text is too large
-use Rattle.std.specs.Prelude.{◌≡◌, ◌≤◌, ◌<◌, ℕ, List, length, Some, Ok, false}
+use Rattle.std.specs.Prelude.{◌≡◌, ◌≤◌, ◌<◌, ℕ, List, [], length, Some, Ok, false, unwrap_or}
 use Rattle.std.specs.FinMap.{get}
 use Rattle.tree_spec.specs.declared.LimitName.TheVariants.{Map}
 use Rattle.tree_spec.specs.Limits.{limit_number}
@@ -20,14 +21,19 @@ use Rattle.generator_spec.specs.Digests.{with_digests}
 abbrev pub PageIsFile : Config → Type 0
 PageIsFile config = (name : List ℕ) → web_name config the_page ≡ Some name → ends_in_slash name ≡ false
 
+-- HTML, import maps: an inline map is parsed against the URL of its page. own: where the page has none, nothing is
+-- traced
+abbrev pub map_base : Config → List ℕ
+map_base config = unwrap_or (web_name config the_page) []
+
 -- own: nothing is refused, and the bytes are the text of the agreed layout of the trace's needs with the digests of its
--- modules: at most 67,108,864
+-- modules, written beside the page: at most 67,108,864
 pub record Generates (tree : Tree) (config : Config) (bytes : List ℕ) : Type 0 where
   pub all : Gathered
   pub is_traced : traced (get tree) config ≡ Ok all
   pub layout : ParsedMap
   pub agreed : IsAgreedLayout all.needs layout
-  pub text : bytes ≡ map_text (with_digests config all layout)
+  pub text : bytes ≡ map_text (map_base config) (with_digests config all layout)
   pub within : length bytes ≤ limit_number Map
 
 -- own: nothing of the trace is refused, and that text has more bytes
@@ -36,4 +42,4 @@ pub record IsTooLarge (tree : Tree) (config : Config) : Type 0 where
   pub is_traced : traced (get tree) config ≡ Ok all
   pub layout : ParsedMap
   pub agreed : IsAgreedLayout all.needs layout
-  pub large : limit_number Map < length (map_text (with_digests config all layout))
+  pub large : limit_number Map < length (map_text (map_base config) (with_digests config all layout))

@@ -12,7 +12,7 @@ use Rattle.trace_spec.specs.Checks.{Gathered}
 use Rattle.trace_spec.specs.Traces.{traced}
 use Rattle.config_spec.specs.Words.{IsPlain}
 use Rattle.generator_spec.specs.Digests.{with_digests}
-use Rattle.generator_spec.specs.Generation.{Generates, IsTooLarge}
+use Rattle.generator_spec.specs.Generation.{Generates, IsTooLarge, map_base}
 use Rattle.generator_spec.specs.Outcome.{Outcome}
 use Rattle.generator_spec.specs.Ending.{EndsAs}
 use Rattle.generator_spec.specs.Promises.{Promises}
@@ -29,7 +29,7 @@ OneGeneration =
 pub record IsTextOf (config : Config) (all : Gathered) (bytes : List ℕ) : Type 0 where
   pub layout : ParsedMap
   pub agreed : IsAgreedLayout all.needs layout
-  pub text : bytes ≡ map_text (with_digests config all layout)
+  pub text : bytes ≡ map_text (map_base config) (with_digests config all layout)
 
 -- each trace has a text, which is generated unless it is too large
 abbrev pub SomeGeneration : Type 0

@@ -8,6 +8,7 @@ pub mod AgreedLaws
 pub mod SomeAgreed
 pub mod Uncaptured
 pub mod MapMembers
+pub mod ShortBack
 pub mod MapBack
 pub mod TextBack
 pub mod examples

@@ -12,6 +12,14 @@ use Rattle.import_map_spec.specs.ParsedMap.{Texts}
 use Rattle.layout_spec.specs.PrintedMap.{members_of}
 use Rattle.tree_spec.proofs.ByteLists.{other_text}
 
+-- what comes later has another name
+pub below_apart : (key other : List ℕ) → T (is_lt (slice_cmp nat_cmp key other)) → key ≢ other
+below_apart key other l same =
+    let t = same_key_itself key in
+    let f : same_key key other ≡ false = not_same _ l in
+    let g : same_key key other ≡ true = ap (same_key key) (sym same) ∙ t in
+    absurd (cc)
+
 -- a member for each entry
 module _ {X : Type 0} where
   pub names_apart : (key : List ℕ) (value : X → Json) (es : List (List ℕ × X)) → Below key es → IsNewName key (members_of value es)

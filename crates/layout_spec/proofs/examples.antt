@@ -3,3 +3,4 @@ pub mod PrintedLists
 pub mod Agreement
 pub mod WorkedExamples
 pub mod HeldLists
+pub mod ShortExamples

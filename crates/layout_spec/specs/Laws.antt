@@ -3,10 +3,13 @@ use Rattle.std.specs.Prelude.{◌↔◌, List, ◌∷◌, ◌++◌, Contains, �
 use Rattle.std.specs.List.{IsDistinct}
 use Rattle.import_map_spec.specs.ParsedMap.{ParsedMap}
 use Rattle.import_map_spec.specs.Parsing.{ParsesMap}
+use Rattle.url_spec.specs.Parsing.{parse_against, IsUrl}
+use Rattle.url_spec.specs.Specifiers.{as_url}
 use Rattle.layout_spec.specs.AgreedLayout.{IsAgreedLayout}
 use Rattle.layout_spec.specs.Needs.{counted, is_need, NoClash, IsAskedByFile}
 use Rattle.layout_spec.specs.Places.{places, above, IsPlace, AreShrinking}
 use Rattle.layout_spec.specs.PrintedMap.{map_text, IsKept}
+use Rattle.layout_spec.specs.ShortForms.{short, IsShort}
 use Rattle.layout_spec.specs.Serving.{held, NoCapture, OfNeeds}
 use Rattle.layout_spec.specs.declared.Need.{Need}
 
@@ -64,12 +67,27 @@ AgreedLayoutCapturesNothing =
     (needs : List Need) (m : ParsedMap) → NoClash needs → ((need : Need) → Contains needs need → IsAskedByFile need)
     → IsAgreedLayout needs m → NoCapture needs m
 
+-- own law: the short form of a URL is what its definition by cases says
+abbrev pub ShortByCases : Type 0
+ShortByCases = (base url : List ℕ) → IsShort base url (short base url)
+
+-- own law: parsed against the map base, as a scope key and as an address, the short form of a URL is that URL
+abbrev pub ShortFormsParse : Type 0
+ShortFormsParse =
+    (base url : List ℕ) → IsUrl base → IsUrl url
+    → (parse_against base (short base url) ≡ Some url) × (as_url base (short base url) ≡ Some url)
+
+-- own law: so no two URLs have one short form
+abbrev pub ShortFormsDiffer : Type 0
+ShortFormsDiffer =
+    (base one other : List ℕ) → IsUrl base → IsUrl one → IsUrl other → short base one ≡ short base other → one ≡ other
+
 -- own law: the text of a map is read as that map
 abbrev pub TextsReadBack : Type 0
-TextsReadBack = (base : List ℕ) (m : ParsedMap) → IsKept base m → ParsesMap base (map_text m) (Ok m)
+TextsReadBack = (base : List ℕ) (m : ParsedMap) → IsKept base m → ParsesMap base (map_text base m) (Ok m)
 
 -- own law: the text of a map is UTF-8 and holds no `<`
 abbrev pub TextsArePlain : Type 0
 TextsArePlain =
     (base : List ℕ) (m : ParsedMap) → IsKept base m
-    → IsUtf8 (map_text m) × All (λ b. (b == 60) ≡ false) (map_text m)
+    → IsUtf8 (map_text base m) × All (λ b. (b == 60) ≡ false) (map_text base m)

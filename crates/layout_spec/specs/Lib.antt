@@ -4,6 +4,8 @@ pub mod Serving
 pub mod PutMappings
 pub mod AgreedLayout
 pub mod Counting
+pub mod ShortForms
 pub mod PrintedMap
 pub mod Laws
 pub mod WorkedExamples
+pub mod ShortExamples

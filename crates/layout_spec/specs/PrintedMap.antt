@@ -9,6 +9,7 @@ use Rattle.url_spec.specs.Parsing.{parse_against}
 use Rattle.url_spec.specs.Specifiers.{normalized, as_url}
 use Rattle.import_map_spec.specs.ParsedMap.{Addresses, ParsedMap}
 use Rattle.import_map_spec.specs.Parsing.{address_of, is_empty}
+use Rattle.layout_spec.specs.ShortForms.{short}
 
 -- the members with these names in this order, each with the JSON value of what it has
 abbrev pub members_of : {X : Type 0} → (X → Json) → List (List ℕ × X) → Members
@@ -16,13 +17,18 @@ members_of value [] = no_members
 members_of value (e ∷ es) = a_member e.0 (value e.1) (members_of value es)
 
 -- an address as a JSON value: its URL as a string, or null
-abbrev pub address_value : Option (List ℕ) → Json
-address_value None = a_null
-address_value (Some url) = a_text url
+abbrev pub address_value : List ℕ → Option (List ℕ) → Json
+address_value base None = a_null
+address_value base (Some url) = a_text (short base url)
 
 -- own: the names are sorted by their bytes, as those of the scopes and of the integrity are
-abbrev pub addresses_value : Addresses → Json
-addresses_value m = an_object (members_of address_value (entries m))
+abbrev pub addresses_value : List ℕ → Addresses → Json
+addresses_value base m = an_object (members_of (address_value base) (entries m))
+
+-- own: the scopes stand in the order of their keys, which are written in their short form
+abbrev pub scopes_of : List ℕ → List (List ℕ × Addresses) → Members
+scopes_of base [] = no_members
+scopes_of base (e ∷ es) = a_member (short base e.0) (addresses_value base e.1) (scopes_of base es)
 
 -- own: a part that is empty is left out
 abbrev pub with_part : List ℕ → Members → Members → Members
@@ -30,15 +36,15 @@ with_part name no_members more = more
 with_part name (a_member key value part) more = a_member name (an_object (a_member key value part)) more
 
 -- own: the imports, then the scopes and the integrity where there are any
-unfoldable pub map_value : ParsedMap → Json
-map_value m =
-    an_object (a_member (codes "imports") (addresses_value m.imports)
-    (with_part (codes "scopes") (members_of addresses_value (entries m.scopes))
+unfoldable pub map_value : List ℕ → ParsedMap → Json
+map_value base m =
+    an_object (a_member (codes "imports") (addresses_value base m.imports)
+    (with_part (codes "scopes") (scopes_of base (entries m.scopes))
     (with_part (codes "integrity") (members_of a_text (entries m.integrity)) no_members)))
 
 -- own: the text of the map
-unfoldable pub map_text : ParsedMap → List ℕ
-map_text m = printed_text (map_value m)
+unfoldable pub map_text : List ℕ → ParsedMap → List ℕ
+map_text base m = printed_text (map_value base m)
 
 -- own: parsing gives the key this address as it is, and it is UTF-8; null is kept always
 abbrev pub IsKeptAddress : List ℕ → List ℕ → Option (List ℕ) → Type 0

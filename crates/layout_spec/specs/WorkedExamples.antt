@@ -76,11 +76,15 @@ abbrev pub lines : List String → List ℕ
 lines [] = []
 lines (line ∷ more) = codes line ++ (10 ∷ lines more)
 
+-- the map base of the examples
+abbrev pub the_base : List ℕ
+the_base = codes "https://app.test/index.html"
+
 -- the agreed layout of the needs is printed as these lines
 pub record PrintsAs (needs : List Need) (text : List String) : Type 0 where
   pub map : ParsedMap
   pub agreed : IsAgreedLayout needs map
-  pub text_is : map_text map ≡ lines text
+  pub text_is : map_text the_base map ≡ lines text
 
 pub record LayoutExamples : Type 0 where
   pub no_needs :
@@ -99,14 +103,14 @@ pub record LayoutExamples : Type 0 where
       PrintsAs (page_app ∷ app_ab ∷ [])
       ("{"
       ∷ "  \"imports\": {"
-      ∷ "    \"https://app.test/a%62.mjs\": \"https://app.test/ab.mjs\""
+      ∷ "    \"https://app.test/a%62.mjs\": \"./ab.mjs\""
       ∷ "  }"
       ∷ "}" ∷ [])
   pub two_referrers :
       PrintsAs (app_id ∷ home_id ∷ [])
       ("{"
       ∷ "  \"imports\": {"
-      ∷ "    \"https://app.test/pages/[id].mjs\": \"https://app.test/pages/%5Bid%5D.mjs\""
+      ∷ "    \"https://app.test/pages/[id].mjs\": \"./pages/%5Bid%5D.mjs\""
       ∷ "  }"
       ∷ "}" ∷ [])
   -- the keys stand in the order of their bytes, whatever the order of the needs
@@ -114,8 +118,8 @@ pub record LayoutExamples : Type 0 where
       PrintsAs (app_id ∷ app_ab ∷ [])
       ("{"
       ∷ "  \"imports\": {"
-      ∷ "    \"https://app.test/a%62.mjs\": \"https://app.test/ab.mjs\","
-      ∷ "    \"https://app.test/pages/[id].mjs\": \"https://app.test/pages/%5Bid%5D.mjs\""
+      ∷ "    \"https://app.test/a%62.mjs\": \"./ab.mjs\","
+      ∷ "    \"https://app.test/pages/[id].mjs\": \"./pages/%5Bid%5D.mjs\""
       ∷ "  }"
       ∷ "}" ∷ [])
   -- a need with another target keeps it below their common places, also one that wants no mapping
@@ -124,8 +128,8 @@ pub record LayoutExamples : Type 0 where
       ("{"
       ∷ "  \"imports\": {},"
       ∷ "  \"scopes\": {"
-      ∷ "    \"https://app.test/app/m.mjs\": {"
-      ∷ "      \"https://app.test/app/x.mjs\": \"https://app.test/app/app/x.mjs\""
+      ∷ "    \"./app/m.mjs\": {"
+      ∷ "      \"https://app.test/app/x.mjs\": \"./app/app/x.mjs\""
       ∷ "    }"
       ∷ "  }"
       ∷ "}" ∷ [])
@@ -136,11 +140,11 @@ pub record LayoutExamples : Type 0 where
       ("{"
       ∷ "  \"imports\": {},"
       ∷ "  \"scopes\": {"
-      ∷ "    \"https://app.test/a/\": {"
-      ∷ "      \"c\": \"https://app.test/a/c.mjs\""
+      ∷ "    \"./a/\": {"
+      ∷ "      \"c\": \"./a/c.mjs\""
       ∷ "    },"
-      ∷ "    \"https://app.test/b/\": {"
-      ∷ "      \"c\": \"https://app.test/b/c.mjs\""
+      ∷ "    \"./b/\": {"
+      ∷ "      \"c\": \"./b/c.mjs\""
       ∷ "    }"
       ∷ "  }"
       ∷ "}" ∷ [])
@@ -149,7 +153,7 @@ pub record LayoutExamples : Type 0 where
       PrintsAs (app_ab ∷ app_ab ∷ [])
       ("{"
       ∷ "  \"imports\": {"
-      ∷ "    \"https://app.test/a%62.mjs\": \"https://app.test/ab.mjs\""
+      ∷ "    \"https://app.test/a%62.mjs\": \"./ab.mjs\""
       ∷ "  }"
       ∷ "}" ∷ [])
 
@@ -209,7 +213,7 @@ several =
 
 pub record TextExamples : Type 0 where
   pub no_scopes :
-      map_text (map_of_lists only_integrity)
+      map_text the_base (map_of_lists only_integrity)
       ≡ lines
       ("{"
       ∷ "  \"imports\": {},"
@@ -218,16 +222,16 @@ pub record TextExamples : Type 0 where
       ∷ "  }"
       ∷ "}" ∷ [])
   pub sorted :
-      map_text (map_of_lists several)
+      map_text the_base (map_of_lists several)
       ≡ lines
       ("{"
       ∷ "  \"imports\": {"
       ∷ "    \"a\": null,"
-      ∷ "    \"b\": \"https://app.test/b\""
+      ∷ "    \"b\": \"./b\""
       ∷ "  },"
       ∷ "  \"scopes\": {"
-      ∷ "    \"https://app.test/x/\": {"
-      ∷ "      \"#\\u003c\": \"https://app.test/y\""
+      ∷ "    \"./x/\": {"
+      ∷ "      \"#\\u003c\": \"./y\""
       ∷ "    }"
       ∷ "  }"
       ∷ "}" ∷ [])

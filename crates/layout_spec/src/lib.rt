@@ -5,6 +5,8 @@
 ghost use Rattle.layout_spec.specs.Laws.{AgreedInAnyOrder, AgreedLayoutCapturesNothing, AgreedOfNeeds, AgreedOnce};
 ghost use Rattle.layout_spec.specs.Laws.{CountedKeeps, CountedOnce, OneAgreedLayout, PlacesByCases, PlacesNest};
 ghost use Rattle.layout_spec.specs.Laws.{PlacesShrink, SomeAgreedLayout, TextsArePlain, TextsReadBack};
+ghost use Rattle.layout_spec.specs.Laws.{ShortByCases, ShortFormsDiffer, ShortFormsParse};
+ghost use Rattle.layout_spec.specs.ShortExamples.{ShortExamples};
 ghost use Rattle.layout_spec.specs.WorkedExamples.{WorkedExamples};
 
 use primitives::Text;
@@ -77,6 +79,23 @@ pub fn agreed_layout_captures_nothing()
     ensures { AgreedLayoutCapturesNothing }
 {}
 
+/// The short form of a URL is `./` and what it has behind the folder of the map base, where that leads back to it; and
+/// else the URL itself.
+pub fn short_by_cases()
+    ensures { ShortByCases }
+{}
+
+/// Parsed against the map base, the short form of a URL is that URL.
+pub fn short_forms_parse()
+    ensures { ShortFormsParse }
+{}
+
+/// No two URLs have one short form.
+#[tactic(auto, using(crate::proofs::ShortBack::short_forms_differ))]
+pub fn short_forms_differ()
+    ensures { ShortFormsDiffer }
+{}
+
 /// The text of a map is read as that map, where its keys and addresses stand as parsing leaves them.
 #[tactic(auto, using(crate::proofs::TextBack::texts_read_back))]
 pub fn texts_read_back()
@@ -92,4 +111,10 @@ pub fn texts_are_plain()
 #[tactic(auto, using(crate::proofs::examples::WorkedExamples::worked_examples))]
 pub fn worked_examples()
     ensures { WorkedExamples }
+{}
+
+/// Worked examples of short forms.
+#[tactic(auto, using(crate::proofs::examples::ShortExamples::short_examples))]
+pub fn short_examples()
+    ensures { ShortExamples }
 {}

@@ -3,12 +3,13 @@ use Rattle.std.proofs.Common.{◌≡◌, ℕ, ◌+◌, zero, suc, List, [], ◌�
 use Rattle.std.specs.Prelude.{◌≢◌, codes}
 use Rattle.std.proofs.Math.Numerals.{add-one}
 use Rattle.std.proofs.lemmas.List.{drop_all}
-use Rattle.json_spec.specs.Value.{Json, a_text, an_object, Members, no_members, a_member}
+use Rattle.json_spec.specs.Value.{Json, an_object, Members, no_members, a_member}
 use Rattle.json_spec.specs.PrintedString.{quoted}
 use Rattle.json_spec.specs.PrintedValue.{margin, line, printed, printed_members}
-use Rattle.layout_spec.specs.PrintedMap.{members_of, with_part}
+use Rattle.layout_spec.specs.PrintedMap.{with_part}
 use Rattle.scope_builder.specs.declared.keyed.Layout.{Layout}
-use Rattle.map_print.specs.PrintedLists.{mappings_value, layout_value}
+use Rattle.map_print.specs.PrintedLists.{members_by, mappings_value, pairs_members, scopes_members, layout_value}
+use Rattle.map_print.specs.declared.print.Values.TheVariants.{Addresses, Digests}
 use Rattle.map_print.specs.Appending.{Appends}
 
 pub piece : {old new : List ℕ} (bytes : List ℕ) → new ≡ old ++ bytes → Appends old new (λ rest. bytes ++ rest)
@@ -36,26 +37,26 @@ line_more n a e = as_text (line (n + 1)) (next a (piece (32 ∷ 32 ∷ []) e)) (
 pub record Completes (old now : List ℕ) (all left : List ℕ → List ℕ) : Type 0 where
   pub whole : (rest : List ℕ) → now ++ left rest ≡ old ++ all rest
 
-module _ {X : Type 0} (value : X → Json) where
-  pub all_members : {old now : List ℕ} {all : List ℕ → List ℕ} (n i : ℕ) (members : List (List ℕ × X)) → length members ≤ i → Completes old now all (printed_members n (members_of value (drop i members))) → Appends old now all
-  all_members {now = now} n i members past c = record { whole = λ rest. sym (ap (λ ms. now ++ printed_members n (members_of value ms) rest) (drop_all i members past)) ∙ c.whole rest }
+module _ {X : Type 0} (name : X → List ℕ) (value : X → Json) where
+  pub all_members : {old now : List ℕ} {all : List ℕ → List ℕ} (n i : ℕ) (items : List X) → length items ≤ i → Completes old now all (printed_members n (members_by name value (drop i items))) → Appends old now all
+  all_members {now = now} n i items past c = record { whole = λ rest. sym (ap (λ xs. now ++ printed_members n (members_by name value xs) rest) (drop_all i items past)) ∙ c.whole rest }
 
   -- an object is its first member, those behind it, and the line of its closing brace; k is the level of its members
-  pub object : {a b c d e : List ℕ} (n k : ℕ) (first : List ℕ × X) (more members : List (List ℕ × X)) → k ≡ suc n → members ≡ first ∷ more → b ≡ a ++ 123 ∷ [] → Appends b c (λ rest. line k (quoted first.0 ++ (codes ": " ++ printed k (value first.1) rest))) → Appends c d (printed_members k (members_of value more)) → Appends d e (λ rest. line n (125 ∷ rest)) → Appends a e (printed n (an_object (members_of value members)))
-  object n k first more members deeper split opens one others closes =
-      as_text (printed n (an_object (members_of value members))) (next (piece (123 ∷ []) opens) (next one (next others closes)))
-      (λ rest. ap (λ j. 123 ∷ line j (quoted first.0 ++ (codes ": " ++ printed j (value first.1) (printed_members j (members_of value more) (line n (125 ∷ rest)))))) deeper
-      ∙ sym (ap (λ ms. printed n (an_object (members_of value ms)) rest) split))
+  pub object : {a b c d e : List ℕ} (n k : ℕ) (first : X) (more items : List X) → k ≡ suc n → items ≡ first ∷ more → b ≡ a ++ 123 ∷ [] → Appends b c (λ rest. line k (quoted (name first) ++ (codes ": " ++ printed k (value first) rest))) → Appends c d (printed_members k (members_by name value more)) → Appends d e (λ rest. line n (125 ∷ rest)) → Appends a e (printed n (an_object (members_by name value items)))
+  object n k first more items deeper split opens one others closes =
+      as_text (printed n (an_object (members_by name value items))) (next (piece (123 ∷ []) opens) (next one (next others closes)))
+      (λ rest. ap (λ j. 123 ∷ line j (quoted (name first) ++ (codes ": " ++ printed j (value first) (printed_members j (members_by name value more) (line n (125 ∷ rest)))))) deeper
+      ∙ sym (ap (λ xs. printed n (an_object (members_by name value xs)) rest) split))
 
   -- a part that isn't empty, behind another member
-  pub part : {a b c : List ℕ} (name start : List ℕ) (members : List (List ℕ × X)) → length members ≢ 0 → ((rest : List ℕ) → start ++ rest ≡ 44 ∷ line 1 (quoted name ++ (codes ": " ++ rest))) → b ≡ a ++ start → Appends b c (printed 1 (an_object (members_of value members))) → Appends a c (printed_members 1 (with_part name (members_of value members) no_members))
-  part name start [] some begins starts after = absurd (some refl)
-  part name start (member ∷ more) some begins starts after =
-      as_text (printed_members 1 (with_part name (members_of value (member ∷ more)) no_members)) (next (piece start starts) after) (λ rest. begins (printed 1 (an_object (members_of value (member ∷ more))) rest))
+  pub part : {a b c : List ℕ} (title start : List ℕ) (items : List X) → length items ≢ 0 → ((rest : List ℕ) → start ++ rest ≡ 44 ∷ line 1 (quoted title ++ (codes ": " ++ rest))) → b ≡ a ++ start → Appends b c (printed 1 (an_object (members_by name value items))) → Appends a c (printed_members 1 (with_part title (members_by name value items) no_members))
+  part title start [] some begins starts after = absurd (some refl)
+  part title start (item ∷ more) some begins starts after =
+      as_text (printed_members 1 (with_part title (members_by name value (item ∷ more)) no_members)) (next (piece start starts) after) (λ rest. begins (printed 1 (an_object (members_by name value (item ∷ more))) rest))
 
-  pub no_part : {a : List ℕ} (name : List ℕ) (members : List (List ℕ × X)) → length members ≡ 0 → Appends a a (printed_members 1 (with_part name (members_of value members) no_members))
-  no_part name [] none = record { whole = λ rest. refl }
-  no_part name (member ∷ more) none = absurd (omega arith)
+  pub no_part : {a : List ℕ} (title : List ℕ) (items : List X) → length items ≡ 0 → Appends a a (printed_members 1 (with_part title (members_by name value items) no_members))
+  no_part title [] none = record { whole = λ rest. refl }
+  no_part title (item ∷ more) none = absurd (omega arith)
 
 -- a part writes the same whatever stands behind it
 pub part_before : (name : List ℕ) (part more : Members) (rest : List ℕ) → printed_members 1 (with_part name part more) rest ≡ printed_members 1 (with_part name part no_members) (printed_members 1 more rest)
@@ -63,12 +64,12 @@ part_before name no_members more rest = refl
 part_before name (a_member key value others) more rest = refl
 
 -- the map is its start, its three parts and its end
-pub whole_map : {a b c d e f : List ℕ} (layout : Layout) (integrity : List (List ℕ × List ℕ)) (start end : List ℕ) → ((rest : List ℕ) → start ++ rest ≡ 123 ∷ line 1 (quoted (codes "imports") ++ (codes ": " ++ rest))) → ((rest : List ℕ) → end ++ rest ≡ line 0 (125 ∷ 10 ∷ rest)) → b ≡ a ++ start → Appends b c (printed 1 (mappings_value layout.imports)) → Appends c d (printed_members 1 (with_part (codes "scopes") (members_of mappings_value layout.scopes) no_members)) → Appends d e (printed_members 1 (with_part (codes "integrity") (members_of a_text integrity) no_members)) → f ≡ e ++ end → Appends a f (λ rest. printed 0 (layout_value layout integrity) (10 ∷ rest))
-whole_map layout integrity start end begins ends starts imports scopes digests finishes =
-    let scopes_part = members_of mappings_value layout.scopes in
-    let integrity_part = with_part (codes "integrity") (members_of a_text integrity) no_members in
-    let before : List ℕ → List ℕ = λ rest. printed 1 (mappings_value layout.imports) rest in
-    as_text (λ rest. printed 0 (layout_value layout integrity) (10 ∷ rest)) (next (piece start starts) (next imports (next scopes (next digests (piece end finishes)))))
+pub whole_map : {a b c d e f : List ℕ} (base : List ℕ) (layout : Layout) (integrity : List (List ℕ × List ℕ)) (start end : List ℕ) → ((rest : List ℕ) → start ++ rest ≡ 123 ∷ line 1 (quoted (codes "imports") ++ (codes ": " ++ rest))) → ((rest : List ℕ) → end ++ rest ≡ line 0 (125 ∷ 10 ∷ rest)) → b ≡ a ++ start → Appends b c (printed 1 (mappings_value Addresses base layout.imports)) → Appends c d (printed_members 1 (with_part (codes "scopes") (scopes_members base layout.scopes) no_members)) → Appends d e (printed_members 1 (with_part (codes "integrity") (pairs_members Digests base integrity) no_members)) → f ≡ e ++ end → Appends a f (λ rest. printed 0 (layout_value base layout integrity) (10 ∷ rest))
+whole_map base layout integrity start end begins ends starts imports scopes digests finishes =
+    let scopes_part = scopes_members base layout.scopes in
+    let integrity_part = with_part (codes "integrity") (pairs_members Digests base integrity) no_members in
+    let before : List ℕ → List ℕ = λ rest. printed 1 (mappings_value Addresses base layout.imports) rest in
+    as_text (λ rest. printed 0 (layout_value base layout integrity) (10 ∷ rest)) (next (piece start starts) (next imports (next scopes (next digests (piece end finishes)))))
     (λ rest. begins _
     ∙ (ap (λ (xs : List ℕ). 123 ∷ line 1 (quoted (codes "imports") ++ (codes ": " ++ before (printed_members 1 (with_part (codes "scopes") scopes_part no_members) (printed_members 1 integrity_part xs))))) (ends rest)
     ∙ ap (λ (xs : List ℕ). 123 ∷ line 1 (quoted (codes "imports") ++ (codes ": " ++ before xs))) (sym (part_before (codes "scopes") scopes_part integrity_part (line 0 (125 ∷ 10 ∷ rest))))))

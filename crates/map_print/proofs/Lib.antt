@@ -1,4 +1,6 @@
 pub mod Appends
-pub mod Listing
-pub mod Sizes
-pub mod Limits
+mod Listing
+mod LeastSizes
+mod Limits
+mod FolderLemmas
+mod PlainPaths

@@ -1,4 +1,5 @@
 pub mod PrintedLists
 pub mod Printed
 pub mod Appending
-pub mod Sizes
+pub mod LeastSizes
+pub mod PlainRests

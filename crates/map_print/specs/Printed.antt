@@ -1,5 +1,5 @@
 -- What a printed map is to whoever has its lists.
---     IsPrinted layout integrity bytes      the bytes are the text of each map whose entries the lists are
+--     IsPrinted base layout integrity bytes      the bytes are the text of each map whose entries the lists are
 use Rattle.std.specs.Prelude.{◌≡◌, ◌≤◌, ◌==◌, ℕ, false, List, length, Ok, All, IsUtf8}
 use Rattle.tree_spec.specs.Limits.{limit_number}
 use Rattle.tree_spec.specs.declared.LimitName.TheVariants.{Map}
@@ -9,13 +9,11 @@ use Rattle.layout_spec.specs.PrintedMap.{IsKept, map_text}
 use Rattle.scope_builder.specs.declared.keyed.Layout.{Layout}
 use Rattle.scope_builder.specs.Lists.{Lists}
 
--- own: the text is within its limit; read against a base where the map's keys and addresses stand as they are, it is
--- that map, and no tag of a page is read in it
-pub record IsPrinted (layout : Layout) (integrity : List (List ℕ × List ℕ)) (bytes : List ℕ) : Type 0 where
-  pub text : (m : ParsedMap) → Lists layout integrity m → bytes ≡ map_text m
+-- own: the text is within its limit; read against the map base, where the map's keys and addresses stand as parsing
+-- leaves them, it is that map, and no tag of a page is read in it
+pub record IsPrinted (base : List ℕ) (layout : Layout) (integrity : List (List ℕ × List ℕ)) (bytes : List ℕ) : Type 0 where
+  pub text : (m : ParsedMap) → Lists layout integrity m → bytes ≡ map_text base m
   pub within : length bytes ≤ limit_number Map
-  pub reads_back :
-      (base : List ℕ) (m : ParsedMap) → Lists layout integrity m → IsKept base m → ParsesMap base bytes (Ok m)
+  pub reads_back : (m : ParsedMap) → Lists layout integrity m → IsKept base m → ParsesMap base bytes (Ok m)
   pub plain :
-      (base : List ℕ) (m : ParsedMap) → Lists layout integrity m → IsKept base m
-      → IsUtf8 bytes × All (λ b. (b == 60) ≡ false) bytes
+      (m : ParsedMap) → Lists layout integrity m → IsKept base m → IsUtf8 bytes × All (λ b. (b == 60) ≡ false) bytes

@@ -1,7 +1,8 @@
-//! The printed form of a map: one text for one layout.
+//! The printed form of a map: one text for one layout, with short addresses beside the page.
 #![tactic(auto)]
 
+mod least_size;
+mod map_folder;
 mod print;
-mod size;
 
 pub use print::{PrintFault, print_map};

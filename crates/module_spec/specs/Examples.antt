@@ -196,6 +196,28 @@ pub record ReadingExamples : Type 0 where
       (request 19 22 (codes "x") ∷ request 34 37 (codes "y") ∷ []) true
   pub no_request : Reads (codes "export {};") [] true
   pub no_declaration : Reads (codes "module.exports = 1;") [] false
+  -- import calls: of a string that is the whole first argument, at any depth
+  pub calls :
+      Reads (codes "const f = () => import('./b.mjs'); import('./' + x); a.import('./c.mjs'); import('./d.mjs', {});")
+      (request 23 32 (codes "./b.mjs") ∷ request 81 90 (codes "./d.mjs") ∷ []) false
+  pub common_js : Reads (codes "module.exports = import('./b.mjs');") (request 24 33 (codes "./b.mjs") ∷ []) false
+  pub spaced_call : Reads (codes "import/**/(\n'a'\n,)") (request 12 15 (codes "a") ∷ []) false
+  pub call_in_a_template : Reads (codes "`${import('a')}`") (request 10 13 (codes "a") ∷ []) false
+  pub call_in_options :
+      Reads (codes "import('a',import('b'))") (request 7 10 (codes "a") ∷ request 18 21 (codes "b") ∷ []) false
+  pub call_of_a_call : Reads (codes "import(import('a'))") (request 14 17 (codes "a") ∷ []) false
+  pub no_string_alone : Reads (codes "import(a);import(`a`);import(('a'));import('a'.b);import()") [] false
+  pub spelled_call : Reads (codes "im\\u0070ort('a');a?.import('b');x=/import('c')/") [] false
+  pub call_and_meta : Reads (codes "import.meta;import('a')") (request 19 22 (codes "a") ∷ []) true
+  pub call_behind_an_export : Reads (codes "export {a} from import('b')") (request 23 26 (codes "b") ∷ []) true
+  pub call_in_braces :
+      Reads (codes "import {import('x')} from 'y'") (request 15 18 (codes "x") ∷ request 26 29 (codes "y") ∷ []) true
+  pub no_value_of_a_call : FaultsAt (codes "import('\\7',a);import b c") 7
+  pub wrong_form_first : FaultsAt (codes "import b c;import('\\7')") 0
+  pub no_value_in_braces : FaultsAt (codes "import {import('\\7')} from '\\8'") 15
+  pub wrong_around : FaultsAt (codes "import {import('\\7')} 5") 0
+  pub call_of_no_value_alone : Reads (codes "import('\\7'+a)") [] false
+  pub cut_call : FaultsAt (codes "import('\\7'") 11
   pub a_comment : Reads (codes "// import \"a\"") [] false
   pub a_hashbang : Reads (codes "#! import \"a\"") [] false
   pub wrong_form : FaultsAt (codes "import x y") 0

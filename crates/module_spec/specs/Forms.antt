@@ -1,7 +1,9 @@
 -- The forms of import and export declarations, told by the tokens that come. ECMA-262, 16.2.2 and 16.2.3.
 --     declaration t rest      the form that begins with the word `t`, by the tokens behind it
 --     import_declaration tokens, export_declaration tokens      the same behind `import` and behind `export`
+--     called before t      the string of an import call, where its first argument ends before the token `t`
 use Rattle.std.specs.Prelude.{ℕ, suc, Bool, false, not, ◌&&◌, ◌||◌, ◌==◌, codes, List, [], ◌∷◌, if◌then◌else◌}
+use Rattle.std.specs.Prelude.{Option, Some, None}
 use Rattle.module_spec.specs.Places.{Placed, is_name, is_text, is_word, is_mark, is_top}
 
 -- what the tokens come to: no form of a declaration; what is no declaration at all; a declaration that asks for
@@ -152,3 +154,20 @@ begins_meta (t ∷ rest) = is_mark t (codes ".") && begins_word (codes "meta") r
 -- ECMA-262, 13.3.12: `import.meta`, at any depth
 abbrev pub is_import_meta : Placed → List Placed → Bool
 is_import_meta t rest = t.plain && is_word t (codes "import") && begins_meta rest
+
+-- ---- import calls
+
+-- ECMA-262, 13.3.10: the word of an import call, at any depth
+abbrev pub begins_call : Placed → Placed → Bool
+begins_call word bracket = word.plain && (is_word word (codes "import") && is_mark bracket (codes "("))
+
+-- the first argument is a string and nothing else: own: behind the comma may stand options, which aren't checked
+abbrev pub is_argument : Placed → Placed → Bool
+is_argument s t = is_text s && (is_mark t (codes ")") || is_mark t (codes ","))
+
+-- own: of the import calls only those of a string ask for a module. The tokens before `t` are the last one first
+abbrev pub called : List Placed → Placed → Option Placed
+called [] t = None
+called (s ∷ []) t = None
+called (s ∷ (bracket ∷ [])) t = None
+called (s ∷ (bracket ∷ (word ∷ before))) t = if is_argument s t && begins_call word bracket then Some s else None

@@ -1,5 +1,6 @@
 -- The laws of these definitions. Each is the contract of a public function of the crate.
-use Rattle.std.specs.Prelude.{◌≡◌, ◌≤◌, ◌↔◌, ℕ, ◌+◌, List, ◌∷◌, ◌++◌, Some, Result, All, length}
+use Rattle.std.specs.Prelude.{◌≡◌, ◌≤◌, ◌↔◌, ℕ, ◌+◌, true, false, ◌||◌, List, [], ◌∷◌, ◌++◌, Option, Some, None}
+use Rattle.std.specs.Prelude.{Result, All, length, codes, slice_get}
 use Rattle.std.specs.Str.{IsUtf8}
 use Rattle.module_spec.specs.declared.token.Token.{Token}
 use Rattle.module_spec.specs.declared.token.LexFault.{LexFault}
@@ -9,11 +10,12 @@ use Rattle.module_spec.specs.Sorts.{opens}
 use Rattle.module_spec.specs.Tokens.{Lexeme, Reaches, ReadsTokens, depth}
 use Rattle.module_spec.specs.Spans.{Stands}
 use Rattle.module_spec.specs.Brackets.{openers, closers, ArePartners, StaysOpen}
-use Rattle.module_spec.specs.Places.{Placed}
-use Rattle.module_spec.specs.Forms.{import_declaration, export_declaration}
+use Rattle.module_spec.specs.Places.{Placed, is_text, is_word, is_mark}
+use Rattle.module_spec.specs.Forms.{import_declaration, export_declaration, declaration, called}
 use Rattle.module_spec.specs.Forms.Form.{wrong, alone, asks}
 use Rattle.module_spec.specs.Declarations.{ImportDeclaration, ExportFrom, ExportAlone, Begins, Asks}
-use Rattle.module_spec.specs.Outlines.{Outline, ReadsOutline}
+use Rattle.module_spec.specs.Outlines.{Outline, ReadsOutline, findings, declared, calls, without_calls, only_calls}
+use Rattle.module_spec.specs.Outlines.{all_right, requests, declares, outline_of, outlined}
 use Rattle.module_spec.specs.OutlineReading.{read_outline}
 
 -- a text has one list of tokens or one first fault, and not both
@@ -73,6 +75,49 @@ pub record ExportForms (tokens : List Placed) : Type 0 where
 -- whatever the tokens are, the forms behind `import` and those behind `export` are exactly the productions
 abbrev pub FormsAreProductions : Type 0
 FormsAreProductions = (tokens : List Placed) → ImportForms tokens × ExportForms tokens
+
+-- ---- import calls
+
+-- ECMA-262, 13.3.10: before `t` stand a plain `import`, a `(` and the string `s`, and `t` ends the argument
+pub record IsImportCall (before : List Placed) (s t : Placed) : Type 0 where
+  pub word : Placed
+  pub bracket : Placed
+  pub outer : List Placed
+  pub split : before ≡ s ∷ bracket ∷ word ∷ outer
+  pub plain : word.plain ≡ true
+  pub named : is_word word (codes "import") ≡ true
+  pub opened : is_mark bracket (codes "(") ≡ true
+  pub string : is_text s ≡ true
+  pub ended : (is_mark t (codes ")") || is_mark t (codes ",")) ≡ true
+
+-- the import calls are exactly these
+abbrev pub CallsAreImportCalls : Type 0
+CallsAreImportCalls = (before : List Placed) (s t : Placed) → (called before t ≡ Some s) ↔ IsImportCall before s t
+
+-- import calls change nothing of what is found of declarations: not what, and not its order
+abbrev pub DeclarationsStay : Type 0
+DeclarationsStay =
+    (before : List Placed) (asked : Option ℕ) (tokens : List Placed)
+    → without_calls (findings before asked tokens) ≡ declared asked tokens
+
+-- where each word has a form, the import calls that are found are all that there are, in their order
+abbrev pub CallsAreFound : Type 0
+CallsAreFound =
+    (before : List Placed) (asked : Option ℕ) (tokens : List Placed)
+    → all_right (findings before asked tokens) ≡ true → only_calls (findings before asked tokens) ≡ calls before tokens
+
+-- tokens without an import call of a string have the outline that their declarations give
+abbrev pub SameWithoutCalls : Type 0
+SameWithoutCalls =
+    (tokens : List Placed) → calls [] tokens ≡ []
+    → outlined tokens ≡ outline_of (requests [] (declared None tokens)) (declares tokens)
+
+-- no string is asked for by a declaration and by an import call: before the module specifier of a declaration, counted
+-- from its word on, stands no `(`
+abbrev pub OneKindOfRequest : Type 0
+OneKindOfRequest =
+    (t : Placed) (rest : List Placed) (count : ℕ) → declaration t rest ≡ asks count → (b : Placed)
+    → slice_get (t ∷ rest) count ≡ Some b → is_mark b (codes "(") ≡ false
 
 -- ---- outlines
 

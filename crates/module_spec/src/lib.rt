@@ -5,6 +5,8 @@
 ghost use Rattle.module_spec.specs.Examples.{ManyExamples, OutlineExamples, TokenExamples};
 ghost use Rattle.module_spec.specs.Examples.{ReadingExamples, ValueExamples};
 ghost use Rattle.module_spec.specs.Laws.{CurlyPartners, DepthCounts, FormsAreProductions, OneOutline};
+ghost use Rattle.module_spec.specs.Laws.{CallsAreFound, CallsAreImportCalls, DeclarationsStay};
+ghost use Rattle.module_spec.specs.Laws.{OneKindOfRequest, SameWithoutCalls};
 ghost use Rattle.module_spec.specs.Laws.{OnePartner, OneReach, OneTokens, OutlineIsRead, TokensStand};
 
 mod request;
@@ -51,6 +53,36 @@ pub fn curly_partners()
 /// The forms of import and export declarations are exactly the productions.
 pub fn forms_are_productions()
     ensures { FormsAreProductions }
+{}
+
+/// The strings of import calls are those that stand in one.
+#[tactic(auto, using(crate::proofs::CallLaws::calls_are_import_calls))]
+pub fn calls_are_import_calls()
+    ensures { CallsAreImportCalls }
+{}
+
+/// Each request of a declaration, and each word without a form, is found as if there were no import calls.
+#[tactic(auto, using(crate::proofs::CallLaws::declarations_stay))]
+pub fn declarations_stay()
+    ensures { DeclarationsStay }
+{}
+
+/// Where each word has a form, all import calls are found, in their order.
+#[tactic(auto, using(crate::proofs::CallLaws::calls_are_found))]
+pub fn calls_are_found()
+    ensures { CallsAreFound }
+{}
+
+/// Without an import call of a string, a text has the outline of its declarations.
+#[tactic(auto, using(crate::proofs::CallLaws::same_without_calls))]
+pub fn same_without_calls()
+    ensures { SameWithoutCalls }
+{}
+
+/// A string is a declaration's module specifier or an import call's, and not both.
+#[tactic(auto, using(crate::proofs::CallLaws::one_kind_of_request))]
+pub fn one_kind_of_request()
+    ensures { OneKindOfRequest }
 {}
 
 /// A text has at most one outline or one first fault, and not both.

@@ -130,6 +130,7 @@ pub reframed : {X Y : Type 0} (before after : State) (one : LookAsking X) (other
 reframed before after one other r q a memory read back possible comes within = record {
   tells = tells_as before.folder.holds before after one other r q comes a.tells;
   known = a.known;
+  trail = a.trail;
   asked = if_some {P = λ old. AsksOnce old before after (r ≡ fails no_memory) (IsLookOf before one)}
       {Q = λ old. AsksOnce old before after (q ≡ fails no_memory) (IsLookOf before other)} before.folder.asked
       (λ old. asks_finished old before after (r ≡ fails no_memory) (q ≡ fails no_memory) (IsLookOf before one)

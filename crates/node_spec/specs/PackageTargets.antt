@@ -58,7 +58,8 @@ abbrev pub is_invalid_match : Option (List ℕ) → Bool
 is_invalid_match None = false
 is_invalid_match (Some text) = list_any is_invalid_segment (segments text)
 
--- each `*` replaced by what stands for it, where there is that
+-- own: each `*` of the target replaced by what stands for it, where there is that; one in the path of the package's
+-- folder stays, where Node replaces it
 abbrev pub with_match : Option (List ℕ) → List ℕ → List ℕ
 with_match None target = target
 with_match (Some text) target = flat_map (λ b. if b == 42 then text else b ∷ []) target

@@ -1,5 +1,5 @@
 -- The grammar's rules at the bytes that a reader holds.
-use Rattle.std.specs.Prelude.{◌≡◌, ◌≢◌, ℕ, zero, suc, ◌-◌, ◌<◌, ◌==◌, List, [], ◌∷◌, ◌++◌, length, Result, Ok, Err, MatchResult, IfOk, OnOk}
+use Rattle.std.specs.Prelude.{◌≡◌, ◌≢◌, ℕ, zero, suc, ◌-◌, ◌<◌, ◌==◌, List, [], ◌∷◌, ◌++◌, length, Result, Ok, Err, MatchResult, IfOk}
 use Rattle.std.proofs.Common.{refl, ap, sym, subst, ◌∙◌, arith}
 use Rattle.std.proofs.lemmas.Bool.{cond-false, false_from_ne_true, eqb-true}
 use Rattle.json_spec.specs.Value.{Json, a_text, a_list, an_object, Items, no_items, an_item, Members, no_members, settled_onto, put}
@@ -61,10 +61,6 @@ scalar_value (suc depth) b rest q l o = reads_scalar q l o
 
 scalar_reads : (depth : ℕ) (b : ℕ) (bytes rest : List ℕ) (out : Reading Json) → bytes ≡ b ∷ rest → b ≢ 34 → b ≢ 91 → b ≢ 123 → scalar_at bytes ≡ out → Reads depth bytes out
 scalar_reads depth b bytes rest out e q l o s = rw (← s, e) (scalar_value depth b rest q l o)
-
--- a byte that isn't the opening bracket
-pub not_bracket : {bytes rest : List ℕ} {d : ℕ} → bytes ≡ d ∷ rest → ((rest : List ℕ) → bytes ≢ 91 ∷ rest) → d ≢ 91
-not_bracket {rest = rest} e n b = n rest (e ∙ ap (λ (x : ℕ). x ∷ rest) b)
 
 pub deep_list : (depth : ℕ) (d : ℕ) (bytes rest : List ℕ) → depth ≡ 0 → bytes ≡ d ∷ rest → d ≡ 91 → Reads depth bytes (refused (TooDeep (length bytes)))
 deep_list depth d bytes rest z e b = rw (z, e, b) (reads_list {out = refused (TooDeep (suc (length rest)))} refl)
@@ -141,6 +137,11 @@ pub awaits_first_item : (depth : ℕ) (whole start : List ℕ) (items : List Jso
 awaits_first_item depth whole start items i s n = rw (i, ← s) (first_awaited depth start n)
 
 module _ {value : List ℕ → Reading Json → Type 0} {bytes rest : List ℕ} {found : List Json} (awaits : AwaitsItem value bytes found rest) where
+  pub items_fail : (stop : Stop) → Fails (value rest) stop → Fails (ReadsItems value bytes) stop
+  items_fail (Unreadable left) r = awaits.fault (NotJson left) r
+  items_fail (Deep left) r = awaits.fault (TooDeep left) r
+  items_fail NoMemory r = tt
+
   module _ (item : Json) (middle space : List ℕ) (here : value rest (taken item middle)) (skipped : space ≡ after_space middle) where
     pub awaits_next_item : (items : List Json) (more start : List ℕ) → items ≡ found ++ item ∷ [] → space ≡ 44 ∷ more → start ≡ after_space more → AwaitsItem value bytes items start
     awaits_next_item items more start i e s = rw (i, s) (record {
@@ -206,62 +207,55 @@ first_member_awaited value (b ∷ bytes) n = record {
 pub awaits_first_member : (value : List ℕ → Reading Json → Type 0) (whole start : List ℕ) (ms : Members) → ms ≡ no_members → start ≡ after_space whole → ((rest : List ℕ) → start ≢ 125 ∷ rest) → AwaitsMember value (after_space whole) ms start
 awaits_first_member value whole start ms i s n = rw (i, ← s) (first_member_awaited value start n)
 
--- a member of an object is read
-pub member_read : (value : List ℕ → Reading Json → Type 0) (bytes name after start : List ℕ) (v : Json) (middle : List ℕ) → ReadsName bytes (taken name after) → start ≡ after_space after → value start (taken v middle) → ReadsMember value bytes (taken (a_pair name v) middle)
-member_read value bytes name after start v middle named begun here = member_value {out = taken v middle} named (rw (← begun) here)
-
-pub name_fails : (value : List ℕ → Reading Json → Type 0) (bytes : List ℕ) (stop : Stop) → Fails (ReadsName bytes) stop → Fails (ReadsMember value bytes) stop
-name_fails value bytes (Unreadable left) r = member_name r
-name_fails value bytes (Deep left) r = member_name r
-name_fails value bytes NoMemory r = tt
-
-module _ (value : List ℕ → Reading Json → Type 0) (bytes name after start : List ℕ) (named : ReadsName bytes (taken name after)) (begun : start ≡ after_space after) where
-  value_fault : (f : Fault) → value start (refused f) → ReadsMember value bytes (refused f)
-  value_fault f r = member_value {out = refused f} named (rw (← begun) r)
-
-  pub value_fails : (stop : Stop) → Fails (value start) stop → Fails (ReadsMember value bytes) stop
-  value_fails (Unreadable left) r = value_fault (NotJson left) r
-  value_fails (Deep left) r = value_fault (TooDeep left) r
-  value_fails NoMemory r = tt
-
--- the bytes stand behind a member and its space: what follows makes the object
-pub record IsBehind (value : List ℕ → Reading Json → Type 0) (bytes : List ℕ) (found : Members) (space : List ℕ) : Type 0 where
-  pub next : (out : Reading Members) → MoreMembers value space out → ReadsSettled value bytes (settled_behind found out)
-
 module _ {value : List ℕ → Reading Json → Type 0} {bytes rest : List ℕ} {found : Members} (awaits : AwaitsMember value bytes found rest) where
-  pub members_fail : (stop : Stop) → Fails (ReadsMember value rest) stop → Fails (ReadsSettled value bytes) stop
-  members_fail (Unreadable left) r = awaits.fault (NotJson left) r
-  members_fail (Deep left) r = awaits.fault (TooDeep left) r
-  members_fail NoMemory r = tt
+  name_fault : (f : Fault) → ReadsName rest (refused f) → ReadsSettled value bytes (refused f)
+  name_fault f r = awaits.fault f (member_name r)
 
-  pub behind_one_more : (name : List ℕ) (v : Json) (middle space : List ℕ) (ms : Members) → ReadsMember value rest (taken (a_pair name v) middle) → space ≡ after_space middle → ms ≡ put name v found → IsBehind value bytes ms space
-  behind_one_more name v middle space ms here skipped i = rw i (record { next = λ out m. moved (put_behind found name v out) (awaits.next name v middle out here (rw (← skipped) m)) })
+  pub names_fail : (stop : Stop) → Fails (ReadsName rest) stop → Fails (ReadsSettled value bytes) stop
+  names_fail (Unreadable left) r = name_fault (NotJson left) r
+  names_fail (Deep left) r = name_fault (TooDeep left) r
+  names_fail NoMemory r = tt
 
-module _ {value : List ℕ → Reading Json → Type 0} {bytes space : List ℕ} {found : Members} (behind : IsBehind value bytes found space) where
-  pub awaits_next_member : (more start : List ℕ) → space ≡ 44 ∷ more → start ≡ after_space more → AwaitsMember value bytes found start
-  awaits_next_member more start e s = rw s (record {
-    next = λ name v middle out r m. behind.next (behind_member name v out) (rw e (members_next r m));
-    fault = λ f r. behind.next (refused f) (rw e (members_fault r));
-  })
+  module _ (name after start : List ℕ) (named_here : ReadsName rest (taken name after)) (begun : start ≡ after_space after) where
+    value_fault : (f : Fault) → value start (refused f) → ReadsSettled value bytes (refused f)
+    value_fault f r = awaits.fault f (member_value {out = refused f} named_here (rw (← begun) r))
 
-  pub last_member : (ms : Members) (end : List ℕ) → ms ≡ found → space ≡ 125 ∷ end → ReadsSettled value bytes (taken ms end)
-  last_member ms end i e = rw i (behind.next (taken no_members end) (rw e members_close))
+    pub values_fail : (stop : Stop) → Fails (value start) stop → Fails (ReadsSettled value bytes) stop
+    values_fail (Unreadable left) r = value_fault (NotJson left) r
+    values_fail (Deep left) r = value_fault (TooDeep left) r
+    values_fail NoMemory r = tt
 
-  pub no_more_members : ((end : List ℕ) → space ≢ 125 ∷ end) → ((more : List ℕ) → space ≢ 44 ∷ more) → ReadsSettled value bytes (fault_here space)
-  no_more_members n m = behind.next (fault_here space) (no_turn space n m)
-    where
-      no_turn : (xs : List ℕ) → ((end : List ℕ) → xs ≢ 125 ∷ end) → ((more : List ℕ) → xs ≢ 44 ∷ more) → MoreMembers value xs (fault_here xs)
-      no_turn [] n m = members_end
-      no_turn (b ∷ xs) n m = members_other (λ e. n xs (ap (λ x. x ∷ xs) e)) (λ e. m xs (ap (λ x. x ∷ xs) e))
+    module _ (v : Json) (middle space : List ℕ) (here : value start (taken v middle)) (skipped : space ≡ after_space middle) where
+      member_here : ReadsMember value rest (taken (a_pair name v) middle)
+      member_here = member_value {out = taken v middle} named_here (rw (← begun) here)
+
+      pub awaits_next_member : (ms : Members) (more next_start : List ℕ) → ms ≡ put name v found → space ≡ 44 ∷ more → next_start ≡ after_space more → AwaitsMember value bytes ms next_start
+      awaits_next_member ms more next_start i e s = rw (i, s) (record {
+        next = λ other w end out r m. moved (put_behind found name v (behind_member other w out)) (awaits.next name v middle (behind_member other w out) member_here (rw (← skipped, e) (members_next r m)));
+        fault = λ f r. awaits.next name v middle (refused f) member_here (rw (← skipped, e) (members_fault r));
+      })
+
+      pub last_member : (ms : Members) (end : List ℕ) → ms ≡ put name v found → space ≡ 125 ∷ end → ReadsSettled value bytes (taken ms end)
+      last_member ms end i e = rw i (awaits.next name v middle (taken no_members end) member_here (rw (← skipped, e) members_close))
+
+      pub no_more_members : ((end : List ℕ) → space ≢ 125 ∷ end) → ((more : List ℕ) → space ≢ 44 ∷ more) → ReadsSettled value bytes (fault_here space)
+      no_more_members n m = awaits.next name v middle (fault_here space) member_here (rw (← skipped) (no_turn space n m))
+        where
+          no_turn : (xs : List ℕ) → ((end : List ℕ) → xs ≢ 125 ∷ end) → ((more : List ℕ) → xs ≢ 44 ∷ more) → MoreMembers value xs (fault_here xs)
+          no_turn [] n m = members_end
+          no_turn (b ∷ xs) n m = members_other (λ e. n xs (ap (λ x. x ∷ xs) e)) (λ e. m xs (ap (λ x. x ∷ xs) e))
 
 -- ---- what is left
 
 pub shorter_by_close : (whole start end : List ℕ) (b : ℕ) → start ≡ after_space whole → start ≡ b ∷ end → length end < length whole
 shorter_by_close whole start end b s e = omega (arith, space_at_most whole, ap length s, ap length e)
 
--- a byte and its space, then a member and its space
-pub shorter_by_member : (before more start after space : List ℕ) (b : ℕ) → before ≡ b ∷ more → start ≡ after_space more → length after < length start → space ≡ after_space after → length space < length before
-shorter_by_member before more start after space b e s l k = omega (arith, ap length e, space_at_most more, ap length s, l, space_at_most after, ap length k)
+-- behind a value stand its space, a byte, and perhaps more space
+pub shorter_by_turn : (before after space more : List ℕ) (b : ℕ) → length after < length before → space ≡ after_space after → space ≡ b ∷ more → length more < length before
+shorter_by_turn before after space more b l s e = omega (arith, space_at_most after, ap length s, ap length e)
+
+pub shorter_by_space : (before more start : List ℕ) → length more < length before → start ≡ after_space more → length start < length before
+shorter_by_space before more start l s = omega (arith, space_at_most more, ap length s)
 
 scalar_left : {n : ℕ} {v : Json} {more : List ℕ} {out : Reading Json} → Below n out → out ≡ taken v more → length more < n
 scalar_left {more = more} {out = taken w rest} b e = let same : rest ≡ more = cc in rw (← same) b
@@ -284,16 +278,12 @@ pub scalar_result_shorter : {A : Type 0} (bytes : List ℕ) (result : Result A S
 scalar_result_shorter bytes (Ok x) value left s = scalar_shorter bytes (left x) (value x) s
 scalar_result_shorter bytes (Err stop) value left s = tt
 
--- what is read alike in whatever depth
-pub at_depth : {A : Type 0} (depth : ℕ) (bytes : List ℕ) (result : Result A Stop) (of : A → Reading Json) → MatchResult result (λ x. (d : ℕ) → Reads d bytes (of x)) (λ stop. (d : ℕ) → Fails (Reads d bytes) stop) → MatchResult result (λ x. Reads depth bytes (of x)) (Fails (Reads depth bytes))
-at_depth depth bytes (Ok x) of r = r depth
-at_depth depth bytes (Err stop) of r = r depth
+-- a fault within a list or an object is a fault of the value
+pub list_fails : (m depth : ℕ) (d : ℕ) (bytes rest : List ℕ) → depth ≡ suc m → bytes ≡ d ∷ rest → d ≡ 91 → (stop : Stop) → Fails (ReadsItems (Reads m) (after_space rest)) stop → Fails (Reads depth bytes) stop
+list_fails m depth d bytes rest s e b (Unreadable left) r = list_reads m depth d bytes rest (refused (NotJson left)) s e b r
+list_fails m depth d bytes rest s e b (Deep left) r = list_reads m depth d bytes rest (refused (TooDeep left)) s e b r
+list_fails m depth d bytes rest s e b NoMemory r = tt
 
-pub if_taken : {A E P : Type 0} (result : Result A E) → P → OnOk result P
-if_taken (Ok x) p = p
-if_taken (Err e) p = tt
-
--- a fault within an object is a fault of the value
 pub object_fails : (m depth : ℕ) (d : ℕ) (bytes rest : List ℕ) → depth ≡ suc m → bytes ≡ d ∷ rest → d ≡ 123 → (stop : Stop) → Fails (ReadsSettled (Reads m) (after_space rest)) stop → Fails (Reads depth bytes) stop
 object_fails m depth d bytes rest s e b (Unreadable left) r = object_reads m depth d bytes rest (refused (NotJson left)) s e b r
 object_fails m depth d bytes rest s e b (Deep left) r = object_reads m depth d bytes rest (refused (TooDeep left)) s e b r

@@ -6,10 +6,8 @@ use Rattle.json_spec.specs.Value as json
 use Rattle.json_spec.specs.Value.{Json, a_null, a_bool, a_number, a_text, a_list, an_object, no_items, an_item, no_members, a_member, HasDistinctNames}
 use Rattle.ordered_json.specs.declared.value.Value as value
 use Rattle.ordered_json.specs.declared.value.Value.{Value, out-Value, roll-Value, the_lemmas}
-use Rattle.ordered_json.specs.declared.value.Kept.TheOpen.{Value-F}
+use Rattle.ordered_json.specs.declared.value.Value.TheOpen.{Value-F}
 use Rattle.ordered_json.specs.declared.value.Items.{Items}
-use Rattle.ordered_json.specs.declared.value.Kept.{Kept}
-use Rattle.ordered_json.specs.declared.value.Place.{Place}
 use Rattle.ordered_json.specs.declared.value.Members.{Members}
 use Rattle.ordered_json.specs.Lists.{values_of, pairs_of}
 use Rattle.ordered_json.specs.Shown.{json_of, items_of, members_of}
@@ -34,10 +32,10 @@ json_of_bool b = search (rules, the_lemmas)
 pub json_of_number : (number : List ℕ) → json_of (value.Number number) ≡ a_number number
 json_of_number number = search (rules, the_lemmas)
 
-rolled_back : (v : Value) (layer : Value-F Kept Place Value Items Members) → out-Value v ≡ layer → v ≡ roll-Value layer
+rolled_back : (v : Value) (layer : Value-F Value Items Members) → out-Value v ≡ layer → v ≡ roll-Value layer
 rolled_back v layer e = let same : roll-Value (out-Value v) ≡ roll-Value layer = ap roll-Value e in search (rules, the_lemmas, same)
 
-layer_from : (v : Value) (layer : Value-F Kept Place Value Items Members) → out-Value v ≡ layer → Layer v (json_of v)
+layer_from : (v : Value) (layer : Value-F Value Items Members) → out-Value v ≡ layer → Layer v (json_of v)
 layer_from v Value-F.Null e =
     let is : v ≡ value.Null = search (rules, the_lemmas, rolled_back v Value-F.Null e) in
     subst (Layer v) (sym (ap json_of is ∙ json_of_null)) (of_null is)

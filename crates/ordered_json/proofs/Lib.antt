@@ -1,11 +1,7 @@
 pub mod EscapesLemmas
-pub mod ForestFacts
-pub mod ForestLemmas
 pub mod GrammarLemmas
 pub mod IsJsonLemmas
-pub mod ListLemmas
 pub mod NamesLemmas
-pub mod NestLemmas
 pub mod NumbersLemmas
 pub mod PairsLemmas
 pub mod ShownLemmas

@@ -10,7 +10,7 @@ use Rattle.std.proofs.lemmas.Map.Text.{is_eq-slice_cmp}
 use Rattle.std.proofs.lemmas.Slice.Eq.{bytes_eq-Decides}
 use Rattle.std.proofs.Math.ListN.{set}
 use Rattle.std.proofs.Math.Seq.{set-append_seam, get_or-append_seam}
-use Rattle.json_spec.specs.Value.{Members, a_member, put, settled_onto}
+use Rattle.json_spec.specs.Value.{Members, no_members, a_member, put, settled, settled_onto}
 use Rattle.ordered_json.specs.declared.value.Value.{Value}
 use Rattle.ordered_json.specs.Shown.{json_of, members_of}
 use Rattle.ordered_json.specs.Pairs.{IsNowhere, IsAt, IsReplaced, IsIndexed, place_of}
@@ -20,6 +20,9 @@ use Rattle.ordered_json.specs.Pairs.{IsNowhere, IsAt, IsReplaced, IsIndexed, pla
 pub settled_push : (ms : Members) (pairs : List (List ℕ × Value)) (name : List ℕ) (value : Value) → settled_onto ms (members_of (pairs ++ (name, value) ∷ [])) ≡ put name (json_of value) (settled_onto ms (members_of pairs))
 settled_push ms [] name value = refl
 settled_push ms (pair ∷ pairs) name value = settled_push (put pair.0 (json_of pair.1) ms) pairs name value
+
+pub settled_pushed : (pairs now : List (List ℕ × Value)) (name : List ℕ) (value : Value) → now ≡ pairs ++ (name, value) ∷ [] → settled (members_of now) ≡ put name (json_of value) (settled (members_of pairs))
+settled_pushed pairs now name value e = rw e (settled_push no_members pairs name value)
 
 -- the pairs that are left, last first, without the one that was taken
 pub settled_pop : (ms now : Members) (rest left : List (List ℕ × Value)) (name : List ℕ) (value : Value) → rest ≡ left ++ (name, value) ∷ [] → now ≡ put name (json_of value) ms → settled_onto now (members_of (reverse left)) ≡ settled_onto ms (members_of (reverse rest))

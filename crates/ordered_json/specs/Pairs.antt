@@ -1,45 +1,18 @@
 -- The pairs of an object that is read, and their names.
---     weight_behind weight name      a number that is made of the name's bytes, behind others that made this one
---     weighed_names pairs      the names in their order, each with its number
---     IsBefore name other, Ascend names      one stands before the other by number and then by the name, each before
---         the next
 --     PutsPair name value before after      the pairs are the members before, with that one put
 --     place_of name pairs      where the first pair stands that has the name
 --     IsIndexed places pairs      the map has the place of each name
 --     IsNowhere name pairs      no pair has the name
 --     IsAt name pairs place      the first pair that has the name stands there
 --     IsReplaced place value before after      the pair at the place has the value, and the others are as they were
-use Rattle.std.specs.Prelude.{◌≡◌, ℕ, suc, ◌+◌, ◌*◌, ◌%◌, ◌^◌, List, [], ◌∷◌, ◌++◌, ⊤, false, length, map, bytes_eq}
+use Rattle.std.specs.Prelude.{◌≡◌, ℕ, suc, List, [], ◌∷◌, ◌++◌, ⊤, false, length, bytes_eq}
 use Rattle.std.specs.Prelude.{if◌then◌else◌, Option, Some, None, option_map}
 use Rattle.std.specs.BTreeMap.{BTreeMap, get}
 use Rattle.std.specs.Cmp.Lexicographic.{slice_cmp}
-use Rattle.std.specs.Ordering.{nat_cmp, ordering_then}
-use Rattle.std.specs.declared.cmp.Ordering.{Ordering}
-use Rattle.std.specs.declared.cmp.Ordering.TheVariants.{Less}
+use Rattle.std.specs.Ordering.{nat_cmp}
 use Rattle.json_spec.specs.Value.{put}
 use Rattle.ordered_json.specs.declared.value.Value.{Value}
 use Rattle.ordered_json.specs.Shown.{json_of, members_of}
-
-abbrev pub weight_behind : ℕ → List ℕ → ℕ
-weight_behind weight [] = weight
-weight_behind weight (b ∷ bytes) = weight_behind ((weight * 31 % 2 ^ 64 + b) % 2 ^ 64) bytes
-
-abbrev pub weighed : List ℕ → ℕ × List ℕ
-weighed name = (weight_behind 0 name, name)
-
-abbrev pub weighed_names : List (List ℕ × Value) → List (ℕ × List ℕ)
-weighed_names pairs = map (λ (pair : List ℕ × Value). weighed pair.0) pairs
-
-abbrev pub by_weight : ℕ × List ℕ → ℕ × List ℕ → Ordering
-by_weight name other = ordering_then (nat_cmp name.0 other.0) (slice_cmp nat_cmp name.1 other.1)
-
-abbrev pub IsBefore : ℕ × List ℕ → ℕ × List ℕ → Type 0
-IsBefore name other = by_weight name other ≡ Less
-
-abbrev pub Ascend : List (ℕ × List ℕ) → Type 0
-Ascend [] = ⊤
-Ascend (name ∷ []) = ⊤
-Ascend (name ∷ other ∷ more) = IsBefore name other × Ascend (other ∷ more)
 
 abbrev pub place_of : List ℕ → List (List ℕ × Value) → Option ℕ
 place_of name [] = None

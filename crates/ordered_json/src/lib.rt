@@ -1,12 +1,12 @@
 //! JSON texts as values whose objects keep the order of their members: `read` gives a text's value, or its first fault
 //! with its place, and `print_text` the printed form of a string.
+//!
+//! The lists that are open in a value are gone through in one loop; each object, and each list that is a member's value,
+//! is read by a call of its own. The bound of brackets keeps these calls shallow.
 #![tactic(auto)]
 
-mod distinct;
 mod escapes;
 mod fault;
-mod forest;
-mod gathered;
 mod numbers;
 mod quoting;
 mod reader;

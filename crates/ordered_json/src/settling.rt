@@ -1,5 +1,6 @@
-ghost use Rattle.std.specs.Prelude.{◌≡◌, ◌<◌, length, None, IfOk, OnOk};
-ghost use Rattle.json_spec.specs.Value.{settled};
+ghost use Rattle.std.specs.Prelude.{◌≡◌, ◌<◌, length, None, IsTrue, IfOk, OnOk, bytes_eq};
+ghost use Rattle.std.specs.List.{list_any};
+ghost use Rattle.json_spec.specs.Value.{settled, names_of, AreDistinct};
 ghost use Rattle.ordered_json.specs.Shown.{members_of};
 ghost use Rattle.ordered_json.specs.Pairs.{IsReplaced, IsIndexed, PutsPair, place_of};
 
@@ -7,6 +8,9 @@ use crate::value::Value;
 use primitives::{Memory, Text};
 use std::alloc::{AllocError, Global};
 use std::collections::BTreeMap;
+
+/// In how many pairs each name is looked for among those behind it. The names of more are indexed.
+const FEW: usize = 8;
 
 /// Members among which no name stands twice, and the place of each.
 #[derive(Drop)]
@@ -17,8 +21,49 @@ struct Settling {
 }
 
 /// The members of an object whose text writes these pairs: a name that is repeated stands where it is written first,
-/// with the value that is written last.
+/// with the value that is written last. It takes n log n comparisons of names, whatever they are, so names that
+/// somebody made up for it cost no more than others.
 pub fn settle(alloc: Global, written: Vec<(Text, Value)>) -> Result<Vec<(Text, Value)>, Memory>
+    ensures { IfOk result (λ kept. members_of kept.items ≡ settled (members_of written.items)) }
+{
+    if few_are_distinct(written.as_slice()) {
+        return Ok(written);
+    }
+    settle_many(alloc, written)
+}
+
+// Whether the pairs are few and no name stands twice among them: each is compared with each.
+fn few_are_distinct(pairs: &[(Text, Value)]) -> bool
+    ensures { IsTrue result → AreDistinct (members_of pairs.now) }
+{
+    if pairs.len() > FEW {
+        return false;
+    }
+    let mut rest = pairs;
+    while let Some((pair, more)) = rest.split_first() {
+        if has_name(more, &pair.0) {
+            return false;
+        }
+        rest = more;
+    }
+    true
+}
+
+fn has_name(pairs: &[(Text, Value)], name: &Text) -> bool
+    ensures { result ≡ list_any (bytes_eq name.now) (names_of (members_of pairs.now)) }
+{
+    let mut rest = pairs;
+    while let Some((pair, more)) = rest.split_first() {
+        if *name == pair.0 {
+            return true;
+        }
+        rest = more;
+    }
+    false
+}
+
+// The same as `settle`, by an index of the names.
+fn settle_many(alloc: Global, written: Vec<(Text, Value)>) -> Result<Vec<(Text, Value)>, Memory>
     ensures { IfOk result (λ kept. members_of kept.items ≡ settled (members_of written.items)) }
 {
     let mut settling = Settling {

@@ -1,14 +1,8 @@
-ghost use Rattle.std.specs.Prelude.{◌≡◌, ◌==◌, List, [], ◌∷◌, ◌++◌, ◌≤◌, length, take, drop, vec_capacity, slice_get};
-ghost use Rattle.std.specs.Prelude.{option_copied, option_map, is_ok, IfOk};
-ghost use Rattle.ordered_json.specs.Lists.{pushed, place_values, values_of, pairs_of, IsWaiting, GetsBlock};
+ghost use Rattle.std.specs.Prelude.{◌≡◌, ◌==◌, List, [], length, slice_get, option_copied, option_map, is_ok, IfOk};
+ghost use Rattle.ordered_json.specs.Lists.{pushed, values_of, pairs_of};
 
 use primitives::{Memory, Text};
-use std::alloc::{AllocError, Global};
-use std::rc::Rc;
-use std::{mem, slice};
-
-// How fast a text of small values is read goes by this.
-const _: () = prove!(size_of::<Value>() == 24);
+use std::alloc::Global;
 
 /// A JSON value, with the members of each object in their order.
 #[cycle(value)]
@@ -27,280 +21,128 @@ pub enum Value {
 #[cycle(value)]
 #[derive(Drop)]
 pub struct Items {
-    place: Place,
-    alloc: Global,
-}
-
-/// Where the values of a list lie: as many as `len`, one behind the other, from the one with the number `start` on.
-#[cycle(value)]
-#[derive(Drop)]
-pub enum Place {
-    /// In a block that lists share.
-    Within {
-        start: u16,
-        len: u32,
-        block: Rc<Vec<Value>>,
-    },
-    /// In none: an empty list, or one that waits for its values while a text is read.
-    Waiting {
-        start: u16,
-        len: u32,
-    },
-    /// The same, where a number is too large to stand there.
-    WaitingLong(Box<(usize, usize)>),
-    /// In a block, whatever the numbers, and behind these those that were pushed.
-    Longer(Box<(Rc<Vec<Value>>, usize, usize, Vec<Value>)>),
+    values: Vec<Value>,
 }
 
 /// The members of an object: pairs of a key and a value.
 #[cycle(value)]
 #[derive(Drop)]
 pub struct Members {
-    pairs: Kept,
-    alloc: Global,
+    pairs: Vec<(Text, Value)>,
 }
 
-/// Where the pairs of an object lie: a single one by itself, which takes one piece of memory, and more of them in a
-/// list.
-#[cycle(value)]
-#[derive(Drop)]
-pub enum Kept {
-    None,
-    One(Box<(Text, Value)>),
-    Many(Box<Vec<(Text, Value)>>),
+impl Value {
+    ghost use Rattle.std.specs.Prelude.{◌≡◌, ◌↔◌, IsTrue, MatchOption};
+    ghost use Rattle.json_spec.specs.Value.{a_null, a_list, an_object};
+    ghost use Rattle.ordered_json.specs.Lists.{values_of, pairs_of};
+    ghost use Rattle.ordered_json.specs.Shown.{json_of, items_of, members_of, IsNoList, IsNoObject};
+
+    /// Whether it is `null`.
+    pub fn is_null(&self) -> bool
+        ensures { IsTrue result ↔ (json_of self.now ≡ a_null) }
+    {
+        match self {
+            Value::Null => true,
+            Value::Bool(_) => false,
+            Value::Number(_) => false,
+            Value::Text(_) => false,
+            Value::List(_) => false,
+            Value::Object(_) => false,
+        }
+    }
+
+    /// The list that it is.
+    pub fn as_list(&self) -> Option<&Items>
+        ensures { MatchOption result (IsNoList (json_of self.now))
+            (λ list. json_of self.now ≡ a_list (items_of (values_of list.now))) }
+    {
+        match self {
+            Value::List(items) => Some(items),
+            Value::Null => None,
+            Value::Bool(_) => None,
+            Value::Number(_) => None,
+            Value::Text(_) => None,
+            Value::Object(_) => None,
+        }
+    }
+
+    /// The members of the object that it is.
+    pub fn as_object(&self) -> Option<&Members>
+        ensures { MatchOption result (IsNoObject (json_of self.now))
+            (λ object. json_of self.now ≡ an_object (members_of (pairs_of object.now))) }
+    {
+        match self {
+            Value::Object(members) => Some(members),
+            Value::Null => None,
+            Value::Bool(_) => None,
+            Value::Number(_) => None,
+            Value::Text(_) => None,
+            Value::List(_) => None,
+        }
+    }
 }
 
 impl Items {
+    /// The values of a `Vec`, which is moved.
+    pub(crate) fn from_vec(values: Vec<Value>) -> Items
+        ensures { values_of result ≡ values.items }
+    {
+        Items { values }
+    }
+
     /// The empty list.
     pub fn new(alloc: Global) -> Items
         ensures { values_of result ≡ [] }
     {
-        Items::waiting(alloc, 0, 0)
+        Items {
+            values: Vec::new(alloc),
+        }
     }
 
     /// Puts a value at the end. Without memory the list stays as it was.
     pub fn push(&mut self, item: Value) -> Result<(), Memory>
         ensures { values_of self.new ≡ pushed (is_ok result) (values_of self.old) item }
     {
-        match &self.place {
-            Place::Waiting { .. } => {
-                self.place = longer(self.alloc, no_block(self.alloc)?, 0, 0, item)?;
-                Ok(())
-            }
-            Place::WaitingLong(_) => {
-                self.place = longer(self.alloc, no_block(self.alloc)?, 0, 0, item)?;
-                Ok(())
-            }
-            Place::Within { start, len, block } => {
-                let (start, len) = (*start as usize, *len as usize);
-                self.place = longer(self.alloc, block.clone()?, start, len, item)?;
-                Ok(())
-            }
-            Place::Longer(_) => self.push_behind(item),
-        }
-    }
-
-    // The same of a list to which one was pushed before.
-    fn push_behind(&mut self, item: Value) -> Result<(), Memory>
-        ensures { values_of self.new ≡ pushed (is_ok result) (values_of self.old) item }
-    {
-        match mem::replace(&mut self.place, Place::Waiting { start: 0, len: 0 }) {
-            Place::Longer(mut parts) => match parts.3.push(item) {
-                Ok(()) => {
-                    self.place = Place::Longer(parts);
-                    Ok(())
-                }
-                Err(_) => {
-                    self.place = Place::Longer(parts);
-                    Err(AllocError)
-                }
-            },
-            other => {
-                self.place = other;
-                Err(AllocError)
-            }
-        }
+        self.values.push(item)?;
+        Ok(())
     }
 
     /// The number of values.
     pub fn len(&self) -> usize
         ensures { result ≡ length (values_of self.now) }
     {
-        let (front, more) = self.parts();
-        front.len() + more.len()
+        self.values.as_slice().len()
     }
 
     /// Whether there is no value.
     pub fn is_empty(&self) -> bool
         ensures { result ≡ (length (values_of self.now) == 0) }
     {
-        self.len() == 0
+        self.values.as_slice().is_empty()
     }
 
     /// The value with this number, counted from 0.
     pub fn at(&self, index: usize) -> Option<&Value>
         ensures { option_copied result ≡ slice_get (values_of self.now) index }
     {
-        let (front, more) = self.parts();
-        if index < front.len() {
-            front.get(index)
-        } else {
-            more.get(index - front.len())
-        }
-    }
-
-    // A list that waits for its values, however many there are.
-    #[inline(always)]
-    pub(crate) fn waiting_for(alloc: Global, start: usize, len: usize) -> Result<Items, Memory>
-        ensures { IfOk result (λ list. IsWaiting list start len) }
-    {
-        if start > u16::MAX as usize || len > u32::MAX as usize {
-            return Items::waiting_long(alloc, start, len);
-        }
-        Ok(Items::waiting(alloc, start as u16, len as u32))
-    }
-
-    // The same where both numbers are small.
-    pub(crate) fn waiting(alloc: Global, start: u16, len: u32) -> Items
-        ensures { IsWaiting result start len }
-    {
-        Items {
-            place: Place::Waiting { start, len },
-            alloc,
-        }
-    }
-
-    // The same where one is large.
-    #[inline(never)]
-    fn waiting_long(alloc: Global, start: usize, len: usize) -> Result<Items, Memory>
-        ensures { IfOk result (λ list. IsWaiting list start len) }
-    {
-        Ok(Items {
-            place: Place::WaitingLong(Box::new(alloc, (start, len))?),
-            alloc,
-        })
-    }
-
-    // Whether the list has nothing to drop, as it waits and its numbers are small.
-    pub(crate) fn has_nothing_to_drop(&self) -> bool {
-        matches!(&self.place, Place::Waiting { .. })
-    }
-
-    // The same list with the block in which its values lie, if it waits for one.
-    pub(crate) fn with_block(&self, block: &Rc<Vec<Value>>) -> Result<Option<Items>, Memory>
-        ensures { IfOk result (λ found. GetsBlock block.now.value.items self.now found) }
-    {
-        match &self.place {
-            Place::Within { .. } => Ok(None),
-            Place::Longer(_) => Ok(None),
-            Place::Waiting { start, len } => Ok(Some(Items {
-                place: Place::Within {
-                    start: *start,
-                    len: *len,
-                    block: block.clone()?,
-                },
-                alloc: self.alloc,
-            })),
-            Place::WaitingLong(numbers) => {
-                let (start, len) = **numbers;
-                let parts = (block.clone()?, start, len, Vec::new(self.alloc));
-                Ok(Some(Items {
-                    place: Place::Longer(Box::new(self.alloc, parts)?),
-                    alloc: self.alloc,
-                }))
-            }
-        }
-    }
-
-    // Lends the values of the block, and those that were pushed.
-    fn parts(&self) -> (&[Value], &[Value])
-        ensures { values_of self.now ≡ result.0.now ++ result.1.now }
-    {
-        match &self.place {
-            Place::Waiting { .. } => (&[], &[]),
-            Place::WaitingLong(_) => (&[], &[]),
-            Place::Within { start, len, block } => (
-                span(block.as_slice(), *start as usize, *len as usize),
-                &[],
-            ),
-            Place::Longer(parts) => {
-                let (block, start, len, more) = &**parts;
-                (span(block.as_slice(), *start, *len), more.as_slice())
-            }
-        }
-    }
-}
-
-// A block without values.
-fn no_block(alloc: Global) -> Result<Rc<Vec<Value>>, Memory>
-    ensures { IfOk result (λ block. block.value.items ≡ []) }
-{
-    Ok(Rc::new(alloc, Vec::new(alloc))?)
-}
-
-// A list with one value more than those of a block.
-fn longer(
-    alloc: Global,
-    block: Rc<Vec<Value>>,
-    start: usize,
-    len: usize,
-    item: Value,
-) -> Result<Place, Memory>
-    ensures { IfOk result (λ place. place_values place ≡ take len (drop start block.value.items) ++ item ∷ []) }
-{
-    let mut more = Vec::new(alloc);
-    more.push(item)?;
-    Ok(Place::Longer(Box::new(alloc, (block, start, len, more))?))
-}
-
-// As many of the values from this place on as there are, and no more than asked for.
-fn span(values: &[Value], start: usize, len: usize) -> &[Value]
-    ensures { result.now ≡ take len (drop start values.now) }
-{
-    let Some(tail) = values.get(start..) else {
-        return &[];
-    };
-    match tail.get(..len) {
-        None => tail,
-        Some(front) => front,
+        self.values.as_slice().get(index)
     }
 }
 
 impl Members {
     /// The members of a `Vec`, which is moved.
-    pub(crate) fn from_vec(alloc: Global, pairs: Vec<(Text, Value)>) -> Result<Members, Memory>
-        ensures { IfOk result (λ members. pairs_of members ≡ pairs.items) }
+    pub(crate) fn from_vec(pairs: Vec<(Text, Value)>) -> Members
+        ensures { pairs_of result ≡ pairs.items }
     {
-        Ok(Members {
-            pairs: Kept::Many(Box::new(alloc, pairs)?),
-            alloc,
-        })
-    }
-
-    /// The members of an object that has one.
-    pub(crate) fn one(alloc: Global, key: Text, value: Value) -> Result<Members, Memory>
-        ensures { IfOk result (λ members. pairs_of members ≡ (key, value) ∷ []) }
-    {
-        Ok(Members {
-            pairs: Kept::One(Box::new(alloc, (key, value))?),
-            alloc,
-        })
+        Members { pairs }
     }
 
     /// The pairs of these members, which are moved out.
     pub fn into_pairs(self) -> Result<Vec<(Text, Value)>, Memory>
         ensures { IfOk result (λ pairs. pairs.items ≡ pairs_of self) }
     {
-        let Members { pairs, alloc } = self;
-        match pairs {
-            Kept::None => Ok(Vec::new(alloc)),
-            Kept::One(pair) => {
-                let mut pairs = Vec::with_capacity(alloc, 1)?;
-                pairs.push(Box::into_inner(pair))?;
-                Ok(pairs)
-            }
-            Kept::Many(pairs) => Ok(Box::into_inner(pairs)),
-        }
+        let Members { pairs } = self;
+        Ok(pairs)
     }
 
     /// The empty list.
@@ -308,8 +150,7 @@ impl Members {
         ensures { pairs_of result ≡ [] }
     {
         Members {
-            pairs: Kept::None,
-            alloc,
+            pairs: Vec::new(alloc),
         }
     }
 
@@ -317,76 +158,29 @@ impl Members {
     pub fn push(&mut self, key: Text, value: Value) -> Result<(), Memory>
         ensures { pairs_of self.new ≡ pushed (is_ok result) (pairs_of self.old) (key, value) }
     {
-        match &self.pairs {
-            Kept::None => {
-                self.pairs = Kept::One(Box::new(self.alloc, (key, value))?);
-                Ok(())
-            }
-            Kept::One(_) => self.push_second(key, value),
-            Kept::Many(_) => self.push_behind(key, value),
-        }
-    }
-
-    // The same of members of which there is one.
-    fn push_second(&mut self, key: Text, value: Value) -> Result<(), Memory>
-        ensures { pairs_of self.new ≡ pushed (is_ok result) (pairs_of self.old) (key, value) }
-    {
-        let room = Vec::with_capacity(self.alloc, 2)?;
-        let mut pairs = Box::new(self.alloc, Vec::new(self.alloc))?;
-        match mem::replace(&mut self.pairs, Kept::None) {
-            Kept::One(first) => {
-                *pairs = two(room, Box::into_inner(first), (key, value));
-                self.pairs = Kept::Many(pairs);
-                Ok(())
-            }
-            other => {
-                self.pairs = other;
-                Err(AllocError)
-            }
-        }
-    }
-
-    // The same of members of which there are many.
-    fn push_behind(&mut self, key: Text, value: Value) -> Result<(), Memory>
-        ensures { pairs_of self.new ≡ pushed (is_ok result) (pairs_of self.old) (key, value) }
-    {
-        match mem::replace(&mut self.pairs, Kept::None) {
-            Kept::Many(mut pairs) => match pairs.push((key, value)) {
-                Ok(()) => {
-                    self.pairs = Kept::Many(pairs);
-                    Ok(())
-                }
-                Err(_) => {
-                    self.pairs = Kept::Many(pairs);
-                    Err(AllocError)
-                }
-            },
-            other => {
-                self.pairs = other;
-                Err(AllocError)
-            }
-        }
+        self.pairs.push((key, value))?;
+        Ok(())
     }
 
     /// The number of members.
     pub fn len(&self) -> usize
         ensures { result ≡ length (pairs_of self.now) }
     {
-        self.as_slice().len()
+        self.pairs.as_slice().len()
     }
 
     /// Whether there is no member.
     pub fn is_empty(&self) -> bool
         ensures { result ≡ (length (pairs_of self.now) == 0) }
     {
-        self.as_slice().is_empty()
+        self.pairs.as_slice().is_empty()
     }
 
     /// The member with this number, counted from 0: its key and its value.
     pub fn at(&self, index: usize) -> Option<(&Text, &Value)>
         ensures { option_map (λ p. (p.0.now, p.1.now)) result ≡ slice_get (pairs_of self.now) index }
     {
-        match self.as_slice().get(index) {
+        match self.pairs.as_slice().get(index) {
             None => None,
             Some(pair) => Some((&pair.0, &pair.1)),
         }
@@ -396,21 +190,6 @@ impl Members {
     pub fn as_slice(&self) -> &[(Text, Value)]
         ensures { result.now ≡ pairs_of self.now }
     {
-        match &self.pairs {
-            Kept::None => &[],
-            Kept::One(pair) => slice::from_ref(&**pair),
-            Kept::Many(pairs) => pairs.as_slice(),
-        }
+        self.pairs.as_slice()
     }
-}
-
-// Both pairs, in an empty `Vec` that has room for them.
-fn two(room: Vec<(Text, Value)>, first: (Text, Value), second: (Text, Value)) -> Vec<(Text, Value)>
-    requires { (room.items ≡ []) × (2 ≤ vec_capacity room) }
-    ensures { result.items ≡ first ∷ second ∷ [] }
-{
-    let mut pairs = room;
-    drop(pairs.push(first));
-    drop(pairs.push(second));
-    pairs
 }

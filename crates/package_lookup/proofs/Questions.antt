@@ -39,6 +39,7 @@ use Rattle.package_lookup.specs.declared.known.Known.{Known}
 use Rattle.package_lookup.specs.Looked.{laid_at, kept_at, known_at, look_or, look_in, Sees, Grows, IsSameKnown}
 use Rattle.package_lookup.specs.Responses.{Failing, passes, not_read, no_memory, never, Response, given, fails, by_limit, by_fault, looked, bad_config, deep_config, resolved}
 use Rattle.package_lookup.specs.Answered.{State, state, Fails, Comes, Tells, IsLookOf, AsksOnce, Answered}
+use Rattle.package_lookup.specs.Trails.{Lengthens}
 use Rattle.package_lookup.proofs.PathSets.{Apart, distinct_append}
 
 -- ---- what is known grows
@@ -71,6 +72,18 @@ pub grows_twice : (before middle after : Known) → Grows before middle → Grow
 grows_twice before middle after one rest = record {
   laid = λ path. rest.laid path ∙ one.laid path;
   kept = λ path look e. rest.kept path look (one.kept path look e);
+}
+
+-- ---- what was counted stays so
+
+pub lengthens_itself : (trail : Trail) → Lengthens trail trail
+lengthens_itself trail = record { more = []; paths = sym (append-nil trail.paths); size = arith }
+
+pub lengthens_twice : (before middle after : Trail) → Lengthens before middle → Lengthens middle after → Lengthens before after
+lengthens_twice before middle after one rest = record {
+  more = one.more ++ rest.more;
+  paths = rest.paths ∙ (ap (λ paths. paths ++ rest.more) one.paths ∙ append_assoc before.paths one.more rest.more);
+  size = (let a = one.size in let b = rest.size in arith);
 }
 
 -- ---- what the folder was asked for
@@ -268,6 +281,7 @@ then_given {X} before middle after part next value response one rest = record {
       (λ tree. tells_then tree before middle after part next value response) one.tells
       (subst (λ told. IfSome told (λ tree. Tells tree middle (next value) response after)) one.folder.tree rest.tells);
   known = grows_twice before.known middle.known after.known one.known rest.known;
+  trail = lengthens_twice before.trail middle.trail after.trail one.trail rest.trail;
   asked = if_some {P = λ old. AsksOnce old before middle (given value ≡ fails no_memory) (IsLookOf before part)}
       {Q = λ old. AsksOnce old before after (response ≡ fails no_memory) (IsLookOf before (and_then part next))}
       before.folder.asked
@@ -289,6 +303,7 @@ then_fails {X} {Y} before after part next failing one = record {
       {Q = λ tree. Tells {X = Y} tree before (and_then part next) (fails failing) after} before.folder.holds
       (λ tree. tells_fails tree before after part next failing) one.tells;
   known = one.known;
+  trail = one.trail;
   asked = if_some {P = λ old. AsksOnce old before after (failed X failing ≡ fails no_memory) (IsLookOf before part)}
       {Q = λ old. AsksOnce old before after (failed Y failing ≡ fails no_memory) (IsLookOf before (and_then part next))}
       before.folder.asked
@@ -315,6 +330,7 @@ pub nothing : {X : Type 0} (before : State) (asking : LookAsking X) (response : 
 nothing before asking response comes read possible = record {
   tells = nothing_told before asking response before.folder.holds comes;
   known = grows_itself before.known;
+  trail = lengthens_itself before.trail;
   asked = asks_nothing_told before.folder.asked before before (response ≡ fails no_memory) (IsLookOf before asking)
       refl;
   folder = no_looks before.folder (response ≡ fails not_read) read;
@@ -336,6 +352,7 @@ unfinished {X} {Y} before after part next value one = record {
       {Q = λ tree. Tells {X = Y} tree before (and_then part next) (fails no_memory) after} before.folder.holds
       (λ tree. tells_unfinished tree before after part (given value) (and_then part next)) one.tells;
   known = one.known;
+  trail = one.trail;
   asked = if_some {P = λ old. AsksOnce old before after (given value ≡ fails no_memory) (IsLookOf before part)}
       {Q = λ old. AsksOnce old before after (failed Y no_memory ≡ fails no_memory) (IsLookOf before (and_then part next))}
       before.folder.asked
@@ -437,6 +454,7 @@ known_on before after known asking response same one = record {
     laid = λ path. same.laid path ∙ one.known.laid path;
     kept = λ path look e. same.kept path ∙ one.known.kept path look e;
   };
+  trail = one.trail;
   asked = if_some {P = λ old. AsksOnce old before after (response ≡ fails no_memory) (IsLookOf before asking)}
       {Q = λ old. AsksOnce old before (state after.folder known after.trail) (response ≡ fails no_memory) (IsLookOf before asking)}
       before.folder.asked

@@ -20,12 +20,12 @@ use Rattle.package_lookup.specs.declared.held.Seen.{Seen}
 use Rattle.package_lookup.specs.declared.known.Known.{Known}
 use Rattle.package_lookup.specs.SeenLooks.{entry_of, look_seen, within_limit, seen_as}
 use Rattle.package_lookup.specs.Looked.{known_at, look_or, look_in, Sees}
-use Rattle.package_lookup.specs.Trails.{has_room, OnCount}
+use Rattle.package_lookup.specs.Trails.{has_room, OnCount, Lengthens}
 use Rattle.package_lookup.specs.Responses.{passes, not_read, no_memory, never, Response, given, fails, by_limit, by_fault}
 use Rattle.package_lookup.specs.Answered.{State, state, Comes, Tells, IsLookOf, AsksOnce, Answered}
 use Rattle.package_lookup.specs.Fetching.{unknown, IsAsked, Fetches}
 use Rattle.package_lookup.proofs.LookCounts.{counted_large, counted_many, counted_named, counted_alike, stands_counted, large_seen}
-use Rattle.package_lookup.proofs.Questions.{nothing, asks_nothing, failed}
+use Rattle.package_lookup.proofs.Questions.{nothing, asks_nothing, failed, lengthens_itself}
 
 abbrev End : Type 0
 End = Ended (Option Entry) Trail LimitName
@@ -100,11 +100,12 @@ module _ (before after : FolderState) (old new : Known) (trail : Trail) (path : 
   answers : (later : Trail) (result : Result Look LookupFault) (response : Response (Option Entry))
       → Fetches before old path result after new → Told old new trail path response later
       → ((more : List (List ℕ)) → IsAsked old path result more → Covers old new path (response ≡ fails no_memory) more)
-      → OnlyLooks before after (response ≡ fails not_read) → response ≢ fails never
+      → OnlyLooks before after (response ≡ fails not_read) → response ≢ fails never → Lengthens trail later
       → Answered (state before old trail) (look_at path) response (state after new later)
-  answers later result response fetches told covers only possible = record {
+  answers later result response fetches told covers only possible lengthens = record {
     tells = tells_told before.holds before after old new trail later path response told fetches.same;
     known = fetches.grows;
+    trail = lengthens;
     asked = asks_told before.asked (state before old trail) (state after new later) (response ≡ fails no_memory)
         (IsLookOf (state before old trail) (look_at path)) path result (looks_there path before.holds old) covers
         fetches.asked;
@@ -137,16 +138,16 @@ module _ (before after : FolderState) (old new : Known) (trail : Trail) (path : 
   ends_by sights c = then_ended (told (sights path) trail c) (λ found later. ends found later)
 
   pub sight_given : (later : Trail) (some : Seen) → Fetches before old path (Ok (look_seen some)) after new
-      → counted look_limits trail path (entry_of some) ≡ Ok later
+      → counted look_limits trail path (entry_of some) ≡ Ok later → Lengthens trail later
       → Answered (state before old trail) (look_at path) (given (entry_of some)) (state after new later)
-  sight_given later some fetches count =
+  sight_given later some fetches count lengthens =
       answers later (Ok (look_seen some)) (given (entry_of some)) fetches
       (λ tree same sights sees.
       let seen = seen_now (look_seen some) fetches.known tree same sights sees in
       ap (ends_by sights) (counted_alike trail path (sights path) some seen ∙ count)
       ∙ ap (λ found. ends found later) (stands_counted trail later path (sights path) some seen count))
       (covered (look_seen some) (given (entry_of some) ≡ fails no_memory) fetches.known)
-      (fine (look_seen some) (given (entry_of some)) (λ e. cc) fetches.folder) (λ e. cc)
+      (fine (look_seen some) (given (entry_of some)) (λ e. cc) fetches.folder) (λ e. cc) lengthens
 
   limit_passed : (look : Look) (which : LimitName) → Fetches before old path (Ok look) after new
       → ((tree : Tree) → Same tree old new → (sights : Sights) → Sees tree old sights
@@ -156,7 +157,7 @@ module _ (before after : FolderState) (old new : Known) (trail : Trail) (path : 
       answers trail (Ok look) (fails (passes which)) fetches
       (λ tree same sights sees. ap (ends_by sights) (count tree same sights sees))
       (covered look (failed (Option Entry) (passes which) ≡ fails no_memory) fetches.known)
-      (fine look (fails (passes which)) (λ e. cc) fetches.folder) (λ e. cc)
+      (fine look (fails (passes which)) (λ e. cc) fetches.folder) (λ e. cc) (lengthens_itself trail)
 
   pub sight_large : Fetches before old path (Ok TooLarge) after new → has_room trail path ≡ true
       → Answered (state before old trail) (look_at path) (fails (passes limit.File)) (state after new trail)
@@ -165,21 +166,21 @@ module _ (before after : FolderState) (old new : Known) (trail : Trail) (path : 
       (λ tree same sights sees. counted_large trail path (sights path) room
       (large_seen (sights path) (seen_now TooLarge fetches.known tree same sights sees)))
 
-  unfinished_by : (look : Look) (later : Trail) → Fetches before old path (Ok look) after new
+  unfinished_by : (look : Look) (later : Trail) → Fetches before old path (Ok look) after new → Lengthens trail later
       → Answered (state before old trail) (look_at path) (fails no_memory) (state after new later)
-  unfinished_by look later fetches =
+  unfinished_by look later fetches lengthens =
       answers later (Ok look) (fails no_memory) fetches (λ tree same sights sees. tt)
       (covered look (failed (Option Entry) no_memory ≡ fails no_memory) fetches.known)
-      (fine look (fails no_memory) (λ e. cc) fetches.folder) (λ e. cc)
+      (fine look (fails no_memory) (λ e. cc) fetches.folder) (λ e. cc) lengthens
 
   pub sight_fault : (later : Trail) (some : Seen) (fault : LookupFault)
       → Fetches before old path (Ok (look_seen some)) after new
-      → OnCount trail (counted look_limits trail path (entry_of some)) (Err fault) later
+      → OnCount trail (counted look_limits trail path (entry_of some)) (Err fault) later → Lengthens trail later
       → Answered (state before old trail) (look_at path) (by_fault (fails never) (fails never) fault) (state after new later)
-  sight_fault later some ReadFault fetches count = absurd count
-  sight_fault later some InvalidConfig fetches count = absurd count
-  sight_fault later some Memory fetches count = unfinished_by (look_seen some) later fetches
-  sight_fault later some (Limit which) fetches count =
+  sight_fault later some ReadFault fetches count lengthens = absurd count
+  sight_fault later some InvalidConfig fetches count lengthens = absurd count
+  sight_fault later some Memory fetches count lengthens = unfinished_by (look_seen some) later fetches lengthens
+  sight_fault later some (Limit which) fetches count lengthens =
       subst (λ t. Answered (state before old trail) (look_at path) (by_limit (fails never) which) (state after new t)) (sym count.1)
       (subst (λ r. Answered (state before old trail) (look_at path) r (state after new trail))
       (sym (counted_named trail path (entry_of some) (fails never) which count.0))
@@ -197,7 +198,7 @@ module _ (before after : FolderState) (old new : Known) (trail : Trail) (path : 
         later = fetches.folder.later;
         cause = λ e. fetches.folder.cause refl;
         quiet = λ none. absurd (none refl);
-      }) (λ e. cc)
+      }) (λ e. cc) (lengthens_itself trail)
   sight_failed Memory fetches =
       answers trail (Err Memory) (fails no_memory) fetches (λ tree same sights sees. tt)
       (λ more is. ⊎_elim (λ none. inl none) (λ one. inr (one, (λ finished. absurd (finished refl)))) is)
@@ -207,7 +208,7 @@ module _ (before after : FolderState) (old new : Known) (trail : Trail) (path : 
         later = fetches.folder.later;
         cause = λ e. absurd (cc);
         quiet = λ none. fetches.folder.quiet (λ e. cc);
-      }) (λ e. cc)
+      }) (λ e. cc) (lengthens_itself trail)
   sight_failed InvalidConfig fetches = absurd fetches.outside
   sight_failed (Limit which) fetches = absurd fetches.outside
 

@@ -18,7 +18,7 @@ use Rattle.tree_spec.specs.Trees.{Tree}
 use Rattle.tree_spec.specs.declared.LimitName.{LimitName}
 use Rattle.package_lookup.specs.declared.known.Known.{Known}
 use Rattle.package_lookup.specs.Looked.{known_at, look_in, Sees, Grows}
-use Rattle.package_lookup.specs.Trails.{has_room}
+use Rattle.package_lookup.specs.Trails.{has_room, Lengthens}
 use Rattle.package_lookup.specs.Responses.{Failing, passes, not_read, no_memory, never, Response, given, fails}
 
 pub record State : Type 0 where
@@ -66,10 +66,12 @@ pub record AsksOnce (old : List (List ℕ)) (before after : State) (unfinished :
   pub held : (unfinished → ⊥) → All (λ path. is_some (known_at after.known path) ≡ true) more
   pub among : All Among more
 
+-- what no tree has to be told for: what was known stays, what was looked at stays counted, the folder is only looked at
 pub record Answered {X : Type 0} (before : State) (asking : LookAsking X) (response : Response X)
     (after : State) : Type 0 where
   pub tells : IfSome before.folder.holds (λ tree. Tells tree before asking response after)
   pub known : Grows before.known after.known
+  pub trail : Lengthens before.trail after.trail
   pub asked :
       IfSome before.folder.asked
       (λ old. AsksOnce old before after (response ≡ fails no_memory) (IsLookOf before asking))

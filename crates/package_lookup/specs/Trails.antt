@@ -1,7 +1,8 @@
 -- One more look on a trail.
 --     has_room trail path                a look at the path isn't one path too many
 --     OnCount old counted result new     the call does what counting the look tells
-use Rattle.std.specs.Prelude.{◌≡◌, ◌||◌, ℕ, nat_lt, Bool, List, length, Result, Ok, Err, ⊤}
+--     Lengthens before after             the paths before are the first of those after, and the size doesn't fall
+use Rattle.std.specs.Prelude.{◌≡◌, ◌≤◌, ◌||◌, ◌++◌, ℕ, nat_lt, Bool, List, length, Result, Ok, Err, ⊤}
 use Rattle.tree_spec.specs.LookAskings.{is_seen}
 use Rattle.tree_spec.specs.LookLimits.{Trail, look_limits}
 use Rattle.tree_spec.specs.declared.LimitName.{LimitName}
@@ -18,3 +19,9 @@ OnCount old counted (Err (Limit which)) new = (counted ≡ Err which) × (new �
 OnCount old counted (Err Memory) new = ⊤
 OnCount old counted (Err ReadFault) new = ⊥
 OnCount old counted (Err InvalidConfig) new = ⊥
+
+-- own: whatever a call comes to, nothing that was counted is taken back
+pub record Lengthens (before after : Trail) : Type 0 where
+  pub more : List (List ℕ)
+  pub paths : after.paths ≡ before.paths ++ more
+  pub size : before.size ≤ after.size

@@ -3,7 +3,7 @@ ghost use Rattle.std.specs.Prelude.{OnErr, IfOk};
 ghost use Rattle.tree_spec.specs.LookAskings.{is_seen, with_seen};
 ghost use Rattle.tree_spec.specs.LookLimits.{begun, counted, look_limits, no_trail, seen_again, size_at};
 ghost use Rattle.tree_spec.specs.declared.Entry.{Entry};
-ghost use Rattle.package_lookup.specs.Trails.{has_room, OnCount};
+ghost use Rattle.package_lookup.specs.Trails.{has_room, Lengthens, OnCount};
 
 use crate::LookupFault;
 use indexmap::IndexSet;
@@ -73,8 +73,9 @@ impl Trail {
 
     /// Counts a look at a path at which so many bytes stand.
     pub(crate) fn count(&mut self, alloc: Global, path: &Path, size: u64) -> Result<(), LookupFault>
-        ensures { (found : Option Entry) → size_at found ≡ size
+        ensures counts { (found : Option Entry) → size_at found ≡ size
             → OnCount self.old (counted look_limits self.old path.now found) result self.new }
+        ensures grows { Lengthens self.old self.new }
     {
         if self.paths.contains(path) {
             self.count_again(alloc, path, size)
@@ -85,8 +86,9 @@ impl Trail {
 
     fn count_again(&mut self, alloc: Global, path: &Path, size: u64) -> Result<(), LookupFault>
         requires { is_seen path.now self.old.paths ≡ true }
-        ensures { (found : Option Entry) → size_at found ≡ size
+        ensures counts { (found : Option Entry) → size_at found ≡ size
             → OnCount self.old (counted look_limits self.old path.now found) result self.new }
+        ensures grows { Lengthens self.old self.new }
     {
         if size > MOST_FILE_BYTES {
             return Err(limit(LimitName::File));
@@ -97,8 +99,9 @@ impl Trail {
 
     fn count_first(&mut self, alloc: Global, path: &Path, size: u64) -> Result<(), LookupFault>
         requires { is_seen path.now self.old.paths ≡ false }
-        ensures { (found : Option Entry) → size_at found ≡ size
+        ensures counts { (found : Option Entry) → size_at found ≡ size
             → OnCount self.old (counted look_limits self.old path.now found) result self.new }
+        ensures grows { Lengthens self.old self.new }
     {
         if self.paths.len() >= MOST_LOOKS {
             return Err(limit(LimitName::Looks));
@@ -119,11 +122,12 @@ impl Trail {
     // Puts a path that is new at the end of the paths.
     fn add(&mut self, path: Path) -> Result<(), Memory>
         requires { is_seen path self.old.paths ≡ false }
-        ensures { OnOk result (self.new ≡ record {
+        ensures added { OnOk result (self.new ≡ record {
           paths = self.old.paths ++ path ∷ [];
           size = self.old.size;
           question = self.old.question;
         }) }
+        ensures grows { Lengthens self.old self.new }
     {
         self.paths.insert(path)?;
         Ok(())
@@ -131,7 +135,8 @@ impl Trail {
 
     // Puts a path at the end of the question's, unless it is one of them.
     fn note(&mut self, alloc: Global, path: &Path) -> Result<(), Memory>
-        ensures { OnOk result (self.new ≡ seen_again self.old path.now) }
+        ensures noted { OnOk result (self.new ≡ seen_again self.old path.now) }
+        ensures grows { Lengthens self.old self.new }
     {
         if self.asked.contains(path) {
             return Ok(());

@@ -1,5 +1,8 @@
 //! The trace of a folder and a config: what the page reaches by requests, in order, or its first refusal. The questions
 //! of the walk are answered by looks at the folder and by what is known of it.
+//!
+//! Nothing else makes a trace of a walk's tables, so what a trace keeps (its referrers are URLs, its needs don't clash)
+//! has one proof.
 #![tactic(auto)]
 
 mod folder_answers;

@@ -1,4 +1,5 @@
-//! A chunk: 64 places that are made at once and stay where they are.
+//! A chunk: 64 places that are made at once and stay where they are. So a look at a value goes through no table that
+//! grows, and to make places copies no value.
 ghost use Rattle.std.specs.Prelude.{◌≡◌, ◌<◌, length, replicate, get_or, slice_set, is_some, IfOk, Some, None};
 ghost use Rattle.std.specs.Borrow.{sem};
 ghost use Rattle.slot_arena.specs.Rows.{IsFilled};
@@ -18,7 +19,8 @@ pub(crate) struct Chunk<T> {
     start: Start<T>,
     row: Row<T>,
     right: Right<T, Global>,
-    /// Which places have a value.
+    /// Which places have a value, which is dropped with the chunk. A slot whose value was taken out has the last
+    /// generation of its place until that gives the next, so generations alone don't tell it.
     filled: [bool; 64],
 }
 

@@ -2,10 +2,11 @@
 use Rattle.std.proofs.Common.{refl, sym, ap, ◌∙◌, subst}
 use Rattle.std.proofs.lemmas.Bool.{cond-true}
 use Rattle.std.proofs.lemmas.Slice.Eq.{bytes_eq-Decides}
-use Rattle.std.specs.Prelude.{◌≡◌, ℕ, suc, true, List, [], ◌∷◌, Result, Ok, Contains}
+use Rattle.std.specs.Prelude.{◌≡◌, ℕ, suc, true, List, [], ◌∷◌, Result, Ok, Contains, unwrap_or}
 use Rattle.url_spec.proofs.KeptUrls.{kept_urls}
 use Rattle.import_map_spec.proofs.OneMap.{one_map}
 use Rattle.import_map_spec.specs.ParsedMap.{ParsedMap, MapFault}
+use Rattle.import_map_spec.specs.Parsing.{ParsesMap}
 use Rattle.import_map_spec.specs.Resolving.{Resolved}
 use Rattle.check_spec.proofs.NeedLemmas.{specifiers_agree}
 use Rattle.check_spec.specs.Differences.{gets, is_url, differences, differences_from}
@@ -20,7 +21,7 @@ use Rattle.soundness.proofs.Kept.{map_kept}
 use Rattle.soundness.proofs.Leading.{need_leads}
 use Rattle.soundness.proofs.Reaching.{needs_name}
 use Rattle.soundness.proofs.Sound.{no_capture, of_needs}
-use Rattle.soundness.specs.Soundness.{NamesUrls, NothingDiffers}
+use Rattle.soundness.specs.Soundness.{NamesUrls, NothingDiffers, WrittenMapsDifferNowhere}
 
 served : (m : ParsedMap) (need : Need) → gets m need ≡ Resolved need.target → is_url (gets m need) need.target ≡ true
 served m need e = ap (λ r. is_url r need.target) e ∙ (bytes_eq-Decides need.target need.target).1 refl
@@ -47,6 +48,14 @@ nothing_differs tree config all layout parsed base traces page_is_file agreed na
     let captures : NoCapture all.needs m = no_capture tree config all traces layout agreed page_is_file in
     let mapped : OfNeeds all.needs m = of_needs tree config all traces layout agreed in
     let kept = map_kept base (kept_urls.2 _ _ _ _ named) all.needs m mapped files (has_digests tree config all traces layout) in
+    let read : ParsesMap base (map_text base m) (Ok parsed) =
+    subst (λ text. ParsesMap base text (Ok parsed)) (ap (λ found. map_text (unwrap_or found []) m) named) parses in
     subst (λ (map : ParsedMap). differences map all.needs ≡ [])
-    (same_map m parsed (one_map base (map_text m) (Ok m) (Ok parsed) (texts_read_back base m kept) parses))
+    (same_map m parsed (one_map base (map_text base m) (Ok m) (Ok parsed) (texts_read_back base m kept) read))
     (all_served m 0 all.needs (gets_target all.needs m captures mapped files))
+
+pub written_maps_differ_nowhere : WrittenMapsDifferNowhere
+written_maps_differ_nowhere words tree map line is base parsed named parses =
+    let generates = is.generates in
+    nothing_differs tree is.config generates.all generates.layout parsed base generates.is_traced is.page_is_file
+    generates.agreed named (subst (λ (text : List ℕ). ParsesMap base text (Ok parsed)) generates.text parses)

@@ -6,3 +6,4 @@ pub mod Digested
 pub mod Sound
 pub mod Differing
 pub mod Checked
+pub mod Clashing

@@ -1,8 +1,8 @@
 -- What is generated serves: a map of the needs of a trace does that captures none of them and has no mappings but theirs.
-use Rattle.std.proofs.Common.{refl, sym, ◌∙◌, subst}
+use Rattle.std.proofs.Common.{refl, sym, ap, ◌∙◌, subst}
 use Rattle.std.proofs.lemmas.Option.{same_Some}
 use Rattle.std.specs.FinMap.{get}
-use Rattle.std.specs.Prelude.{◌≡◌, ℕ, List, Some, Ok, Contains}
+use Rattle.std.specs.Prelude.{◌≡◌, ℕ, List, [], Some, Ok, Contains, unwrap_or}
 use Rattle.tree_spec.specs.Trees.{Tree}
 use Rattle.url_spec.proofs.KeptUrls.{kept_urls}
 use Rattle.url_spec.specs.Specifiers.{normalized}
@@ -27,7 +27,7 @@ use Rattle.trace_spec.specs.Levels.{page as page_is_reached}
 use Rattle.trace_spec.specs.Modules.{Config, Module, web_name}
 use Rattle.trace_spec.specs.Traces.{traced}
 use Rattle.trace_spec.specs.Walking.{Referrer, the_page}
-use Rattle.generator_spec.specs.Generation.{PageIsFile}
+use Rattle.generator_spec.specs.Generation.{PageIsFile, map_base}
 use Rattle.generator_spec.specs.Digests.{with_digests}
 use Rattle.generator_spec.specs.Serves.{Reachable, KnowsModules, Leads, AllLead, Serves}
 use Rattle.soundness.proofs.Asking.{asks_normal}
@@ -35,7 +35,7 @@ use Rattle.soundness.proofs.Digested.{captures_none, has_digests, is_known, is_o
 use Rattle.soundness.proofs.Kept.{map_kept}
 use Rattle.soundness.proofs.Leading.{need_leads}
 use Rattle.soundness.proofs.Reaching.{IsNamed, reached, is_named, needs_name, asked_by_file}
-use Rattle.soundness.specs.Soundness.{HasDigests, NamesUrls, MapsServe, AgreedMapsServe, ModulesAreKnown, Soundness, MapsArePlain, OneMapInPage}
+use Rattle.soundness.specs.Soundness.{HasDigests, NamesUrls, MapsServe, AgreedMapsServe, ModulesAreKnown, Soundness, GeneratedReadsBack, MapsArePlain, OneMapInPage}
 
 -- through a map each need is led to its target, whatever text it is asked for by
 abbrev pub AreLed : Gathered → ParsedMap → Type 0
@@ -80,11 +80,15 @@ module _ (tree : Tree) (config : Config) (all : Gathered) (is_traced : traced (g
   kept : IsKept page.name m
   kept = map_kept page.name (kept_urls.2 _ _ _ _ page.named) all.needs m of_needs files digests
 
-  -- the text is read as the map
-  text_parses : (bytes : List ℕ) → bytes ≡ map_text m → ParsesMap page.name bytes (Ok m)
-  text_parses bytes text = subst (λ written. ParsesMap page.name written (Ok m)) (sym text) (texts_read_back page.name m kept)
+  -- the text is written beside the page
+  of_page : (bytes : List ℕ) → bytes ≡ map_text (map_base config) m → bytes ≡ map_text page.name m
+  of_page bytes text = text ∙ ap (λ found. map_text (unwrap_or found []) m) page.named
 
-  text_serves : NoCapture all.needs m → (bytes : List ℕ) → bytes ≡ map_text m → Serves tree config bytes
+  -- the text is read as the map
+  text_parses : (bytes : List ℕ) → bytes ≡ map_text (map_base config) m → ParsesMap page.name bytes (Ok m)
+  text_parses bytes text = subst (λ written. ParsesMap page.name written (Ok m)) (sym (of_page bytes text)) (texts_read_back page.name m kept)
+
+  text_serves : NoCapture all.needs m → (bytes : List ℕ) → bytes ≡ map_text (map_base config) m → Serves tree config bytes
   text_serves no_capture bytes text = record {
     map_base = page.name;
     named = page.named;
@@ -95,14 +99,14 @@ module _ (tree : Tree) (config : Config) (all : Gathered) (is_traced : traced (g
         (λ need specifier c asks. need_leads all.needs m no_capture of_needs files need specifier c asks);
   }
 
-  text_is_plain : (bytes : List ℕ) → bytes ≡ map_text m → IsPlainMap bytes
+  text_is_plain : (bytes : List ℕ) → bytes ≡ map_text (map_base config) m → IsPlainMap bytes
   text_is_plain bytes text =
       let plain = texts_are_plain page.name m kept in
-      subst IsPlainMap (sym text) (record { utf8 = plain.0; no_markup = plain.1 })
+      subst IsPlainMap (sym (of_page bytes text)) (record { utf8 = plain.0; no_markup = plain.1 })
 
 pub maps_serve : MapsServe
 maps_serve tree config all m traces no_capture of_needs digests =
-    text_serves tree config all traces m of_needs digests no_capture (map_text m) refl
+    text_serves tree config all traces m of_needs digests no_capture (map_text (map_base config) m) refl
 
 module _ (tree : Tree) (config : Config) (all : Gathered) (traces : traced (get tree) config ≡ Ok all) (layout : ParsedMap) (agreed : IsAgreedLayout all.needs layout) where
   abbrev digested : ParsedMap
@@ -120,14 +124,20 @@ module _ (tree : Tree) (config : Config) (all : Gathered) (traces : traced (get 
   digests : HasDigests digested
   digests = has_digests tree config all traces layout
 
-  agreed_text_serves : PageIsFile config → (bytes : List ℕ) → bytes ≡ map_text digested → Serves tree config bytes
+  agreed_text_serves : PageIsFile config → (bytes : List ℕ) → bytes ≡ map_text (map_base config) digested → Serves tree config bytes
   agreed_text_serves page_is_file bytes text =
       text_serves tree config all traces digested of_needs digests (no_capture page_is_file) bytes text
 
-  agreed_text_is_plain : (bytes : List ℕ) → bytes ≡ map_text digested → IsPlainMap bytes
+  pub reads_back : (base bytes : List ℕ) → web_name config the_page ≡ Some base → bytes ≡ map_text (map_base config) digested → ParsesMap base bytes (Ok digested)
+  reads_back base bytes named text =
+      let is_page = page tree config all traces digested of_needs digests in
+      subst (λ name. ParsesMap name bytes (Ok digested)) (same_Some is_page.name base (sym is_page.named ∙ named))
+      (text_parses tree config all traces digested of_needs digests bytes text)
+
+  agreed_text_is_plain : (bytes : List ℕ) → bytes ≡ map_text (map_base config) digested → IsPlainMap bytes
   agreed_text_is_plain bytes text = text_is_plain tree config all traces digested of_needs digests bytes text
 
-  modules_known : (bytes : List ℕ) → bytes ≡ map_text digested → KnowsModules tree config bytes
+  modules_known : (bytes : List ℕ) → bytes ≡ map_text (map_base config) digested → KnowsModules tree config bytes
   modules_known bytes text =
       let named = page tree config all traces digested of_needs digests in
       record {
@@ -141,11 +151,15 @@ module _ (tree : Tree) (config : Config) (all : Gathered) (traces : traced (get 
 
 pub agreed_maps_serve : AgreedMapsServe
 agreed_maps_serve tree config all layout traces page_is_file agreed =
-    agreed_text_serves tree config all traces layout agreed page_is_file (map_text (with_digests config all layout)) refl
+    agreed_text_serves tree config all traces layout agreed page_is_file (map_text (map_base config) (with_digests config all layout)) refl
 
 pub sound : Soundness
 sound tree config bytes page_is_file is =
     agreed_text_serves tree config is.all is.is_traced is.layout is.agreed page_is_file bytes is.text
+
+pub generated_reads_back : GeneratedReadsBack
+generated_reads_back tree config base bytes is named =
+    reads_back tree config is.all is.is_traced is.layout is.agreed base bytes named is.text
 
 pub modules_are_known : ModulesAreKnown
 modules_are_known tree config bytes is =

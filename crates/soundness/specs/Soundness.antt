@@ -5,6 +5,9 @@
 --     MapsReadBack      the text of such a map is read as that map
 --     AgreedMapsServe      the agreed layout of the trace's needs, with the digests of its modules, serves
 --     NothingDiffers      checked over the same tree, its text has no difference
+--     GeneratedReadsBack      what is generated is read as exactly the layout, with the digests of the trace's modules
+--     WrittenMapsDifferNowhere      checked over the tree of which it was generated, a map that is written has no difference
+--     NoMapServesAClash      of two requests that clash no map serves both
 --     CheckedMapsServe      any text that is read as a map of which no need of the trace differs serves
 --     Soundness      what is generated serves
 --     ModulesAreKnown      what is generated has the digest of each module that the page reaches
@@ -13,11 +16,13 @@
 use Rattle.std.specs.FinMap.{get}
 use Rattle.std.specs.Prelude.{◌≡◌, ℕ, List, [], Some, Ok, Contains}
 use Rattle.std.specs.Str.{IsUtf8}
+use Rattle.tree_spec.specs.LookAskings.{Sights}
 use Rattle.tree_spec.specs.Trees.{Tree}
 use Rattle.url_spec.specs.Parsing.{IsUrl}
 use Rattle.import_map_spec.specs.ParsedMap.{ParsedMap}
 use Rattle.import_map_spec.specs.Parsing.{ParsesMap}
-use Rattle.check_spec.specs.Differences.{differences}
+use Rattle.import_map_spec.specs.Resolving.{Resolved}
+use Rattle.check_spec.specs.Differences.{differences, gets}
 use Rattle.layout_spec.specs.AgreedLayout.{IsAgreedLayout}
 use Rattle.layout_spec.specs.Needs.{IsAsked}
 use Rattle.layout_spec.specs.PrintedMap.{map_text}
@@ -27,11 +32,13 @@ use Rattle.page_spec.specs.ImportMaps.{IsOneMap}
 use Rattle.page_spec.specs.Injection.{Injection}
 use Rattle.page_spec.specs.Laws.{IsPlainMap}
 use Rattle.trace_spec.specs.Checks.{Gathered}
+use Rattle.trace_spec.specs.Laws.{IsClash}
 use Rattle.trace_spec.specs.Modules.{Config, web_name}
 use Rattle.trace_spec.specs.Traces.{traced}
 use Rattle.trace_spec.specs.Walking.{the_page}
 use Rattle.generator_spec.specs.Digests.{with_digests}
-use Rattle.generator_spec.specs.Generation.{PageIsFile, Generates}
+use Rattle.generator_spec.specs.Ending.{IsGenerated}
+use Rattle.generator_spec.specs.Generation.{PageIsFile, Generates, map_base}
 use Rattle.generator_spec.specs.Serves.{KnowsModules, Serves}
 
 -- own: in the map's integrity stand texts under URLs, whatever they are
@@ -43,7 +50,8 @@ HasDigests m = (url text : List ℕ) → get m.integrity url ≡ Some text → I
 abbrev pub MapsServe : Type 0
 MapsServe =
     (tree : Tree) (config : Config) (all : Gathered) (m : ParsedMap) → traced (get tree) config ≡ Ok all
-    → NoCapture all.needs m → OfNeeds all.needs m → HasDigests m → Serves tree config (map_text m)
+    → NoCapture all.needs m → OfNeeds all.needs m → HasDigests m
+    → Serves tree config (map_text (map_base config) m)
 
 -- own: referrer and target of the need are URLs, and what is asked for stands for itself and is no folder's
 pub record NamesUrls (need : Need) : Type 0 where
@@ -56,14 +64,14 @@ pub record NamesUrls (need : Need) : Type 0 where
 abbrev pub MapsReadBack : Type 0
 MapsReadBack =
     (base : List ℕ) (needs : List Need) (m : ParsedMap) → IsUrl base → OfNeeds needs m
-    → ((need : Need) → Contains needs need → NamesUrls need) → HasDigests m → ParsesMap base (map_text m) (Ok m)
+    → ((need : Need) → Contains needs need → NamesUrls need) → HasDigests m → ParsesMap base (map_text base m) (Ok m)
 
 -- own law: the text of the agreed layout of the trace's needs, with the digests of its modules, serves
 abbrev pub AgreedMapsServe : Type 0
 AgreedMapsServe =
     (tree : Tree) (config : Config) (all : Gathered) (layout : ParsedMap) → traced (get tree) config ≡ Ok all
     → PageIsFile config → IsAgreedLayout all.needs layout
-    → Serves tree config (map_text (with_digests config all layout))
+    → Serves tree config (map_text (map_base config) (with_digests config all layout))
 
 -- own law: what that text is read as, against the page's URL, serves each of the trace's needs
 abbrev pub NothingDiffers : Type 0
@@ -71,7 +79,29 @@ NothingDiffers =
     (tree : Tree) (config : Config) (all : Gathered) (layout parsed : ParsedMap) (base : List ℕ)
     → traced (get tree) config ≡ Ok all → PageIsFile config → IsAgreedLayout all.needs layout
     → web_name config the_page ≡ Some base
-    → ParsesMap base (map_text (with_digests config all layout)) (Ok parsed) → differences parsed all.needs ≡ []
+    → ParsesMap base (map_text (map_base config) (with_digests config all layout)) (Ok parsed) → differences parsed all.needs ≡ []
+
+-- own law: what is generated is read, against the page's URL, as exactly the layout of the trace's needs with the
+-- digests of its modules
+abbrev pub GeneratedReadsBack : Type 0
+GeneratedReadsBack =
+    (tree : Tree) (config : Config) (base bytes : List ℕ) (is : Generates tree config bytes)
+    → web_name config the_page ≡ Some base → ParsesMap base bytes (Ok (with_digests config is.all is.layout))
+
+-- own law: what the map of a command that writes one is read as, against the page's URL, serves each need of the trace
+abbrev pub WrittenMapsDifferNowhere : Type 0
+WrittenMapsDifferNowhere =
+    (words : List (List ℕ)) (tree : Tree) (map line : List ℕ) (is : IsGenerated words tree map line) (base : List ℕ)
+    (parsed : ParsedMap)
+    → web_name is.config the_page ≡ Some base → ParsesMap base map (Ok parsed)
+    → differences parsed is.generates.all.needs ≡ []
+
+-- own law: of two requests of a trace that clash, no import map leads both to where Node leads them
+abbrev pub NoMapServesAClash : Type 0
+NoMapServesAClash =
+    (sights : Sights) (config : Config) (referrer first first_to second second_to : List ℕ)
+    (clash : IsClash sights config referrer first first_to second second_to) (map : ParsedMap)
+    → gets map clash.need ≡ Resolved clash.need.target → gets map clash.other ≡ Resolved clash.other.target → ⊥
 
 -- own law: a text serves, whoever wrote it, where what it is read as, against the page's URL, serves each of the
 -- trace's needs

@@ -3,8 +3,9 @@
 //! It rests on what any map owes to needs, and not on where this layout puts its mappings.
 #![tactic(auto)]
 
-ghost use Rattle.soundness.specs.Soundness.{AgreedMapsServe, CheckedMapsServe, MapsArePlain, MapsReadBack, MapsServe};
-ghost use Rattle.soundness.specs.Soundness.{ModulesAreKnown, NothingDiffers, OneMapInPage, Soundness};
+ghost use Rattle.soundness.specs.Soundness.{AgreedMapsServe, CheckedMapsServe, GeneratedReadsBack, MapsArePlain};
+ghost use Rattle.soundness.specs.Soundness.{MapsReadBack, MapsServe, ModulesAreKnown, NoMapServesAClash};
+ghost use Rattle.soundness.specs.Soundness.{NothingDiffers, OneMapInPage, Soundness, WrittenMapsDifferNowhere};
 
 /// Wherever generation gives a map's text for a page that is a file, this text serves: through it every request of the
 /// page and of each module that the page reaches leads to exactly the file that Node's resolver gives.
@@ -37,6 +38,22 @@ pub fn agreed_maps_serve()
 /// Whoever checks that text over the same tree, from the same page, finds no difference.
 pub fn nothing_differs()
     ensures { NothingDiffers }
+{}
+
+/// So the map that a command writes has no difference from the tree of which it was made.
+pub fn written_maps_differ_nowhere()
+    ensures { WrittenMapsDifferNowhere }
+{}
+
+/// A map's text that generation gives is read as the layout with the digests of the trace's modules, and as nothing
+/// more or less.
+pub fn generated_reads_back()
+    ensures { GeneratedReadsBack }
+{}
+
+/// A trace is refused for two requests that clash where each import map would fail one of them.
+pub fn no_map_serves_a_clash()
+    ensures { NoMapServesAClash }
 {}
 
 /// And whatever text has no difference serves, whoever wrote it.

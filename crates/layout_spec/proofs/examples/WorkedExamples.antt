@@ -4,7 +4,8 @@ use Rattle.std.proofs.Common.{◌∙◌, refl}
 use Rattle.std.specs.Prelude.{◌≡◌, List, [], ◌∷◌, codes}
 use Prim.Native.String.{String}
 use Rattle.url.proofs.OnLiterals.{url_on_literals}
-use Rattle.url_spec.specs.Parsing.{parse_alone, text_of}
+use Rattle.url_spec.specs.Parsing.{parse_alone, parse_against, text_of}
+use Rattle.layout_spec.specs.ShortForms.{short}
 use Rattle.import_map_spec.specs.WrittenMaps.{map_of_lists}
 use Rattle.layout_spec.proofs.examples.Agreement.{no_clash_from_test}
 use Rattle.layout_spec.proofs.Contained.{contains_here, contains_there}
@@ -12,18 +13,18 @@ use Rattle.layout_spec.proofs.examples.LaidLists.{listed_layout, layout_listed}
 use Rattle.layout_spec.proofs.examples.PrintedLists.{listed_text, lists_text}
 use Rattle.layout_spec.proofs.examples.HeldLists.{none_captured, captured, of_no_need}
 use Rattle.layout_spec.proofs.SomeAgreed.{is_among, disagrees, agreed, agreed_above, stands_at}
-use Rattle.layout_spec.specs.WorkedExamples.{PlaceExamples, lines, app_ab, page_app, app_home, app_id, home_id, PrintsAs, LayoutExamples, CountExamples, below_app, beside, ClashExamples, WorkedExamples, only_integrity, several, TextExamples, neighbor, with_addresses, x_below, x_itself, ServingExamples}
+use Rattle.layout_spec.specs.WorkedExamples.{PlaceExamples, lines, the_base, app_ab, page_app, app_home, app_id, home_id, PrintsAs, LayoutExamples, CountExamples, below_app, beside, ClashExamples, WorkedExamples, only_integrity, several, TextExamples, neighbor, with_addresses, x_below, x_itself, ServingExamples}
 use Rattle.layout_spec.specs.declared.Need.{Need}
 
-abbrev printed : (needs : List Need) (text : List String) → listed_text (listed_layout needs) ≡ lines text → PrintsAs needs text
-printed needs text e = record { map = map_of_lists (listed_layout needs); agreed = layout_listed needs; text_is = lists_text (listed_layout needs) ∙ e }
+abbrev printed : (needs : List Need) (text : List String) → listed_text the_base (listed_layout needs) ≡ lines text → PrintsAs needs text
+printed needs text e = record { map = map_of_lists (listed_layout needs); agreed = layout_listed needs; text_is = lists_text the_base (listed_layout needs) ∙ e }
 
 place_examples : PlaceExamples
 unfolding parse_alone text_of url_on_literals
 place_examples = record { page = refl; at_root = refl; deep = refl; in_query = refl; no_own_text = refl; of_file = refl; of_none = refl }
 
 layout_examples : LayoutExamples
-unfolding parse_alone text_of url_on_literals is_among disagrees agreed agreed_above stands_at
+unfolding parse_alone parse_against short text_of url_on_literals is_among disagrees agreed agreed_above stands_at
 layout_examples = record {
   no_needs = printed _ _ refl;
   no_mapping = printed _ _ refl;
@@ -57,7 +58,8 @@ serving_examples = record {
 }
 
 text_examples : TextExamples
-text_examples = record { no_scopes = lists_text only_integrity ∙ refl; sorted = lists_text several ∙ refl }
+unfolding parse_against short text_of url_on_literals
+text_examples = record { no_scopes = lists_text the_base only_integrity ∙ refl; sorted = lists_text the_base several ∙ refl }
 
 pub worked_examples : WorkedExamples
 worked_examples = (place_examples, layout_examples, count_examples, clash_examples, serving_examples, text_examples)

@@ -1,7 +1,11 @@
 use Rattle.std.specs.FinMap.{entries}
-use Rattle.std.proofs.Common.{rules, ◌≡◌, ℕ, List, [], Option, Some, None, IfSome, sym, subst}
+use Rattle.std.proofs.Common.{rules, ◌≡◌, ℕ, List, [], Option, Some, None, IfSome, sym, ap, ◌∙◌, ◌<◌, length, subst}
 use Rattle.import_map_spec.specs.ParsedMap.{ParsedMap}
 use Rattle.layout_spec.specs.Counting.{mapping_count}
+use Rattle.layout_spec.specs.PrintedMap.{map_text}
+use Rattle.tree_spec.specs.Limits.{limit_number}
+use Rattle.tree_spec.specs.declared.LimitName.TheVariants.{Map}
+use Rattle.generator_spec.specs.Generation.{map_base}
 use Rattle.layout_spec.specs.declared.Need.{Need}
 use Rattle.map_flatten.specs.Laid.{AgreedLists}
 use Rattle.scope_builder.specs.Lists.{Lists}
@@ -15,6 +19,13 @@ use Rattle.generation.proofs.generated.map_of.Goals as goal
 digested : (config : Config) (all : Gathered) (layout : Layout) (m : ParsedMap) (pairs : List (List ℕ × List ℕ)) → pairs ≡ entries (digests config all.modules all.sources) → Lists layout [] m → Lists layout pairs (with_digests config all m)
 digested config all layout m pairs are lists = record { imports = lists.imports; scopes = lists.scopes; integrity_texts = sym are }
 
+-- a text that is written beside the page
+beside : (base page : List ℕ) (m : ParsedMap) (bytes : List ℕ) → base ≡ page → bytes ≡ map_text page m → bytes ≡ map_text base m
+beside base page m bytes same text = text ∙ sym (ap (λ url. map_text url m) same)
+
+beside_large : (base page : List ℕ) (m : ParsedMap) → base ≡ page → limit_number Map < length (map_text page m) → limit_number Map < length (map_text base m)
+beside_large base page m same large = subst (λ url. limit_number Map < length (map_text url m)) (sym same) large
+
 -- the number that is there
 number_there : (P : ℕ → Type 0) (found : Option ℕ) (number : ℕ) → IfSome found P → found ≡ Some number → P number
 number_there P None number h e = absurd (cc)
@@ -25,7 +36,7 @@ returns-in_err-map-clause-too_large c = λ same.
     let needs : List Need = c.args.trace.now.needs in
     let laid : AgreedLists needs c.in_ok-layout.layout = subst (λ ns. AgreedLists ns c.in_ok-layout.layout) c.needs.ensures.needs c.in_ok-layout.ensures in
     let printed = digested c.args.config.now c.args.trace.now c.in_ok-layout.layout laid.m c.in_ok-digests.digests c.in_ok-digests.ensures laid.lists in
-    record { layout = laid.m; agreed = laid.is_agreed; large = c.print_map.ensures.too_large (search (rules, same)) (with_digests c.args.config.now c.args.trace.now laid.m) printed }
+    record { layout = laid.m; agreed = laid.is_agreed; large = beside_large (map_base c.args.config.now) c.args.page.now (with_digests c.args.config.now c.args.trace.now laid.m) c.requires (c.print_map.ensures.too_large (search (rules, same)) (with_digests c.args.config.now c.args.trace.now laid.m) printed) }
 
 pub returns-clause-map : goal.returns-clause-map
 returns-clause-map c =
@@ -35,7 +46,7 @@ returns-clause-map c =
     record {
       layout = laid.m;
       agreed = laid.is_agreed;
-      map = c.in_ok-map.ensures.printed.text (with_digests c.args.config.now c.args.trace.now laid.m) printed;
+      map = beside (map_base c.args.config.now) c.args.page.now (with_digests c.args.config.now c.args.trace.now laid.m) c.in_ok-map.map.items c.requires (c.in_ok-map.ensures.printed.text (with_digests c.args.config.now c.args.trace.now laid.m) printed);
       within = c.in_ok-map.ensures.printed.within;
       modules = c.len.ensures.modules;
       requests = c.request_count.ensures.requests;

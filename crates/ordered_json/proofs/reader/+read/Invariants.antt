@@ -1,40 +1,27 @@
-use Rattle.std.proofs.Common.{◌≡◌, ◌≢◌, ◌+◌, ◌*◌, ◌<◌, ℕ, List, ◌∷◌, length}
+use Rattle.std.proofs.Common.{map, ◌+◌, ◌*◌, ◌≤◌, length}
 use Rattle.json_spec.specs.Grammar.{after_space, Reads}
-use Rattle.ordered_json.specs.Gathered.{gathered}
-use Rattle.ordered_json.specs.Forests.{Keeps}
-use Rattle.ordered_json.proofs.GrammarLemmas.{IsBehind}
-use Rattle.ordered_json.proofs.NestLemmas.{AwaitsValue}
+use Rattle.json_spec.specs.Value.{settled}
+use Rattle.ordered_json.specs.Shown.{json_of, members_of}
+use Rattle.ordered_json.proofs.GrammarLemmas.{AwaitsItem, AwaitsMember}
 use Rattle.ordered_json.proofs.reader.+read.Given as goal
 
+abbrev pub decreases-read_items : goal.decreases-read_items
+decreases-read_items l = 2 * l.depth + 1
+
 abbrev pub decreases-read_members : goal.decreases-read_members
-decreases-read_members l = 7 * l.depth + 6
-
-abbrev pub decreases-read_member : goal.decreases-read_member
-decreases-read_member l = 7 * l.depth + 5
-
-abbrev pub decreases-read_alone : goal.decreases-read_alone
-decreases-read_alone l = 7 * l.depth + 4
+decreases-read_members l = 2 * l.depth + 1
 
 abbrev pub decreases-read_value : goal.decreases-read_value
-decreases-read_value l = 7 * l.depth + 3
+decreases-read_value l = 2 * l.depth
 
-abbrev pub decreases-begin_value : goal.decreases-begin_value
-decreases-begin_value l = 7 * l.depth + 2
+abbrev pub invariant-read_items-loop-values : goal.invariant-read_items-loop-values
+invariant-read_items-loop-values l = record { awaits : AwaitsItem (Reads l.fn.depth) (after_space l.fn.bytes) (map json_of l.values.items) l.rest; shorter : length l.rest ≤ length l.fn.bytes }
 
-abbrev pub decreases-read_other : goal.decreases-read_other
-decreases-read_other l = 7 * l.depth + 1
+abbrev pub decreases-read_items-loop-values : goal.decreases-read_items-loop-values
+decreases-read_items-loop-values l = length l.rest
 
-abbrev pub decreases-read_object : goal.decreases-read_object
-decreases-read_object l = 7 * l.depth
+abbrev pub invariant-read_members-loop-written : goal.invariant-read_members-loop-written
+invariant-read_members-loop-written l = record { awaits : AwaitsMember (Reads l.fn.depth) (after_space l.fn.bytes) (settled (members_of l.written.items)) l.rest; shorter : length l.rest ≤ length l.fn.bytes }
 
-abbrev pub invariant-read_value-loop-awaited : goal.invariant-read_value-loop-awaited
-invariant-read_value-loop-awaited l = AwaitsValue l.fn.depth l.fn.bytes l.fn.forest l.forest l.rest
-
-abbrev pub decreases-read_value-loop-awaited : goal.decreases-read_value-loop-awaited
-decreases-read_value-loop-awaited l = length l.rest
-
-abbrev pub invariant-read_members-loop-more : goal.invariant-read_members-loop-more
-invariant-read_members-loop-more l = record { behind : IsBehind (Reads l.fn.depth) (after_space l.fn.bytes) (gathered l.members) l.rest; no_end : (end : List ℕ) → l.rest ≢ 125 ∷ end; kept : Keeps l.fn.forest l.forest; level : l.forest.innermost ≡ l.fn.forest.innermost; shorter : length l.rest < length l.fn.bytes }
-
-abbrev pub decreases-read_members-loop-more : goal.decreases-read_members-loop-more
-decreases-read_members-loop-more l = length l.rest
+abbrev pub decreases-read_members-loop-written : goal.decreases-read_members-loop-written
+decreases-read_members-loop-written l = length l.rest

@@ -28,7 +28,7 @@ returns-in_err-count-in-Some-clause-answered g c =
     (subst (λ look. Fetches (g.F.Folder.state c.args.folder.now) c.args.self.now c.args.path.now (Ok look)
     (g.F.Folder.state c.hold.new.folder) c.hold.new.self)
     (sym c.into_parts-seen.ensures.look ∙ ap look_of c.in-Some.is) c.in_ok-held.ensures)
-    (c.in_err-count-in-Some.ensures (entry_of c.in-Some.seen) (sym c.size.ensures)))
+    (c.in_err-count-in-Some.ensures.counts (entry_of c.in-Some.seen) (sym c.size.ensures)) c.count.ensures.grows)
 
 pub returns-in-None-clause-answered : goal.returns-in-None-clause-answered
 returns-in-None-clause-answered g c =
@@ -47,4 +47,4 @@ returns-in_ok-count-in-Some-clause-answered g c =
     (subst (λ look. Fetches (g.F.Folder.state c.args.folder.now) c.args.self.now c.args.path.now (Ok look)
     (g.F.Folder.state c.hold.new.folder) c.hold.new.self)
     (sym c.into_parts-seen.ensures.look ∙ ap look_of c.in-Some.is) c.in_ok-held.ensures)
-    (c.in_ok-count-in-Some.ensures (entry_of c.in-Some.seen) (sym c.size.ensures))
+    (c.in_ok-count-in-Some.ensures.counts (entry_of c.in-Some.seen) (sym c.size.ensures)) c.count.ensures.grows

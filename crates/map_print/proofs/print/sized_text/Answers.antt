@@ -1,5 +1,0 @@
-use Rattle.map_print.proofs.Appends.{from_nothing}
-use Rattle.map_print.proofs.print.sized_text.Goals as goal
-
-pub returns : goal.returns
-returns c = from_nothing c.in_ok-out.ensures.items c.in_ok-push_map.ensures

@@ -1,0 +1,457 @@
+//! Reads row files line by line.
+
+use crate::entry::{change_of, entry_of};
+use crate::escapes::{unescaped, unescaped_text};
+use crate::fault::{RowFault, malformed};
+use crate::heads::{Head, head_of};
+use crate::item::Item;
+use crate::names::Names;
+use crate::numbers::{number_of, range_of};
+use crate::row::{Call, Change, Cut, Row, Run, Turns, Wanted};
+use crate::tree::Tree;
+use crate::words::{copied, words_of};
+use std::alloc::Global;
+use std::mem;
+
+/// What the lines that come belong to.
+#[derive(Clone, Copy, PartialEq, Eq)]
+enum Part {
+    Nothing,
+    /// A tree with a name.
+    Tree,
+    Row,
+    /// What short rows have in common.
+    Ask,
+}
+
+/// What short rows have in common: the words before those that are asked, and the files that are written where the
+/// status is 0.
+#[derive(Drop)]
+struct Ask {
+    words: Vec<String>,
+    changes: Vec<Change>,
+}
+
+/// Reads files one after another, each line by line, and hands out their rows. What one file names, later ones may
+/// cite.
+#[derive(Drop)]
+pub struct Reader {
+    names: Names,
+    /// How many lines of the file have been read.
+    read: u64,
+    /// The line that is being understood.
+    line: u64,
+    /// The line whose block may go on.
+    item: Item,
+    part: Part,
+    /// The line on which the part begins, and its title or name.
+    begun: u64,
+    name: String,
+    tree: Tree,
+    runs: Vec<Run>,
+    ask: Ask,
+}
+
+impl Reader {
+    pub fn new(alloc: Global) -> Result<Reader, RowFault> {
+        Ok(Reader {
+            names: Names::new(alloc),
+            read: 0,
+            line: 0,
+            item: Item::new(alloc, 0, "")?,
+            part: Part::Nothing,
+            begun: 0,
+            name: String::new(alloc),
+            tree: Tree::new(alloc),
+            runs: Vec::new(alloc),
+            ask: Ask {
+                words: Vec::new(alloc),
+                changes: Vec::new(alloc),
+            },
+        })
+    }
+
+    /// The number of the line that was understood last, which is at fault where a call fails.
+    pub fn line(&self) -> u64 {
+        self.line
+    }
+
+    /// Takes a line, and hands out the row that ended before it.
+    pub fn take(&mut self, alloc: Global, line: &str) -> Result<Option<Row>, RowFault> {
+        self.read = self.read.saturating_add(1);
+        if let Some(text) = line.strip_prefix('|') {
+            self.line = self.read;
+            self.item.push(alloc, text)?;
+            return Ok(None);
+        }
+        let ended = self.finish(alloc)?;
+        self.item = Item::new(alloc, self.read, line)?;
+        Ok(ended)
+    }
+
+    /// Ends the file, and hands out its last row.
+    pub fn end(&mut self, alloc: Global) -> Result<Option<Row>, RowFault> {
+        let before = self.finish(alloc)?;
+        let ended = self.end_part(alloc)?;
+        self.read = 0;
+        self.ask = Ask {
+            words: Vec::new(alloc),
+            changes: Vec::new(alloc),
+        };
+        Ok(if before.is_some() { before } else { ended })
+    }
+
+    // Understands the line above the one that is read, now that its block is whole.
+    fn finish(&mut self, alloc: Global) -> Result<Option<Row>, RowFault> {
+        let nothing = Item::new(alloc, self.read, "")?;
+        let item = mem::replace(&mut self.item, nothing);
+        self.line = item.line;
+        match head_of(item.head.as_str()) {
+            Head::Nothing => Ok(None),
+            Head::Text(text) => self.begin_text(alloc, &item, text),
+            Head::Tree(name) => self.begin(alloc, &item, Part::Tree, name),
+            Head::Row(title) => self.begin(alloc, &item, Part::Row, title),
+            Head::Ask(words) => self.begin_ask(alloc, &item, words),
+            head => {
+                self.go_on(alloc, &item, head)?;
+                Ok(None)
+            }
+        }
+    }
+
+    // `NAME: TEXT`, or `NAME` above a block.
+    fn begin_text(
+        &mut self,
+        alloc: Global,
+        item: &Item,
+        text: &str,
+    ) -> Result<Option<Row>, RowFault> {
+        let ended = self.end_part(alloc)?;
+        match (&item.block, text.split_once(": ")) {
+            (None, Some((name, text))) => {
+                let bytes = unescaped(alloc, text, None)?;
+                self.names.name_text(alloc, name, bytes)?;
+            }
+            (Some(block), None) => {
+                let bytes = Vec::from_slice(alloc, block.as_slice())?;
+                self.names.name_text(alloc, text, bytes)?;
+            }
+            _ => return Err(malformed("a text stands on its line or in its block")),
+        }
+        Ok(ended)
+    }
+
+    fn begin(
+        &mut self,
+        alloc: Global,
+        item: &Item,
+        part: Part,
+        name: &str,
+    ) -> Result<Option<Row>, RowFault> {
+        let ended = self.end_part(alloc)?;
+        item.without_block()?;
+        if name.is_empty() {
+            return Err(malformed("a row or a tree has no name"));
+        }
+        self.part = part;
+        self.begun = item.line;
+        self.name = String::from_str(alloc, name)?;
+        Ok(ended)
+    }
+
+    fn begin_ask(
+        &mut self,
+        alloc: Global,
+        item: &Item,
+        words: &str,
+    ) -> Result<Option<Row>, RowFault> {
+        let ended = self.begin(alloc, item, Part::Ask, words)?;
+        self.ask = Ask {
+            words: words_of(alloc, words)?,
+            changes: Vec::new(alloc),
+        };
+        Ok(ended)
+    }
+
+    // Ends the row, the tree or what else the lines before belong to, and hands out the row.
+    fn end_part(&mut self, alloc: Global) -> Result<Option<Row>, RowFault> {
+        let part = self.part;
+        self.part = Part::Nothing;
+        let tree = mem::replace(&mut self.tree, Tree::new(alloc));
+        let runs = mem::replace(&mut self.runs, Vec::new(alloc));
+        let title = mem::replace(&mut self.name, String::new(alloc));
+        match part {
+            Part::Nothing => Ok(None),
+            Part::Ask => Ok(None),
+            Part::Tree => {
+                self.names.name_tree(title, tree)?;
+                Ok(None)
+            }
+            Part::Row => {
+                let read = self.line;
+                self.line = self.begun;
+                are_whole(runs.as_slice())?;
+                self.line = read;
+                Ok(Some(Row {
+                    title,
+                    line: self.begun,
+                    tree,
+                    runs,
+                }))
+            }
+        }
+    }
+
+    // Understands a line of a tree, a row or an `ask`.
+    fn go_on(&mut self, alloc: Global, item: &Item, head: Head<'_>) -> Result<(), RowFault> {
+        match head {
+            Head::With(name) => self.put_tree(alloc, item, name),
+            Head::Entry(entry) => self.put_entry(alloc, item, entry, None),
+            Head::Entries(count, entry) => self.put_entries(alloc, item, count, entry),
+            Head::Short(row) => self.short(alloc, item, row),
+            Head::Run(words) => self.run(alloc, item, words, false),
+            Head::Then(words) => self.run(alloc, item, words, true),
+            Head::Change(file) => self.change(alloc, item, file),
+            Head::Input(text) => self.input(alloc, item, text),
+            Head::Fails(calls) => self.fail(item, calls),
+            Head::Cut(cut) => self.cut(alloc, item, cut),
+            Head::Wanted(text) => self.want(alloc, item, text),
+            Head::Looks => self.look(alloc, item),
+            Head::Each(turns) => self.turn(alloc, item, turns),
+            _ => Err(malformed("a line is none of the form")),
+        }
+    }
+
+    // Fails where no entry of a tree may stand.
+    fn takes_entries(&self) -> Result<(), RowFault> {
+        match self.part {
+            Part::Tree => Ok(()),
+            Part::Row if self.runs.is_empty() => Ok(()),
+            _ => Err(malformed("a file or a folder stands in no tree")),
+        }
+    }
+
+    fn put_tree(&mut self, alloc: Global, item: &Item, name: &str) -> Result<(), RowFault> {
+        self.takes_entries()?;
+        item.without_block()?;
+        self.tree.put_all(alloc, self.names.tree(name)?)
+    }
+
+    fn put_entry(
+        &mut self,
+        alloc: Global,
+        item: &Item,
+        entry: &str,
+        turn: Option<u64>,
+    ) -> Result<(), RowFault> {
+        self.takes_entries()?;
+        let stands = entry_of(alloc, &self.names, item, entry, turn)?;
+        self.tree.put(stands)
+    }
+
+    fn put_entries(
+        &mut self,
+        alloc: Global,
+        item: &Item,
+        count: &str,
+        entry: &str,
+    ) -> Result<(), RowFault> {
+        for turn in 0..number_of(count)? {
+            self.put_entry(alloc, item, entry, Some(turn))?;
+        }
+        Ok(())
+    }
+
+    // A run, with the words behind its mark.
+    fn run(
+        &mut self,
+        alloc: Global,
+        item: &Item,
+        words: &str,
+        goes_on: bool,
+    ) -> Result<(), RowFault> {
+        item.without_block()?;
+        if self.part != Part::Row {
+            return Err(malformed("a run stands in no row"));
+        }
+        if goes_on {
+            last_of(&mut self.runs)?.is_gone_on = true;
+        }
+        let run = Run::new(alloc, item.line, goes_on, words_of(alloc, words)?);
+        self.runs.push(run)?;
+        Ok(())
+    }
+
+    // `ASKED => WANTED`
+    fn short(&mut self, alloc: Global, item: &Item, row: &str) -> Result<(), RowFault> {
+        let Some((asked, wanted)) = row.split_once(" => ") else {
+            return Err(malformed("a short row wants ` => `"));
+        };
+        if self.part != Part::Row || self.ask.words.is_empty() {
+            return Err(malformed("a short row stands in no row, or behind no `ask`"));
+        }
+        let mut words = copied(alloc, self.ask.words.as_slice())?;
+        for word in words_of(alloc, asked)? {
+            words.push(word)?;
+        }
+        let mut run = Run::new(alloc, item.line, false, words);
+        run.wanted = Some(wanted_of(alloc, item, wanted)?);
+        if wanted.starts_with("0 ") {
+            run.changes = changes_of(alloc, self.ask.changes.as_slice())?;
+        }
+        self.runs.push(run)?;
+        Ok(())
+    }
+
+    fn change(&mut self, alloc: Global, item: &Item, file: &str) -> Result<(), RowFault> {
+        let change = change_of(alloc, &self.names, item, file)?;
+        if self.part == Part::Ask {
+            self.ask.changes.push(change)?;
+        } else {
+            last_of(&mut self.runs)?.changes.push(change)?;
+        }
+        Ok(())
+    }
+
+    // A line of the input, or a block of it.
+    fn input(&mut self, alloc: Global, item: &Item, text: &str) -> Result<(), RowFault> {
+        let run = last_of(&mut self.runs)?;
+        match &item.block {
+            None => {
+                let line = format!(in alloc; "{text}\n")?;
+                let bytes = unescaped(alloc, line.as_str(), None)?;
+                run.input.extend_from_slice(bytes.as_slice())?;
+            }
+            Some(block) if text.is_empty() => run.input.extend_from_slice(block.as_slice())?,
+            Some(_) => return Err(malformed("an input stands on its line or in its block")),
+        }
+        Ok(())
+    }
+
+    // `CALL NUMBER, CALL NUMBER ..`
+    fn fail(&mut self, item: &Item, calls: &str) -> Result<(), RowFault> {
+        item.without_block()?;
+        let run = last_of(&mut self.runs)?;
+        for call in calls.split(", ") {
+            let Some((name, number)) = call.split_once(' ') else {
+                return Err(malformed("a call that fails wants its number"));
+            };
+            run.fails.push(Call::parse(name)?, number_of(number)?)?;
+        }
+        Ok(())
+    }
+
+    // `PATH FIRST-LAST`
+    fn cut(&mut self, alloc: Global, item: &Item, cut: &str) -> Result<(), RowFault> {
+        item.without_block()?;
+        let run = last_of(&mut self.runs)?;
+        let Some((path, range)) = cut.rsplit_once(' ') else {
+            return Err(malformed("a file that is cut wants its lengths"));
+        };
+        if run.cut.is_some() {
+            return Err(malformed("a run cuts twice"));
+        }
+        let (first, last) = range_of(range)?;
+        run.cut = Some(Cut {
+            path: unescaped_text(alloc, path, None)?,
+            first,
+            last,
+        });
+        Ok(())
+    }
+
+    fn want(&mut self, alloc: Global, item: &Item, text: &str) -> Result<(), RowFault> {
+        let wanted = wanted_of(alloc, item, text)?;
+        let run = last_of(&mut self.runs)?;
+        if run.wanted.is_some() {
+            return Err(malformed("a run ends twice"));
+        }
+        run.wanted = Some(wanted);
+        Ok(())
+    }
+
+    // The block has a path on each line.
+    fn look(&mut self, alloc: Global, item: &Item) -> Result<(), RowFault> {
+        let mut looks = Vec::new(alloc);
+        if let Some(block) = &item.block {
+            let Ok(paths) = std::str::from_utf8(block.as_slice()) else {
+                return Err(malformed("bytes are no text"));
+            };
+            for path in paths.lines() {
+                looks.push(String::from_str(alloc, path)?)?;
+            }
+        }
+        let run = last_of(&mut self.runs)?;
+        if run.looks.is_some() {
+            return Err(malformed("a run's looks stand twice"));
+        }
+        run.looks = Some(looks);
+        Ok(())
+    }
+
+    // `CALL FIRST-LAST => WANTED`
+    fn turn(&mut self, alloc: Global, item: &Item, turns: &str) -> Result<(), RowFault> {
+        let Some((calls, wanted)) = turns.split_once(" => ") else {
+            return Err(malformed("calls that fail in turn want ` => `"));
+        };
+        let Some((name, range)) = calls.split_once(' ') else {
+            return Err(malformed("calls that fail in turn want their numbers"));
+        };
+        let (first, last) = range_of(range)?;
+        let wanted = wanted_of(alloc, item, wanted)?;
+        last_of(&mut self.runs)?.turns.push(Turns {
+            call: Call::parse(name)?,
+            first,
+            last,
+            wanted,
+        })?;
+        Ok(())
+    }
+}
+
+fn last_of(runs: &mut Vec<Run>) -> Result<&mut Run, RowFault> {
+    match runs.last_mut() {
+        None => Err(malformed("a line stands below no run")),
+        Some(run) => Ok(run),
+    }
+}
+
+// Fails where there is no run, or one of which nothing is said, or too much.
+fn are_whole(runs: &[Run]) -> Result<(), RowFault> {
+    if runs.is_empty() {
+        return Err(malformed("a row has no run"));
+    }
+    for run in runs {
+        run.wanted()?;
+        if run.cut.is_some() && (run.is_gone_on || !run.turns.is_empty()) {
+            return Err(malformed("a run whose file is cut has turns, or another goes on"));
+        }
+    }
+    Ok(())
+}
+
+fn wanted_of(alloc: Global, item: &Item, text: &str) -> Result<Wanted, RowFault> {
+    let block = match &item.block {
+        None => None,
+        Some(block) => Some(Vec::from_slice(alloc, block.as_slice())?),
+    };
+    Ok(Wanted {
+        text: unescaped_text(alloc, text, None)?,
+        block,
+    })
+}
+
+fn changes_of(alloc: Global, changes: &[Change]) -> Result<Vec<Change>, RowFault> {
+    let mut copies = Vec::new(alloc);
+    for change in changes {
+        let bytes = match &change.bytes {
+            None => None,
+            Some(bytes) => Some(Vec::from_slice(alloc, bytes.as_slice())?),
+        };
+        copies.push(Change {
+            path: String::from_str(alloc, change.path.as_str())?,
+            bytes,
+        })?;
+    }
+    Ok(copies)
+}

@@ -1,0 +1,168 @@
+//! What a row file says.
+
+use crate::fault::{RowFault, malformed};
+use crate::tree::Tree;
+use std::alloc::Global;
+
+/// A tree, and the runs over it.
+#[derive(Drop)]
+pub struct Row {
+    pub title: String,
+    /// The number of the line on which it begins.
+    pub line: u64,
+    pub tree: Tree,
+    pub runs: Vec<Run>,
+}
+
+/// One run: what it is given, and what must come of it.
+#[derive(Drop)]
+pub struct Run {
+    pub line: u64,
+    /// Whether it goes over what the run before left.
+    pub goes_on: bool,
+    /// Whether the next run goes over what this one leaves.
+    pub is_gone_on: bool,
+    pub words: Vec<String>,
+    pub input: Vec<u8>,
+    pub fails: Fails,
+    pub cut: Option<Cut>,
+    pub(crate) wanted: Option<Wanted>,
+    /// The files that it writes, in their order. No other file is written.
+    pub changes: Vec<Change>,
+    /// The paths at which it looks, where they are told.
+    pub looks: Option<Vec<String>>,
+    /// Calls that fail in turn.
+    pub turns: Vec<Turns>,
+}
+
+/// The numbers, from 1, of the calls that fail.
+#[derive(Drop)]
+pub struct Fails {
+    pub looks: Vec<u64>,
+    pub writes: Vec<u64>,
+    pub takes: Vec<u64>,
+    pub gives: Vec<u64>,
+}
+
+/// A kind of calls of the outside.
+#[derive(Clone, Copy)]
+pub enum Call {
+    Look,
+    Write,
+    Take,
+    Give,
+}
+
+/// A file of which only a front is there: a run for each of these lengths.
+#[derive(Drop)]
+pub struct Cut {
+    pub path: String,
+    pub first: u64,
+    pub last: u64,
+}
+
+/// What is said behind `=>`.
+#[derive(Drop)]
+pub struct Wanted {
+    /// What stands on the line.
+    pub text: String,
+    /// What stands on the lines below.
+    pub block: Option<Vec<u8>>,
+}
+
+/// A file that is written: its bytes, where they are told.
+#[derive(Drop)]
+pub struct Change {
+    pub path: String,
+    pub bytes: Option<Vec<u8>>,
+}
+
+/// Calls of one kind that fail in turn, and how each such run must end.
+#[derive(Drop)]
+pub struct Turns {
+    pub call: Call,
+    pub first: u64,
+    pub last: u64,
+    pub wanted: Wanted,
+}
+
+impl Call {
+    pub(crate) fn parse(name: &str) -> Result<Call, RowFault> {
+        match name {
+            "look" => Ok(Call::Look),
+            "write" => Ok(Call::Write),
+            "take" => Ok(Call::Take),
+            "give" => Ok(Call::Give),
+            _ => Err(malformed("a call is none of look, write, take and give")),
+        }
+    }
+
+    pub fn name(self) -> &'static str {
+        match self {
+            Call::Look => "look",
+            Call::Write => "write",
+            Call::Take => "take",
+            Call::Give => "give",
+        }
+    }
+}
+
+impl Fails {
+    pub fn none(alloc: Global) -> Fails {
+        Fails {
+            looks: Vec::new(alloc),
+            writes: Vec::new(alloc),
+            takes: Vec::new(alloc),
+            gives: Vec::new(alloc),
+        }
+    }
+
+    /// The same calls, and one more.
+    pub fn and_one(&self, alloc: Global, call: Call, number: u64) -> Result<Fails, RowFault> {
+        let mut fails = Fails {
+            looks: Vec::from_slice(alloc, self.looks.as_slice())?,
+            writes: Vec::from_slice(alloc, self.writes.as_slice())?,
+            takes: Vec::from_slice(alloc, self.takes.as_slice())?,
+            gives: Vec::from_slice(alloc, self.gives.as_slice())?,
+        };
+        fails.push(call, number)?;
+        Ok(fails)
+    }
+
+    pub(crate) fn push(&mut self, call: Call, number: u64) -> Result<(), RowFault> {
+        let numbers = match call {
+            Call::Look => &mut self.looks,
+            Call::Write => &mut self.writes,
+            Call::Take => &mut self.takes,
+            Call::Give => &mut self.gives,
+        };
+        numbers.push(number)?;
+        Ok(())
+    }
+}
+
+impl Run {
+    pub(crate) fn new(alloc: Global, line: u64, goes_on: bool, words: Vec<String>) -> Run {
+        Run {
+            line,
+            goes_on,
+            is_gone_on: false,
+            words,
+            input: Vec::new(alloc),
+            fails: Fails::none(alloc),
+            cut: None,
+            wanted: None,
+            changes: Vec::new(alloc),
+            looks: None,
+            turns: Vec::new(alloc),
+        }
+    }
+
+    /// What must come.
+    pub fn wanted(&self) -> Result<&Wanted, RowFault> {
+        match &self.wanted {
+            None => Err(malformed("a run of this row has no `=>`")),
+            Some(wanted) => Ok(wanted),
+        }
+    }
+}

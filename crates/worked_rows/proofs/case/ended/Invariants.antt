@@ -1,4 +1,0 @@
-use Rattle.worked_rows.proofs.case.ended.Given as goal
-
-abbrev pub ghosts-status_of : goal.ghosts-status_of
-ghosts-status_of a = record { name = a.blank.name; parts = a.blank.parts }
