@@ -1,5 +1,6 @@
 //! Answers as the tables spell them.
 
+use crate::texts::owned;
 use node_resolve::{Found, NodeFault};
 use node_spec::Cause;
 use package_lookup::{Format, LookupFault, Reason};
@@ -44,8 +45,8 @@ pub fn answer_text(alloc: Global, answer: &Result<Found, NodeFault>) -> io::Resu
         Ok(found) => found_text(alloc, found),
         Err(NodeFault::Refused(cause)) => Ok(format!(in alloc; "refused {}", cause_name(*cause))?),
         Err(NodeFault::Limit { which }) => limit_text(alloc, *which),
-        Err(NodeFault::ReadFault) => Ok(String::from_str(alloc, "a look failed")?),
-        Err(NodeFault::Memory) => Ok(String::from_str(alloc, "memory")?),
+        Err(NodeFault::ReadFault) => owned(alloc, "a look failed"),
+        Err(NodeFault::Memory) => owned(alloc, "memory"),
     }
 }
 
@@ -81,9 +82,9 @@ pub fn format_text(alloc: Global, answer: &Result<Format, LookupFault>) -> io::R
         Err(LookupFault::Limit { which }) => {
             Ok(format!(in alloc; "format limit {}", which.name())?)
         }
-        Err(LookupFault::ReadFault) => Ok(String::from_str(alloc, "a look failed")?),
-        Err(LookupFault::InvalidConfig) => Ok(String::from_str(alloc, "InvalidConfig")?),
-        Err(LookupFault::Memory) => Ok(String::from_str(alloc, "memory")?),
+        Err(LookupFault::ReadFault) => owned(alloc, "a look failed"),
+        Err(LookupFault::InvalidConfig) => owned(alloc, "InvalidConfig"),
+        Err(LookupFault::Memory) => owned(alloc, "memory"),
     }
 }
 
@@ -91,7 +92,7 @@ pub fn format_text(alloc: Global, answer: &Result<Format, LookupFault>) -> io::R
 pub fn scope_text(alloc: Global, answer: &Result<Option<Path>, LookupFault>) -> io::Result<String> {
     match answer {
         Ok(Some(scope)) => Ok(format!(in alloc; "scope {}", scope.as_str())?),
-        Ok(None) => Ok(String::from_str(alloc, "scope none")?),
-        Err(_) => Ok(String::from_str(alloc, "a fault")?),
+        Ok(None) => owned(alloc, "scope none"),
+        Err(_) => owned(alloc, "a fault"),
     }
 }

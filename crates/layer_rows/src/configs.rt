@@ -1,9 +1,11 @@
 //! What commands come to over the project that the one before left.
 
+use crate::texts::{owned, push_all};
 use crate::words::{push_bracketed, words_of};
 use command_words::{WordsFault, order_of};
 use condition_match::Conditions;
 use config_spec::{ConfigFault, ProjectFault};
+use primitives::Text;
 use project_config::{NoConfig, config_of};
 use std::alloc::Global;
 use std::io;
@@ -18,17 +20,21 @@ fn push_conditions(text: &mut String, conditions: &Conditions) -> io::Result<()>
     Ok(())
 }
 
+fn push_entries(text: &mut String, entries: &[Text]) -> io::Result<()> {
+    for entry in entries {
+        push_bracketed(text, entry.as_str())?;
+    }
+    Ok(())
+}
+
 // Base, page, conditions and entries.
 fn config_text(alloc: Global, config: &Config) -> io::Result<String> {
+    let (base, page) = (config.base().as_str(), config.page().as_str());
     let mut text = String::new(alloc);
-    push_bracketed(&mut text, config.base().as_str())?;
-    push_bracketed(&mut text, config.page().as_str())?;
-    text.push_str(" for ")?;
+    push_all(&mut text, &["[", base, "][", page, "] for "])?;
     push_conditions(&mut text, config.conditions())?;
     text.push_str(" of ")?;
-    for entry in config.entries() {
-        push_bracketed(&mut text, entry.as_str())?;
-    }
+    push_entries(&mut text, config.entries())?;
     Ok(text)
 }
 
@@ -40,17 +46,17 @@ fn told_of(alloc: Global, name: &str, value: &str) -> io::Result<String> {
 
 fn fault_text(alloc: Global, fault: &ConfigFault) -> io::Result<String> {
     match fault {
-        ConfigFault::NotBuilt => Ok(String::from_str(alloc, "not built")?),
+        ConfigFault::NotBuilt => owned(alloc, "not built"),
         ConfigFault::BadBase { text } => told_of(alloc, "bad base ", text.as_str()),
         ConfigFault::BadPath { text } => told_of(alloc, "bad path ", text.as_str()),
         ConfigFault::BadConditions { text } => told_of(alloc, "bad conditions ", text.as_str()),
         ConfigFault::Project {
             fault: ProjectFault::Absent,
-        } => Ok(String::from_str(alloc, "no project")?),
-        ConfigFault::Project { .. } => Ok(String::from_str(alloc, "a project's fault")?),
-        ConfigFault::NoBase => Ok(String::from_str(alloc, "no base")?),
+        } => owned(alloc, "no project"),
+        ConfigFault::Project { .. } => owned(alloc, "a project's fault"),
+        ConfigFault::NoBase => owned(alloc, "no base"),
         ConfigFault::NotLinked { entry } => told_of(alloc, "not linked ", entry.as_str()),
-        ConfigFault::TooManyEntries => Ok(String::from_str(alloc, "too many entries")?),
+        ConfigFault::TooManyEntries => owned(alloc, "too many entries"),
     }
 }
 
@@ -63,14 +69,14 @@ fn outcome_of(
     let order = match order_of(alloc, words) {
         Ok(order) => order,
         Err(WordsFault::Refused { fault }) => return Ok((fault_text(alloc, &fault)?, None)),
-        Err(WordsFault::Told(_)) => return Ok((String::from_str(alloc, "told")?, None)),
-        Err(WordsFault::NotPlain) => return Ok((String::from_str(alloc, "not plain")?, None)),
-        Err(WordsFault::Memory) => return Ok((String::from_str(alloc, "memory")?, None)),
+        Err(WordsFault::Told(_)) => return Ok((owned(alloc, "told")?, None)),
+        Err(WordsFault::NotPlain) => return Ok((owned(alloc, "not plain")?, None)),
+        Err(WordsFault::Memory) => return Ok((owned(alloc, "memory")?, None)),
     };
     match config_of(alloc, order, found) {
         Ok(config) => Ok((config_text(alloc, &config)?, Some(config))),
         Err(NoConfig::Refused { fault }) => Ok((fault_text(alloc, &fault)?, None)),
-        Err(NoConfig::Memory) => Ok((String::from_str(alloc, "memory")?, None)),
+        Err(NoConfig::Memory) => Ok((owned(alloc, "memory")?, None)),
     }
 }
 

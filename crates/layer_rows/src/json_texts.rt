@@ -1,14 +1,12 @@
 //! The value of a JSON text.
 
+use crate::texts::{owned, push_all};
 use ordered_json::{Items, JsonFault, Members, Value, read};
 use std::alloc::Global;
 use std::io;
 
 fn push_text(out: &mut String, text: &str) -> io::Result<()> {
-    out.push('\'')?;
-    out.push_str(text)?;
-    out.push('\'')?;
-    Ok(())
+    push_all(out, &["'", text, "'"])
 }
 
 fn push_comma(out: &mut String, index: usize) -> io::Result<()> {
@@ -80,6 +78,6 @@ pub fn value_text(alloc: Global, bytes: &[u8]) -> io::Result<String> {
         }
         Err(JsonFault::NotJson { at }) => Ok(format!(in alloc; "NotJson {at}")?),
         Err(JsonFault::TooDeep { at }) => Ok(format!(in alloc; "TooDeep {at}")?),
-        Err(JsonFault::Memory) => Ok(String::from_str(alloc, "memory")?),
+        Err(JsonFault::Memory) => owned(alloc, "memory"),
     }
 }

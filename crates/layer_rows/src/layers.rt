@@ -60,7 +60,7 @@ pub fn layer_of(name: &str) -> io::Result<Layer> {
     }
 }
 
-/// What a layer is asked: the rest of its `ask`, the text that it is given, the question, and the answer that is wanted.
+/// What a layer is asked: the rest of its `ask`, the text that it is given, the question, and the wanted answer.
 #[derive(Clone, Copy)]
 pub struct Question<'a> {
     pub rest: &'a str,

@@ -1,6 +1,6 @@
-//! Tries rows over the layers, each typed by hand from the standard or the rules that its layer follows. Its words are the
-//! files of the rows. For each it writes how many cases there are, and those that come to something else. Behind them it
-//! writes how many looks one trail takes until one passes a limit.
+//! Tries rows over the layers, each typed by hand from the standard or the rules that its layer follows. Its words are
+//! the files of the rows. For each it writes how many cases there are, and those that come to something else. Behind
+//! them it writes how many looks one trail takes until one passes a limit.
 #![tactic(auto)]
 
 ghost use Rattle.std.specs.Prelude.{◌≡◌, ◌<◌};
@@ -22,6 +22,7 @@ mod report;
 mod site;
 mod tables;
 mod targets;
+mod texts;
 mod tokens;
 mod urls;
 mod words;

@@ -1,5 +1,6 @@
 //! Import maps: what a text is as one, and what specifiers come to through it.
 
+use crate::texts::owned;
 use html_resolve::{HtmlFault, resolve_in};
 use map_parse::{MapFault, MapPart, ParsedMap, parse_map};
 use std::alloc::Global;
@@ -27,19 +28,15 @@ fn part_name(part: MapPart) -> &'static str {
     }
 }
 
-fn parsed(alloc: Global, text: &[u8]) -> io::Result<Result<ParsedMap, MapFault>> {
-    let base = url_of(alloc, PAGE)?;
-    Ok(parse_map(alloc, text, &base))
-}
-
 /// `map`, or the first fault of a text.
 pub fn map_text(alloc: Global, text: &[u8]) -> io::Result<String> {
-    match parsed(alloc, text)? {
-        Ok(_) => Ok(String::from_str(alloc, "map")?),
+    let base = url_of(alloc, PAGE)?;
+    match parse_map(alloc, text, &base) {
+        Ok(_) => owned(alloc, "map"),
         Err(MapFault::NotJson { at }) => Ok(format!(in alloc; "NotJson {at}")?),
         Err(MapFault::TooDeep { at }) => Ok(format!(in alloc; "TooDeep {at}")?),
-        Err(MapFault::NotObject { which }) => Ok(String::from_str(alloc, part_name(which))?),
-        Err(MapFault::Memory) => Ok(String::from_str(alloc, "memory")?),
+        Err(MapFault::NotObject { which }) => owned(alloc, part_name(which)),
+        Err(MapFault::Memory) => owned(alloc, "memory"),
     }
 }
 
@@ -53,6 +50,26 @@ fn fault_name(fault: HtmlFault) -> &'static str {
     }
 }
 
+fn map_of(alloc: Global, text: &str) -> io::Result<ParsedMap> {
+    let base = url_of(alloc, PAGE)?;
+    match parse_map(alloc, text.as_bytes(), &base) {
+        Ok(map) => Ok(map),
+        Err(_) => Err(io::Error::other("a map is none")),
+    }
+}
+
+fn resolved_text(
+    alloc: Global,
+    map: &ParsedMap,
+    referrer: &WebUrl,
+    specifier: &str,
+) -> io::Result<String> {
+    match resolve_in(alloc, map, referrer, specifier) {
+        Ok(url) => owned(alloc, url.as_str()),
+        Err(fault) => owned(alloc, fault_name(fault)),
+    }
+}
+
 /// What a specifier comes to through the map of a text: a URL, or why there is none. Where no referrer is given, the
 /// page asks.
 pub fn through_text(
@@ -61,12 +78,7 @@ pub fn through_text(
     referrer: &str,
     specifier: &str,
 ) -> io::Result<String> {
-    let Ok(map) = parsed(alloc, map.as_bytes())? else {
-        return Err(io::Error::other("a map is none"));
-    };
+    let map = map_of(alloc, map)?;
     let referrer = url_of(alloc, if referrer.is_empty() { PAGE } else { referrer })?;
-    match resolve_in(alloc, &map, &referrer, specifier) {
-        Ok(url) => Ok(String::from_str(alloc, url.as_str())?),
-        Err(fault) => Ok(String::from_str(alloc, fault_name(fault))?),
-    }
+    resolved_text(alloc, &map, &referrer, specifier)
 }

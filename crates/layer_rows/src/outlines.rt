@@ -1,5 +1,6 @@
 //! What a module text asks for.
 
+use crate::texts::owned;
 use es_module_parser::{Outline, OutlineFault, Request, Requests, outline};
 use primitives::Steps;
 use std::alloc::Global;
@@ -34,8 +35,8 @@ pub fn outline_text<L: Ledger>(
     match outline(alloc, text, steps) {
         Ok(outline) => asked_text(alloc, &outline),
         Err(OutlineFault::Unreadable { at }) => Ok(format!(in alloc; "! {at}")?),
-        Err(OutlineFault::TooDeep) => Ok(String::from_str(alloc, "deep")?),
-        Err(OutlineFault::TooManyRequests) => Ok(String::from_str(alloc, "many")?),
-        Err(OutlineFault::Memory) => Ok(String::from_str(alloc, "memory")?),
+        Err(OutlineFault::TooDeep) => owned(alloc, "deep"),
+        Err(OutlineFault::TooManyRequests) => owned(alloc, "many"),
+        Err(OutlineFault::Memory) => owned(alloc, "memory"),
     }
 }

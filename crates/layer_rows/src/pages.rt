@@ -1,5 +1,6 @@
 //! The pieces of a page, the values of its attributes, and a map that is put into it.
 
+use crate::texts::owned;
 use html_inject::{InjectFault, inject};
 use html_scan::{Piece, PieceKind, Scanner, attribute};
 use std::alloc::Global;
@@ -47,7 +48,7 @@ pub fn attribute_text(alloc: Global, name: &str, tag: &str) -> io::Result<String
         return Err(io::Error::other("a tag is none"));
     };
     match attribute(tag, piece, name) {
-        None => Ok(String::from_str(alloc, "none")?),
+        None => owned(alloc, "none"),
         Some((from, to)) => {
             let value = tag.get(from..to).unwrap_or("no text");
             Ok(format!(in alloc; "{from}..{to} {value}")?)
@@ -59,8 +60,8 @@ fn fault_text(alloc: Global, fault: InjectFault) -> io::Result<String> {
     match fault {
         InjectFault::PageUnclear { at } => Ok(format!(in alloc; "PageUnclear at {at}")?),
         InjectFault::TwoMaps { at } => Ok(format!(in alloc; "TwoMaps at {at}")?),
-        InjectFault::NoPlace => Ok(String::from_str(alloc, "NoPlace")?),
-        InjectFault::Memory => Ok(String::from_str(alloc, "memory")?),
+        InjectFault::NoPlace => owned(alloc, "NoPlace"),
+        InjectFault::Memory => owned(alloc, "memory"),
     }
 }
 
@@ -68,8 +69,8 @@ fn fault_text(alloc: Global, fault: InjectFault) -> io::Result<String> {
 pub fn inject_text(alloc: Global, map: &str, page: &[u8]) -> io::Result<String> {
     match inject(alloc, page, map.as_bytes()) {
         Ok(page) => match str::from_utf8(page.as_slice()) {
-            Ok(text) => Ok(String::from_str(alloc, text)?),
-            Err(_) => Ok(String::from_str(alloc, "no text")?),
+            Ok(text) => owned(alloc, text),
+            Err(_) => owned(alloc, "no text"),
         },
         Err(fault) => fault_text(alloc, fault),
     }

@@ -1,5 +1,6 @@
 //! The file of a project.
 
+use crate::texts::owned;
 use project_file::{ProjectFault, print_project, read_project};
 use std::alloc::Global;
 use std::{io, str};
@@ -8,11 +9,11 @@ use std::{io, str};
 pub fn project_text(alloc: Global, file: &[u8]) -> io::Result<String> {
     match read_project(alloc, file) {
         Ok(config) => match str::from_utf8(print_project(alloc, &config)?.as_slice()) {
-            Ok(text) => Ok(String::from_str(alloc, text)?),
-            Err(_) => Ok(String::from_str(alloc, "no text")?),
+            Ok(text) => owned(alloc, text),
+            Err(_) => owned(alloc, "no text"),
         },
         Err(ProjectFault::BadFile { at }) => Ok(format!(in alloc; "bad file at {at}")?),
         Err(ProjectFault::Limit { which }) => Ok(format!(in alloc; "limit {}", which.name())?),
-        Err(ProjectFault::Memory) => Ok(String::from_str(alloc, "memory")?),
+        Err(ProjectFault::Memory) => owned(alloc, "memory"),
     }
 }

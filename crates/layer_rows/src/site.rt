@@ -55,7 +55,7 @@ impl Site {
         Ok(())
     }
 
-    /// A file, whose text stands behind a `: `, an empty one, whose path ends in `:`, or a folder, whose path ends in `/`.
+    /// A file with its text behind a `: `, an empty one with a `:` behind its path, or a folder, whose path ends in `/`.
     pub fn put_entry(&mut self, alloc: Global, entry: &str) -> io::Result<()> {
         if let Some((path, text)) = entry.split_once(": ") {
             return self.put_text(alloc, path, text);

@@ -10,8 +10,8 @@ use std::alloc::Global;
 use std::io;
 use std::sync::ledger::Ledger;
 
-/// What has been read of a file: the layer that is asked with the rest of its `ask`, what it is given, the tree, and what
-/// was tried.
+/// What has been read of a file: the layer that is asked with the rest of its `ask`, what it is given, the tree, and
+/// what was tried.
 #[derive(Drop)]
 pub struct Table {
     layer: Layer,

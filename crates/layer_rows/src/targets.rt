@@ -1,5 +1,6 @@
 //! What a target in `exports` or `imports` comes to.
 
+use crate::texts::{owned, push_all};
 use condition_match::{BareAnswer, BareTarget, Conditions, ConditionsFault, Outcome, choose};
 use ordered_json::{Value, read};
 use primitives::Memory;
@@ -96,8 +97,8 @@ pub fn target_text(alloc: Global, place: &str, target: &str) -> io::Result<Strin
 pub fn conditions_text(alloc: Global, text: &str) -> io::Result<String> {
     match Conditions::parse(alloc, text) {
         Ok(conditions) => names_text(alloc, &conditions),
-        Err(ConditionsFault::BadConditions) => Ok(String::from_str(alloc, "bad")?),
-        Err(ConditionsFault::Memory) => Ok(String::from_str(alloc, "memory")?),
+        Err(ConditionsFault::BadConditions) => owned(alloc, "bad"),
+        Err(ConditionsFault::Memory) => owned(alloc, "memory"),
     }
 }
 
@@ -105,8 +106,7 @@ fn names_text(alloc: Global, conditions: &Conditions) -> io::Result<String> {
     let mut text = format!(in alloc; "{}", conditions.len())?;
     for index in 0..conditions.len() {
         if let Some(name) = conditions.at(index) {
-            text.push_str(" ")?;
-            text.push_str(name.as_str())?;
+            push_all(&mut text, &[" ", name.as_str()])?;
         }
     }
     Ok(text)

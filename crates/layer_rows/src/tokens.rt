@@ -1,5 +1,6 @@
 //! The tokens of a module text.
 
+use crate::texts::push_all;
 use es_lexer::{Kind, LexFault, LexKind, Lexer, Token};
 use std::alloc::Global;
 use std::io;
@@ -20,11 +21,8 @@ fn letter(kind: Kind) -> &'static str {
 }
 
 fn push_token(out: &mut String, text: &str, token: Token) -> io::Result<()> {
-    out.push_str(letter(token.kind))?;
-    out.push_str(" ")?;
-    out.push_str(text.get(token.from..token.to).unwrap_or("no text"))?;
-    out.push_str("  ")?;
-    Ok(())
+    let spelled = text.get(token.from..token.to).unwrap_or("no text");
+    push_all(out, &[letter(token.kind), " ", spelled, "  "])
 }
 
 fn fault_text(alloc: Global, fault: LexFault) -> io::Result<String> {

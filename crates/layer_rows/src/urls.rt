@@ -1,6 +1,7 @@
 //! Paths, URLs and specifiers. The first word of a question says which call is asked.
 
 use crate::maps::url_of;
+use crate::texts::{owned, push_all};
 use std::alloc::Global;
 use std::io;
 use tree_model::{Path, PathFault};
@@ -11,10 +12,6 @@ use web_url::{
 
 /// Who asks, where nobody is named.
 const REFERRER: &str = "https://h/a/b.mjs";
-
-fn owned(alloc: Global, text: &str) -> io::Result<String> {
-    Ok(String::from_str(alloc, text)?)
-}
 
 /// The path of a text.
 pub fn path_of(alloc: Global, text: &str) -> io::Result<Path> {
@@ -124,11 +121,13 @@ fn place_text(alloc: Global, place: &Place) -> io::Result<String> {
         Some(path) => path.as_str(),
         None => "none",
     };
+    let folder = if place.folder_only { " folder" } else { "" };
+    let escaped = if place.escaped { " escaped" } else { "" };
     let mut text = owned(alloc, path)?;
-    text.push_str(if place.folder_only { " folder" } else { "" })?;
-    text.push_str(if place.escaped { " escaped " } else { " " })?;
-    text.push_str(place.suffix.as_str())?;
-    text.push_str(".")?;
+    push_all(
+        &mut text,
+        &[folder, escaped, " ", place.suffix.as_str(), "."],
+    )?;
     Ok(text)
 }
 

@@ -1,34 +1,37 @@
 //! The words of a command line, each in brackets.
 
+use crate::texts::{owned, push_all};
 use std::alloc::Global;
 use std::io;
 use words_parse::{Command, LinkValues, WordsFault, parse};
 
+// What stands between the first bracket and the last one.
+fn inner_of(row: &str) -> Option<&str> {
+    row.strip_prefix("[")?.strip_suffix("]")
+}
+
 /// The words of a row.
 pub fn words_of(alloc: Global, row: &str) -> io::Result<Vec<String>> {
-    let mut words = Vec::new(alloc);
-    let inner = match row.strip_prefix("[") {
-        Some(open) => open.strip_suffix("]"),
-        None => None,
-    };
-    match inner {
-        None if row.is_empty() => Ok(words),
-        None => Err(io::Error::other("words are none")),
-        Some(inner) => {
-            for word in inner.split("][") {
-                words.push(String::from_str(alloc, word)?)?;
-            }
-            Ok(words)
-        }
+    if row.is_empty() {
+        return Ok(Vec::new(alloc));
     }
+    match inner_of(row) {
+        Some(inner) => split_words(alloc, inner),
+        None => Err(io::Error::other("words are none")),
+    }
+}
+
+fn split_words(alloc: Global, inner: &str) -> io::Result<Vec<String>> {
+    let mut words = Vec::new(alloc);
+    for word in inner.split("][") {
+        words.push(owned(alloc, word)?)?;
+    }
+    Ok(words)
 }
 
 /// Puts a value in brackets behind a text.
 pub fn push_bracketed(text: &mut String, value: &str) -> io::Result<()> {
-    text.push_str("[")?;
-    text.push_str(value)?;
-    text.push_str("]")?;
-    Ok(())
+    push_all(text, &["[", value, "]"])
 }
 
 fn push_value(text: &mut String, name: &str, value: Option<&str>) -> io::Result<()> {
@@ -53,31 +56,36 @@ fn push_values(text: &mut String, values: &LinkValues<'_>) -> io::Result<()> {
     push_value(text, " conditions", values.conditions)
 }
 
-fn command_text(alloc: Global, command: &Command<'_>) -> io::Result<String> {
+fn link_text(alloc: Global, values: &LinkValues<'_>, entries: &[String]) -> io::Result<String> {
     let mut text = String::new(alloc);
-    match command {
-        Command::Link(values, entries) => {
-            push_values(&mut text, values)?;
-            push_entries(&mut text, entries)?;
-        }
-        Command::Unlink(entries) => {
-            text.push_str("unlink")?;
-            push_entries(&mut text, entries)?;
-        }
-        Command::Refresh => text.push_str("refresh")?,
-        Command::Check => text.push_str("check")?,
-        Command::List => text.push_str("list")?,
-        Command::Inject => text.push_str("inject")?,
-        Command::Session => text.push_str("session")?,
-        Command::Measure(number) => return Ok(format!(in alloc; "measure {number}")?),
-    }
+    push_values(&mut text, values)?;
+    push_entries(&mut text, entries)?;
     Ok(text)
+}
+
+fn unlink_text(alloc: Global, entries: &[String]) -> io::Result<String> {
+    let mut text = owned(alloc, "unlink")?;
+    push_entries(&mut text, entries)?;
+    Ok(text)
+}
+
+fn command_text(alloc: Global, command: &Command<'_>) -> io::Result<String> {
+    match command {
+        Command::Link(values, entries) => link_text(alloc, values, entries),
+        Command::Unlink(entries) => unlink_text(alloc, entries),
+        Command::Refresh => owned(alloc, "refresh"),
+        Command::Check => owned(alloc, "check"),
+        Command::List => owned(alloc, "list"),
+        Command::Inject => owned(alloc, "inject"),
+        Command::Session => owned(alloc, "session"),
+        Command::Measure(number) => Ok(format!(in alloc; "measure {number}")?),
+    }
 }
 
 // What is told, or as much of it as is wanted where that stands in it.
 fn told_text(alloc: Global, told: &str, wanted: &str) -> io::Result<String> {
     match wanted.strip_prefix("told ") {
-        Some(part) if told.contains(part) => Ok(String::from_str(alloc, wanted)?),
+        Some(part) if told.contains(part) => owned(alloc, wanted),
         _ => Ok(format!(in alloc; "told {told}")?),
     }
 }
@@ -87,8 +95,8 @@ pub fn words_text(alloc: Global, row: &str, wanted: &str) -> io::Result<String> 
     let words = words_of(alloc, row)?;
     match parse(alloc, words.as_slice()) {
         Ok(command) => command_text(alloc, &command),
-        Err(WordsFault::NotPlain) => Ok(String::from_str(alloc, "not plain")?),
+        Err(WordsFault::NotPlain) => owned(alloc, "not plain"),
         Err(WordsFault::Told(text)) => told_text(alloc, text.as_str(), wanted),
-        Err(WordsFault::Memory) => Ok(String::from_str(alloc, "memory")?),
+        Err(WordsFault::Memory) => owned(alloc, "memory"),
     }
 }
