@@ -49,7 +49,7 @@ nothing_differs tree config all layout parsed base traces page_is_file agreed na
     let mapped : OfNeeds all.needs m = of_needs tree config all traces layout agreed in
     let kept = map_kept base (kept_urls.2 _ _ _ _ named) all.needs m mapped files (has_digests tree config all traces layout) in
     let read : ParsesMap base (map_text base m) (Ok parsed) =
-        subst (λ text. ParsesMap base text (Ok parsed)) (ap (λ found. map_text (unwrap_or found []) m) named) parses in
+    subst (λ text. ParsesMap base text (Ok parsed)) (ap (λ found. map_text (unwrap_or found []) m) named) parses in
     subst (λ (map : ParsedMap). differences map all.needs ≡ [])
     (same_map m parsed (one_map base (map_text base m) (Ok m) (Ok parsed) (texts_read_back base m kept) read))
     (all_served m 0 all.needs (gets_target all.needs m captures mapped files))
