@@ -85,6 +85,7 @@ plain_folder folder is =
     behind_or : (x y : Bool) → x ≡ false → (x || y) ≡ true → y ≡ true
     behind_or false y none e = e
     behind_or true y none e = absurd (true≢false none)
+
     with_https : (begins folder (codes "https://") ≡ true) × (is_host_and_folders (drop 8 folder) ≡ true) → IsPlainFolder folder
     with_https both = record {
       scheme = codes "https";
@@ -94,6 +95,7 @@ plain_folder folder is =
       split = (starts_is Decides-eqb folder (codes "https://") (begins folder (codes "https://")) refl).0 both.0;
       below = host_below (codes "https") (drop 8 folder) both.1;
     }
+
     with_http : (begins folder (codes "http://") ≡ true) × (is_host_and_folders (drop 7 folder) ≡ true) → IsPlainFolder folder
     with_http both = record {
       scheme = codes "http";
