@@ -1,0 +1,7 @@
+pub mod Sights
+pub mod Forms
+pub mod Statements
+pub mod Readings
+pub mod Verdicts
+pub mod PlainReading
+pub mod Laws
