@@ -1,5 +1,5 @@
 -- A form has an outcome at each place.
-use Rattle.std.proofs.Common.{◌≡◌, ◌≤◌, ◌<◌, ◌+◌, ◌-◌, ℕ, zero, suc, Bool, true, false, not, ◌&&◌, ◌||◌, List, length, refl, sym, ◌∙◌, ap, subst, nat_lt}
+use Rattle.std.proofs.Common.{◌≡◌, ◌≤◌, ◌<◌, ◌-◌, ℕ, zero, suc, Bool, true, false, ◌||◌, List, length, refl, sym, ◌∙◌, subst}
 use Rattle.std.proofs.Common.{Option, Some, None, arith, codes}
 use Rattle.std.proofs.lemmas.Bool.Decides.{nat_tests}
 use Rattle.std.proofs.lemmas.Option.{slice_get_within}
@@ -20,7 +20,7 @@ use Rattle.grammar_spec.specs.Readings.Reads.{reads_quoted, reads_one, reads_ahe
 use Rattle.grammar_spec.specs.Readings.Reads.{or_first, or_second, reads_maybe, many_more, many_ends, reads_rule}
 use Rattle.grammar_spec.specs.Readings.Reads.{reads_asks, nested_deep, reads_nested, reads_headed}
 use Rattle.grammar_spec.specs.Laws.{SomeReading}
-use Rattle.grammar_spec.proofs.Orders.{can_stay, rule_stays, body_stays, order, below, body_below, highest, higher, all_below}
+use Rattle.grammar_spec.proofs.Orders.{can_stay, body_stays, order, below, body_below, highest, higher, all_below}
 use Rattle.grammar_spec.proofs.Orders.{both, both_first, both_second, then_second}
 
 -- ---- a match that takes tokens ends behind them, at the last token at most

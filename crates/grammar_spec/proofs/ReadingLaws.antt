@@ -1,9 +1,9 @@
 -- A form has one outcome at a place.
-use Rattle.std.proofs.Common.{◌≡◌, ℕ, Bool, true, false, List, refl, sym, ◌∙◌, ap, subst, arith}
+use Rattle.std.proofs.Common.{◌≡◌, true, false, List, refl, sym, ◌∙◌, ap, subst, arith}
 use Rattle.grammar_spec.specs.Sights.{Sight}
 use Rattle.grammar_spec.specs.Laws.{OneReading}
 use Rattle.grammar_spec.specs.Forms.{Form, many}
-use Rattle.grammar_spec.specs.Readings.{Place, Outcome, stays, takes, misses, faults, too_deep, behind, or_stays}
+use Rattle.grammar_spec.specs.Readings.{Place, Outcome, stays, takes, misses, behind, or_stays}
 use Rattle.grammar_spec.specs.declared.names.Context.{Context}
 use Rattle.grammar_spec.specs.Readings.{with_request, is_match, is_miss, is_take, Reads}
 use Rattle.grammar_spec.specs.Readings.Reads.{reads_quoted, reads_one, reads_ahead, then_here, then_there, then_ends}

@@ -4,4 +4,5 @@ pub mod Statements
 pub mod Readings
 pub mod Verdicts
 pub mod PlainReading
+pub mod Examples
 pub mod Laws

@@ -1,5 +1,5 @@
 -- The grammar of a module's statements: what each rule says. After ECMA-262, 13 to 16; own where it differs.
-use Rattle.std.specs.Prelude.{List, ℕ, codes}
+use Rattle.std.specs.Prelude.{codes}
 use Prim.Native.String.{String}
 use Rattle.grammar_spec.specs.declared.names.Rule.{Rule}
 use Rattle.grammar_spec.specs.declared.names.Rule.TheVariants.{Module, Item, Import, Clause, Star, Named, Word, With}

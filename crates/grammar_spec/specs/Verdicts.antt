@@ -2,7 +2,7 @@
 --     ReadsGrammar text verdict           it matches the text, with the requests that are in it; or the first place
 --                                         that can't be read, in bytes; or the text is nested too deep
 --     IsStrict outline verdict answer     so a text with that verdict agrees with its outline, or differs from it
-use Rattle.std.specs.Prelude.{◌≡◌, ℕ, ◌+◌, List, [], ◌∷◌, map, length, reverse, Option, Some, None}
+use Rattle.std.specs.Prelude.{◌≡◌, ℕ, ◌+◌, List, [], ◌∷◌, length, reverse, Option, Some, None}
 use Rattle.std.specs.List.{slice_get}
 use Rattle.module_spec.specs.declared.request.Request.{Request}
 use Rattle.module_spec.specs.Tokens.{Lexeme, Reaches, IsNext}
