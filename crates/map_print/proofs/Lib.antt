@@ -6,3 +6,4 @@ mod FolderLemmas
 mod PlainPaths
 mod PlainParses
 mod PlainRests
+mod PlainTests

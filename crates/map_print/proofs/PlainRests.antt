@@ -1,8 +1,8 @@
 -- Below a plain folder nothing is parsed for a plain rest.
 use Rattle.std.proofs.Common.{◌≡◌, ◌≢◌, ◌<◌, ◌-◌, ◌⊎◌, ℕ, Bool, true, false, not, ◌&&◌, ◌||◌, ◌==◌, List, [], ◌∷◌, ◌++◌, All, take, drop, length, Option, Some, None, Ok, Err, refl, sym, ap, ◌∙◌, subst, ⊎_elim, arith, inl, inr, append_assoc, lit<, IsAscii, take-append-drop}
 use Rattle.std.specs.Prelude.{codes, is_some}
-use Rattle.std.specs.List.{list_all, concat}
-use Rattle.std.proofs.lemmas.Bool.{cases_Bool, cond-true, cond-false, ne_eqb, eqb-true, true≢false, and_parts}
+use Rattle.std.specs.List.{list_all, list_any, concat}
+use Rattle.std.proofs.lemmas.Bool.{cases_Bool, cond-true, cond-false, ne_eqb, eqb-true, true≢false, and_parts, or_parts}
 use Rattle.std.proofs.lemmas.Bool.Decides.{Decides-eqb}
 use Rattle.std.proofs.lemmas.List.{append_cancel_right}
 use Rattle.std.proofs.lemmas.List.Elements.{All-nil, All-cons, All-head, All-tail, All-append, All-weaker}
@@ -208,14 +208,14 @@ module _ (folder name base : List ℕ) (p : IsPlainFolder folder) (base_is : bas
       ∙ (ap (λ (r : Parsed Parts). kept (url_text r)) (below_page p.scheme p.web head is_head state name no_slash rest plain)
       ∙ (ap (λ (text : List ℕ). kept (Some text)) (text_is rest) ∙ own_text rest plain))
 
-no_slashes : (name : List ℕ) → list_all (λ c. not (c == 47)) name ≡ true → All (IsNot 47) name
-no_slashes name e =
-    All-weaker (Passes (λ c. not (c == 47))) (IsNot 47) (λ c passes same. true≢false (sym passes ∙ ap (λ n. not (n == 47)) same)) name
-    (All_from_list_all (λ c. not (c == 47)) name e)
+no_slashes : (name : List ℕ) → list_any (λ c. c == 47) name ≡ false → All (IsNot 47) name
+no_slashes [] e = All-nil (IsNot 47)
+no_slashes (c ∷ name) e =
+    let both = or_parts (c == 47) (list_any (λ n. n == 47) name) e in
+    All-cons (IsNot 47) c name (λ same. true≢false (sym (ap (λ n. n == 47) same) ∙ both.0)) (no_slashes name both.1)
 
 pub plain_rests : PlainRests
 plain_rests base rest plain is_plain =
     let folder : List ℕ = folder_text base in
-    let name : List ℕ = drop (length folder) base in
     short_beside base (folder ++ rest) rest refl
-    (beside_parses folder name base (plain_folder folder plain.folder) plain.split plain.is_url plain.behind (no_slashes name plain.name) rest is_plain)
+    (beside_parses folder plain.name base (plain_folder folder plain.plain.folder_is) plain.split plain.is_url plain.plain.name_is (no_slashes plain.name plain.plain.no_slash) rest is_plain)

@@ -4,6 +4,7 @@
 mod laws;
 mod least_size;
 mod map_folder;
+mod plain;
 mod print;
 
 pub use laws::plain_rests;

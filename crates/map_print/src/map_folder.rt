@@ -3,7 +3,9 @@ ghost use Rattle.std.specs.Prelude.{false, string_bytes, IsAscii};
 ghost use Rattle.url_spec.specs.Parsing.{parse_against};
 ghost use Rattle.url_spec.specs.Specifiers.{begins};
 ghost use Rattle.layout_spec.specs.ShortForms.{folder_text, short};
+ghost use Rattle.map_print.specs.PlainRests.{IsPlainShort};
 
+use crate::plain::{is_plain_page, is_plain_rest};
 use primitives::{Memory, Text};
 use std::alloc::Global;
 use std::marker::Model;
@@ -14,17 +16,18 @@ use web_url::WebUrl;
 pub(crate) struct MapFolder {
     base: WebUrl,
     folder: Text,
+    is_plain: bool,
 }
 
 impl Model for MapFolder {
     ghost use Rattle.std.specs.Prelude.{◌≡◌, List, ℕ};
-    ghost use Rattle.layout_spec.specs.ShortForms.{folder_text};
+    ghost use Rattle.map_print.specs.PlainRests.{IsFolderOf};
 
     ghost Value = { List ℕ };
 
     ghost view = { λ f. f.base };
 
-    ghost invariant = { λ f. f.folder ≡ folder_text f.base };
+    ghost invariant = { λ f. IsFolderOf f.base f.folder f.is_plain };
 }
 
 impl MapFolder {
@@ -32,10 +35,12 @@ impl MapFolder {
     pub fn of(alloc: Global, map_base: &WebUrl) -> Result<MapFolder, Memory>
         ensures { IfOk result (λ folder. folder ≡ map_base.now) }
     {
-        let folder = Text::of(alloc, folder_of(map_base.as_str()))?;
+        let text = map_base.as_str();
+        let (folder, name) = split_folder(text);
         Ok(MapFolder {
             base: map_base.copy(alloc)?,
-            folder,
+            folder: Text::of(alloc, folder)?,
+            is_plain: is_plain_page(folder.as_bytes(), name.as_bytes()),
         })
     }
 
@@ -52,6 +57,13 @@ impl MapFolder {
             (λ rest. url.now ≡ folder_text self.now ++ rest.now) }
     {
         behind(self.folder.as_str(), url)
+    }
+
+    /// Whether what a URL has behind the folder is known to be short, and nothing to be escaped in it.
+    pub fn is_plain(&self, rest: &str) -> bool
+        ensures { IsTrue result → IsPlainShort self.now rest.now }
+    {
+        self.is_plain && is_plain_rest(rest.as_bytes())
     }
 
     /// `./` and what a URL has behind the folder, where that is its short form.
@@ -94,13 +106,14 @@ fn behind<'a>(front: &str, text: &'a str) -> Option<&'a str>
     text.strip_prefix(front)
 }
 
-/// The longest front of a map base that ends in `/`.
-fn folder_of(base: &str) -> &str
+/// The longest front of a map base that ends in `/`, and what stands behind it.
+fn split_folder(base: &str) -> (&str, &str)
     requires { IsAscii base.now }
-    ensures { result.now ≡ folder_text base.now }
+    ensures folder { result.0.now ≡ folder_text base.now }
+    ensures split { base.now ≡ result.0.now ++ result.1.now }
 {
     let size = folder_size(base.as_bytes());
-    &base[..size]
+    (&base[..size], &base[size..])
 }
 
 fn folder_size(base: &[u8]) -> usize

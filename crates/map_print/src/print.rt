@@ -1,4 +1,4 @@
-ghost use Rattle.std.specs.Prelude.{◌≡◌, ◌<◌, ◌≤◌, ◌∷◌, ◌++◌, [], length, Err, IfOk, IsTrue, OnOk, codes, false};
+ghost use Rattle.std.specs.Prelude.{◌≡◌, ◌<◌, ◌≤◌, ◌∷◌, ◌++◌, [], length, Err, IfOk, IsTrue, OnOk, codes, false, true};
 ghost use Rattle.tree_spec.specs.Limits.{limit_number};
 ghost use Rattle.tree_spec.specs.declared.LimitName.TheVariants.{Map};
 ghost use Rattle.json_spec.specs.PrintedString.{quoted};
@@ -8,6 +8,7 @@ ghost use Rattle.import_map_spec.specs.ParsedMap.{ParsedMap};
 ghost use Rattle.layout_spec.specs.PrintedMap.{with_part, map_text};
 ghost use Rattle.layout_spec.specs.ShortForms.{folder_text, short};
 ghost use Rattle.scope_builder.specs.Lists.{Lists};
+ghost use Rattle.map_print.specs.PlainRests.{is_plain_rest};
 ghost use Rattle.map_print.specs.Printed.{IsPrinted};
 ghost use Rattle.map_print.specs.PrintedLists.{value_text, mappings_value, scopes_members};
 ghost use Rattle.map_print.specs.PrintedLists.{layout_value, pairs_members};
@@ -295,10 +296,39 @@ fn push_beside(
     requires { url.now ≡ folder_text folder.now ++ rest.now }
     ensures { OnOk result (out.new.items ≡ out.old.items ++ quoted (short folder.now url.now)) }
 {
+    if folder.is_plain(rest) {
+        push_plain(out, rest)
+    } else {
+        push_parsed(alloc, out, url, rest, folder)
+    }
+}
+
+// The same, where it has to be parsed.
+fn push_parsed(
+    alloc: Global,
+    out: &mut Vec<u8>,
+    url: &str,
+    rest: &str,
+    folder: &MapFolder,
+) -> Result<(), Memory>
+    requires { url.now ≡ folder_text folder.now ++ rest.now }
+    ensures { OnOk result (out.new.items ≡ out.old.items ++ quoted (short folder.now url.now)) }
+{
     match folder.short(alloc, url, rest)? {
         None => print_text(out, url),
         Some(text) => print_text(out, text.as_str()),
     }
+}
+
+// `./` and a rest in which nothing is escaped.
+fn push_plain(out: &mut Vec<u8>, rest: &str) -> Result<(), Memory>
+    requires { is_plain_rest rest.now ≡ true }
+    ensures { OnOk result (out.new.items ≡ out.old.items ++ quoted (codes "./" ++ rest.now)) }
+{
+    out.extend_from_slice(b"\"./".as_slice())?;
+    out.extend_from_slice(rest.as_bytes())?;
+    out.push(b'"')?;
+    Ok(())
 }
 
 fn push_key(out: &mut Vec<u8>, level: usize, key: &str) -> Result<(), Memory>
