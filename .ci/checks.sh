@@ -138,6 +138,7 @@ check "the page of the examples" injected
 check "the page of packages" injected_packages
 check "the example with a map written by hand" checked
 check "a site from link to unlink" cycle
+check "the sentences that edits break" .ci/edits.sh
 check "rows on disk" .ci/rows.sh
 check "a program that must not compile" .ci/must_not_compile.sh
 check "values that are dropped once" .ci/drops.sh

@@ -10,8 +10,6 @@ mod index_keys;
 mod laws;
 mod segments;
 mod strings;
-#[cfg(test)]
-mod tests;
 
 pub use bare_target::BareTarget;
 pub use choice::choose;

@@ -15,8 +15,6 @@ mod punctuators;
 mod sorts;
 mod spellings;
 mod state;
-#[cfg(test)]
-mod tests;
 mod whole;
 
 pub use lexer::Lexer;

@@ -12,8 +12,6 @@ mod progress;
 mod reading;
 mod requests;
 mod terminals;
-#[cfg(test)]
-mod tests;
 
 pub use fault::OutlineFault;
 pub use module_spec::Request;

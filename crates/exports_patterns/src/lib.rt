@@ -4,8 +4,6 @@
 ghost use Rattle.exports_patterns.specs.OneFound.{OneFound};
 
 mod pattern_keys;
-#[cfg(test)]
-mod tests;
 
 pub use pattern_keys::{Match, best_match};
 

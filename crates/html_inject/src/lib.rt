@@ -8,8 +8,6 @@ mod comments;
 mod import_maps;
 mod injection;
 mod search;
-#[cfg(test)]
-mod tests;
 mod written;
 
 pub use injection::{PageSite, inject, inject_at, site_of};

@@ -6,8 +6,6 @@ mod html_fault;
 mod imports;
 mod resolve;
 mod scopes;
-#[cfg(test)]
-mod tests;
 
 pub use html_fault::HtmlFault;
 pub use resolve::{resolve_in, resolve_normalized};

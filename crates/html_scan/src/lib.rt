@@ -11,8 +11,6 @@ mod names;
 mod runs;
 mod scanner;
 mod tags;
-#[cfg(test)]
-mod tests;
 mod values;
 mod whole;
 

@@ -4,9 +4,6 @@
 ghost use Rattle.std.specs.Prelude.{◌≡◌, IfOk};
 ghost use Rattle.integrity_spec.specs.DigestTexts.{digest_text};
 
-#[cfg(test)]
-mod tests;
-
 use base64::engine::general_purpose::STANDARD;
 use primitives::{Memory, Text};
 use sha2::{Digest, Sha384};

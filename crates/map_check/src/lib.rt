@@ -3,8 +3,6 @@
 
 mod check;
 mod difference;
-#[cfg(test)]
-mod tests;
 
 pub use check::check_map;
 pub use difference::{Difference, Differences, Got};

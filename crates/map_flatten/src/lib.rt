@@ -8,8 +8,6 @@ mod laid;
 mod reach;
 mod rows;
 mod shortest;
-#[cfg(test)]
-mod tests;
 
 pub use agreement::agreed;
 pub use count::mappings;

@@ -8,8 +8,6 @@ mod parse;
 mod parsed_map;
 mod parts;
 mod scopes;
-#[cfg(test)]
-mod tests;
 mod text_map;
 mod url_text;
 

@@ -3,7 +3,5 @@
 
 mod print;
 mod size;
-#[cfg(test)]
-mod tests;
 
 pub use print::{PrintFault, print_map};

@@ -5,8 +5,6 @@
 mod graph;
 mod laws;
 mod module;
-#[cfg(test)]
-mod tests;
 mod view;
 
 pub use graph::Graph;

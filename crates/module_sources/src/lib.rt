@@ -4,8 +4,6 @@
 
 mod reading;
 mod source;
-#[cfg(test)]
-mod tests;
 
 pub use reading::module_source;
 pub use source::{NoSource, Source};

@@ -3,8 +3,6 @@
 
 mod asking;
 mod needs;
-#[cfg(test)]
-mod tests;
 
 pub use layout_spec::Need;
 pub use needs::{Added, NeedFault, Needs};

@@ -13,8 +13,6 @@ mod reader;
 mod scan;
 mod settling;
 mod strings;
-#[cfg(test)]
-mod tests;
 mod value;
 
 pub use fault::JsonFault;

@@ -11,8 +11,6 @@ mod held;
 mod known;
 mod over;
 mod packages;
-#[cfg(test)]
-mod tests;
 mod trail;
 
 pub use fault::LookupFault;

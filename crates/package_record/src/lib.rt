@@ -3,8 +3,6 @@
 
 mod fields;
 mod package_json;
-#[cfg(test)]
-mod tests;
 
 pub use node_spec::PackageKind;
 pub use package_json::{Package, PackageFault, read_package};

@@ -4,8 +4,6 @@
 mod listed;
 mod short;
 mod step_count;
-#[cfg(test)]
-mod tests;
 mod text;
 
 pub use listed::Listed;

@@ -6,8 +6,6 @@ mod entries;
 mod fault;
 mod linking;
 mod order;
-#[cfg(test)]
-mod tests;
 mod unlinking;
 
 pub use fault::NoConfig;

@@ -7,8 +7,6 @@ mod parts;
 mod printing;
 mod project;
 mod reading;
-#[cfg(test)]
-mod tests;
 
 pub use fault::ProjectFault;
 pub use printing::print_project;

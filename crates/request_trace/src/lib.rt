@@ -4,8 +4,6 @@
 
 mod folder_answers;
 mod folder_trace;
-#[cfg(test)]
-mod tests;
 mod traces;
 
 pub use folder_trace::trace;

@@ -3,8 +3,6 @@
 
 mod lines;
 mod statuses;
-#[cfg(test)]
-mod tests;
 
 pub use lines::{
     differences_line, differs_line, done_line, line_of, memory_line, not_plain_line,

@@ -5,8 +5,6 @@ ghost use Rattle.scope_builder.specs.SomeMap.{SomeMap};
 
 mod folders;
 mod keyed;
-#[cfg(test)]
-mod tests;
 
 pub use folders::{Places, is_folder, places};
 pub use keyed::{Keyed, Layout, Mappings, Scopes};

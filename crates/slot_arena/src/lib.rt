@@ -8,8 +8,6 @@ mod chunk;
 mod laws;
 mod places;
 mod slot;
-#[cfg(test)]
-mod tests;
 
 pub use arena::SlotArena;
 pub use laws::{

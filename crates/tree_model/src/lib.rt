@@ -9,8 +9,6 @@ mod mem_source;
 mod numbers;
 mod path;
 mod stream;
-#[cfg(test)]
-mod tests;
 
 pub use folder::Folder;
 pub use mem_folder::MemFolder;

@@ -9,8 +9,6 @@ mod names;
 mod paths;
 mod specifier;
 mod suffix;
-#[cfg(test)]
-mod tests;
 mod url_text;
 mod web_url;
 

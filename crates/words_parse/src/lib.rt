@@ -9,9 +9,6 @@ ghost use Rattle.words_parse.specs.Explaining.{Explains};
 ghost use Rattle.words_read.specs.Shown.{shown};
 ghost use Rattle.words_spec.specs.PlainWords.{Asked, Asks};
 
-#[cfg(test)]
-mod tests;
-
 use clap::Error;
 use clap::error::ErrorKind;
 use std::alloc::Global;

@@ -1,4 +1,0 @@
-use Rattle.es_module_parser.proofs.tests.shown.Given as goal
-
-abbrev pub ghosts-read : goal.ghosts-read
-ghosts-read a = record { name = a.blank.name; parts = a.blank.parts }
