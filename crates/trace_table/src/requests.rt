@@ -13,7 +13,7 @@ static FORMS: &str = r#"
 /a5.mjs: export*from"./b.mjs";export * as b from './b.mjs';export {};export default 1;
 /a6.mjs: x = y / 2; import "./b.mjs"; /q/.test(x)
 /a7.mjs: import "\x2e/b.mjs"; import "./\u0062.mjs"; import './\u{62}.m\js';
-/a8.mjs: `${import("./gone.mjs")}`; import("./gone.mjs"); import.meta.url; a.import;
+/a8.mjs: `${import("./b.mjs")}`; import("./b.mjs", {}); import(`./gone.mjs`); import.meta.url; a.import;
 /a9.mjs: `${"import 'x'"}`; /import "y"/; a.import; // import "z"
 /a10.mjs: /* import "gone" */ let s = 'import "gone"'; { import "gone" } f(import "gone");
 /a11.mjs: #!/import "gone"
@@ -25,7 +25,7 @@ static FORMS: &str = r#"
 ./a5.mjs => 0 ok: 2 modules, 3 requests, 0 mappings
 ./a6.mjs => 0 ok: 2 modules, 2 requests, 0 mappings
 ./a7.mjs => 0 ok: 2 modules, 4 requests, 0 mappings
-./a8.mjs => 0 ok: 1 modules, 1 requests, 0 mappings
+./a8.mjs => 0 ok: 2 modules, 3 requests, 0 mappings
 ./a9.mjs => 0 ok: 1 modules, 1 requests, 0 mappings
 ./a10.mjs => 0 ok: 1 modules, 1 requests, 0 mappings
 ./a11.mjs => 0 ok: 1 modules, 1 requests, 0 mappings
