@@ -4,6 +4,9 @@ use crate::fault::{RowFault, malformed};
 use crate::numbers::{number_of, range_of};
 use std::alloc::Global;
 
+/// How many times a repeated text stands in what is put behind it at once.
+const BLOCK: u64 = 1_024;
+
 /// A text that is said once for each number from the first one to the last, cut where the number stands in it.
 #[derive(Drop)]
 struct Repeat {
@@ -104,8 +107,14 @@ impl Unescaping {
         let Some(repeat) = self.repeat.take() else {
             return Err(malformed("a repeat ends that didn't begin"));
         };
-        for turn in repeat.first..repeat.beyond {
-            push_parts(alloc, &mut self.bytes, repeat.parts.as_slice(), turn)?;
+        match repeat.parts.as_slice() {
+            [part] => push_blocks(
+                alloc,
+                &mut self.bytes,
+                part.as_slice(),
+                repeat.beyond.saturating_sub(repeat.first),
+            )?,
+            _ => push_turns(alloc, &mut self.bytes, &repeat)?,
         }
         self.push(rest.as_bytes())
     }
@@ -130,6 +139,33 @@ fn turns_of(turns: &str) -> Result<(u64, u64), RowFault> {
     }
     let (first, last) = range_of(turns)?;
     Ok((first, last.saturating_add(1)))
+}
+
+fn push_times(bytes: &mut Vec<u8>, part: &[u8], times: u64) -> Result<(), RowFault> {
+    for _ in 0..times {
+        bytes.extend_from_slice(part)?;
+    }
+    Ok(())
+}
+
+// A text so many times, most of them many at once, since a large file is one byte millions of times.
+fn push_blocks(
+    alloc: Global,
+    bytes: &mut Vec<u8>,
+    part: &[u8],
+    times: u64,
+) -> Result<(), RowFault> {
+    let mut block = Vec::new(alloc);
+    push_times(&mut block, part, BLOCK)?;
+    push_times(bytes, block.as_slice(), times / BLOCK)?;
+    push_times(bytes, part, times % BLOCK)
+}
+
+fn push_turns(alloc: Global, bytes: &mut Vec<u8>, repeat: &Repeat) -> Result<(), RowFault> {
+    for turn in repeat.first..repeat.beyond {
+        push_parts(alloc, bytes, repeat.parts.as_slice(), turn)?;
+    }
+    Ok(())
 }
 
 // The parts, with the number of the turn between each two.
