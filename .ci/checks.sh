@@ -130,6 +130,19 @@ cycle() {
         echo 'ok: 3 needs served' | cycle_step 0 unlinked unlinked-project check
 }
 
+# The rows of a program, by the program that the gate built: rows NAME. It writes what is stored, in which each line of a
+# file tells how many rows came to what they must; these are counted.
+rows() {
+    program=$PWD/crates/$1/out/$1
+    words=$(tr '\n' ' ' <"crates/$1/args")
+    # The words hold no spaces.
+    (cd "crates/$1/data" && "$program" $words >"$kept/rows" </dev/null) &&
+        diff "crates/$1/stdout" "$kept/rows" || return 1
+    counted=$(sed -n 's/^[a-z_]*\.txt: \([0-9]*\) .*/\1/p' "$kept/rows" | awk '{ sum += $1 } END { print sum + 0 }')
+    echo "$1: $counted rows"
+    passed=$((passed + counted))
+}
+
 check "build.sh" ./build.sh
 check "the example" example
 check "the example with packages" packages
@@ -139,6 +152,8 @@ check "the page of packages" injected_packages
 check "the example with a map written by hand" checked
 check "a site from link to unlink" cycle
 check "the sentences that edits break" .ci/edits.sh
+check "rows of runs" rows run_rows
+check "rows of layers" rows layer_rows
 check "rows on disk" .ci/rows.sh
 check "a program that must not compile" .ci/must_not_compile.sh
 check "values that are dropped once" .ci/drops.sh

@@ -1,6 +1,8 @@
-ghost use Rattle.std.specs.Prelude.{◌≡◌, ◌+◌, Err, IfOk};
+ghost use Rattle.std.specs.Prelude.{◌≡◌, ◌+◌, Err, IfOk, Some};
 ghost use Rattle.request_trace.specs.Tracing.{TakesSteps};
-ghost use Rattle.generator_spec.specs.Generation.{PageIsFile, map_base};
+ghost use Rattle.generator_spec.specs.Generation.{PageIsFile};
+ghost use Rattle.trace_spec.specs.Modules.{web_name};
+ghost use Rattle.trace_spec.specs.Walking.{the_page};
 ghost use Rattle.generation.specs.Generating.{Generating, IsMapOf, HasLargeMap};
 
 use crate::digests::digests;
@@ -52,7 +54,7 @@ fn generated_from<F: Folder, L: Ledger>(
     page: &WebUrl,
     steps: &mut Steps<L>,
 ) -> Result<Generated, Stop>
-    requires { map_base config.now ≡ page.now }
+    requires { web_name config.now the_page ≡ Some page.now }
     ensures generates { Generating config.now (F.state folder.old) result (F.state folder.new) }
     ensures steps { TakesSteps result (λ found. found.modules + found.requests) steps.old steps.new }
 {
@@ -73,7 +75,7 @@ fn map_of(
     page: &WebUrl,
     trace: &Trace,
 ) -> Result<Generated, PrintFault>
-    requires { map_base config.now ≡ page.now }
+    requires { web_name config.now the_page ≡ Some page.now }
     ensures map { IfOk result (IsMapOf config.now trace.now) }
     ensures too_large { result ≡ Err PrintFault.MapTooLarge → HasLargeMap config.now trace.now }
 {

@@ -1,7 +1,9 @@
 ghost use Rattle.std.specs.Prelude.{◌≡◌, IfOk, IfErr, Some, MatchOption, ⊤, [], option_map};
 ghost use Rattle.url_spec.specs.ServedPaths.{IsServed};
 ghost use Rattle.url_spec.specs.WebNames.{web};
-ghost use Rattle.generator_spec.specs.Generation.{PageIsFile, map_base};
+ghost use Rattle.generator_spec.specs.Generation.{PageIsFile};
+ghost use Rattle.trace_spec.specs.Modules.{web_name};
+ghost use Rattle.trace_spec.specs.Walking.{the_page};
 ghost use Rattle.generation.specs.Paging.{IsUnserved, IsUnservedAt};
 
 use crate::stop::Stop;
@@ -15,7 +17,7 @@ use web_url::{Suffix, WebFault, WebUrl, web_of};
 /// The page's URL, against which a map is parsed: the page is served there, and it is no folder's; or why nothing is
 /// traced from there.
 pub(crate) fn page_url(alloc: Global, config: &Config) -> Result<WebUrl, Stop>
-    ensures page { IfOk result (λ url. map_base config.now ≡ url) }
+    ensures page { IfOk result (λ url. web_name config.now the_page ≡ Some url) }
     ensures file { IfOk result (λ url. PageIsFile config.now) }
     ensures stopped { IfErr result (IsUnserved config.now) }
 {

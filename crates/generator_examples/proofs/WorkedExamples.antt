@@ -287,19 +287,19 @@ mapped files asked text is = record {
 }
 
 abbrev spelling_generates : Generates (tree_of spelling) (based "https://app.test/" ("./app.mjs" ∷ [])) spelling_map
-spelling_generates = generated spelling _ spelling_all spelling_pairs spelling_map spelling_traced (page_named _) spelling_digests spelling_text spelling_short
+spelling_generates = generated spelling _ spelling_all spelling_pairs spelling_map spelling_traced (page_named ("./app.mjs" ∷ [])) spelling_digests spelling_text spelling_short
 
 abbrev site_generates : Generates (tree_of site) (based "https://app.test/" ("./app.mjs" ∷ [])) site_map
-site_generates = generated site _ site_all site_pairs site_map site_traced (page_named _) site_digests site_text site_short
+site_generates = generated site _ site_all site_pairs site_map site_traced (page_named ("./app.mjs" ∷ [])) site_digests site_text site_short
 
 abbrev paged_generates : Generates (tree_of paged) (based "https://app.test/" ("./app.mjs" ∷ [])) spelling_map
-paged_generates = generated paged _ spelling_all spelling_pairs spelling_map paged_traced (page_named _) spelling_digests spelling_text spelling_short
+paged_generates = generated paged _ spelling_all spelling_pairs spelling_map paged_traced (page_named ("./app.mjs" ∷ [])) spelling_digests spelling_text spelling_short
 
 abbrev kept_generates : Generates (tree_of kept) (based "https://app.test/" ("./app.mjs" ∷ [])) spelling_map
-kept_generates = generated kept _ spelling_all spelling_pairs spelling_map kept_traced (page_named _) spelling_digests spelling_text spelling_short
+kept_generates = generated kept _ spelling_all spelling_pairs spelling_map kept_traced (page_named ("./app.mjs" ∷ [])) spelling_digests spelling_text spelling_short
 
 abbrev packages_generate : Generates (tree_of packages) (based "https://app.test/" ("./app.js" ∷ [])) packages_map
-packages_generate = generated packages _ packages_all packages_pairs packages_map packages_traced (page_named _) packages_digests packages_text packages_short
+packages_generate = generated packages _ packages_all packages_pairs packages_map packages_traced (page_named ("./app.js" ∷ [])) packages_digests packages_text packages_short
 
 map_examples : MapExamples
 map_examples = record {

@@ -4,3 +4,5 @@ mod LeastSizes
 mod Limits
 mod FolderLemmas
 mod PlainPaths
+mod PlainParses
+mod PlainRests

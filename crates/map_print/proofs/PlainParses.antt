@@ -10,8 +10,8 @@ use Rattle.url.proofs.PathLemmas.{parse_path_more}
 use Rattle.url.proofs.RoundTrip.{split_own_scheme}
 use Rattle.url.specs.Host.{parse_host}
 use Rattle.url.specs.Input.{is_empty, trim_start, trim_end, trim_c0_control_and_space, is_c0_control_or_space, strip_tabs_and_new_lines, is_tab_or_new_line, split_once, rsplit_once, lowercase, when}
-use Rattle.url.specs.Parser.{Parsed, and_then, parse_url, parse_by_scheme, parse_without_scheme, split_scheme, parse_parts, parse_all, parse_body, parse_not_file, parse_relative, parse_authority, parse_port, split_port, lacks_host, after_double_slash, skip_slashes, with_path, with_tail, before_tail, cannot_be_a_base, leading_slashes}
-use Rattle.url.specs.Parts.{Parts, kind_of, pieces, serialize}
+use Rattle.url.specs.Parser.{Parsed, and_then, parse_url, parse_by_scheme, parse_without_scheme, split_scheme, parse_parts, parse_all, parse_body, parse_not_file, parse_relative, parse_authority, parse_port, split_port, lacks_host, after_double_slash, skip_slashes, with_path, with_tail, before_tail, leading_slashes}
+use Rattle.url.specs.Parts.{Parts, kind_of, pieces, serialize, needs_guard}
 use Rattle.url.specs.Path.{parse_path, parse_path_start, parse_segments, push_segment, dot_count, shorten_path, segment_len}
 use Rattle.url.specs.Scheme.{IsScheme, scheme_len, scheme_type, is_slash, is_special, is_file}
 use Rattle.url.specs.declared.scheme.SchemeType.{SchemeType}
@@ -27,11 +27,11 @@ ArePath text = All (Passes is_path_byte) text
 -- ---- nothing is taken off a text of path bytes
 
 visible : (b : ℕ) → is_path_byte b ≡ true → is_c0_control_or_space b ≡ false
-visible b is = from (path_implies (λ x. not (is_c0_control_or_space x)) refl b is)
+visible b is = from (is_c0_control_or_space b) (path_implies (λ x. not (is_c0_control_or_space x)) refl b is)
   where
-    from : {x : Bool} → not x ≡ true → x ≡ false
-    from {false} e = refl
-    from {true} e = sym e
+    from : (x : Bool) → not x ≡ true → x ≡ false
+    from false e = refl
+    from true e = sym e
 
 no_prefix : (text : List ℕ) → ArePath text → prefix_len is_c0_control_or_space text ≡ 0
 no_prefix [] all = refl
@@ -78,17 +78,17 @@ parse_plain base text all =
 abbrev pub at_path : Parts → List ℕ → Parts
 at_path head path = with_tail (with_path head path) None None
 
-abbrev done : Parts → Parts
+abbrev pub done : Parts → Parts
 done url = with_tail (before_tail url None None) None None
 
-done_is : (url : Parts) → kind_of url ≡ SpecialNotFile → done url ≡ with_tail url None None
+pub done_is : (url : Parts) → kind_of url ≡ SpecialNotFile → done url ≡ with_tail url None None
 done_is url kind = ap (λ found. with_tail found None None) (cond-false _ _ _ (and_left _ _ (ap (λ k. not (is_special k)) kind)))
 
 pub record IsHead (scheme : List ℕ) (head : Parts) : Type 0 where
   pub scheme_is : head.scheme ≡ scheme
   pub host : is_some head.host ≡ true
 
-authority_gives : (scheme bytes : List ℕ) → Gives (IsHead scheme) (parse_authority scheme bytes)
+pub authority_gives : (scheme bytes : List ℕ) → Gives (IsHead scheme) (parse_authority scheme bytes)
 unfolding parse_authority
 authority_gives scheme bytes =
     let at = rsplit_once 64 bytes in
@@ -98,18 +98,21 @@ authority_gives scheme bytes =
 
 -- ---- its text
 
-abbrev heads : Parts → List (List ℕ)
+abbrev pub heads : Parts → List (List ℕ)
 heads head = take 9 (pieces head)
 
 concat_append : (xs ys : List (List ℕ)) → concat (xs ++ ys) ≡ concat xs ++ concat ys
 concat_append [] ys = refl
 concat_append (x ∷ xs) ys = ap (λ (text : List ℕ). x ++ text) (concat_append xs ys) ∙ sym (append_assoc x (concat xs) (concat ys))
 
+no_guard : (head : Parts) (path : List ℕ) → is_some head.host ≡ true → needs_guard (at_path head path) ≡ false
+no_guard head path host = and_left _ _ (and_left _ _ (ap not host))
+
 pub text_at : (head : Parts) (path : List ℕ) → is_some head.host ≡ true → text_of (at_path head path) ≡ concat (heads head) ++ path
 unfolding text_of
 text_at head path host =
     concat_append (heads head) (drop 9 (pieces (at_path head path)))
-    ∙ (ap (λ (guard : Bool). concat (heads head) ++ (when guard (codes "/.") ++ (path ++ []))) (and_left _ _ (ap not host))
+    ∙ (ap (λ (guard : Bool). concat (heads head) ++ (when guard (codes "/.") ++ (path ++ []))) (no_guard head path host)
     ∙ ap (λ (text : List ℕ). concat (heads head) ++ text) (append-nil path))
 
 -- ---- without a base
@@ -218,7 +221,7 @@ no_scheme rest = refl
 shortened : (kind : SchemeType) (state name : List ℕ) → kind ≡ SpecialNotFile → All (IsNot 47) name → shorten_path kind (state ++ 47 ∷ name) ≡ state
 unfolding shorten_path
 shortened kind state name web none =
-    cond-false _ _ _ (and_left _ _ (ap is_file web)) ∙ ap (λ (r : Option (List ℕ) × List ℕ). unwrap_or r.0 []) (rsplit_once_at 47 state name none)
+    cond-false _ _ _ (and_left _ _ (and_left _ _ (ap is_file web))) ∙ ap (λ (r : Option (List ℕ) × List ℕ). unwrap_or r.0 []) (rsplit_once_at 47 state name none)
 
 dot_passed : (path rest : List ℕ) → parse_path SpecialNotFile path (46 ∷ 47 ∷ rest) ≡ parse_path SpecialNotFile path rest
 unfolding push_segment dot_count

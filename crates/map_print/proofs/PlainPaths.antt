@@ -63,10 +63,10 @@ not_true true e = sym e
 
 goes : (c : ℕ) (rest : List ℕ) → goes_on (c ∷ rest) ≡ true → Goes c
 goes c rest e =
-    let all = or_parts (c == 46) (c == 37 || c == 47 || c == 50) (not_true _ e) in
-    let three = or_parts (c == 37) (c == 47 || c == 50) all.1 in
-    let two = or_parts (c == 47) (c == 50) three.1 in
-    record { dot = all.0; percent = three.0; slash = two.0; two = two.1 }
+    let all = or_parts (c == 46 || c == 37 || c == 47) (c == 50) (not_true (c == 46 || c == 37 || c == 47 || c == 50) e) in
+    let three = or_parts (c == 46 || c == 37) (c == 47) all.0 in
+    let two = or_parts (c == 46) (c == 37) three.0 in
+    record { dot = two.0; percent = two.1; slash = three.1; two = all.1 }
 
 resolved_from : (b c : ℕ) (more : List ℕ) → Goes c → dot_count (b ∷ c ∷ more) ≡ 0
 resolved_from b c more g =

@@ -44,7 +44,9 @@ is_plain_rest text = list_all is_path_byte text && (begins_segment text && begin
 pub record IsPlainBase (base : List ℕ) : Type 0 where
   pub is_url : IsUrl base
   pub folder : is_plain_folder (folder_text base) ≡ true
+  pub split : base ≡ folder_text base ++ drop (length (folder_text base)) base
   pub behind : is_plain_rest (drop (length (folder_text base)) base) ≡ true
+  pub name : list_all (λ b. not (b == 47)) (drop (length (folder_text base)) base) ≡ true
 
 -- own law: below the folder of such a base, a rest that is plain is the short form, and needs no parse
 abbrev pub PlainRests : Type 0

@@ -24,13 +24,13 @@ use Rattle.module_spec.proofs.BracketLaws.{Allowed, at_end, at_fault, allowed as
 
 -- ---- the brackets that are open
 
-data AreOpen : List Lexeme → List (List Lexeme) → Type 0 where
+pub data AreOpen : List Lexeme → List (List Lexeme) → Type 0 where
   empty : {before : List Lexeme} → Balanced before [] → AreOpen before []
   inside : {o : Lexeme} {before inner outer : List Lexeme} {k : Bracket} {unclosed : List (List Lexeme)}
       → Balanced before (o ∷ inner) → opens o.sort ≡ Some k → Outside o inner outer → AreOpen outer unclosed
       → AreOpen before ((o ∷ inner) ∷ unclosed)
 
-innermost_is : {before : List Lexeme} {unclosed : List (List Lexeme)} → AreOpen before unclosed
+pub innermost_is : {before : List Lexeme} {unclosed : List (List Lexeme)} → AreOpen before unclosed
     → Innermost before (innermost unclosed)
 innermost_is (empty b) = none b
 innermost_is (inside b e out below) = bracket b e
@@ -61,18 +61,18 @@ skips_by : (room : ℕ) (bytes : List ℕ) (out : Option (List ℕ)) → blank_r
 skips_by room bytes None e further = stop e
 skips_by room bytes (Some rest) e further = more e (further rest e)
 
-skips : (room : ℕ) (bytes : List ℕ) → length bytes < room → Skips bytes (skipped room bytes)
+pub skips : (room : ℕ) (bytes : List ℕ) → length bytes < room → Skips bytes (skipped room bytes)
 skips zero bytes l = absurd (omega arith)
 skips (suc room) bytes l =
     skips_by room bytes (blank_rest bytes) refl
     (λ rest e. let shorter = blank_shorter bytes rest e in skips room rest (omega arith))
 
 -- the brackets behind all tokens but the last, which the slash goes by, and behind all
-record Kept (before : List Lexeme) : Type 0 where
-  slash : Slash before (begins_regex before)
-  unclosed : AreOpen before (open_brackets before)
+pub record Kept (before : List Lexeme) : Type 0 where
+  pub slash : Slash before (begins_regex before)
+  pub unclosed : AreOpen before (open_brackets before)
 
-kept_more : (t : Lexeme) (before : List Lexeme) → Kept before
+pub kept_more : (t : Lexeme) (before : List Lexeme) → Kept before
     → refusal (opens t.sort) (closes t.sort) (opener (innermost (open_brackets before))) (depth before) ≡ None
     → Kept (t ∷ before)
 kept_more t before kept e = record {

@@ -6,7 +6,7 @@
 --     looked_on, resolved_on ..    a fault of a part is the fault of the whole
 --     known_on                     what is known is the same in another form
 --     Left before whole middle rest      whatever the rest comes to from here, the whole comes to
-use Rattle.std.proofs.Common.{◌≡◌, ◌++◌, [], ℕ, true, false, List, Option, Some, None, Result, Ok, Err, IfSome, refl, sym, ap, ◌∙◌, subst, arith}
+use Rattle.std.proofs.Common.{◌≡◌, ◌++◌, [], ◌∷◌, ℕ, true, false, List, Option, Some, None, Result, Ok, Err, IfSome, refl, sym, ap, ◌∙◌, subst, arith}
 use Rattle.std.specs.Prelude.{is_some, bytes_eq, All, Contains}
 use Rattle.std.specs.FinMap.{get}
 use Rattle.std.proofs.Common.{append_assoc, append-nil}
@@ -77,13 +77,22 @@ grows_twice before middle after one rest = record {
 -- ---- what was counted stays so
 
 pub lengthens_itself : (trail : Trail) → Lengthens trail trail
-lengthens_itself trail = record { more = []; paths = sym (append-nil trail.paths); size = arith }
+lengthens_itself trail = record { more = []; paths = sym (append-nil trail.paths); size = omega arith }
 
 pub lengthens_twice : (before middle after : Trail) → Lengthens before middle → Lengthens middle after → Lengthens before after
 lengthens_twice before middle after one rest = record {
   more = one.more ++ rest.more;
   paths = rest.paths ∙ (ap (λ paths. paths ++ rest.more) one.paths ∙ append_assoc before.paths one.more rest.more);
-  size = (let a = one.size in let b = rest.size in arith);
+  size = (let a = one.size in let b = rest.size in omega arith);
+}
+
+pub lengthens_by_one : (before after : Trail) (path : List ℕ)
+    → after ≡ record { paths = before.paths ++ path ∷ []; size = before.size; question = before.question }
+    → Lengthens before after
+lengthens_by_one before after path e = record {
+  more = path ∷ [];
+  paths = ap (λ (t : Trail). t.paths) e;
+  size = (let same = ap (λ (t : Trail). t.size) e in omega arith);
 }
 
 -- ---- what the folder was asked for

@@ -117,7 +117,12 @@ pub fn compare_looks(
         got.push_str(path.as_str())?;
         got.push_str("\n")?;
     }
-    found.compare(alloc, "the looks", wanted.as_bytes(), got.as_bytes())?;
+    found.compare(
+        alloc,
+        "what is looked at",
+        wanted.as_bytes(),
+        got.as_bytes(),
+    )?;
     Ok(())
 }
 

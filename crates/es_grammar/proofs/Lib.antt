@@ -1,0 +1,4 @@
+pub mod Unwound
+pub mod Steps
+pub mod Arms
+pub mod Ends

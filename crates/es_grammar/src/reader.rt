@@ -1,0 +1,254 @@
+ghost use Rattle.std.specs.Prelude.{◌≡◌, ◌<◌, true, ◌∷◌, IfOk, length};
+ghost use Rattle.es_grammar.specs.Pending.{pending};
+ghost use Rattle.grammar_table.specs.NodeForms.{form_of};
+ghost use Rattle.es_grammar.specs.Unwinding.{place, EntersAt, LeavesBefore, TookBefore, StandsAt};
+ghost use Rattle.es_grammar.specs.Unwinding.{TurnsAt, TellsOf};
+ghost use Rattle.grammar_spec.specs.Readings.{stays, misses, is_sole};
+
+use crate::stack::{Frame, Stack};
+use grammar_spec::{Context, Rule};
+use grammar_table::{Node, body};
+use grammar_tokens::Tokens;
+use module_spec::Kind;
+use primitives::Memory;
+use std::alloc::{AllocError, Global};
+
+/// What is done next: a form is read, or one has given its outcome.
+#[derive(Clone, Copy)]
+pub enum Step {
+    Enter(&'static Node<'static>),
+    Stays,
+    Takes,
+    Misses,
+    Faults(usize),
+    TooDeep,
+}
+
+/// How the reading ends.
+#[derive(Clone, Copy, Debug, PartialEq, Eq)]
+pub enum End {
+    /// The grammar matches no token.
+    Nothing,
+    /// The grammar matches what was read.
+    Matches,
+    /// The grammar misses the first token.
+    Misses,
+    /// A fault at the token with this number.
+    Faults(usize),
+    /// More forms would be open than may be.
+    TooDeep,
+}
+
+/// What comes of one step.
+#[derive(Clone, Copy)]
+pub enum Turn {
+    Goes(Step),
+    Ends(End),
+}
+
+/// The reader of the tokens by the grammar.
+#[derive(Drop)]
+pub struct Reader {
+    pub at: usize,
+    pub asked: Vec<usize>,
+    pub context: Context,
+    pub stack: Stack,
+}
+
+const MOST_OPEN: usize = 1000;
+
+impl Reader {
+    /// A form is read.
+    pub fn enter(
+        &mut self,
+        tokens: &Tokens<'_>,
+        node: &'static Node<'static>,
+    ) -> Result<Step, Memory>
+        ensures { IfOk result (λ step. EntersAt tokens.now self.old (form_of node.now) → StandsAt tokens.now self.new step) }
+    {
+        match *node {
+            Node::Quoted(word) => {
+                if tokens.quoted(word, self.at) {
+                    self.at += 1;
+                    Ok(Step::Takes)
+                } else {
+                    Ok(Step::Misses)
+                }
+            }
+            Node::One(test) => {
+                if tokens.passes(test, self.context.head, self.at) {
+                    self.at += 1;
+                    Ok(Step::Takes)
+                } else {
+                    Ok(Step::Misses)
+                }
+            }
+            Node::Ahead(guard) => {
+                if tokens.holds(guard, self.at) {
+                    Ok(Step::Stays)
+                } else {
+                    Ok(Step::Misses)
+                }
+            }
+            Node::Then(first, second) => {
+                self.stack.push(Frame::Then(second))?;
+                Ok(Step::Enter(first))
+            }
+            Node::Or(first, second) => {
+                self.stack.push(Frame::Or(second))?;
+                Ok(Step::Enter(first))
+            }
+            Node::Maybe(inner) => {
+                self.stack.push(Frame::Maybe)?;
+                Ok(Step::Enter(inner))
+            }
+            Node::Many(inner) => {
+                self.stack.push(Frame::Many(inner))?;
+                Ok(Step::Enter(inner))
+            }
+            Node::Call(rule) => Ok(Step::Enter(body(rule))),
+            Node::Asks(inner) => {
+                self.stack.push(Frame::Asks(self.at))?;
+                Ok(Step::Enter(inner))
+            }
+            Node::Nested(inner) => {
+                if self.context.opened >= MOST_OPEN {
+                    return Ok(Step::TooDeep);
+                }
+                self.stack.push(Frame::Back(self.context))?;
+                self.context.opened += 1;
+                Ok(Step::Enter(inner))
+            }
+            Node::Headed(inner) => {
+                self.stack.push(Frame::Back(self.context))?;
+                self.context.head = tokens.depth(self.at);
+                Ok(Step::Enter(inner))
+            }
+        }
+    }
+
+    /// A form took nothing; this was to be done behind it.
+    pub fn stay(&mut self, tokens: &Tokens<'_>, frame: Frame) -> Step
+        ensures { LeavesBefore tokens.now frame self.old stays → StandsAt tokens.now self.new result }
+    {
+        match frame {
+            Frame::Then(next) => Step::Enter(next),
+            Frame::Or(_) => Step::Stays,
+            Frame::Maybe => Step::Stays,
+            Frame::Many(_) => Step::Stays,
+            Frame::More(_) => Step::Takes,
+            Frame::Behind => Step::Takes,
+            Frame::Asks(_) => Step::Stays,
+            Frame::Back(context) => {
+                self.context = context;
+                Step::Stays
+            }
+        }
+    }
+
+    /// A form missed.
+    pub fn miss(&mut self, tokens: &Tokens<'_>, frame: Frame) -> Step
+        ensures { LeavesBefore tokens.now frame self.old misses → StandsAt tokens.now self.new result }
+    {
+        match frame {
+            Frame::Then(_) => Step::Misses,
+            Frame::Or(other) => Step::Enter(other),
+            Frame::Maybe => Step::Stays,
+            Frame::Many(_) => Step::Stays,
+            Frame::More(_) => Step::Takes,
+            Frame::Behind => Step::Faults(self.at),
+            Frame::Asks(_) => Step::Misses,
+            Frame::Back(context) => {
+                self.context = context;
+                Step::Misses
+            }
+        }
+    }
+
+    // All that was taken from the token on is that token, a string literal.
+    fn is_sole(&self, tokens: &Tokens<'_>, start: usize) -> bool
+        ensures { result ≡ is_sole tokens.now start (place self.now) }
+    {
+        start < self.at && self.at - start == 1 && tokens.is_kind(Kind::Text, start)
+    }
+
+    /// A form took tokens.
+    pub fn go_on(&mut self, tokens: &Tokens<'_>, frame: Frame) -> Result<Step, Memory>
+        ensures { IfOk result (λ step. TookBefore tokens.now frame self.old → StandsAt tokens.now self.new step) }
+    {
+        match frame {
+            Frame::Then(next) => {
+                self.stack.push(Frame::Behind)?;
+                Ok(Step::Enter(next))
+            }
+            Frame::Or(_) => Ok(Step::Takes),
+            Frame::Maybe => Ok(Step::Takes),
+            Frame::Many(inner) => {
+                self.stack.push(Frame::More(inner))?;
+                Ok(Step::Enter(inner))
+            }
+            Frame::More(inner) => {
+                self.stack.push(Frame::More(inner))?;
+                Ok(Step::Enter(inner))
+            }
+            Frame::Behind => Ok(Step::Takes),
+            Frame::Asks(start) => {
+                if !self.is_sole(tokens, start) {
+                    return Ok(Step::Takes);
+                }
+                self.asked.push(start)?;
+                Ok(Step::Takes)
+            }
+            Frame::Back(context) => {
+                self.context = context;
+                Ok(Step::Takes)
+            }
+        }
+    }
+
+    /// One step.
+    pub fn turn(&mut self, tokens: &Tokens<'_>, step: Step) -> Result<Turn, Memory>
+        ensures { IfOk result (λ turn. StandsAt tokens.now self.old step → TurnsAt tokens.now self.new turn) }
+    {
+        match step {
+            Step::Enter(node) => Ok(Turn::Goes(self.enter(tokens, node)?)),
+            Step::Stays => match self.stack.pop() {
+                None => Ok(Turn::Ends(End::Nothing)),
+                Some(frame) => Ok(Turn::Goes(self.stay(tokens, frame))),
+            },
+            Step::Takes => match self.stack.pop() {
+                None => Ok(Turn::Ends(End::Matches)),
+                Some(frame) => Ok(Turn::Goes(self.go_on(tokens, frame)?)),
+            },
+            Step::Misses => match self.stack.pop() {
+                None => Ok(Turn::Ends(End::Misses)),
+                Some(frame) => Ok(Turn::Goes(self.miss(tokens, frame))),
+            },
+            Step::Faults(at) => Ok(Turn::Ends(End::Faults(at))),
+            Step::TooDeep => Ok(Turn::Ends(End::TooDeep)),
+        }
+    }
+}
+
+/// What the grammar says of the tokens, and the numbers of those that are requests.
+pub fn read(alloc: Global, tokens: &Tokens<'_>) -> Result<(End, Vec<usize>), Memory>
+    ensures { IfOk result (λ answer. TellsOf tokens.now answer.0 answer.1.items) }
+{
+    let mut reader = Reader {
+        at: 0,
+        asked: Vec::new(alloc),
+        context: Context {
+            opened: 0,
+            head: None,
+        },
+        stack: Stack::new(alloc),
+    };
+    let mut step = Step::Enter(body(Rule::Module));
+    'read: for _ in 0..u64::MAX {
+        match reader.turn(tokens, step)? {
+            Turn::Goes(next) => step = next,
+            Turn::Ends(end) => return Ok((end, reader.asked)),
+        }
+    }
+    Err(AllocError)
+}

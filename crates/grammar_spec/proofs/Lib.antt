@@ -1,0 +1,6 @@
+pub mod ReadingLaws
+pub mod Orders
+pub mod Existence
+pub mod VerdictLaws
+pub mod PlainReadings
+pub mod WorkedExamples

@@ -1,0 +1,25 @@
+-- What is kept of a token agrees with it.
+use Rattle.std.proofs.Common.{◌≡◌, ◌==◌, ℕ, Bool, true, false, not, ◌&&◌, ◌||◌, bytes_eq, List, [], ◌∷◌, refl, sym, ◌∙◌, ap}
+use Rattle.std.specs.List.{list_any}
+use Rattle.module_spec.specs.declared.token.Kind.TheVariants as kind
+use Rattle.grammar_spec.specs.Sights.{Sight, is_kind, is_word, is_any_of, is_ident, reserved}
+use Rattle.grammar_spots.specs.Words.{is_one_of}
+
+any_by : (b : Bool) (text : List ℕ) (words : List (List ℕ))
+    → list_any (λ word. b && bytes_eq text word) words ≡ (b && is_one_of text words)
+any_by true text words = refl
+any_by false text [] = refl
+any_by false text (w ∷ words) = any_by false text words
+
+pub any_word : (t : Sight) (words : List (List ℕ))
+    → ((is_kind kind.Name t || is_kind kind.Punctuator t) && is_one_of t.text words) ≡ is_any_of words t
+any_word t words = sym (any_by (is_kind kind.Name t || is_kind kind.Punctuator t) t.text words)
+
+ident_by : (name mark one : Bool) → (name && not one) ≡ (name && not ((name || mark) && one))
+ident_by true mark one = refl
+ident_by false mark one = refl
+
+pub ident_is : (t : Sight) → (is_kind kind.Name t && not (is_one_of t.text reserved)) ≡ is_ident t
+ident_is t =
+    ident_by (is_kind kind.Name t) (is_kind kind.Punctuator t) (is_one_of t.text reserved)
+    ∙ ap (λ b. is_kind kind.Name t && not b) (any_word t reserved)

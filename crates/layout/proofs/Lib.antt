@@ -1,0 +1,10 @@
+mod Choosing
+mod Grouping
+mod LaidGroups
+mod Ordered
+mod Penalties
+mod Putting
+mod Settling
+mod Sizes
+mod Updates
+mod Ways

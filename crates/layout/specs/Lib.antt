@@ -1,0 +1,7 @@
+pub mod Choices
+pub mod Costs
+pub mod Grouped
+pub mod Groups
+pub mod Laid
+pub mod Layouts
+pub mod Settled

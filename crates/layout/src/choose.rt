@@ -1,0 +1,100 @@
+ghost use Rattle.std.specs.Prelude.{◌≡◌, OnOk, IfOk, reverse};
+ghost use Rattle.fewest_spec.specs.Choosing.{Wish, chosen, no_weight};
+ghost use Rattle.layout.specs.Choices as definition;
+ghost use Rattle.layout.specs.Choices.{IsLaid, IsLaidAt, IsAskedFor};
+ghost use Rattle.layout.specs.Laid.{laid_map};
+ghost use Rattle.layout.specs.Settled.{settled_rows};
+ghost use Rattle.place_nodes.specs.Nodes.{AreNodes, places_of};
+
+use crate::costs::Costs;
+use crate::laid::Laid;
+use place_nodes::{Node, node_at};
+use primitives::{Memory, Text};
+use std::alloc::Global;
+
+/// Lays what is chosen for a specifier, by the penalties of its places, of which the last one's stand first.
+pub(crate) fn choose(
+    alloc: Global,
+    laid: &mut Laid,
+    asked: &Text,
+    targets: &[Text],
+    own: usize,
+    nodes: &[Node],
+    rows: Vec<Costs>,
+) -> Result<(), Memory>
+    ensures { OnOk result ((wish : Wish) → IsAskedFor wish asked.now targets.now own → AreNodes wish nodes.now
+        → rows.items ≡ reverse (settled_rows wish (places_of nodes.now))
+        → IsLaid (laid_map laid.old) asked.now (chosen wish (reverse (places_of nodes.now)) no_weight) (laid_map laid.new)) }
+{
+    let mut values = Vec::new(alloc);
+    let mut left = rows;
+    while let Some(row) = left.pop() {
+        let Some(node) = node_at(nodes, values.len()) else {
+            break;
+        };
+        let from = number_from(values.as_slice(), node.above, own);
+        let choice = choice_at(row.as_slice(), from);
+        let value = lay_at(alloc, laid, asked, targets, &node.place, choice, from)?;
+        values.push(value)?;
+    }
+    Ok(())
+}
+
+fn number_from(values: &[usize], above: Option<usize>, own: usize) -> usize
+    ensures { result ≡ definition.number_from values.now above own }
+{
+    match above {
+        None => own,
+        Some(above) => match values.get(above) {
+            None => own,
+            Some(value) => *value,
+        },
+    }
+}
+
+fn choice_at(row: &[usize], from: usize) -> Option<usize>
+    ensures { result ≡ definition.choice_at row.now from }
+{
+    match row.get(from) {
+        None => None,
+        Some(0) => None,
+        Some(_) => Some(first_free(row)),
+    }
+}
+
+fn first_free(row: &[usize]) -> usize
+    ensures { result ≡ definition.first_free row.now }
+{
+    let mut number = 0;
+    let mut left = row;
+    while let Some((penalty, more)) = left.split_first() {
+        if *penalty == 0 {
+            return number;
+        }
+        number += 1;
+        left = more;
+    }
+    number
+}
+
+fn lay_at(
+    alloc: Global,
+    laid: &mut Laid,
+    asked: &Text,
+    targets: &[Text],
+    place: &Text,
+    choice: Option<usize>,
+    from: usize,
+) -> Result<usize, Memory>
+    ensures { IfOk result (λ value. IsLaidAt choice targets.now from place.now asked.now
+        (laid_map laid.old) (laid_map laid.new) value) }
+{
+    let Some(value) = choice else {
+        return Ok(from);
+    };
+    let Some(target) = targets.get(value) else {
+        return Ok(from);
+    };
+    laid.put(alloc, place.as_str(), asked, target)?;
+    Ok(value)
+}

@@ -1,0 +1,15 @@
+//! The layout with the fewest mappings that serves needs.
+#![tactic(auto)]
+
+mod choose;
+mod costs;
+mod fault;
+mod fewest;
+mod group;
+mod laid;
+mod one;
+mod settle;
+mod some;
+
+pub use fault::LayoutFault;
+pub use fewest::layout;

@@ -1,0 +1,5 @@
+pub mod Rows
+pub mod Nodes
+pub mod Known
+pub mod Growing
+pub mod Building
