@@ -132,6 +132,9 @@ fn place_text(alloc: Global, place: &Place) -> io::Result<String> {
 }
 
 fn joined_text(alloc: Global, text: &str, parent: &FileUrl) -> io::Result<String> {
+    if !is_relative(text) {
+        return owned(alloc, "not relative");
+    }
     let Some(url) = file_join(alloc, text, parent)? else {
         return owned(alloc, "no URL");
     };
@@ -145,9 +148,6 @@ fn joined_text(alloc: Global, text: &str, parent: &FileUrl) -> io::Result<String
 // The place that a relative specifier in `/a/b.mjs` names: its path, whether it is a folder's alone, whether it escapes
 // a separator, and its suffix before a full stop.
 fn relative_text(alloc: Global, specifier: &str) -> io::Result<String> {
-    if !is_relative(specifier) {
-        return owned(alloc, "not relative");
-    }
     let parent = file_url(alloc, &path_of(alloc, "/a/b.mjs")?, false)?;
     joined_text(alloc, specifier, &parent)
 }
