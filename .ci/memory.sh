@@ -3,7 +3,7 @@
 # crates/run_rows/data/packages.txt. Where its input is a number, the program first makes so many allocations, so one
 # build serves for them all: allocation LAST fails, and a smaller input moves the failure further back. Prints how often
 # the run ended in which way; the first allocations that fail are those with which the row itself is read.
-LAST=${1:-4000}
+LAST=${1:-1000}
 kept=$(mktemp -d) || exit 1
 trap 'rm -rf "$kept"' EXIT
 mkdir "$kept/inputs"
