@@ -465,7 +465,7 @@ if [ $? != 0 ] ||
 PROJECT
 <head><script type="importmap">{
   "imports": {
-    "c": "./node_modules/c/n.mjs"
+    "c": "https://app.test/node_modules/c/n.mjs"
   },
   "integrity": {
     "https://app.test/node_modules/c/n.mjs": "sha384-OLBgp1GsljhM2TJ+sbHjaiH9txEUvgdDTAzHv2P24donTt6/529l+9Ua0vFImLlb",
