@@ -70,6 +70,14 @@ function match(specifier, url, mappings) {
   return undefined;
 }
 
+// A map's addresses and scope keys are parsed against the page's URL.
+function parsed(map) {
+  const url = (text) => new URL(text, webUrl(PAGE)).href;
+  const addresses = (mappings) => Object.fromEntries(Object.entries(mappings).map(([key, to]) => [key, url(to)]));
+  const scopes = Object.entries(map.scopes ?? {}).map(([key, mappings]) => [url(key), addresses(mappings)]);
+  return { ...map, imports: addresses(map.imports ?? {}), scopes: Object.fromEntries(scopes) };
+}
+
 function resolveInMap(map, referrer, specifier) {
   const url = asUrl(specifier, referrer);
   const scopes = descending(map.scopes).filter(
@@ -195,7 +203,7 @@ function otherDigests(map, modules) {
 
 // What differs of a map that was written; its requests are counted.
 async function differencesOf(entries, counts) {
-  const map = JSON.parse(readFileSync(`${SITE}/importmap.json`, "utf8"));
+  const map = parsed(JSON.parse(readFileSync(`${SITE}/importmap.json`, "utf8")));
   const { requests, modules, calls } = walk(entries);
   counts.requests += requests.length;
   counts.calls += calls;
