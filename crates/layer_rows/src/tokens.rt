@@ -1,6 +1,5 @@
 //! The tokens of a module text.
 
-use crate::texts::push_all;
 use es_lexer::{Kind, LexFault, LexKind, Lexer, Token};
 use std::alloc::Global;
 use std::io;
@@ -21,8 +20,11 @@ fn letter(kind: Kind) -> &'static str {
 }
 
 fn push_token(out: &mut String, text: &str, token: Token) -> io::Result<()> {
-    let spelled = text.get(token.from..token.to).unwrap_or("no text");
-    push_all(out, &[letter(token.kind), " ", spelled, "  "])
+    out.push_str(letter(token.kind))?;
+    out.push_str(" ")?;
+    out.push_str(text.get(token.from..token.to).unwrap_or("no text"))?;
+    out.push_str("  ")?;
+    Ok(())
 }
 
 fn fault_text(alloc: Global, fault: LexFault) -> io::Result<String> {
