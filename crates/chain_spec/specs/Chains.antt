@@ -8,8 +8,9 @@
 --     Less numbers others              the first number at which they differ is less
 --     GoesBefore numbers others        it is shorter, or as long and less
 --     IsShortest targets is_wanted numbers      a chain that goes before each other one
+--     of_modules is_wanted asker       a module that is wanted, and never the page
 --     IsReached targets asker          the page, and each module that a request of a reached one leads to
-use Rattle.std.specs.Prelude.{◌≡◌, ◌<◌, ◌⊎◌, ℕ, Bool, true, List, [], ◌∷◌, length, slice_get, Option, Some, None}
+use Rattle.std.specs.Prelude.{◌≡◌, ◌<◌, ◌⊎◌, ℕ, Bool, true, false, List, [], ◌∷◌, length, slice_get, Option, Some, None}
 
 pub data Asker (M : Type 0) : Type 0 where
   by_page : Asker M
@@ -48,6 +49,10 @@ GoesBefore numbers others =
 pub record IsShortest {M : Type 0} (targets : Targets M) (is_wanted : Asker M → Bool) (numbers : List ℕ) : Type 0 where
   pub is_chain : IsChain targets is_wanted numbers
   pub first : (others : List ℕ) → IsChain targets is_wanted others → (numbers ≡ others) ⊎ GoesBefore numbers others
+
+abbrev pub of_modules : {M : Type 0} → (Asker M → Bool) → Asker M → Bool
+of_modules is_wanted by_page = false
+of_modules is_wanted (by_module m) = is_wanted (by_module m)
 
 pub data IsReached {M : Type 0} (targets : Targets M) : Asker M → Type 0 where
   page : IsReached targets by_page

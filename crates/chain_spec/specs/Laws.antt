@@ -1,6 +1,7 @@
 -- The laws of chains, for all types of modules.
 use Rattle.std.specs.Prelude.{◌≡◌, ◌<◌, ◌⊎◌, ◌↔◌, ℕ, Bool, true, false, List, [], length, slice_get, Option, Some, None}
-use Rattle.chain_spec.specs.Chains.{Asker, by_page, by_module, Targets, end_of, IsChain, GoesBefore, IsShortest, IsReached}
+use Rattle.chain_spec.specs.Chains.{Asker, by_page, by_module, Targets, end_of, IsChain, GoesBefore, IsShortest}
+use Rattle.chain_spec.specs.Chains.{of_modules, IsReached}
 use Rattle.chain_spec.specs.Trying.{shortest_within}
 
 -- own law: one shortest chain at most
@@ -40,6 +41,18 @@ OneGoesBefore =
 abbrev pub PageItself : Type 0 → Type 0
 PageItself M =
     (targets : Targets M) (is_wanted : Asker M → Bool) → is_wanted by_page ≡ true → IsShortest targets is_wanted []
+
+-- own law: where the page is left out, chains are those of at least one request
+abbrev pub ChainsOfModules : Type 0 → Type 0
+ChainsOfModules M =
+    (targets : Targets M) (is_wanted : Asker M → Bool) (numbers : List ℕ)
+    → IsChain targets (of_modules is_wanted) numbers ↔ (IsChain targets is_wanted numbers × (0 < length numbers))
+
+-- own law: where the page isn't wanted, leaving it out changes nothing
+abbrev pub ShortestOfModules : Type 0 → Type 0
+ShortestOfModules M =
+    (targets : Targets M) (is_wanted : Asker M → Bool) (numbers : List ℕ) → is_wanted by_page ≡ false
+    → IsShortest targets (of_modules is_wanted) numbers ↔ IsShortest targets is_wanted numbers
 
 abbrev pub IsTried : {M : Type 0} → Targets M → (Asker M → Bool) → ℕ → Option (List ℕ) → Type 0
 IsTried targets is_wanted most None = (numbers : List ℕ) → IsChain targets is_wanted numbers → most < length numbers

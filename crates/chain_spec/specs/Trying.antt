@@ -1,4 +1,4 @@
--- The shortest chain by trying all chains of no requests, of one, of two, up to a number (own). It computes on examples.
+-- The shortest chain by trying all chains of no requests, of one, up to a number (own). It computes on examples.
 --     least_of targets is_wanted size from      of the chains of this size from there the least
 --     shortest_within targets is_wanted most    the shortest chain, of at most so many requests
 use Rattle.std.specs.Prelude.{ℕ, zero, suc, Bool, List, [], ◌∷◌, Option, Some, None, if◌then◌else◌}

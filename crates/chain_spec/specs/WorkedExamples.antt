@@ -61,7 +61,12 @@ ordinary =
 -- two ways of one length to d; the module that is asked for first has the greater number
 abbrev pub diamond : Site
 diamond =
-    on_page (0 ∷ []) (plain "/a.mjs" (2 ∷ 1 ∷ []) ∷ plain "/b.mjs" (3 ∷ []) ∷ plain "/c.mjs" (3 ∷ []) ∷ plain "/d.mjs" [] ∷ [])
+    on_page (0 ∷ [])
+    (plain "/a.mjs" (2 ∷ 1 ∷ [])
+    ∷ plain "/b.mjs" (3 ∷ [])
+    ∷ plain "/c.mjs" (3 ∷ [])
+    ∷ plain "/d.mjs" []
+    ∷ [])
 
 -- c by the first request of all, through b; and by the last one, at once
 abbrev pub longer_with_less : Site
@@ -71,7 +76,12 @@ longer_with_less =
 -- the first entry leads on by its second request, the second by its first
 abbrev pub first_number_first : Site
 first_number_first =
-    on_page (0 ∷ 1 ∷ []) (plain "/a.mjs" (3 ∷ 2 ∷ []) ∷ plain "/b.mjs" (2 ∷ []) ∷ plain "/c.mjs" [] ∷ plain "/d.mjs" [] ∷ [])
+    on_page (0 ∷ 1 ∷ [])
+    (plain "/a.mjs" (3 ∷ 2 ∷ [])
+    ∷ plain "/b.mjs" (2 ∷ [])
+    ∷ plain "/c.mjs" []
+    ∷ plain "/d.mjs" []
+    ∷ [])
 
 -- one file with two suffixes, and a file behind each
 abbrev pub two_suffixes : Site
@@ -86,7 +96,12 @@ two_suffixes =
 -- a module that asks for itself, and two that ask for each other
 abbrev pub cycle : Site
 cycle =
-    on_page (0 ∷ []) (plain "/a.mjs" (0 ∷ 1 ∷ []) ∷ plain "/b.mjs" (0 ∷ 2 ∷ []) ∷ plain "/c.mjs" (1 ∷ []) ∷ plain "/d.mjs" (0 ∷ []) ∷ [])
+    on_page (0 ∷ [])
+    (plain "/a.mjs" (0 ∷ 1 ∷ [])
+    ∷ plain "/b.mjs" (0 ∷ 2 ∷ [])
+    ∷ plain "/c.mjs" (1 ∷ [])
+    ∷ plain "/d.mjs" (0 ∷ [])
+    ∷ [])
 
 -- a module that asks twice for the same, and a page that does
 abbrev pub twice : Site
@@ -94,7 +109,13 @@ twice = on_page (0 ∷ 0 ∷ []) (plain "/a.mjs" (1 ∷ 1 ∷ []) ∷ plain "/b.
 
 -- three entries, of which the second is asked for by the first
 abbrev pub entries : Site
-entries = on_page (0 ∷ 1 ∷ 2 ∷ []) (plain "/a.mjs" (1 ∷ []) ∷ plain "/b.mjs" (3 ∷ []) ∷ plain "/c.mjs" (3 ∷ []) ∷ plain "/d.mjs" [] ∷ [])
+entries =
+    on_page (0 ∷ 1 ∷ 2 ∷ [])
+    (plain "/a.mjs" (1 ∷ [])
+    ∷ plain "/b.mjs" (3 ∷ [])
+    ∷ plain "/c.mjs" (3 ∷ [])
+    ∷ plain "/d.mjs" []
+    ∷ [])
 
 -- a page whose own path is that of a module
 abbrev pub own_path : Site

@@ -4,6 +4,7 @@
 
 ghost use Rattle.chain_spec.specs.Laws.{OneShortest, SomeShortest, ChainsReach, ChainWhereReached};
 ghost use Rattle.chain_spec.specs.Laws.{OneGoesBefore, PageItself, TriedIsShortest, NoneAmong};
+ghost use Rattle.chain_spec.specs.Laws.{ChainsOfModules, ShortestOfModules};
 ghost use Rattle.chain_spec.specs.WorkedExamples.{WorkedExamples};
 
 /// There is one shortest chain at most.
@@ -34,6 +35,16 @@ pub fn one_goes_before()
 /// Where the page itself is wanted, the shortest chain has no request.
 pub fn page_itself<M>()
     ensures { PageItself M }
+{}
+
+/// Where the page is left out, chains are those of at least one request.
+pub fn chains_of_modules<M>()
+    ensures { ChainsOfModules M }
+{}
+
+/// Where the page isn't wanted, leaving it out changes nothing.
+pub fn shortest_of_modules<M>()
+    ensures { ShortestOfModules M }
 {}
 
 /// What is found by trying all chains of at most so many requests is the shortest.
