@@ -1,0 +1,5 @@
+use Rattle.chain_spec.proofs.ChainLaws.{chains_of_modules as law}
+use Rattle.chain_spec.proofs.chains_of_modules.Goals as goal
+
+pub returns : goal.returns
+returns g c = law

@@ -1,0 +1,4 @@
+pub mod Chains
+pub mod Trying
+pub mod Laws
+pub mod WorkedExamples
