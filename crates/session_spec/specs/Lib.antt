@@ -4,3 +4,4 @@ pub mod Replies
 pub mod SessionLines
 pub mod Conversations
 pub mod Laws
+pub mod WorkedExamples

@@ -5,6 +5,8 @@
 ghost use Rattle.session_spec.specs.Laws.{OneReply, RefusedLeaves, AcceptedOrLeft, AlwaysCurrent};
 ghost use Rattle.session_spec.specs.Laws.{EditsJoin, AcceptedJoin, OneAnswer, NothingBehindEnd};
 
+ghost use Rattle.session_spec.specs.WorkedExamples.{LineExamples, TurnExamples, EntryExamples};
+
 use primitives::{Bytes, Text};
 use tree_model::Path;
 
@@ -70,4 +72,19 @@ pub fn one_answer()
 /// What comes behind `end` changes nothing.
 pub fn nothing_behind_end()
     ensures { NothingBehindEnd }
+{}
+
+/// How lines are read.
+pub fn line_examples()
+    ensures { LineExamples }
+{}
+
+/// What a line does at each place.
+pub fn turn_examples()
+    ensures { TurnExamples }
+{}
+
+/// Changes of entries.
+pub fn entry_examples()
+    ensures { EntryExamples }
 {}
