@@ -1,0 +1,4 @@
+pub mod Replying
+pub mod LinesOn
+pub mod Conversing
+pub mod SessionExamples

@@ -1,0 +1,81 @@
+-- The laws of sessions. Each is the contract of a function of this crate.
+use Rattle.std.specs.Prelude.{◌≡◌, ◌⊎◌, ◌++◌, ℕ, List, flat_map, Ok}
+use Rattle.generator_spec.specs.Statuses.{done_status}
+use Rattle.session_spec.specs.declared.Change.{Change}
+use Rattle.session_spec.specs.Conversations.{Answers}
+use Rattle.session_spec.specs.Edits.{Draft, edited, then_edited}
+use Rattle.session_spec.specs.Replies.{IsRefused, Replies, IsAccepted, Leads, AllAccepted}
+use Rattle.session_spec.specs.SessionStates.{SessionState, draft_of, config_with, IsCurrent}
+
+-- the two states are one, and so are the lines
+pub record SameReply (next other : SessionState) (line said : List ℕ) : Type 0 where
+  pub one_state : next ≡ other
+  pub one_line : line ≡ said
+
+-- an edit of a state has one reply and one next state at most
+abbrev pub OneReply : Type 0
+OneReply =
+    (state next other : SessionState) (edit : List Change) (line said : List ℕ) → Replies state edit next line
+    → Replies state edit other said → SameReply next other line said
+
+-- where an edit is refused, its line says why and the state stays
+abbrev pub RefusedLeaves : Type 0
+RefusedLeaves =
+    (state next : SessionState) (edit : List Change) (line said : List ℕ)
+    → IsRefused state (edited (draft_of state) edit) line → Replies state edit next said
+    → SameReply next state said line
+
+-- own: the state stays, and the line says why
+pub record IsLeft (state : SessionState) (edit : List Change) (next : SessionState) (line : List ℕ) : Type 0 where
+  pub stays : next ≡ state
+  pub why : IsRefused state (edited (draft_of state) edit) line
+
+-- an edit is accepted, and then the next state has the tree and entries behind it and the map that is generated for them;
+-- or it is refused
+abbrev pub AcceptedOrLeft : Type 0
+AcceptedOrLeft =
+    (state next : SessionState) (edit : List Change) (line : List ℕ) → Replies state edit next line
+    → IsAccepted state edit next line ⊎ IsLeft state edit next line
+
+-- whatever edits led to a state, its map is the one that is generated for its tree and config
+abbrev pub AlwaysCurrent : Type 0
+AlwaysCurrent =
+    (state later : SessionState) (edits : List (List Change)) → IsCurrent state → Leads state edits later
+    → IsCurrent later
+
+-- changes one after another come to the same as the first of them and then the others
+abbrev pub EditsJoin : Type 0
+EditsJoin =
+    (draft : Draft) (front back : List Change)
+    → edited draft (front ++ back) ≡ then_edited (edited draft front) (λ after. edited after back)
+
+abbrev pub all_changes : List (List Change) → List Change
+all_changes edits = flat_map (λ edit. edit) edits
+
+-- own: the tree and the entries are those behind these changes, and nothing else of the config is changed
+pub record IsBehind (state : SessionState) (edit : List Change) (later : SessionState) : Type 0 where
+  pub made : edited (draft_of state) edit ≡ Ok (draft_of later)
+  pub same_project : later.config ≡ config_with state.config later.config.entries
+
+-- behind edits of which each was accepted stand the tree and the entries behind all their changes
+abbrev pub AcceptedJoin : Type 0
+AcceptedJoin =
+    (state later : SessionState) (edits : List (List Change)) → AllAccepted state edits later
+    → IsBehind state (all_changes edits) later
+
+-- the two texts are one, and so are the statuses
+pub record SameAnswer (out other : List ℕ) (status second : ℕ) : Type 0 where
+  pub one_text : out ≡ other
+  pub one_status : status ≡ second
+
+-- to the lines of an input one text is replied at most
+abbrev pub OneAnswer : Type 0
+OneAnswer =
+    (state : SessionState) (input out other : List ℕ) (status second : ℕ) → Answers state input out status
+    → Answers state input other second → SameAnswer out other status second
+
+-- where an input is answered to its `end`, what comes behind it changes nothing
+abbrev pub NothingBehindEnd : Type 0
+NothingBehindEnd =
+    (state : SessionState) (input more out : List ℕ) → Answers state input out done_status
+    → Answers state (input ++ more) out done_status

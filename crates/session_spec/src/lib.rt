@@ -1,0 +1,90 @@
+//! Sessions: the edits of a tree and of a config's entries, what each is answered, and what is replied to the lines of an
+//! input. Definitions, and their laws as the contracts of functions that do nothing.
+#![tactic(auto)]
+
+ghost use Rattle.session_spec.specs.Laws.{OneReply, RefusedLeaves, AcceptedOrLeft, AlwaysCurrent};
+ghost use Rattle.session_spec.specs.Laws.{EditsJoin, AcceptedJoin, OneAnswer, NothingBehindEnd};
+
+ghost use Rattle.session_spec.specs.WorkedExamples.{LineExamples, TurnExamples, EntryExamples};
+
+use primitives::{Bytes, Text};
+use tree_model::Path;
+
+/// One change of what a session works on.
+#[derive(Drop)]
+pub enum Change {
+    /// One entry more.
+    Link { entry: Text },
+    /// One entry less.
+    Unlink { entry: Text },
+    /// A file with these bytes, in place of the one that may stand there.
+    Put { path: Path, bytes: Bytes },
+    /// One file less.
+    Drop { path: Path },
+}
+
+/// Why a change can't be made.
+#[derive(Debug, Drop)]
+pub enum EditFault {
+    /// An entry that isn't there to be taken out.
+    NotLinked { entry: Text },
+    /// One entry more than a project may have.
+    TooManyEntries,
+    /// No file can be put there, or none stands there to be dropped.
+    BadEdit { path: Path },
+}
+
+/// An edit of a state has one reply and one next state.
+pub fn one_reply()
+    ensures { OneReply }
+{}
+
+/// A refused edit leaves the state.
+pub fn refused_leaves()
+    ensures { RefusedLeaves }
+{}
+
+/// An edit is accepted, or the state stays.
+pub fn accepted_or_left()
+    ensures { AcceptedOrLeft }
+{}
+
+/// Whatever edits led there, the map is that of the tree and the config.
+pub fn always_current()
+    ensures { AlwaysCurrent }
+{}
+
+/// Behind an edit stands what its changes leave, one after another.
+pub fn edits_join()
+    ensures { EditsJoin }
+{}
+
+/// Behind accepted edits stands what all their changes leave.
+pub fn accepted_join()
+    ensures { AcceptedJoin }
+{}
+
+/// The lines of an input have one answer.
+pub fn one_answer()
+    ensures { OneAnswer }
+{}
+
+/// What comes behind `end` changes nothing.
+pub fn nothing_behind_end()
+    ensures { NothingBehindEnd }
+{}
+
+/// How lines are read.
+pub fn line_examples()
+    ensures { LineExamples }
+{}
+
+/// What a line does at each place.
+pub fn turn_examples()
+    ensures { TurnExamples }
+{}
+
+/// Changes of entries.
+pub fn entry_examples()
+    ensures { EntryExamples }
+{}
