@@ -4,7 +4,6 @@
 
 ghost use Rattle.session_spec.specs.Laws.{OneReply, RefusedLeaves, AcceptedOrLeft, AlwaysCurrent};
 ghost use Rattle.session_spec.specs.Laws.{EditsJoin, AcceptedJoin, OneAnswer, NothingBehindEnd};
-
 ghost use Rattle.session_spec.specs.WorkedExamples.{LineExamples, TurnExamples, EntryExamples};
 
 use primitives::{Bytes, Text};
