@@ -1,5 +1,6 @@
--- The law of the search.
+-- The laws of the search.
 --     the_start                        the page, behind no request
+--     is_goal is_wanted m              the module is wanted
 --     IsFound targets is_wanted out    the shortest chain, from its end; or none where there is none
 use Rattle.std.specs.Prelude.{◌≡◌, Bool, List, [], ◌∷◌, ℕ, Option, Some, None, reverse}
 use Rattle.std.specs.Bool.{Decides}
@@ -22,3 +23,10 @@ FindsShortest M =
     (targets : Targets M) (is_same : M → M → Bool) (is_wanted : Asker M → Bool) (out : Option (List ℕ))
     → ((one other : M) → Decides (is_same one other) (one ≡ other))
     → Searched targets is_same (is_goal is_wanted) [] the_start out → IsFound targets (of_modules is_wanted) out
+
+-- own law: a search comes to one thing at most
+abbrev pub OneFound : Type 0 → Type 0
+OneFound M =
+    (targets : Targets M) (is_same : M → M → Bool) (is_wanted : Asker M → Bool) (one other : Option (List ℕ))
+    → ((m n : M) → Decides (is_same m n) (m ≡ n)) → Searched targets is_same (is_goal is_wanted) [] the_start one
+    → Searched targets is_same (is_goal is_wanted) [] the_start other → one ≡ other
