@@ -1,0 +1,4 @@
+pub mod Searches
+pub mod Backs
+pub mod Laws
+pub mod PlainSearch
