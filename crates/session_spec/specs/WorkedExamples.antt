@@ -219,6 +219,3 @@ pub record AnswerExamples : Type 0 where
   pub too_long :
       (state : SessionState) (input : List ℕ) → turn_at None input ≡ stops
       → Conversation true state 1 (turn_at None input) (lines ("limit: session above 268435456" ∷ [])) 3
-
-abbrev pub WorkedExamples : Type 0
-WorkedExamples = LineExamples × EditExamples × EntryExamples × TurnExamples × AnswerExamples

@@ -6,6 +6,7 @@ ghost use Rattle.session_spec.specs.Laws.{OneReply, RefusedLeaves, AcceptedOrLef
 ghost use Rattle.session_spec.specs.Laws.{EditsJoin, AcceptedJoin, OneAnswer, NothingBehindEnd};
 
 ghost use Rattle.session_spec.specs.WorkedExamples.{LineExamples, TurnExamples, EntryExamples};
+ghost use Rattle.session_spec.specs.WorkedExamples.{EditExamples, AnswerExamples};
 
 use primitives::{Bytes, Text};
 use tree_model::Path;
@@ -87,4 +88,14 @@ pub fn turn_examples()
 /// Changes of entries.
 pub fn entry_examples()
     ensures { EntryExamples }
+{}
+
+/// Changes of files.
+pub fn edit_examples()
+    ensures { EditExamples }
+{}
+
+/// What is replied to whole inputs.
+pub fn answer_examples()
+    ensures { AnswerExamples }
 {}
