@@ -2,3 +2,5 @@ pub mod Replying
 pub mod LinesOn
 pub mod Conversing
 pub mod SessionExamples
+pub mod SomeAnswer
+pub mod PutFiles

@@ -1,9 +1,13 @@
 -- The laws of sessions. Each is the contract of a function of this crate.
-use Rattle.std.specs.Prelude.{◌≡◌, ◌⊎◌, ◌++◌, ℕ, List, flat_map, Ok}
+use Rattle.std.specs.FinMap.{get}
+use Rattle.std.specs.Prelude.{◌≡◌, ◌⊎◌, ◌++◌, ℕ, true, List, flat_map, Ok}
+use Rattle.tree_spec.specs.Paths.{IsPath}
+use Rattle.tree_spec.specs.Trees.{Tree, Places}
+use Rattle.tree_spec.specs.declared.Entry.TheVariants.{Stored}
 use Rattle.generator_spec.specs.Statuses.{done_status}
 use Rattle.session_spec.specs.declared.Change.{Change}
 use Rattle.session_spec.specs.Conversations.{Answers}
-use Rattle.session_spec.specs.Edits.{Draft, edited, then_edited}
+use Rattle.session_spec.specs.Edits.{Draft, can_put, put_file, edited, then_edited}
 use Rattle.session_spec.specs.Replies.{IsRefused, Replies, IsAccepted, Leads, AllAccepted}
 use Rattle.session_spec.specs.SessionStates.{SessionState, draft_of, config_with, IsCurrent}
 
@@ -17,6 +21,16 @@ abbrev pub OneReply : Type 0
 OneReply =
     (state next other : SessionState) (edit : List Change) (line said : List ℕ) → Replies state edit next line
     → Replies state edit other said → SameReply next other line said
+
+-- own: some reply and next state
+pub record HasReply (state : SessionState) (edit : List Change) : Type 0 where
+  pub next : SessionState
+  pub line : List ℕ
+  pub replies : Replies state edit next line
+
+-- each edit of a state has a reply
+abbrev pub SomeReply : Type 0
+SomeReply = (state : SessionState) (edit : List Change) → HasReply state edit
 
 -- where an edit is refused, its line says why and the state stays
 abbrev pub RefusedLeaves : Type 0
@@ -42,6 +56,12 @@ abbrev pub AlwaysCurrent : Type 0
 AlwaysCurrent =
     (state later : SessionState) (edits : List (List Change)) → IsCurrent state → Leads state edits later
     → IsCurrent later
+
+-- what a put leaves is what it leaves to place a file at the path: each folder above it is there, and all else stays
+abbrev pub PutPlaces : Type 0
+PutPlaces =
+    (tree : Tree) (path bytes : List ℕ) → IsPath path → can_put (get tree) path ≡ true
+    → Places tree path (Stored bytes) (put_file tree path bytes)
 
 -- changes one after another come to the same as the first of them and then the others
 abbrev pub EditsJoin : Type 0
@@ -73,6 +93,16 @@ abbrev pub OneAnswer : Type 0
 OneAnswer =
     (state : SessionState) (input out other : List ℕ) (status second : ℕ) → Answers state input out status
     → Answers state input other second → SameAnswer out other status second
+
+-- own: some text and status
+pub record HasAnswer (state : SessionState) (input : List ℕ) : Type 0 where
+  pub out : List ℕ
+  pub status : ℕ
+  pub answers : Answers state input out status
+
+-- each input has an answer
+abbrev pub SomeAnswer : Type 0
+SomeAnswer = (state : SessionState) (input : List ℕ) → HasAnswer state input
 
 -- where an input is answered to its `end`, what comes behind it changes nothing
 abbrev pub NothingBehindEnd : Type 0

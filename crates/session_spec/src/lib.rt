@@ -2,8 +2,8 @@
 //! input. Definitions, and their laws as the contracts of functions that do nothing.
 #![tactic(auto)]
 
-ghost use Rattle.session_spec.specs.Laws.{OneReply, RefusedLeaves, AcceptedOrLeft, AlwaysCurrent};
-ghost use Rattle.session_spec.specs.Laws.{EditsJoin, AcceptedJoin, OneAnswer, NothingBehindEnd};
+ghost use Rattle.session_spec.specs.Laws.{OneReply, SomeReply, RefusedLeaves, AcceptedOrLeft, AlwaysCurrent};
+ghost use Rattle.session_spec.specs.Laws.{PutPlaces, EditsJoin, AcceptedJoin, OneAnswer, SomeAnswer, NothingBehindEnd};
 
 ghost use Rattle.session_spec.specs.WorkedExamples.{LineExamples, TurnExamples, EntryExamples};
 ghost use Rattle.session_spec.specs.WorkedExamples.{EditExamples, AnswerExamples};
@@ -40,6 +40,11 @@ pub fn one_reply()
     ensures { OneReply }
 {}
 
+/// Each edit has a reply.
+pub fn some_reply()
+    ensures { SomeReply }
+{}
+
 /// A refused edit leaves the state.
 pub fn refused_leaves()
     ensures { RefusedLeaves }
@@ -55,6 +60,11 @@ pub fn always_current()
     ensures { AlwaysCurrent }
 {}
 
+/// A file that is put is placed, with the folders above it.
+pub fn put_places()
+    ensures { PutPlaces }
+{}
+
 /// Behind an edit stands what its changes leave, one after another.
 pub fn edits_join()
     ensures { EditsJoin }
@@ -68,6 +78,11 @@ pub fn accepted_join()
 /// The lines of an input have one answer.
 pub fn one_answer()
     ensures { OneAnswer }
+{}
+
+/// Each input has an answer.
+pub fn some_answer()
+    ensures { SomeAnswer }
 {}
 
 /// What comes behind `end` changes nothing.
