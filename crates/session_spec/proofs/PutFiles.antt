@@ -1,18 +1,17 @@
 -- A file that is put is placed, with the folders above it.
-use Rattle.std.proofs.Common.{◌≡◌, ◌≢◌, ◌⊎◌, ◌∷◌, [], ℕ, List, Bool, true, false, Option, Some, None, refl, sym, ap, ◌∙◌, subst, inl, inr}
+use Rattle.std.proofs.Common.{◌≡◌, ◌≢◌, ◌⊎◌, ℕ, List, Bool, true, false, Option, Some, None, refl, sym, ap, ◌∙◌, subst, inl, inr}
 use Rattle.std.specs.FinMap.{get, insert}
 use Rattle.std.specs.List.{list_all}
-use Rattle.std.specs.Prelude.{codes, ◌&&◌, not, drop}
+use Rattle.std.specs.Prelude.{◌&&◌, not, drop}
 use Rattle.tree_spec.proofs.FolderLemmas.{folders_climb}
 use Rattle.tree_spec.proofs.Insertion.{get_here, get_other}
-use Rattle.tree_spec.proofs.ByteLists.{text_same_or_not}
 use Rattle.tree_spec.proofs.PathsAbove.{above_other, above_by_parent, above_or_not, nothing_above_root}
 use Rattle.tree_spec.specs.FoldersAbove.{folders_from, Climbs, at_root, from_parent}
 use Rattle.tree_spec.specs.Paths.{IsPath, IsParent, IsAbove, parent_of, further}
 use Rattle.tree_spec.specs.Trees.{Tree, Places}
 use Rattle.tree_spec.specs.declared.Entry.{Entry}
 use Rattle.tree_spec.specs.declared.Entry.TheVariants.{Stored, Directory}
-use Rattle.session_spec.specs.Edits.{is_folder, is_file, can_put, with_folders, put_file}
+use Rattle.session_spec.specs.Edits.{is_folder, is_file, with_folders}
 use Rattle.session_spec.specs.Laws.{PutPlaces}
 
 both : (a b : Bool) → (a && b) ≡ true → (a ≡ true) × (b ≡ true)

@@ -1,5 +1,5 @@
 -- The worked examples, by computation.
-use Rattle.std.proofs.Common.{◌≡◌, ◌++◌, ◌∷◌, [], ℕ, List, length, Bool, true, false, Option, Some, None, Ok, Err, Result, refl, sym, ap, ◌∙◌, subst}
+use Rattle.std.proofs.Common.{◌≡◌, ◌++◌, ◌∷◌, [], ℕ, List, length, Bool, true, false, Option, None, Ok, Err, Result, refl, sym, ap, ◌∙◌, subst}
 use Rattle.std.proofs.lemmas.Map.Text.{is_eq-slice_cmp}
 use Rattle.std.specs.Cmp.Lexicographic.{nat_list_cmp_total}
 use Rattle.std.specs.FinMap.{get, remove, get-remove}
@@ -22,7 +22,7 @@ use Rattle.node_spec.specs.BuiltinNames.{texts}
 use Rattle.node_spec.specs.NodeExamples.{Files, file, folder}
 use Rattle.trace_spec.specs.Modules.{Config}
 use Rattle.session_spec.specs.declared.Change.{Change}
-use Rattle.session_spec.specs.declared.Change.TheVariants.{Link, Unlink, Put, Drop}
+use Rattle.session_spec.specs.declared.Change.TheVariants.{Link, Put, Drop}
 use Rattle.session_spec.specs.declared.EditFault.{EditFault}
 use Rattle.session_spec.specs.declared.EditFault.TheVariants.{NotLinked, TooManyEntries, BadEdit}
 use Rattle.session_spec.specs.Edits.{Draft, can_put, put_file, is_file, changed, edited, then_edited}

@@ -1,12 +1,11 @@
 -- Each edit has a reply, and each input an answer.
-use Rattle.std.proofs.Common.{◌≡◌, ◌≤◌, ◌<◌, ◌⊎◌, ◌++◌, ◌∷◌, [], ◌==◌, ℕ, zero, suc, List, length, Bool, true, false, Option, Some, None, Result, Ok, Err, refl, sym, ap, ◌∙◌, subst, inl, inr, arith}
+use Rattle.std.proofs.Common.{◌≡◌, ◌≤◌, ◌<◌, ◌++◌, ◌∷◌, [], ◌==◌, ℕ, zero, suc, List, length, Bool, true, false, Option, Some, None, Result, Ok, Err, refl, ap, subst, inl, inr, arith}
 use Rattle.std.proofs.lemmas.List.{length-drop}
 use Rattle.std.specs.FinMap.{get}
-use Rattle.std.specs.Prelude.{codes, ◌+◌, ◌-◌, ◌&&◌, bytes_eq, nat_lt, take, drop, option_map, if◌then◌else◌}
+use Rattle.std.specs.Prelude.{codes, ◌+◌, ◌&&◌, bytes_eq, nat_lt, take, drop, option_map, if◌then◌else◌}
 use Rattle.std.specs.Str.{is_utf8}
 use Rattle.tree_spec.specs.declared.LimitName.TheVariants.{Session}
 use Rattle.tree_spec.specs.Limits.{limit_number}
-use Rattle.tree_spec.specs.Trees.{Tree}
 use Rattle.trace_spec.specs.declared.TraceFault.{TraceFault}
 use Rattle.trace_spec.specs.Checks.{Gathered}
 use Rattle.trace_spec.specs.Modules.{Config}
@@ -15,7 +14,7 @@ use Rattle.url_spec.specs.PathTests.{is_path}
 use Rattle.config_spec.specs.declared.Command.TheVariants.{Refresh}
 use Rattle.generator_spec.proofs.Generations.{some_generation}
 use Rattle.generator_spec.specs.declared.Refusal.TheVariants.{Trace, Limit}
-use Rattle.generator_spec.specs.Commands.{Refuses, Refuses as refuses_run, Opens, nothing, refresh}
+use Rattle.generator_spec.specs.Commands.{Refuses as refuses_run, nothing, refresh}
 use Rattle.tree_spec.specs.declared.LimitName.TheVariants.{Map}
 use Rattle.generator_spec.specs.Lines.{line_of}
 use Rattle.generator_spec.specs.Generation.{Generates, IsTooLarge}
@@ -25,12 +24,12 @@ use Rattle.session_spec.specs.declared.EditFault.{EditFault}
 use Rattle.session_spec.specs.Conversations.{Turn, ordered, turn, turn_at, map_reply, end_reply, bad_line, stop_line, stop_status}
 use Rattle.session_spec.specs.Conversations.{Conversation, edits, collects, shows_it, ended, bad, stopped}
 use Rattle.session_spec.specs.Edits.{Draft, edited}
-use Rattle.session_spec.specs.Laws.{HasReply, SomeReply, HasAnswer, SomeAnswer}
+use Rattle.session_spec.specs.Laws.{SomeReply, SomeAnswer}
 use Rattle.session_spec.specs.Replies.{by_change, by_generation, Follows, refused, accepted, accepted_line, fault_line}
 use Rattle.session_spec.specs.SessionLines.{Order, changes, begins, commits, shows_map, ends_session, Rest, Reading, reads, malformed, unfinished}
 use Rattle.session_spec.specs.SessionLines.{Cut, with_front, cut_here, cut_first, cut_last, behind_word, number_of}
 use Rattle.session_spec.specs.SessionLines.{one_line, if_text, if_path, put_behind, put_number, put_line, if_word, order_of, line_at, read_line}
-use Rattle.session_spec.specs.SessionStates.{SessionState, Counts, counts_of, draft_of, config_with, next_state}
+use Rattle.session_spec.specs.SessionStates.{SessionState, counts_of, draft_of, config_with, next_state}
 
 -- ---- replies
 
@@ -140,7 +139,7 @@ module _ (most : ℕ) where
       let is_commit = if_within (bytes_eq (codes "commit") line) (one_line commits behind) _ (known_within commits _ within) is_map in
       let is_begin = if_within (bytes_eq (codes "begin") line) (one_line begins behind) _ (known_within begins _ within) is_commit in
       let is_drop = word_within (behind_word (codes "drop ") line) (λ text. if_path text (one_line (changes (Drop text)) behind)) _
-          (λ text. if_within (is_utf8 text && is_path text) (one_line (changes (Drop text)) behind) malformed (known_within (changes (Drop text)) _ within) nothing_within) is_begin in
+      (λ text. if_within (is_utf8 text && is_path text) (one_line (changes (Drop text)) behind) malformed (known_within (changes (Drop text)) _ within) nothing_within) is_begin in
       let is_put = word_within (behind_word (codes "put ") line) (λ text. put_line (cut_last 32 text) behind) _ (λ text. parts_within (cut_last 32 text) behind within) is_drop in
       let is_unlink = word_within (behind_word (codes "unlink ") line) (λ text. if_text text (changes (Unlink text)) behind) _ (λ text. text_within text (changes (Unlink text)) behind within) is_put in
       word_within (behind_word (codes "link ") line) (λ text. if_text text (changes (Link text)) behind) _ (λ text. text_within text (changes (Link text)) behind within) is_unlink

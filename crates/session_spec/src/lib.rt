@@ -4,7 +4,6 @@
 
 ghost use Rattle.session_spec.specs.Laws.{OneReply, SomeReply, RefusedLeaves, AcceptedOrLeft, AlwaysCurrent};
 ghost use Rattle.session_spec.specs.Laws.{PutPlaces, EditsJoin, AcceptedJoin, OneAnswer, SomeAnswer, NothingBehindEnd};
-
 ghost use Rattle.session_spec.specs.WorkedExamples.{LineExamples, TurnExamples, EntryExamples};
 ghost use Rattle.session_spec.specs.WorkedExamples.{EditExamples, AnswerExamples};
 
