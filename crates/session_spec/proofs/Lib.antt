@@ -4,3 +4,4 @@ pub mod Conversing
 pub mod SessionExamples
 pub mod SomeAnswer
 pub mod PutFiles
+pub mod TreesStay

@@ -14,7 +14,7 @@ use Rattle.tree_spec.specs.declared.Entry.TheVariants.{Stored, Directory}
 use Rattle.session_spec.specs.Edits.{is_folder, is_file, with_folders}
 use Rattle.session_spec.specs.Laws.{PutPlaces}
 
-both : (a b : Bool) → (a && b) ≡ true → (a ≡ true) × (b ≡ true)
+pub both : (a b : Bool) → (a && b) ≡ true → (a ≡ true) × (b ≡ true)
 both true b e = (refl, e)
 both false b e = absurd (cc)
 

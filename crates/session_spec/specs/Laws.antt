@@ -1,11 +1,12 @@
 -- The laws of sessions. Each is the contract of a function of this crate.
 use Rattle.std.specs.FinMap.{get}
-use Rattle.std.specs.Prelude.{◌≡◌, ◌⊎◌, ◌++◌, ℕ, true, List, flat_map, Ok}
+use Rattle.std.specs.Prelude.{◌≡◌, ◌⊎◌, ◌++◌, ⊤, ℕ, true, List, flat_map, Ok, All}
 use Rattle.tree_spec.specs.Paths.{IsPath}
-use Rattle.tree_spec.specs.Trees.{Tree, Places}
+use Rattle.tree_spec.specs.Trees.{Tree, IsTree, Places}
 use Rattle.tree_spec.specs.declared.Entry.TheVariants.{Stored}
 use Rattle.generator_spec.specs.Statuses.{done_status}
 use Rattle.session_spec.specs.declared.Change.{Change}
+use Rattle.session_spec.specs.declared.Change.TheVariants.{Link, Unlink, Put, Drop}
 use Rattle.session_spec.specs.Conversations.{Answers}
 use Rattle.session_spec.specs.Edits.{Draft, can_put, put_file, edited, then_edited}
 use Rattle.session_spec.specs.Replies.{IsRefused, Replies, IsAccepted, Leads, AllAccepted}
@@ -62,6 +63,19 @@ abbrev pub PutPlaces : Type 0
 PutPlaces =
     (tree : Tree) (path bytes : List ℕ) → IsPath path → can_put (get tree) path ≡ true
     → Places tree path (Stored bytes) (put_file tree path bytes)
+
+-- own: where a change puts or drops a file, it names a path
+abbrev pub NamesPath : Change → Type 0
+NamesPath (Link entry) = ⊤
+NamesPath (Unlink entry) = ⊤
+NamesPath (Put path bytes) = IsPath path
+NamesPath (Drop path) = IsPath path
+
+-- an edit of a tree leaves a tree
+abbrev pub EditsKeepTree : Type 0
+EditsKeepTree =
+    (draft after : Draft) (edit : List Change) → All NamesPath edit → IsTree draft.tree → edited draft edit ≡ Ok after
+    → IsTree after.tree
 
 -- changes one after another come to the same as the first of them and then the others
 abbrev pub EditsJoin : Type 0

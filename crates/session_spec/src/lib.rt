@@ -3,7 +3,7 @@
 #![tactic(auto)]
 
 ghost use Rattle.session_spec.specs.Laws.{OneReply, SomeReply, RefusedLeaves, AcceptedOrLeft, AlwaysCurrent};
-ghost use Rattle.session_spec.specs.Laws.{PutPlaces, EditsJoin, AcceptedJoin, OneAnswer, SomeAnswer, NothingBehindEnd};
+ghost use Rattle.session_spec.specs.Laws.{PutPlaces, EditsKeepTree, EditsJoin, AcceptedJoin, OneAnswer, SomeAnswer, NothingBehindEnd};
 ghost use Rattle.session_spec.specs.WorkedExamples.{LineExamples, TurnExamples, EntryExamples};
 ghost use Rattle.session_spec.specs.WorkedExamples.{EditExamples, AnswerExamples};
 
@@ -62,6 +62,11 @@ pub fn always_current()
 /// A file that is put is placed, with the folders above it.
 pub fn put_places()
     ensures { PutPlaces }
+{}
+
+/// An edit of a tree leaves a tree.
+pub fn edits_keep_tree()
+    ensures { EditsKeepTree }
 {}
 
 /// Behind an edit stands what its changes leave, one after another.
