@@ -1,5 +1,5 @@
 -- An edit of a tree leaves a tree.
-use Rattle.std.proofs.Common.{◌≡◌, ◌≢◌, ◌∷◌, [], ◌++◌, ℕ, List, length, Bool, true, false, Option, Some, None, Result, Ok, Err, refl, sym, ap, ◌∙◌, subst}
+use Rattle.std.proofs.Common.{◌≡◌, ◌∷◌, [], ◌++◌, ℕ, List, length, Bool, true, false, Option, Some, None, Result, Ok, Err, refl, sym, ap, ◌∙◌, subst}
 use Rattle.std.proofs.lemmas.List.Elements.{All-head, All-tail}
 use Rattle.std.proofs.lemmas.Map.Text.{is_eq-slice_cmp}
 use Rattle.std.proofs.lemmas.Slice.Eq.{bytes_eq-Decides}
@@ -7,7 +7,7 @@ use Rattle.std.specs.Bool.{Decides}
 use Rattle.std.specs.Cmp.Lexicographic.{nat_list_cmp_total}
 use Rattle.std.specs.FinMap.{get, remove, get-remove}
 use Rattle.std.specs.List.{list_any}
-use Rattle.std.specs.Prelude.{codes, bytes_eq, nat_lt, cond, not, All, if◌then◌else◌}
+use Rattle.std.specs.Prelude.{codes, bytes_eq, nat_lt, cond, not, if◌then◌else◌}
 use Rattle.config_spec.specs.Projects.{without}
 use Rattle.tree_spec.proofs.Placings.{placed_tree}
 use Rattle.tree_spec.specs.Limits.{limit_number}
@@ -23,7 +23,6 @@ use Rattle.session_spec.specs.declared.EditFault.TheVariants.{NotLinked, TooMany
 use Rattle.session_spec.specs.Edits.{Draft, is_folder, is_file, can_put, put_file, changed, edited, then_edited}
 use Rattle.session_spec.specs.Laws.{NamesPath, EditsKeepTree}
 use Rattle.session_spec.proofs.PutFiles.{both, put_places}
-
 
 same_draft : (some other : Draft) → ◌≡◌ {A = Result Draft EditFault} (Ok some) (Ok other) → some ≡ other
 same_draft some other e = cc
