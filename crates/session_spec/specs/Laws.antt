@@ -45,8 +45,8 @@ pub record IsLeft (state : SessionState) (edit : List Change) (next : SessionSta
   pub stays : next ≡ state
   pub why : IsRefused state (edited (draft_of state) edit) line
 
--- an edit is accepted, and then the next state has the tree and entries behind it and the map that is generated for them;
--- or it is refused
+-- an edit is accepted, and then the next state has the tree and entries behind it and the map that is generated for
+-- them; or it is refused
 abbrev pub AcceptedOrLeft : Type 0
 AcceptedOrLeft =
     (state next : SessionState) (edit : List Change) (line : List ℕ) → Replies state edit next line

@@ -1,9 +1,10 @@
-//! Sessions: the edits of a tree and of a config's entries, what each is answered, and what is replied to the lines of an
-//! input. Definitions, and their laws as the contracts of functions that do nothing.
+//! Sessions: the edits of a tree and of a config's entries, what each is answered, and what is replied to the lines of
+//! an input. Definitions, and their laws as the contracts of functions that do nothing.
 #![tactic(auto)]
 
 ghost use Rattle.session_spec.specs.Laws.{OneReply, SomeReply, RefusedLeaves, AcceptedOrLeft, AlwaysCurrent};
-ghost use Rattle.session_spec.specs.Laws.{PutPlaces, EditsKeepTree, EditsJoin, AcceptedJoin, OneAnswer, SomeAnswer, NothingBehindEnd};
+ghost use Rattle.session_spec.specs.Laws.{PutPlaces, EditsKeepTree, EditsJoin, AcceptedJoin};
+ghost use Rattle.session_spec.specs.Laws.{OneAnswer, SomeAnswer, NothingBehindEnd};
 ghost use Rattle.session_spec.specs.WorkedExamples.{LineExamples, TurnExamples, EntryExamples};
 ghost use Rattle.session_spec.specs.WorkedExamples.{EditExamples, AnswerExamples};
 
