@@ -1,5 +1,5 @@
 -- The lines of an input have one answer, and what comes behind `end` changes nothing.
-use Rattle.std.proofs.Common.{◌≡◌, ◌≤◌, ◌<◌, ◌⊎◌, ◌++◌, ◌∷◌, [], ℕ, List, length, Bool, true, false, Option, Some, None, refl, sym, ap, ◌∙◌, subst, inl, inr, arith}
+use Rattle.std.proofs.Common.{◌≡◌, ◌≤◌, ◌<◌, ◌⊎◌, ◌++◌, [], ℕ, List, length, Bool, true, false, Option, Some, None, refl, sym, ap, ◌∙◌, subst, inl, inr, arith}
 use Rattle.std.proofs.lemmas.Bool.{cases_lt}
 use Rattle.std.proofs.lemmas.List.{append-nil, take-append-le, take_all}
 use Rattle.std.proofs.Math.Seq.{take-append-add}
@@ -8,8 +8,8 @@ use Rattle.tree_spec.specs.declared.LimitName.TheVariants.{Session}
 use Rattle.tree_spec.specs.Limits.{limit_number}
 use Rattle.generator_spec.specs.Statuses.{done_status}
 use Rattle.session_spec.specs.declared.Change.{Change}
-use Rattle.session_spec.specs.Conversations.{Turn, makes, holds, shows, ends, refuses, stops, ordered, turn, turn_at, map_reply, stop_line, stop_status}
-use Rattle.session_spec.specs.Conversations.{Conversation, edits, collects, shows_it, ended, bad, stopped, Answers}
+use Rattle.session_spec.specs.Conversations.{Turn, makes, holds, shows, ends, refuses, stops, ordered, turn, turn_at, map_reply, stop_status}
+use Rattle.session_spec.specs.Conversations.{Conversation, edits, collects, shows_it, ended, bad, stopped}
 use Rattle.session_spec.specs.Laws.{SameAnswer, OneAnswer, NothingBehindEnd}
 use Rattle.session_spec.specs.SessionLines.{Order, changes, begins, commits, shows_map, ends_session, Rest, Reading, reads, malformed, unfinished, read_line}
 use Rattle.session_spec.specs.SessionStates.{SessionState}

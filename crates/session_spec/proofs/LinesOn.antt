@@ -5,11 +5,10 @@ use Rattle.std.proofs.lemmas.List.{take-append-le, drop-append-le, drop_all}
 use Rattle.std.specs.Prelude.{codes, ◌+◌, ◌&&◌, bytes_eq, take, drop, option_map, if◌then◌else◌}
 use Rattle.std.specs.Str.{is_utf8}
 use Rattle.url_spec.specs.PathTests.{is_path}
-use Rattle.session_spec.specs.declared.Change.{Change}
 use Rattle.session_spec.specs.declared.Change.TheVariants.{Link, Unlink, Put, Drop}
 use Rattle.session_spec.specs.SessionLines.{Order, changes, begins, commits, shows_map, ends_session, Rest, Reading, reads, malformed, unfinished}
 use Rattle.session_spec.specs.SessionLines.{Cut, with_front, cut_here, cut_first, cut_last, behind_word, number_of, line_ends}
-use Rattle.session_spec.specs.SessionLines.{one_line, if_text, if_path, put_behind, put_number, put_line, if_word, alone, order_of, line_at, read_line}
+use Rattle.session_spec.specs.SessionLines.{one_line, if_text, if_path, put_behind, put_number, put_line, if_word, order_of, line_at, read_line}
 
 module _ (more : List ℕ) where
   abbrev pub rest_on : Rest → Rest

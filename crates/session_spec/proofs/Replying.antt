@@ -5,14 +5,14 @@ use Rattle.tree_spec.specs.Trees.{Tree}
 use Rattle.config_spec.specs.declared.Command.TheVariants.{Refresh}
 use Rattle.generator_spec.proofs.Generations.{one_trace, one_layout, one_text}
 use Rattle.generator_spec.proofs.Refusals.{one_refusal, refused_or_opened_and_generated}
-use Rattle.generator_spec.specs.Commands.{Opens, nothing, refresh}
+use Rattle.generator_spec.specs.Commands.{nothing, refresh}
 use Rattle.generator_spec.specs.Lines.{line_of}
 use Rattle.session_spec.specs.declared.Change.{Change}
 use Rattle.session_spec.specs.declared.EditFault.{EditFault}
 use Rattle.session_spec.specs.Edits.{Draft, edited, then_edited, changed}
-use Rattle.session_spec.specs.Laws.{SameReply, OneReply, RefusedLeaves, IsLeft, AcceptedOrLeft, AlwaysCurrent, EditsJoin, IsBehind, AcceptedJoin, all_changes}
-use Rattle.session_spec.specs.Replies.{IsRefused, by_change, by_generation, Follows, refused, accepted, accepted_line, Replies, IsAccepted}
-use Rattle.session_spec.specs.Replies.{Leads, nowhere, on, AllAccepted, none, then}
+use Rattle.session_spec.specs.Laws.{SameReply, OneReply, RefusedLeaves, IsLeft, AcceptedOrLeft, AlwaysCurrent, EditsJoin, AcceptedJoin, all_changes}
+use Rattle.session_spec.specs.Replies.{IsRefused, by_change, by_generation, Follows, refused, accepted, accepted_line, IsAccepted}
+use Rattle.session_spec.specs.Replies.{nowhere, on, none, then}
 use Rattle.session_spec.specs.SessionStates.{SessionState, Counts, counts_of, draft_of, config_with, next_state, IsGenerated, IsCurrent}
 
 one_count : (tree : Tree) (config : Config) (map other : List ℕ) (counts second : Counts) → IsGenerated tree config map counts → IsGenerated tree config other second → counts ≡ second

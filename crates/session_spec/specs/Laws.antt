@@ -1,9 +1,14 @@
 -- The laws of sessions. Each is the contract of a function of this crate.
-use Rattle.std.specs.Prelude.{◌≡◌, ◌⊎◌, ◌++◌, ℕ, List, flat_map, Ok}
+use Rattle.std.specs.FinMap.{get}
+use Rattle.std.specs.Prelude.{◌≡◌, ◌⊎◌, ◌++◌, ⊤, ℕ, true, List, flat_map, Ok, All}
+use Rattle.tree_spec.specs.Paths.{IsPath}
+use Rattle.tree_spec.specs.Trees.{Tree, IsTree, Places}
+use Rattle.tree_spec.specs.declared.Entry.TheVariants.{Stored}
 use Rattle.generator_spec.specs.Statuses.{done_status}
 use Rattle.session_spec.specs.declared.Change.{Change}
+use Rattle.session_spec.specs.declared.Change.TheVariants.{Link, Unlink, Put, Drop}
 use Rattle.session_spec.specs.Conversations.{Answers}
-use Rattle.session_spec.specs.Edits.{Draft, edited, then_edited}
+use Rattle.session_spec.specs.Edits.{Draft, can_put, put_file, edited, then_edited}
 use Rattle.session_spec.specs.Replies.{IsRefused, Replies, IsAccepted, Leads, AllAccepted}
 use Rattle.session_spec.specs.SessionStates.{SessionState, draft_of, config_with, IsCurrent}
 
@@ -18,6 +23,16 @@ OneReply =
     (state next other : SessionState) (edit : List Change) (line said : List ℕ) → Replies state edit next line
     → Replies state edit other said → SameReply next other line said
 
+-- own: some reply and next state
+pub record HasReply (state : SessionState) (edit : List Change) : Type 0 where
+  pub next : SessionState
+  pub line : List ℕ
+  pub replies : Replies state edit next line
+
+-- each edit of a state has a reply
+abbrev pub SomeReply : Type 0
+SomeReply = (state : SessionState) (edit : List Change) → HasReply state edit
+
 -- where an edit is refused, its line says why and the state stays
 abbrev pub RefusedLeaves : Type 0
 RefusedLeaves =
@@ -30,8 +45,8 @@ pub record IsLeft (state : SessionState) (edit : List Change) (next : SessionSta
   pub stays : next ≡ state
   pub why : IsRefused state (edited (draft_of state) edit) line
 
--- an edit is accepted, and then the next state has the tree and entries behind it and the map that is generated for them;
--- or it is refused
+-- an edit is accepted, and then the next state has the tree and entries behind it and the map that is generated for
+-- them; or it is refused
 abbrev pub AcceptedOrLeft : Type 0
 AcceptedOrLeft =
     (state next : SessionState) (edit : List Change) (line : List ℕ) → Replies state edit next line
@@ -42,6 +57,25 @@ abbrev pub AlwaysCurrent : Type 0
 AlwaysCurrent =
     (state later : SessionState) (edits : List (List Change)) → IsCurrent state → Leads state edits later
     → IsCurrent later
+
+-- what a put leaves is what it leaves to place a file at the path: each folder above it is there, and all else stays
+abbrev pub PutPlaces : Type 0
+PutPlaces =
+    (tree : Tree) (path bytes : List ℕ) → IsPath path → can_put (get tree) path ≡ true
+    → Places tree path (Stored bytes) (put_file tree path bytes)
+
+-- own: where a change puts or drops a file, it names a path
+abbrev pub NamesPath : Change → Type 0
+NamesPath (Link entry) = ⊤
+NamesPath (Unlink entry) = ⊤
+NamesPath (Put path bytes) = IsPath path
+NamesPath (Drop path) = IsPath path
+
+-- an edit of a tree leaves a tree
+abbrev pub EditsKeepTree : Type 0
+EditsKeepTree =
+    (draft after : Draft) (edit : List Change) → All NamesPath edit → IsTree draft.tree → edited draft edit ≡ Ok after
+    → IsTree after.tree
 
 -- changes one after another come to the same as the first of them and then the others
 abbrev pub EditsJoin : Type 0
@@ -73,6 +107,16 @@ abbrev pub OneAnswer : Type 0
 OneAnswer =
     (state : SessionState) (input out other : List ℕ) (status second : ℕ) → Answers state input out status
     → Answers state input other second → SameAnswer out other status second
+
+-- own: some text and status
+pub record HasAnswer (state : SessionState) (input : List ℕ) : Type 0 where
+  pub out : List ℕ
+  pub status : ℕ
+  pub answers : Answers state input out status
+
+-- each input has an answer
+abbrev pub SomeAnswer : Type 0
+SomeAnswer = (state : SessionState) (input : List ℕ) → HasAnswer state input
 
 -- where an input is answered to its `end`, what comes behind it changes nothing
 abbrev pub NothingBehindEnd : Type 0

@@ -25,9 +25,9 @@ use Rattle.session_spec.specs.declared.Change.{Change}
 use Rattle.session_spec.specs.declared.Change.TheVariants.{Link, Unlink, Put, Drop}
 use Rattle.session_spec.specs.declared.EditFault.{EditFault}
 use Rattle.session_spec.specs.declared.EditFault.TheVariants.{NotLinked, TooManyEntries, BadEdit}
-use Rattle.session_spec.specs.Conversations.{makes, holds, shows, ends, refuses, stops, turn_at, stop_line, Conversation, Answers}
+use Rattle.session_spec.specs.Conversations.{makes, holds, shows, ends, refuses, stops, turn_at, Conversation, Answers}
 use Rattle.session_spec.specs.Edits.{Draft, changed, edited}
-use Rattle.session_spec.specs.SessionLines.{Order, changes, begins, commits, shows_map, ends_session, Rest, Reading}
+use Rattle.session_spec.specs.SessionLines.{changes, begins, commits, shows_map, ends_session, Rest}
 use Rattle.session_spec.specs.SessionLines.{reads, malformed, unfinished, read_line}
 use Rattle.session_spec.specs.SessionStates.{Counts, SessionState}
 
@@ -219,6 +219,3 @@ pub record AnswerExamples : Type 0 where
   pub too_long :
       (state : SessionState) (input : List ℕ) → turn_at None input ≡ stops
       → Conversation true state 1 (turn_at None input) (lines ("limit: session above 268435456" ∷ [])) 3
-
-abbrev pub WorkedExamples : Type 0
-WorkedExamples = LineExamples × EditExamples × EntryExamples × TurnExamples × AnswerExamples

@@ -1,10 +1,12 @@
-//! Sessions: the edits of a tree and of a config's entries, what each is answered, and what is replied to the lines of an
-//! input. Definitions, and their laws as the contracts of functions that do nothing.
+//! Sessions: the edits of a tree and of a config's entries, what each is answered, and what is replied to the lines of
+//! an input. Definitions, and their laws as the contracts of functions that do nothing.
 #![tactic(auto)]
 
-ghost use Rattle.session_spec.specs.Laws.{OneReply, RefusedLeaves, AcceptedOrLeft, AlwaysCurrent};
-ghost use Rattle.session_spec.specs.Laws.{EditsJoin, AcceptedJoin, OneAnswer, NothingBehindEnd};
+ghost use Rattle.session_spec.specs.Laws.{OneReply, SomeReply, RefusedLeaves, AcceptedOrLeft, AlwaysCurrent};
+ghost use Rattle.session_spec.specs.Laws.{PutPlaces, EditsKeepTree, EditsJoin, AcceptedJoin};
+ghost use Rattle.session_spec.specs.Laws.{OneAnswer, SomeAnswer, NothingBehindEnd};
 ghost use Rattle.session_spec.specs.WorkedExamples.{LineExamples, TurnExamples, EntryExamples};
+ghost use Rattle.session_spec.specs.WorkedExamples.{EditExamples, AnswerExamples};
 
 use primitives::{Bytes, Text};
 use tree_model::Path;
@@ -38,6 +40,11 @@ pub fn one_reply()
     ensures { OneReply }
 {}
 
+/// Each edit has a reply.
+pub fn some_reply()
+    ensures { SomeReply }
+{}
+
 /// A refused edit leaves the state.
 pub fn refused_leaves()
     ensures { RefusedLeaves }
@@ -53,6 +60,16 @@ pub fn always_current()
     ensures { AlwaysCurrent }
 {}
 
+/// A file that is put is placed, with the folders above it.
+pub fn put_places()
+    ensures { PutPlaces }
+{}
+
+/// An edit of a tree leaves a tree.
+pub fn edits_keep_tree()
+    ensures { EditsKeepTree }
+{}
+
 /// Behind an edit stands what its changes leave, one after another.
 pub fn edits_join()
     ensures { EditsJoin }
@@ -66,6 +83,11 @@ pub fn accepted_join()
 /// The lines of an input have one answer.
 pub fn one_answer()
     ensures { OneAnswer }
+{}
+
+/// Each input has an answer.
+pub fn some_answer()
+    ensures { SomeAnswer }
 {}
 
 /// What comes behind `end` changes nothing.
@@ -86,4 +108,14 @@ pub fn turn_examples()
 /// Changes of entries.
 pub fn entry_examples()
     ensures { EntryExamples }
+{}
+
+/// Changes of files.
+pub fn edit_examples()
+    ensures { EditExamples }
+{}
+
+/// What is replied to whole inputs.
+pub fn answer_examples()
+    ensures { AnswerExamples }
 {}
