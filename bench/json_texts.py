@@ -75,21 +75,19 @@ TEXTS = {
     "words": lambda: listed(words()),
     "numbers": lambda: listed(numbers()),
     "fractions": lambda: listed(fractions()),
-    "object_500000": one_object,
     "small_objects": lambda: listed(small_objects()),
+    "digits": lambda: listed(digits()),
+}
+TOLD = {
+    "object_500000": one_object,
     "arrays_of_four_numbers_128_deep": lambda: listed(deep("[1,22,333,4444,", "5", "]")),
     "arrays_of_two_numbers_128_deep": lambda: listed(deep("[10,20,", "30", "]")),
     "arrays_of_two_texts_128_deep": lambda: listed(deep('["one","two",', '"three"', "]")),
     "objects_128_deep": lambda: listed(deep('{"key":', "1", "}")),
-    "digits": lambda: listed(digits()),
     "arrays_of_a_digit_128_deep": lambda: listed(deep("[1,", "2", "]")),
     "brackets_128_deep": lambda: listed(deep("[", "", "]")),
     "brackets_and_numbers_within": lambda: listed(deep("[", "1,22,333,4444", "]")),
     "digits_beside_brackets_128_deep": lambda: listed(itertools.repeat("[" + "0," * 33 + brackets(126) + "]")),
-}
-
-# What no target is asked of: lists that are values of members.
-TOLD = {
     "brackets_in_members": lambda: listed(itertools.repeat('{"":' + brackets(126) + "}")),
     "short_lists_in_members": lambda: listed(itertools.repeat('{"":[0]}')),
 }
