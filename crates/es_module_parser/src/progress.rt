@@ -147,6 +147,8 @@ impl Progress {
         }
     }
 
+    // Calls are few, and the loop over all tokens is quicker without this.
+    #[inline(never)]
     fn call(
         self,
         alloc: Global,

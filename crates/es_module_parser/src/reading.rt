@@ -85,6 +85,8 @@ fn outline_at_end(
 
 /// What the text asks for, or its first fault: one among its tokens goes before any other, and then the first in the
 /// text. It takes one step.
+// In a caller's body the reader's loops would have fewer registers.
+#[inline(never)]
 pub fn outline<L: Ledger>(
     alloc: Global,
     text: &str,
