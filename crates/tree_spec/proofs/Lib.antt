@@ -13,3 +13,7 @@ pub mod examples
 pub mod FootprintSets
 pub mod ToldStates
 pub mod Fronts
+pub mod Contained
+pub mod LeftOutFolders
+pub mod Copies
+pub mod PathTexts

@@ -8,6 +8,8 @@ use Rattle.asking_spec.specs.Laws.{AgreesOn}
 use Rattle.tree_spec.specs.FoldersAbove.{folders_from, folder_of, Climbs}
 use Rattle.tree_spec.specs.LookAskings.{Sights, LookAsking, looks, is_seen, noted, footprint}
 use Rattle.tree_spec.specs.LookLimits.{LookLimits, Trail, limited, IsFirstLimit, Counts}
+use Rattle.tree_spec.specs.Copies.{IsCopy}
+use Rattle.tree_spec.specs.LeftOutFolders.{IsThinned, Spares}
 use Rattle.tree_spec.specs.Looks.{IsLook}
 use Rattle.tree_spec.specs.Paths.{IsParent, IsPath}
 use Rattle.tree_spec.specs.Trees.{Tree, Places, IsTree, bare_tree}
@@ -116,3 +118,23 @@ pub record FootprintsJoin : Type 0 where
   pub one_after_another :
       (seen front back : List (List ℕ)) → noted seen (front ++ back) ≡ noted (noted seen front) back
   pub by_footprint : (seen paths : List (List ℕ)) → noted seen (noted [] paths) ≡ noted seen paths
+
+-- own: what an asking comes to is the same, at the same paths, and the limits tell no more
+pub record IsSparedAsking {X : Type 0} (one other : Sights) (asking : LookAsking X) : Type 0 where
+  pub same : IsSameAsking one other asking
+  pub limited :
+      (limits : LookLimits) (trail : Trail)
+      → evaluated (limited limits one) trail asking ≡ evaluated (limited limits other) trail asking
+
+-- where folders are left out of a footprint, and nothing else, an asking that spares them comes to the same, by the same
+-- looks, under every limit
+abbrev pub SparedSame : Type 0 → Type 0
+SparedSame X =
+    (one other : Sights) (asking : LookAsking X) → IsThinned one other (footprint one asking) → Spares one [] asking
+    → IsSparedAsking one other asking
+
+-- a copy of the files at some paths differs from the tree, at these paths, by folders that are left out
+abbrev pub CopyIsThinned : Type 0
+CopyIsThinned =
+    (old : Tree) (paths : List (List ℕ)) (copy : Tree) → IsTree old → IsCopy old paths copy
+    → IsThinned (get old) (get copy) paths

@@ -4,6 +4,8 @@ pub mod Looks
 pub mod LookAskings
 pub mod Limits
 pub mod LookLimits
+pub mod LeftOutFolders
+pub mod Copies
 pub mod FoldersAbove
 pub mod Counts
 pub mod States

@@ -2,7 +2,7 @@ ghost use Rattle.tree_spec.specs.Laws.{OneLook, OneParent, OnePlacing, PlacingKe
 ghost use Rattle.tree_spec.specs.Laws.{PlacingInRoot, RootAlone};
 ghost use Rattle.tree_spec.specs.LookExamples.{LookExamples};
 ghost use Rattle.tree_spec.specs.Laws.{FootprintIsSet, FootprintsJoin, SameByFootprint, SameLimited, FirstLimitStops};
-ghost use Rattle.tree_spec.specs.Laws.{EndsCounted, FoldersClimb, FolderIsParent};
+ghost use Rattle.tree_spec.specs.Laws.{EndsCounted, FoldersClimb, FolderIsParent, SparedSame, CopyIsThinned};
 
 /// A path has one parent.
 pub fn one_parent()
@@ -84,4 +84,14 @@ pub fn footprint_is_set<X>()
 #[tactic(auto, using(crate::proofs::FootprintSets::footprints_join))]
 pub fn footprints_join()
     ensures { FootprintsJoin }
+{}
+
+/// Folders that are left out decide nothing in an asking that spares them.
+pub fn spared_same<X>()
+    ensures { SparedSame X }
+{}
+
+/// A copy of the files at some paths is at these paths the tree, without the folders that have none of the files.
+pub fn copy_is_thinned()
+    ensures { CopyIsThinned }
 {}

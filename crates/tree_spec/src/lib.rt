@@ -5,9 +5,10 @@ mod laws;
 mod limits;
 
 pub use laws::{
-    ends_counted, first_limit_stops, folder_is_parent, folders_climb, footprint_is_set,
-    footprints_join, look_examples, one_look, one_parent, one_placing, placing_in_folder,
-    placing_in_root, placing_keeps_tree, root_alone, same_by_footprint, same_limited,
+    copy_is_thinned, ends_counted, first_limit_stops, folder_is_parent, folders_climb,
+    footprint_is_set, footprints_join, look_examples, one_look, one_parent, one_placing,
+    placing_in_folder, placing_in_root, placing_keeps_tree, root_alone, same_by_footprint,
+    same_limited, spared_same,
 };
 pub use limits::{
     MOST_BRACKETS, MOST_BYTES, MOST_CHOICES, MOST_DEPTH, MOST_ENTRIES, MOST_FILE_BYTES, MOST_LOOKS,
