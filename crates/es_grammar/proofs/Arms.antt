@@ -1,24 +1,22 @@
 -- The steps as the code takes them: by the node that is read, and by what is to be done behind it.
-use Rattle.std.proofs.Common.{◌≡◌, ◌==◌, ◌<◌, ◌≤◌, ℕ, suc, Bool, true, false, List, [], ◌∷◌, ◌++◌, refl, sym, ◌∙◌, ap, subst, rules, Option}
+use Rattle.std.proofs.Common.{◌≡◌, ◌<◌, ◌≤◌, ℕ, suc, true, false, List, [], ◌∷◌, ◌++◌, sym, ◌∙◌, ap, subst, Option}
 use denote.Bor.{Bor}
 use Rattle.grammar_spec.specs.declared.names.Context.{Context}
 use Rattle.grammar_spec.specs.declared.names.Rule.{Rule}
 use Rattle.grammar_spec.specs.declared.names.Test.{Test}
 use Rattle.grammar_spec.specs.declared.names.Guard.{Guard}
 use Rattle.grammar_spec.specs.Sights.{Sight, is_quoted, passes, holds, depth_at}
-use Rattle.grammar_spec.specs.Forms.{Form, quoted, one, ahead, ◌▸◌, ◌∣◌, maybe, many, rule, asks, nested, headed}
+use Rattle.grammar_spec.specs.Forms.{Form}
 use Rattle.grammar_spec.specs.Statements.{body}
-use Rattle.grammar_spec.specs.Readings.{Place, Outcome, stays, takes, misses, faults, too_deep, taken, looked, most_open}
-use Rattle.grammar_spec.specs.Readings.{deeper, in_head, one_more_asked, is_sole, Reads, ReadsModule}
+use Rattle.grammar_spec.specs.Readings.{Place, stays, misses, too_deep, taken, looked, most_open}
+use Rattle.grammar_spec.specs.Readings.{deeper, in_head, one_more_asked, is_sole, ReadsModule}
 use Rattle.grammar_spec.specs.Readings.{Reads as reads}
 use Rattle.grammar_table.specs.declared.node.Node as node
 use Rattle.grammar_table.specs.declared.node.Node.{Node, the_lemmas}
 use Rattle.es_grammar.specs.declared.stack.Frame.{Frame}
 use Rattle.es_grammar.specs.declared.stack.Frame.TheVariants as frame
-use Rattle.es_grammar.specs.declared.reader.Step.{Step}
-use Rattle.es_grammar.specs.declared.reader.Step.TheVariants as step
 use Rattle.grammar_table.specs.NodeForms.{form_of}
-use Rattle.es_grammar.specs.Unwinding.{Enters, Leaves, Took, Stands}
+use Rattle.es_grammar.specs.Unwinding.{Enters, Leaves, Took}
 use Rattle.grammar_table.proofs.NodeForms.{form_quoted, form_one, form_ahead, form_then, form_or, form_maybe, form_many, form_call, form_asks, form_nested, form_headed}
 use Rattle.es_grammar.proofs.Steps.{enter_takes, enter_misses, enter_stays, enter_then, enter_or, enter_maybe, enter_many}
 use Rattle.es_grammar.proofs.Steps.{enter_rule, enter_asks, enter_deep, enter_nested, enter_headed, take_then, take_many, take_more, take_asks}

@@ -1,17 +1,16 @@
 -- How a reading begins and ends.
-use Rattle.std.proofs.Common.{◌≡◌, ℕ, List, [], ◌∷◌, refl, sym, ◌∙◌, subst}
+use Rattle.std.proofs.Common.{◌≡◌, ℕ, List, [], sym, subst}
 use Rattle.grammar_spec.specs.declared.names.Context.{Context}
 use Rattle.grammar_spec.specs.declared.names.Rule.TheVariants.{Module}
 use Rattle.grammar_spec.specs.Sights.{Sight}
-use Rattle.grammar_spec.specs.Forms.{rule}
 use Rattle.grammar_spec.specs.Statements.{body}
-use Rattle.grammar_spec.specs.Readings.{Place, Outcome, stays, takes, misses, faults, too_deep, start, nothing_open, ReadsModule}
+use Rattle.grammar_spec.specs.Readings.{Place, stays, takes, misses, faults, too_deep, start, nothing_open, ReadsModule}
 use Rattle.grammar_spec.specs.Readings.Reads.{reads_rule}
 use Rattle.grammar_table.specs.declared.node.Node.{Node}
 use Rattle.es_grammar.specs.declared.stack.Frame.{Frame}
 use Rattle.es_grammar.specs.declared.reader.End.TheVariants as end
 use Rattle.grammar_table.specs.NodeForms.{form_of}
-use Rattle.es_grammar.specs.Unwinding.{Unwinds, Enters, Leaves, Took, TellsOf}
+use Rattle.es_grammar.specs.Unwinding.{Enters, Leaves, Took, TellsOf}
 use Rattle.es_grammar.specs.Unwinding.Unwinds.{done}
 use Rattle.es_grammar.specs.Unwinding.Tells.{nothing, matches, missing, faulty, deep}
 

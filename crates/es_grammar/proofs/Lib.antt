@@ -2,3 +2,4 @@ pub mod Unwound
 pub mod Steps
 pub mod Arms
 pub mod Ends
+pub mod Halting

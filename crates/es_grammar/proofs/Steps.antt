@@ -1,5 +1,5 @@
 -- One step of the reader leads where the grammar does.
-use Rattle.std.proofs.Common.{◌≡◌, ◌<◌, ◌≤◌, ℕ, suc, Bool, true, false, List, [], ◌∷◌, ◌++◌, refl, sym, ◌∙◌, subst, Bor}
+use Rattle.std.proofs.Common.{◌<◌, ◌≤◌, ℕ, List, ◌∷◌, refl, Bor}
 use Rattle.grammar_spec.specs.declared.names.Context.{Context}
 use Rattle.grammar_spec.specs.declared.names.Rule.{Rule}
 use Rattle.grammar_spec.specs.Sights.{Sight}
@@ -16,7 +16,7 @@ use Rattle.es_grammar.specs.Unwinding.{Unwinds, Enters, Leaves, Took}
 use Rattle.es_grammar.specs.Unwinding.Unwinds.{then_stays, then_takes, then_ends, or_first, or_second, may}
 use Rattle.es_grammar.specs.Unwinding.Unwinds.{many_takes, many_ends, more_takes, more_ends, back_behind, asks_takes}
 use Rattle.es_grammar.specs.Unwinding.Unwinds.{asks_ends, back}
-use Rattle.es_grammar.proofs.Unwound.{Settled, took, behind_settled, anywhere, fault_through, deep_through}
+use Rattle.es_grammar.proofs.Unwound.{took, behind_settled, anywhere, fault_through, deep_through}
 
 behind_again : {tokens : List Sight} {fs : List Frame} {c : Context} {start : Place} {whole : Outcome} (p q : Place) (next : Outcome) → Unwinds tokens fs c start (behind q next) whole → Unwinds tokens fs c start (behind p (behind q next)) whole
 behind_again p q stays u = u

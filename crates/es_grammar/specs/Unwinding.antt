@@ -2,7 +2,7 @@
 --     Unwinds tokens frames context place out whole      where a form that was begun at the place has this outcome, and
 --                       this is to be done behind it, the module has the whole outcome
 --     StandsAt reader step      whatever comes of the next step, the module has the outcome to which it leads
-use Rattle.std.specs.Prelude.{◌≡◌, ℕ, Bool, true, false, List, [], ◌∷◌}
+use Rattle.std.specs.Prelude.{◌≡◌, ℕ, false, List, [], ◌∷◌}
 use denote.Bor.{Bor}
 use Rattle.grammar_spec.specs.declared.names.Context.{Context}
 use Rattle.grammar_spec.specs.Sights.{Sight}

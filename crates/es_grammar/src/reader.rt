@@ -3,6 +3,8 @@ ghost use Rattle.es_grammar.specs.Pending.{pending};
 ghost use Rattle.grammar_table.specs.NodeForms.{form_of};
 ghost use Rattle.es_grammar.specs.Unwinding.{place, EntersAt, LeavesBefore, TookBefore, StandsAt};
 ghost use Rattle.es_grammar.specs.Unwinding.{TurnsAt, TellsOf};
+ghost use Rattle.es_grammar.specs.Turning.{entered, behind_stay, behind_miss, behind_take, job_of, jobs_of};
+ghost use Rattle.es_grammar.specs.Turning.{state_of, TurnsTo};
 ghost use Rattle.grammar_spec.specs.Readings.{stays, misses, is_sole};
 
 use crate::stack::{Frame, Stack};
@@ -11,7 +13,7 @@ use grammar_table::{Node, body};
 use grammar_tokens::Tokens;
 use module_spec::Kind;
 use primitives::Memory;
-use std::alloc::{AllocError, Global};
+use std::alloc::Global;
 
 /// What is done next: a form is read, or one has given its outcome.
 #[derive(Clone, Copy)]
@@ -64,7 +66,10 @@ impl Reader {
         tokens: &Tokens<'_>,
         node: &'static Node<'static>,
     ) -> Result<Step, Memory>
-        ensures { IfOk result (λ step. EntersAt tokens.now self.old (form_of node.now) → StandsAt tokens.now self.new step) }
+        ensures stands { IfOk result (λ step. EntersAt tokens.now self.old (form_of node.now)
+            → StandsAt tokens.now self.new step) }
+        ensures turns { IfOk result (λ step. entered tokens.now (jobs_of self.old) self.old.context self.old.at
+            (form_of node.now) ≡ state_of self.new step) }
     {
         match *node {
             Node::Quoted(word) => {
@@ -129,7 +134,9 @@ impl Reader {
 
     /// A form took nothing; this was to be done behind it.
     pub fn stay(&mut self, tokens: &Tokens<'_>, frame: Frame) -> Step
-        ensures { LeavesBefore tokens.now frame self.old stays → StandsAt tokens.now self.new result }
+        ensures stands { LeavesBefore tokens.now frame self.old stays → StandsAt tokens.now self.new result }
+        ensures turns { behind_stay (job_of frame) (jobs_of self.old) self.old.context self.old.at
+            ≡ state_of self.new result }
     {
         match frame {
             Frame::Then(next) => Step::Enter(next),
@@ -148,7 +155,9 @@ impl Reader {
 
     /// A form missed.
     pub fn miss(&mut self, tokens: &Tokens<'_>, frame: Frame) -> Step
-        ensures { LeavesBefore tokens.now frame self.old misses → StandsAt tokens.now self.new result }
+        ensures stands { LeavesBefore tokens.now frame self.old misses → StandsAt tokens.now self.new result }
+        ensures turns { behind_miss (job_of frame) (jobs_of self.old) self.old.context self.old.at
+            ≡ state_of self.new result }
     {
         match frame {
             Frame::Then(_) => Step::Misses,
@@ -174,7 +183,10 @@ impl Reader {
 
     /// A form took tokens.
     pub fn go_on(&mut self, tokens: &Tokens<'_>, frame: Frame) -> Result<Step, Memory>
-        ensures { IfOk result (λ step. TookBefore tokens.now frame self.old → StandsAt tokens.now self.new step) }
+        ensures stands { IfOk result (λ step. TookBefore tokens.now frame self.old
+            → StandsAt tokens.now self.new step) }
+        ensures turns { IfOk result (λ step. behind_take (job_of frame) (jobs_of self.old) self.old.context
+            self.old.at ≡ state_of self.new step) }
     {
         match frame {
             Frame::Then(next) => {
@@ -208,7 +220,9 @@ impl Reader {
 
     /// One step.
     pub fn turn(&mut self, tokens: &Tokens<'_>, step: Step) -> Result<Turn, Memory>
-        ensures { IfOk result (λ turn. StandsAt tokens.now self.old step → TurnsAt tokens.now self.new turn) }
+        ensures stands { IfOk result (λ turn. StandsAt tokens.now self.old step
+            → TurnsAt tokens.now self.new turn) }
+        ensures turns { IfOk result (λ turn. TurnsTo tokens.now (state_of self.old step) self.new turn) }
     {
         match step {
             Step::Enter(node) => Ok(Turn::Goes(self.enter(tokens, node)?)),
@@ -244,11 +258,10 @@ pub fn read(alloc: Global, tokens: &Tokens<'_>) -> Result<(End, Vec<usize>), Mem
         stack: Stack::new(alloc),
     };
     let mut step = Step::Enter(body(Rule::Module));
-    'read: for _ in 0..u64::MAX {
+    'read: loop {
         match reader.turn(tokens, step)? {
             Turn::Goes(next) => step = next,
             Turn::Ends(end) => return Ok((end, reader.asked)),
         }
     }
-    Err(AllocError)
 }

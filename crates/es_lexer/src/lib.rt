@@ -17,6 +17,7 @@ mod spellings;
 mod state;
 mod whole;
 
+pub use characters::begins_line_end;
 pub use lexer::Lexer;
 pub use module_spec::{Kind, LexFault, LexKind, Token};
 pub use whole::{TokensFault, tokens_of};

@@ -14,6 +14,7 @@ mod requests;
 mod terminals;
 
 pub use fault::OutlineFault;
+pub use literals::string_value;
 pub use module_spec::Request;
 pub use reading::outline;
 pub use requests::{Outline, Requests};

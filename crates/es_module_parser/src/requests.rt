@@ -60,14 +60,30 @@ impl Requests {
         self.items.at(index)
     }
 
-    /// Equal requests, whose texts share the memory of these.
-    pub fn copy(&self, alloc: Global) -> Result<Requests, Memory>
+    /// Lends the requests.
+    pub fn as_slice(&self) -> &[Request]
+        ensures { result.now ≡ self.now }
+    {
+        self.items.as_slice()
+    }
+
+    /// A list of equal requests, whose texts share the memory of these.
+    pub fn listed(&self, alloc: Global) -> Result<Listed<Request>, Memory>
         ensures { IfOk result (λ copy. copy ≡ self.now) }
     {
         let mut items = Listed::new(alloc);
         for request in self.items.as_slice() {
             items.push(copy_of(request, alloc)?)?;
         }
-        Ok(Requests { items })
+        Ok(items)
+    }
+
+    /// Equal requests, whose texts share the memory of these.
+    pub fn copy(&self, alloc: Global) -> Result<Requests, Memory>
+        ensures { IfOk result (λ copy. copy ≡ self.now) }
+    {
+        Ok(Requests {
+            items: self.listed(alloc)?,
+        })
     }
 }
