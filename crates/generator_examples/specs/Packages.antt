@@ -107,7 +107,15 @@ packages_all = record {
       ∷ spelled "/node_modules/ui/b.js" "@ui/core" "/node_modules/ui/node_modules/@ui/core/lib/index.mjs"
       ∷ spelled "/node_modules/ui/x/menu.js" "@ui/core" "/node_modules/ui/node_modules/@ui/core/lib/index.mjs"
       ∷ [];
-  requests = 7;
+  targets =
+      module_at "/app.js"
+      ∷ module_at "/node_modules/ui/b.js"
+      ∷ module_at "/node_modules/ui/x/menu.js"
+      ∷ module_at "/own.js"
+      ∷ module_at "/node_modules/ui/b.js"
+      ∷ module_at "/node_modules/ui/node_modules/@ui/core/lib/index.mjs"
+      ∷ module_at "/node_modules/ui/node_modules/@ui/core/lib/index.mjs"
+      ∷ [];
 }
 
 abbrev pub packages_imports : List ℕ

@@ -117,7 +117,13 @@ levels_all = record {
       ∷ spelled "/a.mjs" "./c.mjs" "/c.mjs"
       ∷ spelled "/a.mjs" "./b.mjs" "/b.mjs"
       ∷ [];
-  requests = 5;
+  targets =
+      module_at "/app.mjs"
+      ∷ module_at "/a.mjs"
+      ∷ module_at "/b.mjs"
+      ∷ module_at "/c.mjs"
+      ∷ module_at "/b.mjs"
+      ∷ [];
 }
 
 -- ---- one file under two spellings: `%62` is `b`
@@ -138,7 +144,7 @@ spelling_all = record {
       ∷ [];
   spellings =
       spelled "/index.html" "./app.mjs" "/app.mjs" ∷ spelled "/app.mjs" "./a%62.mjs" "/ab.mjs" ∷ [];
-  requests = 2;
+  targets = module_at "/app.mjs" ∷ module_at "/ab.mjs" ∷ [];
 }
 
 abbrev pub spelling_imports : List ℕ
@@ -254,7 +260,16 @@ site_all = record {
       ∷ spelled "/pages/home.mjs" "./[id].mjs" "/pages/[id].mjs"
       ∷ spelled "/pages/[id].mjs" "../lib/greet.mjs" "/lib/greet.mjs"
       ∷ [];
-  requests = 8;
+  targets =
+      module_at "/app.mjs"
+      ∷ module_at "/lib/greet.mjs"
+      ∷ module_at "/pages/home.mjs"
+      ∷ module_at "/pages/[id].mjs"
+      ∷ module_at "/lib/words.mjs"
+      ∷ module_at "/lib/greet.mjs"
+      ∷ module_at "/pages/[id].mjs"
+      ∷ module_at "/lib/greet.mjs"
+      ∷ [];
 }
 
 abbrev pub site_imports : List ℕ

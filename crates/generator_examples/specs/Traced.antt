@@ -22,7 +22,7 @@ use Rattle.node_spec.specs.NodeExamples.{Files, folder, file}
 use Rattle.generator_examples.specs.Sites.{tree_of, based}
 
 abbrev pub says : Result Gathered TraceFault → List ℕ
-says (Ok all) = decimal (length all.modules) ++ (codes " modules, " ++ (decimal all.requests ++ codes " requests\n"))
+says (Ok all) = decimal (length all.modules) ++ (codes " modules, " ++ (decimal (length all.targets) ++ codes " requests\n"))
 says (Err fault) = trace_line fault
 
 -- own: files, entries and a line

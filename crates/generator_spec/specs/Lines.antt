@@ -236,7 +236,7 @@ counts_line modules requests mappings =
 
 -- own: the modules of the trace without the page, its requests with the entries, and the mappings of the map
 abbrev pub done_line : Gathered → ParsedMap → List ℕ
-done_line all map = counts_line (length all.modules) all.requests (mapping_count map)
+done_line all map = counts_line (length all.modules) (length all.targets) (mapping_count map)
 
 -- ---- what a check says
 

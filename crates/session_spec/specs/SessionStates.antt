@@ -24,7 +24,7 @@ pub record Counts : Type 0 where
 -- own: the modules without the page, the requests with the entries, the mappings of imports and scopes
 abbrev pub counts_of : Gathered → ParsedMap → Counts
 counts_of all layout =
-    record { modules = length all.modules; requests = all.requests; mappings = mapping_count layout }
+    record { modules = length all.modules; requests = length all.targets; mappings = mapping_count layout }
 
 pub record SessionState : Type 0 where
   pub tree : Tree

@@ -155,7 +155,7 @@ module _ (sights : Sights) (config : Config) where
 
       checked_no_clash : checked config before referrer specifier ≡ Err clash → ⊥
       checked_no_clash e =
-          by (nat_lt before.requests (limit_number Requests)) (nat_lt (limit_number Specifier) (length specifier)) e
+          by (nat_lt (length before.targets) (limit_number Requests)) (nat_lt (limit_number Specifier) (length specifier)) e
         where
           by : (few long : Bool)
               → (if few

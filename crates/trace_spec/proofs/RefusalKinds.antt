@@ -187,7 +187,7 @@ module _ (sights : Sights) (config : Config) where
   checked_kind : (before : Gathered) (referrer : Referrer Module) (specifier : List ℕ)
       → OfCheck config specifier (checked config before referrer specifier)
   checked_kind before referrer specifier =
-      by (nat_lt before.requests (limit_number Requests)) (nat_lt (limit_number Specifier) (length specifier)) refl
+      by (nat_lt (length before.targets) (limit_number Requests)) (nat_lt (limit_number Specifier) (length specifier)) refl
     where
       by : (few long : Bool) → nat_lt (limit_number Specifier) (length specifier) ≡ long
           → OfCheck config specifier (if few

@@ -163,12 +163,12 @@ pub record LeavesTables (before after : Gathered) : Type 0 where
   pub modules : after.modules ≡ before.modules
   pub needs : after.needs ≡ before.needs
   pub spellings : after.spellings ≡ before.spellings
-  pub requests : after.requests ≡ before.requests
+  pub targets : after.targets ≡ before.targets
 
 leaves_by : (sights : Sights) (before : Gathered) (referrer : Referrer Module)
     → LeavesTables before (opening_put sights before referrer)
-leaves_by sights before the_page = record { modules = refl; needs = refl; spellings = refl; requests = refl }
-leaves_by sights before (a_module m) = record { modules = refl; needs = refl; spellings = refl; requests = refl }
+leaves_by sights before the_page = record { modules = refl; needs = refl; spellings = refl; targets = refl }
+leaves_by sights before (a_module m) = record { modules = refl; needs = refl; spellings = refl; targets = refl }
 
 pub opens_leaves : (sights : Sights) (config : Config) (before : Gathered) (referrer : Referrer Module)
     (opened : Opened Gathered) → outcome (always sights) (opens config before referrer) ≡ Ok opened
@@ -254,7 +254,7 @@ wants_by config referrer specifier (Some name) want is e = by (is_utf8 specifier
 
 pub record Checked (config : Config) (before : Gathered) (referrer : Referrer Module) (specifier : List ℕ)
     (want : Wanted) : Type 0 where
-  pub few : nat_lt before.requests (limit_number Requests) ≡ true
+  pub few : nat_lt (length before.targets) (limit_number Requests) ≡ true
   pub short : nat_lt (limit_number Specifier) (length specifier) ≡ false
   pub wants : Wants config referrer specifier want
 
@@ -262,7 +262,7 @@ pub checked_parts : (config : Config) (before : Gathered) (referrer : Referrer M
     (want : Wanted) → checked config before referrer specifier ≡ Ok want
     → Checked config before referrer specifier want
 checked_parts config before referrer specifier want e =
-    by (nat_lt before.requests (limit_number Requests)) (nat_lt (limit_number Specifier) (length specifier)) refl refl e
+    by (nat_lt (length before.targets) (limit_number Requests)) (nat_lt (limit_number Specifier) (length specifier)) refl refl e
   where
     wants_parts : (found : Result Wanted AskCause) → wanted config referrer specifier ≡ found
         → wants config referrer specifier found ≡ Ok want → Wants config referrer specifier want
@@ -271,7 +271,7 @@ checked_parts config before referrer specifier want e =
         let same : other ≡ want = cc in
         wants_by config referrer specifier (web_name config referrer) want refl (is ∙ ap Ok same)
 
-    by : (few long : Bool) → nat_lt before.requests (limit_number Requests) ≡ few
+    by : (few long : Bool) → nat_lt (length before.targets) (limit_number Requests) ≡ few
         → nat_lt (limit_number Specifier) (length specifier) ≡ long
         → (if few
         then (if long then Err (Limit Specifier) else wants config referrer specifier (wanted config referrer specifier))

@@ -1,10 +1,11 @@
 -- The laws of a config's trace, by what its steps do.
-use Rattle.std.specs.Prelude.{◌≡◌, ◌≤◌, ◌↔◌, ◌||◌, ℕ, true, List, [], ◌∷◌, ◌++◌, length, map}
+use Rattle.std.specs.Prelude.{◌≡◌, ◌≤◌, ◌↔◌, ◌||◌, ℕ, true, List, [], ◌∷◌, ◌++◌, length, map, flat_map}
 use Rattle.std.specs.Prelude.{Option, Some, None, option_map, Result, Ok, Err, unwrap_or, nat_lt, Contains}
 use Rattle.std.specs.Str.{IsUtf8}
 use Rattle.std.proofs.Common.{refl, sym, ap, ◌∙◌, subst, arith, lit≤, length-append, append_assoc, append-nil}
 use mathlib.Core.Logic.{inl, inr}
 use Rattle.std.proofs.lemmas.Bool.{ltb-true, ltb-false}
+use Rattle.std.proofs.lemmas.List.{map-append}
 use Rattle.asking_spec.specs.Askings.{outcome}
 use Rattle.asking_spec.specs.Evaluation.{Ended, ends, stopped, evaluated}
 use Rattle.asking_spec.proofs.EvaluationLemmas.{ends_outcome}
@@ -31,7 +32,7 @@ use Rattle.trace_spec.specs.Traces.{trace, result_of, traced, if_ok, source, spe
 use Rattle.trace_spec.specs.Traces.{ReachedByPage}
 use Rattle.trace_spec.specs.Laws.{HasLevels, IsWhatIsReached, ModulesOnce, FewRequests, FewModules, refusal_by, IsFirst, Decides}
 use Rattle.trace_spec.specs.Laws.{FirstRefusalDecides, NeverOutOfRoom, no_module, no_source, target_of, need_of}
-use Rattle.trace_spec.specs.Laws.{spelling_of, request_put, requests_put, opening_put, visits_put, opening, visits_of}
+use Rattle.trace_spec.specs.Laws.{spelling_of, request_put, requests_put, opening_put, visits_put, opening, visits_of, led_in}
 use Rattle.trace_spec.specs.Laws.{InOrder, GoesInOrder, AsksFor, AreSpelled, Passes, AllPass, RequestsPass, NeedsAre}
 use Rattle.trace_spec.specs.Laws.{NeedsAreRequests}
 use Rattle.trace_spec.proofs.SpellingLemmas.{spelled_more}
@@ -206,6 +207,59 @@ module _ (sights : Sights) (config : Config) where
       (opening_put sights before (a_module m)))
       ∙ append_assoc before.sources (opened_source m ∷ []) (map opened_source more))
 
+  -- requests put what they lead to there, in their order
+  abbrev target_for : Link → Module
+  target_for link = target_of sights config link.referrer link.specifier
+
+  abbrev targets_of : Referrer Module → List Module
+  targets_of referrer = map target_for (map (request_of referrer) (specifiers sights config referrer))
+
+  targets_more : (some : List Link) (before : Gathered)
+      → (all_in put_request before some).targets ≡ before.targets ++ map target_for some
+  targets_more [] before = sym (append-nil before.targets)
+  targets_more (request ∷ more) before =
+      targets_more more (put_request before request)
+      ∙ append_assoc before.targets (target_for request ∷ []) (map target_for more)
+
+  targets_opened : (before : Gathered) (referrer : Referrer Module)
+      → (opening_put sights before referrer).targets ≡ before.targets
+  targets_opened before the_page = refl
+  targets_opened before (a_module m) = refl
+
+  targets_put : (visits : List (Referrer Module)) (before : Gathered)
+      → (all_in visit_in before visits).targets ≡ before.targets ++ flat_map targets_of visits
+  targets_put [] before = sym (append-nil before.targets)
+  targets_put (referrer ∷ more) before =
+      targets_put more (visit_in before referrer)
+      ∙ (ap (λ ts. ts ++ flat_map targets_of more)
+      (targets_more (map (request_of referrer) (specifiers sights config referrer)) (opening_put sights before referrer)
+      ∙ ap (λ ts. ts ++ targets_of referrer) (targets_opened before referrer))
+      ∙ append_assoc before.targets (targets_of referrer) (flat_map targets_of more))
+
+  -- where each request leads to a module
+  abbrev LeadsSomewhere : Referrer Module → List (List ℕ) → Type 0
+  LeadsSomewhere referrer some =
+      (specifier : List ℕ) → Contains some specifier
+      → (target : Module) × (leads sights config referrer specifier ≡ Some target)
+
+  led_by : (referrer : Referrer Module) (some : List (List ℕ)) → LeadsSomewhere referrer some
+      → map Some (map target_for (map (request_of referrer) some)) ≡ map (leads sights config referrer) some
+  led_by referrer [] lead = refl
+  led_by referrer (specifier ∷ more) lead =
+      let found = lead specifier (contains_here specifier more) in
+      let first : Some (target_of sights config referrer specifier) ≡ leads sights config referrer specifier =
+      ap (λ o. Some (unwrap_or o no_module)) found.1 ∙ sym found.1 in
+      (λ i. first i ∷ led_by referrer more (λ s c. lead s (contains_there s specifier more c)) i)
+
+  led_by_modules : (modules : List Module)
+      → ((m : Module) → Contains modules m → LeadsSomewhere (a_module m) (specifiers sights config (a_module m)))
+      → map Some (flat_map targets_of (map a_module modules)) ≡ led_in sights config (map a_module modules)
+  led_by_modules [] lead = refl
+  led_by_modules (m ∷ more) lead =
+      map-append Some (targets_of (a_module m)) (flat_map targets_of (map a_module more))
+      ∙ (λ i. led_by (a_module m) (specifiers sights config (a_module m)) (lead m (contains_here m more)) i
+      ++ led_by_modules more (λ n c. lead n (contains_there n m more c)) i)
+
   -- where each module has a source
   sources_are : (modules : List Module)
       → ((m : Module) → Contains modules m → (found : Source) × (source sights m ≡ Some found))
@@ -242,7 +296,7 @@ module _ (sights : Sights) (config : Config) where
     pub spelled : AreSpelled sights config before.needs before.spellings
     pub no_clash : NoClash before.needs
     pub once : AreOnce before.modules
-    pub few_requests : before.requests ≤ limit_number Requests
+    pub few_requests : length before.targets ≤ limit_number Requests
 
   still_of : (before : Gathered) (need other : Need) (spelling : Spelling) → IsOf before other
       → IsOf (with_request before need spelling) other
@@ -297,7 +351,8 @@ module _ (sights : Sights) (config : Config) where
         no_clash = no_clash_more before.needs need stands.no_clash is.fits.clear;
         once = once_more before.modules is.target stands.once;
         few_requests =
-            let room = ltb-true before.requests (limit_number Requests) is.checked.few in omega (arith, room);
+            let room = ltb-true (length before.targets) (limit_number Requests) is.checked.few in
+            omega (arith, room, length-append before.targets (is.target ∷ []));
       })
 
   passes_now : (before : Gathered) (referrer : Referrer Module) (specifier : List ℕ) (after : Gathered)
@@ -360,7 +415,7 @@ module _ (sights : Sights) (config : Config) where
     spelled = spelled_on before after leaves stands.spelled;
     no_clash = subst NoClash (sym leaves.needs) stands.no_clash;
     once = subst AreOnce (sym leaves.modules) stands.once;
-    few_requests = subst (λ n. n ≤ limit_number Requests) (sym leaves.requests) stands.few_requests;
+    few_requests = subst (λ ts. length ts ≤ limit_number Requests) (sym leaves.targets) stands.few_requests;
   }
 
   pass_on : (before after : Gathered) (referrer : Referrer Module) (specifier : List ℕ) → LeavesTables before after
@@ -460,6 +515,12 @@ module _ (sights : Sights) (config : Config) where
       no_clash = end.holds.no_clash;
     }
 
+    leads_on : (referrer : Referrer Module) → AllPass sights config all referrer
+        → LeadsSomewhere referrer (specifiers sights config referrer)
+    leads_on referrer pass specifier c =
+        let passes = pass.pass specifier (subst (λ o. Contains (unwrap_or o []) specifier) pass.asks c) in
+        (passes.target, leads_there referrer specifier passes.target passes.answers)
+
     in_order : InOrder sights config all
     in_order =
         let order =
@@ -470,8 +531,14 @@ module _ (sights : Sights) (config : Config) where
         ap (λ b. b.sources) order.tables ∙ (sources_put all.modules page
         ∙ ap (λ ss. ss ++ map opened_source all.modules)
         (sources_left (map (request_of the_page) (specifiers sights config the_page)) nothing_gathered)) in
+        let targets : all.targets ≡ flat_map targets_of (visits_of all) =
+        ap (λ b. b.targets) order.tables ∙ targets_put (visits_of all) nothing_gathered in
         record {
           tables = order.tables ∙ sym (visits_put_is nothing_gathered (visits_of all));
+          targets = ap (map Some) targets
+              ∙ (map-append Some (targets_of the_page) (flat_map targets_of (map a_module all.modules))
+              ∙ (λ i. led_by the_page (specifiers sights config the_page) (leads_on the_page (all_pass the_page end.page)) i
+              ++ led_by_modules all.modules (λ m c. leads_on (a_module m) (all_pass (a_module m) (end.each m c))) i));
           sources =
               ap (map Some) sources ∙ sources_are all.modules
               (λ m c. let pass = all_pass (a_module m) (end.each m c) in

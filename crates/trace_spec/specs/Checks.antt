@@ -18,9 +18,9 @@
 --     no_spelling                                  what stands for a spelling where there is none
 --     clash_with config referrer first second      the referrer's need, which it spells in the second way, clashes with
 --                                                  one that is spelled in the first
---     with_request before need spelling            the tables behind one more request: what it leads to, where that is
---                                                  new; its need and how it is spelled, where the need is new; and one
---                                                  more in the sum
+--     with_request before need spelling            the tables behind one more request: what it leads to, which is put
+--                                                  among the modules where it is new; and its need and how that is
+--                                                  spelled, where the need is new
 --     with_room before need spelling               the same, where there is room for what the request leads to
 --     needed config before referrer need spelling  the same, where its need also clashes with none before
 --     named config before referrer want spelling url      the same, by the URL at which what it leads to is served:
@@ -29,7 +29,7 @@
 --     followed_by config before referrer specifier want      Node is asked, and its answer checked, where the checks
 --                                                  before it pass; else their refusal stands
 --     nothing_gathered                             the tables at the start, which are empty
-use Rattle.std.specs.Prelude.{◌||◌, ◌+◌, ℕ, Bool, List, [], ◌∷◌, ◌++◌, length, nat_lt, Option, Some, None, Result, Ok}
+use Rattle.std.specs.Prelude.{◌||◌, ℕ, Bool, List, [], ◌∷◌, ◌++◌, length, nat_lt, Option, Some, None, Result, Ok}
 use Rattle.std.specs.Prelude.{Err, if◌then◌else◌}
 use Rattle.std.specs.List.{list_any}
 use Rattle.std.specs.Str.{is_utf8}
@@ -56,14 +56,14 @@ pub record Spelling : Type 0 where
   pub target : Module
 
 -- own: the modules that were asked for, and the needs, each once at its first place; how each need was first spelled,
--- at the place of the need; the sources of the modules whose visits were opened, in the order of the modules; and the
--- number of requests
+-- at the place of the need; the sources of the modules whose visits were opened, in the order of the modules; and to
+-- each request that was followed, in their order, the module that it leads to
 pub record Gathered : Type 0 where
   pub modules : List Module
   pub sources : List Source
   pub needs : List Need
   pub spellings : List Spelling
-  pub requests : ℕ
+  pub targets : List Module
 
 -- ---- what opens a visit
 
@@ -79,7 +79,7 @@ with_source before source =
       sources = before.sources ++ source ∷ [];
       needs = before.needs;
       spellings = before.spellings;
-      requests = before.requests;
+      targets = before.targets;
     }
 
 -- own: the module has a source
@@ -133,7 +133,7 @@ wants config referrer specifier (Err cause) = Err (refused_by config referrer sp
 -- own: one request more is allowed, and the specifier isn't too long
 abbrev pub checked : Config → Gathered → Referrer Module → List ℕ → Result Wanted TraceFault
 checked config before referrer specifier =
-    if nat_lt before.requests (limit_number Requests)
+    if nat_lt (length before.targets) (limit_number Requests)
     then (if nat_lt (limit_number Specifier) (length specifier)
     then Err (Limit Specifier)
     else wants config referrer specifier (wanted config referrer specifier))
@@ -168,7 +168,7 @@ with_request before need spelling =
       sources = before.sources;
       needs = with_need before.needs need;
       spellings = with_spelling before.needs need before.spellings spelling;
-      requests = before.requests + 1;
+      targets = before.targets ++ spelling.target ∷ [];
     }
 
 -- own: the module is known, or there is room for one more
@@ -222,7 +222,7 @@ follows config before referrer specifier =
 -- ---- the rules of a walk
 
 abbrev pub nothing_gathered : Gathered
-nothing_gathered = record { modules = []; sources = []; needs = []; spellings = []; requests = 0 }
+nothing_gathered = record { modules = []; sources = []; needs = []; spellings = []; targets = [] }
 
 abbrev pub rules : Config → Rules Module Gathered TraceFault Question Answer
 rules config =

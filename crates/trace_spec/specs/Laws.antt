@@ -60,7 +60,7 @@ FewModules =
 abbrev pub FewRequests : Type 0
 FewRequests =
     (sights : Sights) (config : Config) (all : Gathered) → traced sights config ≡ Ok all
-    → all.requests ≤ limit_number Requests
+    → length all.targets ≤ limit_number Requests
 
 -- ---- the first refusal
 
@@ -192,15 +192,21 @@ asked_in sights config visits =
 abbrev pub visits_of : Gathered → List (Referrer Module)
 visits_of all = the_page ∷ map a_module all.modules
 
--- the tables hold the requests of the page and of the modules, in the order of the trace, and the source of each
--- module at its place; and these are the questions, each at its place
+-- where the requests in these visits lead
+abbrev pub led_in : Sights → Config → List (Referrer Module) → List (Option Module)
+led_in sights config visits =
+    flat_map (λ referrer. map (leads sights config referrer) (specifiers sights config referrer)) visits
+
+-- the tables hold the requests of the page and of the modules, in the order of the trace, the source of each module at
+-- its place, and the module that each request leads to; and these are the questions, each at its place
 pub record InOrder (sights : Sights) (config : Config) (all : Gathered) : Type 0 where
   pub tables : all ≡ visits_put sights config nothing_gathered (visits_of all)
   pub sources : map Some all.sources ≡ map (source sights) all.modules
+  pub targets : map Some all.targets ≡ led_in sights config (visits_of all)
   pub asked : questions (always sights) (trace config) ≡ asked_in sights config (visits_of all)
 
--- the tables of a trace hold its requests and sources in the order of its visits, and its questions are asked in this
--- order
+-- the tables of a trace hold its requests, its sources and where each request leads in the order of its visits, and its
+-- questions are asked in this order
 abbrev pub GoesInOrder : Type 0
 GoesInOrder =
     (sights : Sights) (config : Config) (all : Gathered) → traced sights config ≡ Ok all → InOrder sights config all
