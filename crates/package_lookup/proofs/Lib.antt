@@ -4,7 +4,7 @@ mod LookCounts
 mod SightAnswers
 mod Folders
 mod Copies
-mod Sights
+pub mod Sights
 mod Growing
 pub mod Questions
 pub mod Learnings
