@@ -1,11 +1,13 @@
 mod ReadingLemmas
-mod PathSets
+pub mod PathSets
 mod LookCounts
 mod SightAnswers
 mod Folders
 mod Copies
-mod Sights
+pub mod Sights
+mod Growing
 pub mod Questions
 pub mod Learnings
 pub mod Searches
 pub mod RecordAnswers
+pub mod Laying

@@ -66,12 +66,13 @@ none_by None other grows e = refl
 none_by (Some look) other grows e = (let f = grows look refl in absurd (cc))
 
 pub grows_itself : (known : Known) → Grows known known
-grows_itself known = record { laid = λ path. refl; kept = λ path look e. e }
+grows_itself known = record { laid = λ path. refl; kept = λ path look e. e; under = λ path look e. refl }
 
 pub grows_twice : (before middle after : Known) → Grows before middle → Grows middle after → Grows before after
 grows_twice before middle after one rest = record {
   laid = λ path. rest.laid path ∙ one.laid path;
   kept = λ path look e. rest.kept path look (one.kept path look e);
+  under = λ path look e. rest.under path look (one.laid path ∙ e) ∙ one.under path look e;
 }
 
 -- ---- what was counted stays so
@@ -462,6 +463,7 @@ known_on before after known asking response same one = record {
   known = record {
     laid = λ path. same.laid path ∙ one.known.laid path;
     kept = λ path look e. same.kept path ∙ one.known.kept path look e;
+    under = λ path look e. same.kept path ∙ one.known.under path look e;
   };
   trail = one.trail;
   asked = if_some {P = λ old. AsksOnce old before after (response ≡ fails no_memory) (IsLookOf before asking)}

@@ -8,3 +8,5 @@ pub mod Learning
 pub mod Fetching
 pub mod Recorded
 pub mod Formats
+pub mod LaidTrees
+pub mod Laws

@@ -5,7 +5,7 @@
 --     known_at known path          what is known of a path: the look that is laid over it, else the one that was kept
 --     look_in tree known path      what a look at a path answers: what is known of it, else what the tree holds
 --     Sees tree known sights       what stands at each path, as far as a look tells, is that
---     Grows before after           laid looks are as before, and what was kept is kept
+--     Grows before after           laid looks are as before, what was kept is kept, and nothing is kept under a laid look
 --     IsSameKnown before after     all that is known is as before
 --     Puts old path look new       one more look is there, in the place of one that was
 --     SomeSights                   something can stand at each path so that this is so
@@ -47,6 +47,8 @@ pub record Sees (tree : Tree) (known : Known) (sights : Sights) : Type 0 where
 pub record Grows (before after : Known) : Type 0 where
   pub laid : (path : List ℕ) → laid_at after path ≡ laid_at before path
   pub kept : (path : List ℕ) (look : Look) → kept_at before path ≡ Some look → kept_at after path ≡ Some look
+  pub under :
+      (path : List ℕ) (look : Look) → laid_at before path ≡ Some look → kept_at after path ≡ kept_at before path
 
 pub record IsSameKnown (before after : Known) : Type 0 where
   pub laid : (path : List ℕ) → laid_at after path ≡ laid_at before path

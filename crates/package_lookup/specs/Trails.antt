@@ -1,10 +1,12 @@
 -- One more look on a trail.
 --     has_room trail path                a look at the path isn't one path too many
 --     OnCount old counted result new     the call does what counting the look tells
+--     IsCounted shown old path result new      a look that answers is counted, and one that passes a limit leaves the trail
 --     Lengthens before after             the paths before are the first of those after, and the size doesn't fall
-use Rattle.std.specs.Prelude.{◌≡◌, ◌≤◌, ◌||◌, ◌++◌, ℕ, nat_lt, Bool, List, length, Result, Ok, Err, ⊤}
+use Rattle.std.specs.Prelude.{◌≡◌, ◌≤◌, ◌||◌, ◌++◌, ℕ, nat_lt, Bool, List, length, Option, Result, Ok, Err, ⊤}
 use Rattle.tree_spec.specs.LookAskings.{is_seen}
-use Rattle.tree_spec.specs.LookLimits.{Trail, look_limits}
+use Rattle.tree_spec.specs.LookLimits.{Trail, look_limits, counted}
+use Rattle.tree_spec.specs.declared.Entry.{Entry}
 use Rattle.tree_spec.specs.declared.LimitName.{LimitName}
 use Rattle.package_lookup.specs.declared.fault.LookupFault.{LookupFault}
 use Rattle.package_lookup.specs.declared.fault.LookupFault.TheVariants.{ReadFault, Limit, InvalidConfig, Memory}
@@ -19,6 +21,14 @@ OnCount old counted (Err (Limit which)) new = (counted ≡ Err which) × (new �
 OnCount old counted (Err Memory) new = ⊤
 OnCount old counted (Err ReadFault) new = ⊥
 OnCount old counted (Err InvalidConfig) new = ⊥
+
+-- own: whatever the folder tells
+abbrev pub IsCounted : {X : Type 0} → (X → Option Entry) → Trail → List ℕ → Result X LookupFault → Trail → Type 0
+IsCounted shown old path (Ok found) new = counted look_limits old path (shown found) ≡ Ok new
+IsCounted shown old path (Err (Limit which)) new = new ≡ old
+IsCounted shown old path (Err ReadFault) new = ⊤
+IsCounted shown old path (Err Memory) new = ⊤
+IsCounted shown old path (Err InvalidConfig) new = ⊤
 
 -- own: whatever a call comes to, nothing that was counted is taken back
 pub record Lengthens (before after : Trail) : Type 0 where

@@ -5,8 +5,9 @@ ghost use Rattle.tree_spec.specs.LookAskings.{look_at};
 ghost use Rattle.tree_spec.specs.declared.Look.{Look};
 ghost use Rattle.package_lookup.specs.SeenLooks.{entry_of, look_seen};
 ghost use Rattle.package_lookup.specs.Readings.{IsReadingOf, AreReadingsOf};
-ghost use Rattle.package_lookup.specs.Looked.{kept_at, known_at, laid_at, IsSameKnown};
+ghost use Rattle.package_lookup.specs.Looked.{kept_at, known_at, laid_at, Grows, IsSameKnown};
 ghost use Rattle.package_lookup.specs.Responses.{looked};
+ghost use Rattle.package_lookup.specs.Trails.{IsCounted};
 ghost use Rattle.package_lookup.specs.Answered.{state, Answered, Asks};
 ghost use Rattle.package_lookup.specs.Fetching.{Fetches, LooksNow};
 ghost use Rattle.package_lookup.specs.declared.fault.LookupFault.{LookupFault};
@@ -39,6 +40,13 @@ impl Known {
         }
     }
 
+    /// The laid looks.
+    pub fn laid(&self) -> &Over
+        ensures { result.now ≡ self.now.laid }
+    {
+        &self.laid
+    }
+
     /// Exchanges the laid looks with others.
     pub fn lay(&mut self, over: &mut Over)
         ensures laid { self.new.laid ≡ over.old }
@@ -61,6 +69,8 @@ impl Known {
             (looked entry_of result) (state (F.state folder.new) self.new trail.new) }
         ensures asks { Asks (state (F.state folder.old) self.old trail.old) path.now
             (looked entry_of result) (state (F.state folder.new) self.new trail.new) }
+        ensures counted { IsCounted entry_of trail.old path.now result trail.new }
+        ensures held { IfOk result (λ seen. known_at self.new path.now ≡ Some (look_seen seen)) }
     {
         let (seen, _) = self.sight(alloc, folder, path, trail)?;
         Ok(seen)
@@ -78,6 +88,7 @@ impl Known {
             (looked (λ sight. entry_of sight.0) result) (state (F.state folder.new) self.new trail.new) }
         ensures asks { Asks (state (F.state folder.old) self.old trail.old) path.now
             (looked (λ sight. entry_of sight.0) result) (state (F.state folder.new) self.new trail.new) }
+        ensures counted { IsCounted (λ sight. entry_of sight.0) trail.old path.now result trail.new }
         ensures held { IfOk result (λ sight. (known_at self.new path.now ≡ Some (look_seen sight.0))
             × AreReadingsOf (look_seen sight.0) sight.1) }
     {
@@ -135,6 +146,8 @@ impl Known {
     }
 
     fn keep(&mut self, alloc: Global, path: &Path, held: &Held) -> Result<(), Memory>
+        requires { known_at self.old path.now ≡ None }
+        ensures grows { Grows self.old self.new }
         ensures laid { self.new.laid ≡ self.old.laid }
         ensures kept { OnOk result ((other : List ℕ) → kept_at self.new other
             ≡ (if bytes_eq path.now other then Some held.now else kept_at self.old other)) }

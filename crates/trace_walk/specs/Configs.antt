@@ -1,5 +1,6 @@
 -- What a config keeps.
 --     IsConfigured page entries      the page isn't the root; the entries are distinct, and no more than a project has
+--     with_entries config entries      the config with these entries
 --     ArePartsOf config base page conditions entries      these are the parts of the config
 use Rattle.std.specs.List.{IsDistinct}
 use Rattle.std.specs.Prelude.{◌≡◌, ◌≢◌, ◌≤◌, ℕ, List, length, bytes_eq, codes}
@@ -17,3 +18,7 @@ pub record ArePartsOf (config : Config) (base page : List ℕ) (conditions entri
   pub page_is : page ≡ config.page
   pub conditions_are : conditions ≡ config.conditions
   pub entries_are : entries ≡ config.entries
+
+abbrev pub with_entries : Config → List (List ℕ) → Config
+with_entries config entries =
+    record { base = config.base; page = config.page; conditions = config.conditions; entries = entries }

@@ -6,6 +6,7 @@ ghost use Rattle.tree_spec.specs.Limits.{limit_number};
 use condition_match::Conditions;
 use primitives::{Listed, Text};
 use std::marker::Model;
+use std::mem;
 use tree_model::Path;
 use web_url::Base;
 
@@ -31,7 +32,7 @@ impl Model for Config {
 }
 
 impl Config {
-    ghost use Rattle.trace_walk.specs.Configs.{ArePartsOf, IsConfigured};
+    ghost use Rattle.trace_walk.specs.Configs.{ArePartsOf, IsConfigured, with_entries};
 
     /// The config of these, where the page isn't the root and the entries are distinct and not too many.
     pub fn new(base: Base, page: Path, conditions: Conditions, entries: Listed<Text>) -> Config
@@ -46,6 +47,17 @@ impl Config {
             conditions,
             entries,
         }
+    }
+
+    /// Exchanges the entries with others, which are distinct and not too many.
+    pub fn exchange_entries(&mut self, entries: &mut Listed<Text>)
+        requires distinct { IsDistinct bytes_eq entries.old }
+        requires few { length entries.old ≤ limit_number Entries }
+        ensures config { self.new ≡ with_entries self.old entries.old }
+        ensures entries { entries.new ≡ self.old.entries }
+        ensures configured { IsConfigured self.old.page self.old.entries }
+    {
+        mem::swap(&mut self.entries, entries);
     }
 
     /// The base, the page, the conditions and the entries, moved out.
