@@ -95,6 +95,7 @@ refusing : (config : Config) (command : Command) (why : Refusal) → IsRefusalOf
 refusing config command why (kind.page fault is) = page_refusing fault is
 refusing config command why (kind.trace same fault is) = trace_refusing config fault is
 refusing config command why (kind.map_file fault) = map_file_refusing fault
+refusing config command why (kind.many_choices same generating) = three refl
 refusing config command why (kind.large_map same generating) = three refl
 
 can_refusing : (words : List (List ℕ)) (why : Refusal) → CanRefuse words why → IsRefusing (status_of why)

@@ -1,4 +1,5 @@
 pub mod Configs
+pub mod Choices
 pub mod Generations
 pub mod Nameless
 pub mod MapPaths

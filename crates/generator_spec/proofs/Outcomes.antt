@@ -5,7 +5,7 @@ use Rattle.std.proofs.lemmas.List.Elements.{All-nil, All-cons, All-head, All-tai
 use Rattle.std.specs.FinMap.{get, insert}
 use Rattle.tree_spec.specs.declared.Entry.{Entry}
 use Rattle.tree_spec.specs.declared.Entry.TheVariants.{Stored, Directory}
-use Rattle.tree_spec.specs.declared.LimitName.TheVariants.{Map}
+use Rattle.tree_spec.specs.declared.LimitName.TheVariants.{Map, Choices}
 use Rattle.tree_spec.specs.Paths.{IsPath, IsParent, IsAbove, parent_of, further}
 use Rattle.tree_spec.specs.Trees.{Tree, IsTree}
 use Rattle.tree_spec.proofs.Insertion.{get_other}
@@ -24,7 +24,7 @@ use Rattle.generator_spec.specs.declared.Refusal.TheVariants.{Trace, Limit, Conf
 use Rattle.generator_spec.specs.Checking.{difference_lines, check_status, check_lines}
 use Rattle.generator_spec.specs.Commands.{IsGenerating, map_path, HoldsMap, Opens, IsMapping as mapping, Opens as opens, Refuses, Refuses as refuses}
 use Rattle.generator_spec.specs.Commands.{NewFile, new_file, map_and_project, Writes, Writes as writes}
-use Rattle.generator_spec.specs.Generation.{Generates, IsTooLarge}
+use Rattle.generator_spec.specs.Generation.{Generates, IsTooWide, IsTooLarge}
 use Rattle.project_spec.specs.ProjectFiles.{project_text}
 use Rattle.config_spec.specs.Words.{IsPlain}
 use Rattle.config_spec.specs.Projects.{IsConfigOf, project_path}
@@ -340,8 +340,9 @@ module _ (words : List (List ℕ)) (tree : Tree) (is_tree : IsTree tree) where
       outcome = record { files = can.files; comes = written command config map is generates can.writes refl refl; placed = can.placed };
     }
 
-    by_map : IsGenerating command → Opens tree config command → ((map : List ℕ) → CanWrite tree command config map) → (map : List ℕ) → Generates tree config map ⊎ IsTooLarge tree config → HasOutcome words tree
-    by_map generating opened can map (inr large) = by_refusal (Limit Map) (refuses.large_map command generating opened large)
+    by_map : IsGenerating command → Opens tree config command → ((map : List ℕ) → CanWrite tree command config map) → (map : List ℕ) → Generates tree config map ⊎ IsTooWide tree config ⊎ IsTooLarge tree config → HasOutcome words tree
+    by_map generating opened can map (inr (inl wide)) = by_refusal (Limit Choices) (refuses.many_choices command generating opened wide)
+    by_map generating opened can map (inr (inr large)) = by_refusal (Limit Map) (refuses.large_map command generating opened large)
     by_map generating opened can map (inl generates) = by_files map generates (can map)
 
     by_generation : IsGenerating command → Opens tree config command → ((map : List ℕ) → CanWrite tree command config map) → (all : Gathered) → traced (get tree) config ≡ Ok all → HasOutcome words tree

@@ -17,6 +17,7 @@ use Rattle.page_spec.specs.Injection.{Injection, TakesMaps}
 use Rattle.page_spec.specs.Laws.{AreKeptOut}
 use Rattle.page_spec.proofs.Injections.{one_injection, ok_same}
 use Rattle.page_spec.proofs.KeptOut.{takes_or_keeps_out}
+use Rattle.fewest_spec.specs.Wishes.{HasTooManyChoices}
 use Rattle.trace_spec.specs.declared.TraceFault.{TraceFault}
 use Rattle.trace_spec.specs.Modules.{Config, web_name}
 use Rattle.trace_spec.specs.Walking.{the_page}
@@ -34,8 +35,8 @@ use Rattle.generator_spec.specs.Commands.{IsPage, RefusesPage, map_path, map_fil
 use Rattle.generator_spec.specs.Commands.{RefusesMapFile, RefusesMapFile as refuses_map, Opens, Refuses, NewFile, new_file, Writes}
 use Rattle.generator_spec.specs.Commands.{IsMapping as mapping}
 use Rattle.generator_spec.specs.Commands.{RefusesPage as refuses_page, Opens as opens, Refuses as refuses, Writes as writes}
-use Rattle.generator_spec.specs.Generation.{Generates, IsTooLarge}
-use Rattle.generator_spec.proofs.Generations.{nothing_refused}
+use Rattle.generator_spec.specs.Generation.{Generates, IsTooWide, IsTooLarge}
+use Rattle.generator_spec.proofs.Generations.{same_trace, nothing_refused}
 
 -- ---- pages
 
@@ -182,6 +183,16 @@ module _ (tree : Tree) (config : Config) where
       let both : Ok large.all ≡ Err fault = sym traces ∙ e in
       absurd (cc)
 
+  wide_or_traced : (fault : TraceFault) → IsTooWide tree config → traced (get tree) config ≡ Err fault → ⊥
+  wide_or_traced fault wide e =
+      let traces : traced (get tree) config ≡ Ok wide.all = wide.is_traced in
+      let both : Ok wide.all ≡ Err fault = sym traces ∙ e in
+      absurd (cc)
+
+  wide_or_large : IsTooWide tree config → IsTooLarge tree config → ⊥
+  wide_or_large wide large =
+      large.few (subst (λ (g : Gathered). HasTooManyChoices g.needs) (same_trace (traced (get tree) config) wide.all large.all wide.is_traced large.is_traced) wide.many)
+
   pub one_refusal : (command : Command) (why because : Refusal) → Refuses tree config command why → Refuses tree config command because → why ≡ because
   one_refusal command why because (refuses.page fault is) (refuses.page other too) = ap Page (one_page_fault fault other is too)
   one_refusal command why because (refuses.page fault is) (refuses.trace same other opened e) = absurd (refused_or_opened fault is opened)
@@ -199,19 +210,30 @@ module _ (tree : Tree) (config : Config) where
   one_refusal command why because (refuses.trace same fault opened e) (refuses.large_map same_too generating opened_too large) = absurd (refused_or_traced fault large e)
   one_refusal command why because (refuses.large_map same generating opened large) (refuses.trace same_too other opened_too f) = absurd (refused_or_traced other large f)
   one_refusal command why because (refuses.large_map same generating opened large) (refuses.large_map same_too generating_too opened_too large_too) = refl
+  one_refusal command why because (refuses.page fault is) (refuses.many_choices same generating opened wide) = absurd (refused_or_opened fault is opened)
+  one_refusal command why because (refuses.many_choices same generating opened wide) (refuses.page other too) = absurd (refused_or_opened other too opened)
+  one_refusal command why because (refuses.map_file fault is) (refuses.many_choices same generating opened wide) = absurd generating
+  one_refusal command why because (refuses.many_choices same generating opened wide) (refuses.map_file other too) = absurd generating
+  one_refusal command why because (refuses.trace same fault opened e) (refuses.many_choices same_too generating_too opened_too wide) = absurd (wide_or_traced fault wide e)
+  one_refusal command why because (refuses.many_choices same generating opened wide) (refuses.trace same_too other opened_too f) = absurd (wide_or_traced other wide f)
+  one_refusal command why because (refuses.many_choices same generating opened wide) (refuses.large_map same_too generating_too opened_too large) = absurd (wide_or_large wide large)
+  one_refusal command why because (refuses.large_map same generating opened large) (refuses.many_choices same_too generating_too opened_too wide) = absurd (wide_or_large wide large)
+  one_refusal command why because (refuses.many_choices same generating opened wide) (refuses.many_choices same_too generating_too opened_too wide_too) = refl
 
   -- what is refused isn't done
   pub refused_or_opened_and_generated : (command : Command) (why : Refusal) (map : List ℕ) → Refuses tree config command why → Opens tree config command → Generates tree config map → ⊥
   refused_or_opened_and_generated command why map (refuses.page fault is) opened generates = refused_or_opened fault is opened
   refused_or_opened_and_generated command why map (refuses.map_file fault is) opened generates = map_refused_or_opened fault is opened
   refused_or_opened_and_generated command why map (refuses.trace same fault before e) opened generates = (nothing_refused tree config map generates).0 fault e
-  refused_or_opened_and_generated command why map (refuses.large_map same generating before large) opened generates = (nothing_refused tree config map generates).1 large
+  refused_or_opened_and_generated command why map (refuses.many_choices same generating before wide) opened generates = (nothing_refused tree config map generates).1 wide
+  refused_or_opened_and_generated command why map (refuses.large_map same generating before large) opened generates = (nothing_refused tree config map generates).2 large
 
   pub refused_or_checked : (why : Refusal) (map : ParsedMap) (all : Gathered) → Refuses tree config Check why → HoldsMap tree config map → traced (get tree) config ≡ Ok all → ⊥
   refused_or_checked why map all (refuses.map_file fault is) holds traces = no_map_text fault holds.text map is holds.stands holds.reads
   refused_or_checked why map all (refuses.trace same fault before e) holds traces =
       let both : Ok all ≡ Err fault = sym traces ∙ e in
       absurd (cc)
+  refused_or_checked why map all (refuses.many_choices same generating before wide) holds traces = generating
   refused_or_checked why map all (refuses.large_map same generating before large) holds traces = generating
 
   -- a command that writes was opened

@@ -10,7 +10,7 @@
 --     IsMapping command                   the command writes the map's file
 --     Opens tree config command           what the command needs before its trace is there
 --     Refuses tree config command why     the command is refused: before its trace, by the first refusal of that, or
---                                         for the size of its map
+--                                         for the choices of a specifier, or for the size of its map
 --     IsRefusalOf config command why      it can be refused so, whatever the tree holds
 --     NewFile                             a file that is written: its path and its bytes
 --     map_and_project config map          the map's file, and then the project's
@@ -20,7 +20,7 @@
 use Rattle.std.specs.Prelude.{◌≡◌, ◌≤◌, ◌<◌, ⊤, ℕ, List, [], ◌∷◌, length, Some, None, Result, Ok, Err, codes}
 use Rattle.std.specs.FinMap.{get}
 use Rattle.tree_spec.specs.declared.Entry.TheVariants.{Stored, Directory}
-use Rattle.tree_spec.specs.declared.LimitName.TheVariants.{File, Map}
+use Rattle.tree_spec.specs.declared.LimitName.TheVariants.{File, Map, Choices}
 use Rattle.tree_spec.specs.Limits.{limit_number}
 use Rattle.tree_spec.specs.Trees.{Tree}
 use Rattle.json_spec.specs.Grammar as json
@@ -44,7 +44,7 @@ use Rattle.generator_spec.specs.declared.PageFault.{PageFault}
 use Rattle.generator_spec.specs.declared.PageFault.TheVariants.{Absent, TooLarge, KeepsMapsOut}
 use Rattle.generator_spec.specs.declared.Refusal.{Refusal}
 use Rattle.generator_spec.specs.declared.Refusal.TheVariants.{Page, MapFile, Trace, Limit}
-use Rattle.generator_spec.specs.Generation.{IsTooLarge}
+use Rattle.generator_spec.specs.Generation.{IsTooWide, IsTooLarge}
 use Rattle.config_spec.specs.Projects.{project_path}
 use Rattle.project_spec.specs.ProjectFiles.{project_text}
 
@@ -131,13 +131,16 @@ pub data Opens (tree : Tree) (config : Config) : Command → Type 0 where
   has_map : (map : ParsedMap) → HoldsMap tree config map → Opens tree config Check
   no_base : (text : List ℕ) → IsMapText tree text → web_name config the_page ≡ None → Opens tree config Check
 
--- own: the command's file comes before the trace, and the size of the map behind it
+-- own: the command's file comes before the trace, and behind it a specifier's choices, and then the size of the map
 pub data Refuses (tree : Tree) (config : Config) : Command → Refusal → Type 0 where
   page : (fault : PageFault) → RefusesPage tree config fault → Refuses tree config Inject (Page fault)
   map_file : (fault : MapFileFault) → RefusesMapFile tree config fault → Refuses tree config Check (MapFile fault)
   trace :
       (command : Command) (fault : TraceFault) → Opens tree config command → traced (get tree) config ≡ Err fault
       → Refuses tree config command (Trace fault)
+  many_choices :
+      (command : Command) → IsGenerating command → Opens tree config command → IsTooWide tree config
+      → Refuses tree config command (Limit Choices)
   large_map :
       (command : Command) → IsGenerating command → Opens tree config command → IsTooLarge tree config
       → Refuses tree config command (Limit Map)
@@ -158,6 +161,7 @@ pub data IsRefusalOf (config : Config) : Command → Refusal → Type 0 where
   map_file : (fault : MapFileFault) → IsRefusalOf config Check (MapFile fault)
   trace :
       (command : Command) (fault : TraceFault) → IsOfTrace config fault → IsRefusalOf config command (Trace fault)
+  many_choices : (command : Command) → IsGenerating command → IsRefusalOf config command (Limit Choices)
   large_map : (command : Command) → IsGenerating command → IsRefusalOf config command (Limit Map)
 
 -- ---- what is written

@@ -24,7 +24,7 @@ use Rattle.generator_spec.specs.declared.Refusal.TheVariants.{Config as Configur
 use Rattle.generator_spec.specs.Checking.{check_status, check_lines}
 use Rattle.generator_spec.specs.Commands.{IsGenerating, IsMapText, Opens, IsRefusalOf, NewFile, Writes}
 use Rattle.generator_spec.specs.Generation.{PageIsFile, Generates}
-use Rattle.generator_spec.specs.Serves.{Serves, KnowsModules}
+use Rattle.generator_spec.specs.Serves.{Serves, KnowsModules, IsSmallest}
 use Rattle.generator_spec.specs.Statuses.{done_status, words_status, read_fault_status, write_fault_status}
 use Rattle.generator_spec.specs.Statuses.{memory_status}
 use Rattle.config_spec.specs.Words.{IsCommandOf, IsPlain, RefusesWords}
@@ -60,13 +60,14 @@ IsCarried Check map file = ⊥
 
 -- own: the command's files are written, of which one carries the map, which is generation's on the tree before, and
 -- through it each request of the page and of each module that the page reaches leads to the file that Node's resolver
--- gives, whose digest it has
+-- gives, whose digest it has; no map that does so without keys that end in `/` has fewer mappings
 pub record Linked (words : List (List ℕ)) (tree : Tree) (told : Option Tree) : Type 0 where
   pub map : List ℕ
   pub line : List ℕ
   pub generated : IsGenerated words tree map line
   pub serves : Serves tree generated.config map
   pub knows : KnowsModules tree generated.config map
+  pub smallest : IsSmallest tree generated.config map
   pub files : List NewFile
   pub writes : Writes tree generated.config map generated.command files
   pub carrier : NewFile
@@ -148,6 +149,7 @@ pub record StopsWriting (words : List (List ℕ)) (tree : Tree) (line : List ℕ
   pub generated : IsGenerated words tree map line
   pub serves : Serves tree generated.config map
   pub knows : KnowsModules tree generated.config map
+  pub smallest : IsSmallest tree generated.config map
   pub files : List NewFile
   pub writes : Writes tree generated.config map generated.command files
   pub count : ℕ

@@ -4,15 +4,15 @@ use Rattle.std.specs.FinMap.{get}
 use Rattle.tree_spec.specs.States.{FolderState, SinkState}
 use Rattle.tree_spec.specs.Trees.{Tree, IsTree}
 use Rattle.import_map_spec.specs.ParsedMap.{ParsedMap}
-use Rattle.layout_spec.specs.AgreedLayout.{IsAgreedLayout}
 use Rattle.layout_spec.specs.PrintedMap.{map_text}
+use Rattle.fewest_spec.specs.Fewest.{IsFewestLayout}
 use Rattle.trace_spec.specs.declared.TraceFault.{TraceFault}
 use Rattle.trace_spec.specs.Modules.{Config}
 use Rattle.trace_spec.specs.Checks.{Gathered}
 use Rattle.trace_spec.specs.Traces.{traced}
 use Rattle.config_spec.specs.Words.{IsPlain}
 use Rattle.generator_spec.specs.Digests.{with_digests}
-use Rattle.generator_spec.specs.Generation.{Generates, IsTooLarge, map_base}
+use Rattle.generator_spec.specs.Generation.{Generates, IsTooWide, IsTooLarge, map_base}
 use Rattle.generator_spec.specs.Outcome.{Outcome}
 use Rattle.generator_spec.specs.Ending.{EndsAs}
 use Rattle.generator_spec.specs.Promises.{Promises}
@@ -25,23 +25,26 @@ OneGeneration =
     (tree : Tree) (config : Config) (some other : List ℕ) → Generates tree config some → Generates tree config other
     → some ≡ other
 
--- the text of a trace's agreed layout with the digests of its modules
+-- the text of the layout with the fewest mappings that serves a trace's needs, with the digests of its modules
 pub record IsTextOf (config : Config) (all : Gathered) (bytes : List ℕ) : Type 0 where
   pub layout : ParsedMap
-  pub agreed : IsAgreedLayout all.needs layout
+  pub is_fewest : IsFewestLayout all.needs layout
   pub text : bytes ≡ map_text (map_base config) (with_digests config all layout)
 
--- each trace has a text, which is generated unless it is too large
+-- each trace has a text, which is generated unless some specifier has too many choices, or it is too large
 abbrev pub SomeGeneration : Type 0
 SomeGeneration =
     (tree : Tree) (config : Config) (all : Gathered) → traced (get tree) config ≡ Ok all
-    → (bytes : List ℕ) × IsTextOf config all bytes × (Generates tree config bytes ⊎ IsTooLarge tree config)
+    → (bytes : List ℕ) × IsTextOf config all bytes
+    × (Generates tree config bytes ⊎ IsTooWide tree config ⊎ IsTooLarge tree config)
 
--- where something is generated, nothing of the trace is refused, and its map isn't too large
+-- where something is generated, nothing of the trace is refused, no specifier has too many choices, and the map isn't
+-- too large
 abbrev pub NothingRefused : Type 0
 NothingRefused =
     (tree : Tree) (config : Config) (bytes : List ℕ) → Generates tree config bytes
-    → ((fault : TraceFault) → traced (get tree) config ≡ Err fault → ⊥) × (IsTooLarge tree config → ⊥)
+    → ((fault : TraceFault) → traced (get tree) config ≡ Err fault → ⊥) × (IsTooWide tree config → ⊥)
+    × (IsTooLarge tree config → ⊥)
 
 -- ---- outcomes
 

@@ -25,7 +25,7 @@ use Rattle.config_spec.specs.Projects.{IsConfigOf, RefusesConfig}
 use Rattle.generator_spec.specs.Lines.{status_of, line_of, done_line}
 
 -- own: a refusal comes of the words, or else of the project, or else of what the command needs, or else it is the first
--- one of the trace, or that of a map that is too large; it writes nothing
+-- one of the trace, or that of a specifier with too many choices, or else of a map that is too large; it writes nothing
 pub data RefusesRun (words : List (List ℕ)) (tree : Tree) : Refusal → Type 0 where
   by_words : (fault : ConfigFault) → RefusesWords words fault → RefusesRun words tree (Configured fault)
   by_project : (fault : ConfigFault) → RefusesConfig words tree fault → RefusesRun words tree (Configured fault)

@@ -4,7 +4,8 @@
 --     Serves tree config bytes          every request of whatever is reachable is led so through the map with this text
 --     IsKnown tree config map m         the map has the digest of the module's file, under the module's URL
 --     KnowsModules tree config bytes    the map with this text has that of each module that is reachable, and no other
-use Rattle.std.specs.Prelude.{◌≡◌, ℕ, List, Some, Contains, Ok}
+--     IsSmallest tree config bytes      no map that serves without keys that end in `/` has fewer mappings than its map
+use Rattle.std.specs.Prelude.{◌≡◌, ◌≤◌, ℕ, List, Some, Contains, Ok}
 use Rattle.std.specs.FinMap.{get}
 use Rattle.tree_spec.specs.declared.Entry.TheVariants.{Stored}
 use Rattle.tree_spec.specs.Trees.{Tree}
@@ -14,6 +15,8 @@ use Rattle.node_spec.specs.EsmResolve.{Resolves}
 use Rattle.import_map_spec.specs.ParsedMap.{ParsedMap}
 use Rattle.import_map_spec.specs.Parsing.{ParsesMap}
 use Rattle.import_map_spec.specs.Resolving as html
+use Rattle.layout_spec.specs.Counting.{mapping_count}
+use Rattle.fewest_spec.specs.Laws.{NoFolderKeys}
 use Rattle.integrity_spec.specs.DigestTexts.{digest_text}
 use Rattle.trace_spec.specs.Walking.{Referrer, the_page, a_module}
 use Rattle.trace_spec.specs.Modules.{Config, Module, path_of, web_name}
@@ -79,3 +82,14 @@ pub record KnowsModules (tree : Tree) (config : Config) (bytes : List ℕ) : Typ
   pub parses : ParsesMap map_base bytes (Ok map)
   pub each : (m : Module) → Reachable tree config (a_module m) → IsKnown tree config map m
   pub only : (url text : List ℕ) → get map.integrity url ≡ Some text → IsNamedModule tree config url
+
+-- own: parsed at the page's URL, the text is a map; and the map of each text that serves has as many mappings in its
+-- imports and scopes, or more, unless a key of these ends in `/`
+pub record IsSmallest (tree : Tree) (config : Config) (bytes : List ℕ) : Type 0 where
+  pub map_base : List ℕ
+  pub named : web_name config the_page ≡ Some map_base
+  pub map : ParsedMap
+  pub parses : ParsesMap map_base bytes (Ok map)
+  pub fewest :
+      (text : List ℕ) (other : ParsedMap) → Serves tree config text → ParsesMap map_base text (Ok other)
+      → NoFolderKeys other → mapping_count map ≤ mapping_count other

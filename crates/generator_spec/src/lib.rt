@@ -59,12 +59,12 @@ pub fn one_generation()
     ensures { OneGeneration }
 {}
 
-/// Each trace has a text, which is generated unless it is too large.
+/// Each trace has a text, which is generated unless some specifier has too many choices, or it is too large.
 pub fn some_generation()
     ensures { SomeGeneration }
 {}
 
-/// Where something is generated, nothing of the trace is refused, and its map isn't too large.
+/// Where something is generated, nothing of the trace is refused, and neither a specifier's choices nor the map's size.
 pub fn nothing_refused()
     ensures { NothingRefused }
 {}
