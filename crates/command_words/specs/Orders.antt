@@ -6,15 +6,18 @@ use Rattle.std.specs.Prelude.{◌≡◌, ℕ, List, Some, map, string_bytes}
 use Rattle.config_spec.specs.declared.Command.{Command}
 use Rattle.config_spec.specs.declared.Command.TheVariants as command
 use Rattle.config_spec.specs.Words.{Settings, Sets, no_settings, command_of, options_of}
-use Rattle.words_spec.specs.PlainWords.{Asked, Asks, LinkOptions, linking, unlinking, refreshing, checking, injecting}
+use Rattle.words_spec.specs.PlainWords.{Asked, Asks, LinkOptions, linking, unlinking, refreshing, checking, listing}
+use Rattle.words_spec.specs.PlainWords.{injecting}
 use Rattle.command_words.specs.declared.order.Order.{Order}
 use Rattle.command_words.specs.declared.order.Order.TheVariants.{Link, Unlink, Refresh, Check, Inject}
+use Rattle.command_words.specs.declared.order.Order.TheVariants as order
 
 abbrev pub command_ordered : Order → Command
 command_ordered (Link settings entries) = command.Link
 command_ordered (Unlink entries) = command.Unlink
 command_ordered Refresh = command.Refresh
 command_ordered Check = command.Check
+command_ordered order.List = command.List
 command_ordered Inject = command.Inject
 
 abbrev pub settings_ordered : Order → Settings
@@ -22,6 +25,7 @@ settings_ordered (Link settings entries) = settings
 settings_ordered (Unlink entries) = no_settings
 settings_ordered Refresh = no_settings
 settings_ordered Check = no_settings
+settings_ordered order.List = no_settings
 settings_ordered Inject = no_settings
 
 -- own: what is asked for with the options of the order
@@ -30,6 +34,7 @@ asked_with options (Link settings entries) = linking options (map string_bytes e
 asked_with options (Unlink entries) = unlinking (map string_bytes entries.now)
 asked_with options Refresh = refreshing
 asked_with options Check = checking
+asked_with options order.List = listing
 asked_with options Inject = injecting
 
 -- own: the command and the entries are those that are asked for, and the settings are what the options set

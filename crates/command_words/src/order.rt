@@ -26,6 +26,8 @@ pub enum Order<'a> {
     Refresh,
     /// Which needs the map that is there doesn't serve.
     Check,
+    /// The modules, each with the number of its requests.
+    List,
     /// The page, with the map in it.
     Inject,
 }
@@ -40,6 +42,7 @@ impl<'a> Order<'a> {
             Order::Unlink { .. } => Command::Unlink,
             Order::Refresh => Command::Refresh,
             Order::Check => Command::Check,
+            Order::List => Command::List,
             Order::Inject => Command::Inject,
         }
     }
@@ -67,7 +70,7 @@ fn order_parsed<'a>(alloc: Global, parsed: Parsed<'a>) -> Result<Order<'a>, Word
         Parsed::Refresh => Ok(Order::Refresh),
         Parsed::Check => Ok(Order::Check),
         Parsed::Inject => Ok(Order::Inject),
-        Parsed::List => Err(not_built()),
+        Parsed::List => Ok(Order::List),
         Parsed::Session => Err(not_built()),
         Parsed::Measure(_) => Err(not_built()),
     }

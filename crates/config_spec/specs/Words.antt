@@ -15,6 +15,7 @@ use Rattle.words_spec.specs.PlainWords.{Asked, Asks, LinkOptions, no_options, li
 use Rattle.words_spec.specs.PlainWords.{listing, injecting, editing, measuring}
 use Rattle.config_spec.specs.declared.Command.{Command}
 use Rattle.config_spec.specs.declared.Command.TheVariants.{Link, Unlink, Refresh, Inject, Check}
+use Rattle.config_spec.specs.declared.Command.TheVariants.{List as Lists}
 use Rattle.config_spec.specs.declared.ConfigFault.{ConfigFault}
 use Rattle.config_spec.specs.declared.ConfigFault.TheVariants.{NotBuilt, BadBase, BadPath, BadConditions}
 
@@ -25,7 +26,7 @@ command_of (unlinking entries) = Some Unlink
 command_of refreshing = Some Refresh
 command_of checking = Some Check
 command_of injecting = Some Inject
-command_of listing = None
+command_of listing = Some Lists
 command_of editing = None
 command_of (measuring number) = None
 

@@ -12,7 +12,8 @@ use Rattle.tree_spec.specs.declared.Entry.TheVariants.{Stored, Directory}
 use Rattle.tree_spec.specs.declared.LimitName.TheVariants.{Entries, File}
 use Rattle.tree_spec.specs.Limits.{limit_number}
 use Rattle.trace_spec.specs.Modules.{Config}
-use Rattle.words_spec.specs.PlainWords.{LinkOptions, no_options, linking, unlinking, refreshing, checking, injecting}
+use Rattle.words_spec.specs.PlainWords.{LinkOptions, no_options, linking, unlinking, refreshing, checking}
+use Rattle.words_spec.specs.PlainWords.{listing, injecting}
 use Rattle.config_spec.specs.declared.Command.TheVariants.{Link}
 use Rattle.config_spec.specs.declared.ProjectFault.TheVariants.{Absent, TooLarge, NotProject}
 use Rattle.config_spec.specs.declared.ConfigFault.TheVariants.{NotBuilt, BadBase, BadPath, BadConditions, Project}
@@ -137,6 +138,8 @@ pub record ProjectExamples : Type 0 where
   pub unlink_nothing : config_by (unlinking one_entry) no_settings (Ok None) ≡ Err (Project Absent)
   pub refresh : config_by refreshing no_settings (Ok (Some site)) ≡ Ok site
   pub refresh_nothing : config_by refreshing no_settings (Ok None) ≡ Err (Project Absent)
+  pub list : config_by listing no_settings (Ok (Some site)) ≡ Ok site
+  pub list_nothing : config_by listing no_settings (Ok None) ≡ Err (Project Absent)
   pub check_nothing : config_by checking no_settings (Ok None) ≡ Err (Project Absent)
   pub inject_large : config_by injecting no_settings (Err TooLarge) ≡ Err (Project TooLarge)
 
@@ -155,7 +158,7 @@ pub record EntryExamples : Type 0 where
 -- ---- whole words
 
 pub record WordExamples : Type 0 where
-  pub not_built : RefusesWords (codes "list" ∷ []) NotBuilt
+  pub not_built : RefusesWords (codes "session" ∷ []) NotBuilt
   pub no_base : RefusesConfig (codes "link" ∷ codes "./app.mjs" ∷ []) bare_tree NoBase
   pub refresh_nothing : RefusesConfig (codes "refresh" ∷ []) bare_tree (Project Absent)
   pub folder :

@@ -23,6 +23,8 @@ pub enum Command {
     Inject,
     /// Which needs the map that is there doesn't serve.
     Check,
+    /// The modules, each with the number of its requests.
+    List,
 }
 
 /// Why there is no project. A place is an offset in the file, in bytes.

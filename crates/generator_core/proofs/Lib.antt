@@ -4,3 +4,4 @@ pub mod Checkings
 pub mod ReportLemmas
 pub mod Configurings
 pub mod Runs
+pub mod Listings

@@ -30,7 +30,7 @@ use tree_model::{Folder, Look, LookFault, Path};
 use tree_spec::MOST_MAP_BYTES;
 use web_url::{Suffix, WebFault, WebUrl, web_of};
 
-/// What a check says, all its lines, and its status.
+/// What is said of a map or of modules, all its lines, and the status.
 #[derive(Drop)]
 pub struct Report {
     pub status: u8,

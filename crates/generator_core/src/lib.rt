@@ -4,6 +4,7 @@
 #![tactic(auto)]
 
 mod checking;
+mod listing;
 mod paths;
 mod prepared;
 mod project;

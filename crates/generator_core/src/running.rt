@@ -1,6 +1,6 @@
 ghost use Rattle.std.specs.Prelude.{◌≡◌, ◌≤◌, List, ℕ, map, string_bytes, IfSome};
 ghost use Rattle.config_spec.specs.declared.Command.{Command as Commanded};
-ghost use Rattle.config_spec.specs.declared.Command.TheVariants.{Inject, Check};
+ghost use Rattle.config_spec.specs.declared.Command.TheVariants.{Inject, Check, List as ListModules};
 ghost use Rattle.config_spec.specs.Words.{IsCommandOf};
 ghost use Rattle.generator_spec.specs.Commands.{IsGenerating};
 ghost use Rattle.generator_spec.specs.Ending.{Ends, EndsAs, TellsRefusal};
@@ -13,6 +13,7 @@ ghost use Rattle.generator_core.specs.Spending.{CommandSpends};
 ghost use Rattle.generator_core.specs.Writing.{TellsStop, TellsWords, EndsWriting, WritesFiles};
 
 use crate::checking::checked;
+use crate::listing::listed;
 use crate::prepared::{Fresh, Prepared, prepare_map, prepare_page};
 use crate::project::configured;
 use command_words::{Order, WordsFault, order_of};
@@ -107,6 +108,7 @@ fn commanded<F: Folder, O: Sink, L: Ledger>(
         Command::Refresh => write_map(alloc, folder, config, false, out, steps),
         Command::Inject => inject(alloc, folder, config, out, steps),
         Command::Check => check(alloc, folder, config, out, steps),
+        Command::List => list(alloc, folder, config, out, steps),
     }
 }
 
@@ -158,6 +160,23 @@ fn check<F: Folder, O: Sink, L: Ledger>(
         (O.state out.new) result steps.old steps.new }
 {
     match checked(alloc, folder, config, steps) {
+        Ok(report) => tell(out, report.text.as_slice(), report.status),
+        Err(stop) => close(alloc, stop, out),
+    }
+}
+
+// `list`: traces, and says which modules there are.
+fn list<F: Folder, O: Sink, L: Ledger>(
+    alloc: Global,
+    folder: &mut F,
+    config: &Config,
+    out: &mut O,
+    steps: &mut Steps<L>,
+) -> u8
+    ensures { RunsCommand ListModules config.now (F.state folder.old) (F.state folder.new) (O.state out.old)
+        (O.state out.new) result steps.old steps.new }
+{
+    match listed(alloc, folder, config, steps) {
         Ok(report) => tell(out, report.text.as_slice(), report.status),
         Err(stop) => close(alloc, stop, out),
     }

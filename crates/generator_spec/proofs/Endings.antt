@@ -23,7 +23,7 @@ use Rattle.config_spec.specs.Projects.{RefusesAsked}
 use Rattle.config_spec.specs.Projects.IsReadFault.{too_large, not_project, above}
 use Rattle.config_spec.specs.Projects.RefusesAsked.{bad_project, no_project, no_base, too_many_entries, not_linked}
 use Rattle.config_spec.specs.declared.Command.{Command}
-use Rattle.config_spec.specs.declared.Command.TheVariants.{Check}
+use Rattle.config_spec.specs.declared.Command.TheVariants.{Check, List as Lists}
 use Rattle.generator_spec.specs.declared.MapFileFault.{MapFileFault}
 use Rattle.generator_spec.specs.declared.MapFileFault.TheVariants as map_file
 use Rattle.generator_spec.specs.declared.PageFault.{PageFault}
@@ -115,6 +115,7 @@ shaped_status words status lines (shaped.refused why is s l) = inr (subst IsRefu
 shaped_status words status lines (shaped.done line s l counted) = inl s
 shaped_status words status lines (shaped.checked is) =
     subst (λ n. (n ≡ 0) ⊎ IsRefusing n) (sym is.ends) (check_refusing is.differing)
+shaped_status words status lines (shaped.listed is) = inl is.ends
 
 refusal_status : (status : ℕ) → IsRefusing status → LeavesTree status
 refusal_status status (one e) = inl e
@@ -162,6 +163,7 @@ unmoved words tree status lines files later (comes.not_plain text none s l f) pl
 unmoved words tree status lines files later (comes.refused why is s l f) placed other = nothing_placed files tree later f placed
 unmoved words tree status lines files later (comes.written command config map is generates wrote s l) placed other = absurd (other s)
 unmoved words tree status lines files later (comes.checked config map all is holds traces s l f) placed other = nothing_placed files tree later f placed
+unmoved words tree status lines files later (comes.listed config all is traces s l f) placed other = nothing_placed files tree later f placed
 
 kept_where_refused :
     (words : List (List ℕ)) (status : ℕ) (lines : List (List ℕ)) (held told : Option Tree) → (held ≡ None → told ≡ None)
@@ -226,6 +228,7 @@ module _ (words : List (List ℕ)) (before after : FolderState) (status : ℕ) (
   shaped_two (shaped.refused why is s l) is_two = inr (why, is, sym s ∙ is_two)
   shaped_two (shaped.done line s l counted) is_two = absurd (omega arith)
   shaped_two (shaped.checked is) is_two = absurd (check_not_two is.differing (sym is.ends ∙ is_two))
+  shaped_two (shaped.listed is) is_two = let zero = is.ends in absurd (omega (arith, zero, is_two))
 
   said_two : Says words before after status lines → status ≡ 2 → AreWrong words
   said_two (says.outcome shape o l w) is_two = shaped_two shape is_two
@@ -262,6 +265,8 @@ module _ (words : List (List ℕ)) (before after : FolderState) (status : ℕ) (
       absurd (refused_or_command words fault counted.command refuses (command_for words counted.command counted.config counted.is_config))
   refused_shape fault refuses (shaped.checked is) =
       absurd (refused_or_command words fault Check refuses (command_for words Check is.config is.is_config))
+  refused_shape fault refuses (shaped.listed is) =
+      absurd (refused_or_command words fault Lists refuses (command_for words Lists is.config is.is_config))
 
   refused_says :
       (untold : before.holds ≡ None → after.holds ≡ None) (fault : ConfigFault) → RefusesWords words fault
@@ -292,6 +297,7 @@ module _ (words : List (List ℕ)) (before after : FolderState) (status : ℕ) (
   no_meaning_shape none (shaped.refused why is s l) = absurd (none (can_is_plain why is))
   no_meaning_shape none (shaped.done line s l counted) = absurd (none (command_is_plain words counted.command (command_for words counted.command counted.config counted.is_config)))
   no_meaning_shape none (shaped.checked is) = absurd (none (command_is_plain words Check (command_for words Check is.config is.is_config)))
+  no_meaning_shape none (shaped.listed is) = absurd (none (command_is_plain words Lists (command_for words Lists is.config is.is_config)))
 
   no_meaning_says :
       (untold : before.holds ≡ None → after.holds ≡ None) → (IsPlain words → ⊥) → Says words before after status lines

@@ -19,9 +19,11 @@ use Rattle.trace_spec.specs.Traces.{traced}
 use Rattle.config_spec.proofs.WordsJudged.{words_are_judged}
 use Rattle.config_spec.specs.declared.Command.{Command}
 use Rattle.config_spec.specs.declared.Command.TheVariants.{Link, Unlink, Refresh, Check}
+use Rattle.config_spec.specs.declared.Command.TheVariants.{List as Lists}
 use Rattle.generator_spec.specs.declared.Refusal.{Refusal}
 use Rattle.generator_spec.specs.declared.Refusal.TheVariants.{Trace, Limit, Config as Configured}
 use Rattle.generator_spec.specs.Checking.{difference_lines, check_status, check_lines}
+use Rattle.generator_spec.specs.Listing.{list_lines}
 use Rattle.generator_spec.specs.Commands.{IsGenerating, map_path, HoldsMap, Opens, IsMapping as mapping, Opens as opens, Refuses, Refuses as refuses}
 use Rattle.generator_spec.specs.Commands.{NewFile, new_file, map_and_project, Writes, Writes as writes}
 use Rattle.generator_spec.specs.Generation.{Generates, IsTooWide, IsTooLarge}
@@ -30,7 +32,7 @@ use Rattle.config_spec.specs.Words.{IsPlain}
 use Rattle.config_spec.specs.Projects.{IsConfigOf, project_path}
 use Rattle.generator_spec.specs.Lines.{status_of, line_of, done_line}
 use Rattle.generator_spec.specs.Outcome.{ComesTo, FilesPlaced, Outcome, RefusesRun, RefusesRun as runs}
-use Rattle.generator_spec.specs.Outcome.ComesTo.{not_plain, refused, written, checked}
+use Rattle.generator_spec.specs.Outcome.ComesTo.{not_plain, refused, written, checked, listed}
 use Rattle.generator_spec.specs.Laws.{OneOutcome, HasOutcome, SomeOutcome}
 use Rattle.generator_spec.proofs.Configs.{SameConfig, one_config, one_config_fault, refused_or_config}
 use Rattle.generator_spec.proofs.Configs.{words_refused_or_config, words_refused_or_refused, page_is_path, plain_or_not}
@@ -39,7 +41,7 @@ use Rattle.generator_spec.proofs.Configs.{Judged, Judged as judgement, judged}
 use Rattle.generator_spec.proofs.Generations.{one_trace, one_layout, one_text, some_generation}
 use Rattle.generator_spec.proofs.MapPaths.{map_is_path, project_is_path, map_in_root, project_in_root}
 use Rattle.generator_spec.proofs.Nameless.{traced_is_named}
-use Rattle.generator_spec.proofs.Refusals.{one_refusal, refused_or_opened_and_generated, refused_or_checked, written_is_opened}
+use Rattle.generator_spec.proofs.Refusals.{one_refusal, refused_or_opened_and_generated, refused_or_checked, refused_or_listed, written_is_opened}
 use Rattle.generator_spec.proofs.Refusals.{Refused, opened_or_refused, one_held, one_write}
 
 -- ---- one at most
@@ -109,6 +111,7 @@ paths_of words tree status lines files (not_plain text other s l f) = no_paths f
 paths_of words tree status lines files (refused why is s l f) = no_paths files f
 paths_of words tree status lines files (written command config map is generates wrote s l) = paths_written words tree command config map files is wrote
 paths_of words tree status lines files (checked config map all is holds traces s l f) = no_paths files f
+paths_of words tree status lines files (listed config all is traces s l f) = no_paths files f
 
 -- ---- what it comes to
 
@@ -171,6 +174,36 @@ module _ (words : List (List ℕ)) (tree : Tree) (status other : ℕ) (lines oth
         same_files = f ∙ sym g;
       }
 
+  both_listed :
+      (config second : Config) (all all_too : Gathered) → IsConfigOf words tree Lists config
+      → traced (get tree) config ≡ Ok all → status ≡ 0 → lines ≡ list_lines all → files ≡ []
+      → IsConfigOf words tree Lists second → traced (get tree) second ≡ Ok all_too → other ≡ 0
+      → others ≡ list_lines all_too → more ≡ [] → SameEnd status other lines others files more
+  both_listed config second all all_too is traces s l f is_too traces_too t m g =
+      let configs = (one_config words tree Lists Lists config second is is_too).one_config in
+      let both : as_trace all ≡ as_trace all_too = sym traces ∙ (ap (traced (get tree)) configs ∙ traces_too) in
+      let alls : all ≡ all_too = cc in
+      record {
+        one_status = s ∙ sym t;
+        same_lines = l ∙ ((λ i. list_lines (alls i)) ∙ sym m);
+        same_files = f ∙ sym g;
+      }
+
+  -- what is listed isn't checked
+  checked_and_listed :
+      (config second : Config) → IsConfigOf words tree Check config → IsConfigOf words tree Lists second → ⊥
+  checked_and_listed config second is is_too =
+      let same : Check ≡ Lists = (one_config words tree Check Lists config second is is_too).one_command in
+      absurd (cc)
+
+  -- what is listed isn't written
+  written_and_listed :
+      (command : Command) (config second : Config) (map : List ℕ) (new : List NewFile) → IsConfigOf words tree command config
+      → Writes tree config map command new → IsConfigOf words tree Lists second → ⊥
+  written_and_listed command config second map new is wrote is_too =
+      subst IsGenerating (one_config words tree command Lists config second is is_too).one_command
+      (writes_generate tree config map command new wrote)
+
   -- what is checked isn't written
   written_and_checked :
       (command : Command) (config second : Config) (map : List ℕ) (new : List NewFile) → IsConfigOf words tree command config
@@ -221,6 +254,15 @@ refused_or_checked_too words tree why config map all (runs.by_tree other second 
     let same = one_config words tree Check other config second is_config is_too in
     refused_or_checked tree config why map all (same_refusals tree why same is) holds traces
 
+refused_or_listed_too :
+    (words : List (List ℕ)) (tree : Tree) (why : Refusal) (config : Config) (all : Gathered)
+    → RefusesRun words tree why → IsConfigOf words tree Lists config → traced (get tree) config ≡ Ok all → ⊥
+refused_or_listed_too words tree why config all (runs.by_words fault is) is_config traces = words_refused_or_config words tree fault Lists config is is_config
+refused_or_listed_too words tree why config all (runs.by_project fault is) is_config traces = refused_or_config words tree fault Lists config is is_config
+refused_or_listed_too words tree why config all (runs.by_tree other second reason is_too is) is_config traces =
+    let same = one_config words tree Lists other config second is_config is_too in
+    refused_or_listed tree config why all (same_refusals tree why same is) traces
+
 module _ (words : List (List ℕ)) (tree : Tree) (status other : ℕ) (lines others : List (List ℕ)) (files more : List NewFile) (plain : IsPlain words) where
   both :
       ComesTo words tree status lines files → ComesTo words tree other others more
@@ -233,18 +275,32 @@ module _ (words : List (List ℕ)) (tree : Tree) (status other : ℕ) (lines oth
       absurd (refused_or_written words tree why command config map is is_config (written_is_opened tree config map more command wrote) generates)
   both (refused why is s l f) (checked config map all is_config holds traces t m g) =
       absurd (refused_or_checked_too words tree why config map all is is_config holds traces)
+  both (refused why is s l f) (listed config all is_config traces t m g) =
+      absurd (refused_or_listed_too words tree why config all is is_config traces)
   both (written command config map is_config generates wrote s l) (refused because too t m g) =
       absurd (refused_or_written words tree because command config map too is_config (written_is_opened tree config map files command wrote) generates)
   both (written command config map is_config generates wrote s l) (written command_too second map_too is_too too wrote_too t m) =
       both_written words tree status other lines others files more command command_too config second map map_too is_config generates wrote s l is_too too wrote_too t m
   both (written command config map is_config generates wrote s l) (checked second map_too all is_too holds traces t m g) =
       absurd (written_and_checked words tree status other lines others files more command config second map files is_config wrote is_too)
+  both (written command config map is_config generates wrote s l) (listed second all is_too traces t m g) =
+      absurd (written_and_listed words tree status other lines others files more command config second map files is_config wrote is_too)
   both (checked config map all is_config holds traces s l f) (refused because too t m g) =
       absurd (refused_or_checked_too words tree because config map all too is_config holds traces)
   both (checked config map all is_config holds traces s l f) (written command second map_too is_too generates wrote t m) =
       absurd (written_and_checked words tree status other lines others files more command second config map_too more is_too wrote is_config)
   both (checked config map all is holds traces s l f) (checked second map_too all_too is_too holds_too traces_too t m g) =
       both_checked words tree status other lines others files more config second map map_too all all_too is holds traces s l f is_too holds_too traces_too t m g
+  both (checked config map all is holds traces s l f) (listed second all_too is_too traces_too t m g) =
+      absurd (checked_and_listed words tree status other lines others files more config second is is_too)
+  both (listed config all is traces s l f) (refused because too t m g) =
+      absurd (refused_or_listed_too words tree because config all too is traces)
+  both (listed config all is traces s l f) (written command second map_too is_too generates wrote t m) =
+      absurd (written_and_listed words tree status other lines others files more command second config map_too more is_too wrote is)
+  both (listed config all is traces s l f) (checked second map_too all_too is_too holds_too traces_too t m g) =
+      absurd (checked_and_listed words tree status other lines others files more second config is_too is)
+  both (listed config all is traces s l f) (listed second all_too is_too traces_too t m g) =
+      both_listed words tree status other lines others files more config second all all_too is traces s l f is_too traces_too t m g
 
 pub one_outcome : OneOutcome
 one_outcome words tree status other lines others after last plain one two =
@@ -263,6 +319,7 @@ no_meaning_status words tree status lines files none (not_plain text too s l f) 
 no_meaning_status words tree status lines files none (refused why is s l f) = absurd (none (run_is_plain words tree why is))
 no_meaning_status words tree status lines files none (written command config map is generates wrote s l) = absurd (none (config_is_plain words tree command config is))
 no_meaning_status words tree status lines files none (checked config map all is holds traces s l f) = absurd (none (config_is_plain words tree Check config is))
+no_meaning_status words tree status lines files none (listed config all is traces s l f) = absurd (none (config_is_plain words tree Lists config is))
 
 pub one_status : (words : List (List ℕ)) (tree : Tree) (status other : ℕ) (lines others : List (List ℕ)) (after last : Tree) → Outcome words tree status lines after → Outcome words tree other others last → status ≡ other
 one_status words tree status other lines others after last one two =
@@ -358,6 +415,14 @@ module _ (words : List (List ℕ)) (tree : Tree) (is_tree : IsTree tree) where
     outcome = record { files = []; comes = checked config map all is holds e refl refl refl; placed = refl };
   }
 
+  by_list : (config : Config) → IsConfigOf words tree Lists config → (all : Gathered) → traced (get tree) config ≡ Ok all → HasOutcome words tree
+  by_list config is all e = record {
+    status = 0;
+    lines = list_lines all;
+    after = tree;
+    outcome = record { files = []; comes = listed config all is e refl refl refl; placed = refl };
+  }
+
   by_trace : (command : Command) (config : Config) → IsConfigOf words tree command config → (opened : Opens tree config command) → (all : Gathered) → traced (get tree) config ≡ Ok all → HasOutcome words tree
   by_trace command config is (opens.nothing _ mapping.link) all e =
       by_generation command config is tt (opens.nothing Link mapping.link)
@@ -377,6 +442,7 @@ module _ (words : List (List ℕ)) (tree : Tree) (is_tree : IsTree tree) where
         placed = one_file config.page (takes map).new (λ folder above. above_stands config.page folder (Stored page) stands.stands above);
       }) all e
   by_trace command config is (opens.has_map map holds) all e = by_check config is map holds all e
+  by_trace command config is opens.no_file all e = by_list config is all e
   by_trace command config is (opens.no_base text stands nameless) all e = absurd (traced_is_named (get tree) config all nameless e)
 
   by_result : (command : Command) (config : Config) → IsConfigOf words tree command config → Opens tree config command → (found : Result Gathered TraceFault) → traced (get tree) config ≡ found → HasOutcome words tree

@@ -17,6 +17,7 @@ use Rattle.trace_spec.specs.Modules.{Config}
 use Rattle.trace_spec.specs.Traces.{generation}
 use Rattle.config_spec.specs.declared.Command.{Command}
 use Rattle.config_spec.specs.declared.Command.TheVariants.{Link, Unlink, Refresh, Inject, Check}
+use Rattle.config_spec.specs.declared.Command.TheVariants.{List as Lists}
 use Rattle.config_spec.specs.Projects.{project_path, IsConfigOf, IsConfigFor}
 use Rattle.generator_spec.specs.Commands.{map_path}
 
@@ -26,6 +27,7 @@ own_file Unlink config = []
 own_file Refresh config = []
 own_file Inject config = config.page ∷ []
 own_file Check config = map_path ∷ []
+own_file Lists config = []
 
 pub record AsksOwn (own old : List (List ℕ)) (after : FolderState) : Type 0 where
   pub first : List (List ℕ)

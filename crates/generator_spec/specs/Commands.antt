@@ -38,6 +38,7 @@ use Rattle.trace_spec.specs.Traces.{traced}
 use Rattle.trace_spec.specs.Walking.{the_page}
 use Rattle.config_spec.specs.declared.Command.{Command}
 use Rattle.config_spec.specs.declared.Command.TheVariants.{Link, Unlink, Refresh, Inject, Check}
+use Rattle.config_spec.specs.declared.Command.TheVariants.{List as Lists}
 use Rattle.generator_spec.specs.declared.MapFileFault.{MapFileFault}
 use Rattle.generator_spec.specs.declared.MapFileFault.TheVariants as map_fault
 use Rattle.generator_spec.specs.declared.PageFault.{PageFault}
@@ -48,13 +49,14 @@ use Rattle.generator_spec.specs.Generation.{IsTooWide, IsTooLarge}
 use Rattle.config_spec.specs.Projects.{project_path}
 use Rattle.project_spec.specs.ProjectFiles.{project_text}
 
--- own: `check` traces, and generates nothing
+-- own: `check` and `list` trace, and generate nothing
 abbrev pub IsGenerating : Command → Type 0
 IsGenerating Link = ⊤
 IsGenerating Unlink = ⊤
 IsGenerating Refresh = ⊤
 IsGenerating Inject = ⊤
 IsGenerating Check = ⊥
+IsGenerating Lists = ⊥
 
 -- ---- the page
 
@@ -130,6 +132,7 @@ pub data Opens (tree : Tree) (config : Config) : Command → Type 0 where
   page : (page : List ℕ) → IsPage tree config page → TakesMaps page → Opens tree config Inject
   has_map : (map : ParsedMap) → HoldsMap tree config map → Opens tree config Check
   no_base : (text : List ℕ) → IsMapText tree text → web_name config the_page ≡ None → Opens tree config Check
+  no_file : Opens tree config Lists
 
 -- own: the command's file comes before the trace, and behind it a specifier's choices, and then the size of the map
 pub data Refuses (tree : Tree) (config : Config) : Command → Refusal → Type 0 where

@@ -3,21 +3,26 @@
 --     IsDone words tree told         the command did what it is for, and this is told afterwards
 --     Linked words tree told         the tree's map was written, this is told afterwards, and the map serves
 --     MapServes words tree           the map that is there serves
+--     HasModules words tree          there is a trace, whose modules can be listed
 --     Says words before after status lines      why a command ends with this status and these lines
 --     Ends status text out out_after result     the text went out and the status is answered, or the output failed
 --     TellsRefusal why out out_after result     the same of a refusal, or of want of memory in its place
 use Rattle.std.specs.Prelude.{◌≡◌, ◌≢◌, ◌≤◌, ◌<◌, ◌⊎◌, ◌++◌, ℕ, List, [], ◌∷◌, length, All, Contains}
-use Rattle.std.specs.Prelude.{Option, Some, None, IfSome}
+use Rattle.std.specs.Prelude.{Option, Some, None, IfSome, Ok}
 use Rattle.std.specs.Prelude.{option_map, take}
+use Rattle.std.specs.FinMap.{get}
 use Rattle.std.specs.List.{concat}
 use Rattle.tree_spec.specs.Counts.{Rose}
 use Rattle.tree_spec.specs.States.{FolderState, SinkState}
 use Rattle.tree_spec.specs.Trees.{Tree}
 use Rattle.import_map_spec.specs.Resolving.{Resolution, Resolved}
 use Rattle.page_spec.specs.ImportMaps.{IsOneMap}
+use Rattle.trace_spec.specs.Checks.{Gathered}
 use Rattle.trace_spec.specs.Modules.{Config}
+use Rattle.trace_spec.specs.Traces.{traced}
 use Rattle.config_spec.specs.declared.Command.{Command}
 use Rattle.config_spec.specs.declared.Command.TheVariants.{Link, Unlink, Refresh, Inject, Check}
+use Rattle.config_spec.specs.declared.Command.TheVariants.{List as Lists}
 use Rattle.config_spec.specs.declared.ConfigFault.{ConfigFault}
 use Rattle.generator_spec.specs.declared.Refusal.{Refusal}
 use Rattle.generator_spec.specs.declared.Refusal.TheVariants.{Config as Configured}
@@ -29,7 +34,7 @@ use Rattle.generator_spec.specs.Statuses.{done_status, words_status, read_fault_
 use Rattle.generator_spec.specs.Statuses.{memory_status}
 use Rattle.config_spec.specs.Words.{IsCommandOf, IsPlain, RefusesWords}
 use Rattle.config_spec.specs.Projects.{IsConfigOf, IsConfigFor, CanRefuseConfig}
-use Rattle.generator_spec.specs.Lines.{status_of, line_of, counts_line, done_line, differs_line}
+use Rattle.generator_spec.specs.Lines.{status_of, line_of, counts_line, done_line, differs_line, module_line}
 use Rattle.generator_spec.specs.Lines.{memory_line, read_fault_line, write_fault_line}
 use Rattle.generator_spec.specs.Outcome.{FilesPlaced, Outcome}
 
@@ -57,6 +62,7 @@ IsCarried Unlink map file = file.bytes ≡ map
 IsCarried Refresh map file = file.bytes ≡ map
 IsCarried Inject map file = IsOneMap map file.bytes
 IsCarried Check map file = ⊥
+IsCarried Lists map file = ⊥
 
 -- own: the command's files are written, of which one carries the map, which is generation's on the tree before, and
 -- through it each request of the page and of each module that the page reaches leads to the file that Node's resolver
@@ -83,10 +89,18 @@ pub record MapServes (words : List (List ℕ)) (tree : Tree) : Type 0 where
   pub stands : IsMapText tree text
   pub serves : Serves tree config text
 
--- own: the map was written; or the map that is there serves, and nothing was written
+-- own: it is asked to list the modules, and no request of them is refused
+pub record HasModules (words : List (List ℕ)) (tree : Tree) : Type 0 where
+  pub config : Config
+  pub is_config : IsConfigOf words tree Lists config
+  pub all : Gathered
+  pub is_traced : traced (get tree) config ≡ Ok all
+
+-- own: the map was written; or the map that is there serves, or the modules were listed, and nothing was written
 pub data IsDone (words : List (List ℕ)) (tree : Tree) (told : Option Tree) : Type 0 where
   linked : Linked words tree told → IsDone words tree told
   served : MapServes words tree → told ≡ Some tree → IsDone words tree told
+  listed : HasModules words tree → told ≡ Some tree → IsDone words tree told
 
 -- ---- what is said
 
@@ -123,6 +137,19 @@ pub record IsChecked (words : List (List ℕ)) (status : ℕ) (lines : List (Lis
   pub ends : status ≡ check_status differing
   pub says : lines ≡ check_lines needs differing
 
+-- own: some module is listed so
+pub record IsModuleLine (line : List ℕ) : Type 0 where
+  pub name : List ℕ
+  pub requests : ℕ
+  pub says : line ≡ module_line name requests
+
+-- own: the words can have this config of a list, and the lines are those of some modules
+pub record IsListing (words : List (List ℕ)) (status : ℕ) (lines : List (List ℕ)) : Type 0 where
+  pub config : Config
+  pub is_config : IsConfigFor words Lists config
+  pub are_modules : All IsModuleLine lines
+  pub ends : status ≡ done_status
+
 -- own: a run of these words can be refused so, whatever the folder tells
 pub data CanRefuse (words : List (List ℕ)) : Refusal → Type 0 where
   by_words : (fault : ConfigFault) → RefusesWords words fault → CanRefuse words (Configured fault)
@@ -132,7 +159,7 @@ pub data CanRefuse (words : List (List ℕ)) : Refusal → Type 0 where
       → IsRefusalOf config command why → CanRefuse words why
 
 -- own: status and lines belong together, whatever the folder tells: they are those of words without a meaning, of a
--- refusal, of a map that is written, or of a check
+-- refusal, of a map that is written, of a check, or of a list
 pub data Shaped (words : List (List ℕ)) (status : ℕ) (lines : List (List ℕ)) : Type 0 where
   not_plain :
       (text : List ℕ) → (IsPlain words → ⊥) → status ≡ words_status → lines ≡ text ∷ [] → Shaped words status lines
@@ -141,6 +168,7 @@ pub data Shaped (words : List (List ℕ)) (status : ℕ) (lines : List (List ℕ
       → Shaped words status lines
   done : (line : List ℕ) → status ≡ done_status → lines ≡ line ∷ [] → IsCounted words line → Shaped words status lines
   checked : IsChecked words status lines → Shaped words status lines
+  listed : IsListing words status lines → Shaped words status lines
 
 -- own: there is a map, whose files were written up to one of them, with which this line would have been said; it serves
 -- as that of a command that is done

@@ -5,6 +5,7 @@ pub mod Generation
 pub mod Serves
 pub mod Lines
 pub mod Checking
+pub mod Listing
 pub mod Outcome
 pub mod Asked
 pub mod Steps

@@ -16,6 +16,7 @@
 --     read_fault_line, write_fault_line      the line of a look that failed, of a write that failed
 --     limit_line which      the line of this limit, with its number
 --     part_name part      the name of a part of an import map
+--     module_line name requests      the line of a module, by its path with its suffix
 use Rattle.std.specs.Prelude.{ℕ, List, [], ◌∷◌, ◌++◌, length, codes, unwrap_or}
 use Rattle.std.specs.Fmt.{decimal}
 use Rattle.tree_spec.specs.declared.LimitName.{LimitName}
@@ -259,3 +260,9 @@ served_line needs = codes "ok: " ++ (decimal needs ++ (codes " needs served" ++ 
 
 abbrev pub differences_line : ℕ → List ℕ
 differences_line count = decimal count ++ (codes " differences" ++ end_of_line)
+
+-- ---- what a list says
+
+-- own: path and suffix as one text, and the number of requests
+abbrev pub module_line : List ℕ → ℕ → List ℕ
+module_line name requests = quoted name ++ (codes " " ++ (decimal requests ++ end_of_line))

@@ -12,11 +12,12 @@ use Rattle.trace_spec.specs.Checks.{Gathered}
 use Rattle.trace_spec.specs.Modules.{Config}
 use Rattle.trace_spec.specs.Traces.{traced}
 use Rattle.config_spec.specs.declared.Command.{Command}
-use Rattle.config_spec.specs.declared.Command.TheVariants.{Check}
+use Rattle.config_spec.specs.declared.Command.TheVariants.{Check, List as Lists}
 use Rattle.config_spec.specs.declared.ConfigFault.{ConfigFault}
 use Rattle.generator_spec.specs.declared.Refusal.{Refusal}
 use Rattle.generator_spec.specs.declared.Refusal.TheVariants.{Config as Configured}
 use Rattle.generator_spec.specs.Checking.{difference_lines, check_status, check_lines}
+use Rattle.generator_spec.specs.Listing.{list_lines}
 use Rattle.generator_spec.specs.Commands.{HoldsMap, Refuses, NewFile, Writes}
 use Rattle.generator_spec.specs.Generation.{Generates}
 use Rattle.generator_spec.specs.Statuses.{done_status, words_status}
@@ -34,8 +35,8 @@ pub data RefusesRun (words : List (List ℕ)) (tree : Tree) : Refusal → Type 0
       → Refuses tree config command why → RefusesRun words tree why
 
 -- own: a refusal writes nothing. Where nothing is refused, the command's files are written, with the map that is
--- generated; or it is said which of the trace's needs the map that is there doesn't serve. Words without a meaning are
--- answered with some text
+-- generated; or it is said which of the trace's needs the map that is there doesn't serve, or which modules it has.
+-- Words without a meaning are answered with some text
 pub data ComesTo (words : List (List ℕ)) (tree : Tree) (status : ℕ) (lines : List (List ℕ))
     (files : List NewFile) : Type 0 where
   not_plain :
@@ -54,6 +55,9 @@ pub data ComesTo (words : List (List ℕ)) (tree : Tree) (status : ℕ) (lines :
       → traced (get tree) config ≡ Ok all → status ≡ check_status (difference_lines map all)
       → lines ≡ check_lines (length all.needs) (difference_lines map all) → files ≡ []
       → ComesTo words tree status lines files
+  listed :
+      (config : Config) (all : Gathered) → IsConfigOf words tree Lists config → traced (get tree) config ≡ Ok all
+      → status ≡ done_status → lines ≡ list_lines all → files ≡ [] → ComesTo words tree status lines files
 
 abbrev pub FilesPlaced : Tree → List NewFile → Tree → Type 0
 FilesPlaced tree [] after = after ≡ tree

@@ -6,6 +6,6 @@ mod statuses;
 
 pub use lines::{
     differences_line, differs_line, done_line, line_of, memory_line, not_plain_line,
-    read_fault_line, served_line, write_fault_line,
+    push_module_line, read_fault_line, served_line, write_fault_line,
 };
 pub use statuses::{BAD_WORDS, DIFFERENCES, DONE, MEMORY, READ_FAULT, WRITE_FAULT, status_of};

@@ -110,6 +110,22 @@ pub fn differences_line(alloc: Global, count: usize) -> Result<Vec<u8>, Memory>
     Ok(line.into_bytes())
 }
 
+/// Puts the line of a module, by its path and its suffix, behind a text.
+pub fn push_module_line(
+    alloc: Global,
+    text: &mut Vec<u8>,
+    path: &str,
+    suffix: &str,
+    requests: usize,
+) -> Result<(), Memory>
+    ensures { OnOk result (text.new.items ≡ text.old.items ++ spec.module_line (path.now ++ suffix.now) requests) }
+{
+    let name = format!(in alloc; "{path}{suffix}")?;
+    print_text(text, name.as_str())?;
+    let count = format!(in alloc; " {requests}\n")?;
+    text.extend_from_slice(count.as_bytes())
+}
+
 /// The line that tells of a refusal.
 pub fn line_of(alloc: Global, refusal: &Refusal) -> Result<Vec<u8>, Memory>
     ensures { IfOk result (λ line. line.items ≡ spec.line_of refusal.now) }

@@ -106,6 +106,8 @@ project_examples = record {
   unlink_nothing = refl;
   refresh = refl;
   refresh_nothing = refl;
+  list = refl;
+  list_nothing = refl;
   check_nothing = refl;
   inject_large = refl;
 }
@@ -178,7 +180,7 @@ refused_by words tree asked command found fault read is none holds comes = recor
 
 word_examples : WordExamples
 word_examples = record {
-  not_built = not_built _ (read_is_plain (codes "list" ∷ []) _ refl) refl;
+  not_built = not_built _ (read_is_plain (codes "session" ∷ []) _ refl) refl;
   no_base =
       refused_by (codes "link" ∷ codes "./app.mjs" ∷ []) bare_tree (linking no_options (codes "./app.mjs" ∷ [])) Link
       (Ok None) NoBase refl refl refl no_project refl;

@@ -24,13 +24,12 @@ returns-in-Inject c =
 
 pub returns-in-List : goal.returns-in-List
 returns-in-List c =
-    not_built_refused (shown c.args.parsed) c.not_built.result (ap (λ p. command_of (shown p)) c.in-List.is)
-    c.not_built.ensures
+    same_asked _ _ _ (ap shown c.in-List.is) (record { same = refl; is = refl; sets = no_settings_set })
 
 pub returns-in-Session : goal.returns-in-Session
 returns-in-Session c =
-    not_built_refused (shown c.args.parsed) c.not_built-in-Session.result
-    (ap (λ p. command_of (shown p)) c.in-Session.is) c.not_built-in-Session.ensures
+    not_built_refused (shown c.args.parsed) c.not_built.result
+    (ap (λ p. command_of (shown p)) c.in-Session.is) c.not_built.ensures
 
 pub returns-in-Measure : goal.returns-in-Measure
 returns-in-Measure c =

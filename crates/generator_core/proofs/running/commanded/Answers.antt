@@ -26,3 +26,6 @@ returns-in-Inject g c = runs_as _ _ _ _ _ _ _ _ _ _ c.in-Inject.is c.inject.ensu
 
 pub returns-in-Check : goal.returns-in-Check
 returns-in-Check g c = runs_as _ _ _ _ _ _ _ _ _ _ c.in-Check.is c.check.ensures
+
+pub returns-in-List : goal.returns-in-List
+returns-in-List g c = runs_as _ _ _ _ _ _ _ _ _ _ c.in-List.is c.list.ensures

@@ -1,0 +1,59 @@
+//! What a list says of the modules, or why it says nothing.
+
+ghost use Rattle.std.specs.Prelude.{◌≡◌, ◌≤◌, ◌+◌, IfOk, OnOk};
+ghost use Rattle.std.specs.List.{concat};
+ghost use Rattle.tree_spec.specs.declared.LimitName.TheVariants.{Modules, Requests};
+ghost use Rattle.tree_spec.specs.Limits.{limit_number};
+ghost use Rattle.generator_spec.specs.Listing.{list_lines};
+ghost use Rattle.generator_core.specs.Listing.{IsPushed, Lists};
+
+use crate::checking::Report;
+use generation::{Stop, traced};
+use primitives::{Memory, Steps};
+use request_trace::{Config, Trace};
+use run_texts::{DONE, push_module_line};
+use std::alloc::Global;
+use std::sync::ledger::Ledger;
+use tree_model::Folder;
+
+/// `list` traces, and writes nothing.
+pub fn listed<F: Folder, L: Ledger>(
+    alloc: Global,
+    folder: &mut F,
+    config: &Config,
+    steps: &mut Steps<L>,
+) -> Result<Report, Stop>
+    ensures lists { Lists config.now (F.state folder.old) result (F.state folder.new) }
+    ensures bounded { steps.new ≤ steps.old + (limit_number Modules + limit_number Requests) }
+{
+    match traced(alloc, folder, config, steps) {
+        Err(stop) => Err(stop),
+        Ok(trace) => match module_text(alloc, &trace) {
+            Err(_) => Err(Stop::Memory),
+            Ok(text) => Ok(Report { status: DONE, text }),
+        },
+    }
+}
+
+// The line of each module, in the order of the trace.
+fn module_text(alloc: Global, trace: &Trace) -> Result<Vec<u8>, Memory>
+    ensures { IfOk result (λ text. text.items ≡ concat (list_lines trace.now)) }
+{
+    let mut text = Vec::new(alloc);
+    for place in 0..trace.len() {
+        push_module(alloc, &mut text, trace, place)?;
+    }
+    Ok(text)
+}
+
+fn push_module(alloc: Global, text: &mut Vec<u8>, trace: &Trace, place: usize) -> Result<(), Memory>
+    ensures { OnOk result (IsPushed trace.now place text.old.items text.new.items) }
+{
+    let (Some(path), Some(suffix)) = (trace.path(place), trace.suffix(place)) else {
+        return Ok(());
+    };
+    let Some(requests) = trace.requests(place) else {
+        return Ok(());
+    };
+    push_module_line(alloc, text, path.as_str(), suffix, requests)
+}

@@ -1,0 +1,3 @@
+pub mod PutFiles
+pub mod WorkedExamples
+pub mod PackagePaths

@@ -1,0 +1,3 @@
+pub mod Packages
+pub mod WorkedExamples
+pub mod Laws
