@@ -20,7 +20,7 @@ use Rattle.trace_spec.proofs.Traces.{needs_are_requests}
 use Rattle.trace_spec.specs.Checks.{Gathered}
 use Rattle.trace_spec.specs.Levels.{page as page_is_reached}
 use Rattle.trace_spec.specs.Modules.{Config, Module}
-use Rattle.trace_spec.specs.Traces.{traced, leads}
+use Rattle.trace_spec.specs.Traces.{traced}
 use Rattle.trace_spec.specs.Walking.{the_page}
 use Rattle.generator_spec.specs.Digests.{with_digests}
 use Rattle.generator_spec.specs.Serves.{Leads, Serves}
