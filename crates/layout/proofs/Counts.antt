@@ -9,7 +9,7 @@ use Rattle.import_map_spec.specs.ParsedMap.{Addresses, ParsedMap}
 use Rattle.scope_builder.specs.declared.keyed.Layout.{Layout}
 use Rattle.scope_builder.specs.Lists.{address_entry, scope_entries, scope_entry, Lists}
 use Rattle.layout_spec.specs.Counting.{mapping_count}
-use Rattle.map_flatten.specs.Counting.{listed_count}
+use Rattle.layout.specs.Counting.{listed_count}
 
 scopes_count : (scopes : List (List ℕ × Addresses)) → sum_by (λ scope. len scope.1) scopes ≡ sum_by (λ scope. length scope.1) (map scope_entries scopes)
 scopes_count [] = refl

@@ -1,6 +1,6 @@
 use Rattle.std.proofs.Common.{rules, ◌∙◌, length}
-use Rattle.map_flatten.proofs.Counts.{counted, all_counted}
-use Rattle.map_flatten.proofs.count.mappings.Goals as goal
+use Rattle.layout.proofs.Counts.{counted, all_counted}
+use Rattle.layout.proofs.count.mappings.Goals as goal
 
 pub returns-clause-of_map : goal.returns-clause-of_map
 returns-clause-of_map c =

@@ -2,7 +2,7 @@ ghost use Rattle.std.specs.Prelude.{◌≡◌, ◌≤◌, ◌^◌, List, ℕ, If
 ghost use Rattle.import_map_spec.specs.ParsedMap.{ParsedMap};
 ghost use Rattle.layout_spec.specs.Counting.{mapping_count};
 ghost use Rattle.scope_builder.specs.Lists.{Lists};
-ghost use Rattle.map_flatten.specs.Counting.{listed_count};
+ghost use Rattle.layout.specs.Counting.{listed_count};
 
 use scope_builder::Layout;
 
