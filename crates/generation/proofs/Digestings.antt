@@ -11,8 +11,8 @@ use Rattle.trace_spec.specs.Modules.{Config, Module, web_name}
 use Rattle.trace_spec.specs.Questions.{Source}
 use Rattle.trace_spec.specs.Walking.{a_module}
 use Rattle.generator_spec.specs.Digests.{digests, with_digest}
-use Rattle.map_flatten.proofs.Ordered.{entries_mapped}
-use Rattle.map_flatten.proofs.Updates.{finite_insert}
+use Rattle.layout.proofs.Ordered.{entries_mapped}
+use Rattle.layout.proofs.Updates.{finite_insert}
 use Rattle.scope_builder.specs.Keys.{InKeyOrder}
 use Rattle.generation.specs.Digesting.{kept_texts}
 

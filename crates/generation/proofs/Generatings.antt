@@ -11,7 +11,7 @@ use Rattle.std.specs.Option.{option_or}
 use Rattle.tree_spec.specs.LookAskings.{Sights, footprint}
 use Rattle.tree_spec.specs.States.{FolderState, OnlyLooks}
 use Rattle.tree_spec.specs.Trees.{Tree}
-use Rattle.tree_spec.specs.declared.LimitName.TheVariants.{Map}
+use Rattle.tree_spec.specs.declared.LimitName.TheVariants.{Map, Choices}
 use Rattle.tree_spec.proofs.ToldStates.{if_some, looks_as}
 use Rattle.tree_spec.proofs.FootprintSets.{distinct_none}
 use Rattle.package_lookup.specs.declared.known.Known.{Known}
@@ -29,6 +29,7 @@ use Rattle.url_spec.specs.Specifiers.{ends_in_slash}
 use Rattle.url_spec.specs.WebNames.{web}
 use Rattle.web_url.specs.Serving.{IsUnservable}
 use Rattle.web_url.specs.declared.names.WebFault.TheVariants as web_fault
+use Rattle.fewest_spec.specs.Wishes.{HasTooManyChoices}
 use Rattle.generator_spec.proofs.Nameless.{unserved_is_refused}
 use Rattle.generator_spec.specs.Generation.{PageIsFile}
 use Rattle.trace_spec.specs.Traces.{traced, generation}
@@ -146,12 +147,24 @@ module _ (config : Config) (before after : FolderState) where
       looks = looks_as before after (λ e. absurd (cc)) (λ e. absurd (cc)) is.looks;
     }
 
+    pub too_wide : (stop : Stop) → stop ≡ Refused (Limit Choices) → HasTooManyChoices all.needs → Generating config before (Err stop) after
+    too_wide stop same many =
+        subst (λ s. Generating config before (Err s) after) (sym same)
+        (record {
+          generated = tt;
+          refused = if_some before.holds (λ tree e command generating opened. refuses.many_choices command generating opened (record { all = all; is_traced = e; many = many })) is.traces;
+          kind = λ command generating. kind.many_choices command generating;
+          asked = is.asked;
+          footprint = is.footprint;
+          looks = looks_as before after (λ e. absurd (cc)) (λ e. absurd (cc)) is.looks;
+        })
+
     pub too_large : (stop : Stop) → stop ≡ Refused (Limit Map) → HasLargeMap config all → Generating config before (Err stop) after
     too_large stop same large =
         subst (λ s. Generating config before (Err s) after) (sym same)
         (record {
           generated = tt;
-          refused = if_some before.holds (λ tree e command generating opened. refuses.large_map command generating opened (record { all = all; is_traced = e; layout = large.layout; agreed = large.agreed; large = large.large })) is.traces;
+          refused = if_some before.holds (λ tree e command generating opened. refuses.large_map command generating opened (record { all = all; is_traced = e; few = large.few; layout = large.layout; is_fewest = large.is_fewest; large = large.large })) is.traces;
           kind = λ command generating. kind.large_map command generating;
           asked = is.asked;
           footprint = is.footprint;

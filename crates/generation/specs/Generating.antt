@@ -18,9 +18,10 @@ use Rattle.tree_spec.specs.LookAskings.{footprint}
 use Rattle.tree_spec.specs.Trees.{Tree}
 use Rattle.tree_spec.specs.States.{FolderState, OnlyLooks}
 use Rattle.import_map_spec.specs.ParsedMap.{ParsedMap}
-use Rattle.layout_spec.specs.AgreedLayout.{IsAgreedLayout}
 use Rattle.layout_spec.specs.PrintedMap.{map_text}
 use Rattle.layout_spec.specs.Counting.{mapping_count}
+use Rattle.fewest_spec.specs.Fewest.{IsFewestLayout}
+use Rattle.fewest_spec.specs.Wishes.{HasTooManyChoices}
 use Rattle.trace_spec.specs.declared.TraceFault.{TraceFault}
 use Rattle.trace_spec.specs.declared.TraceFault.TheVariants as fault
 use Rattle.trace_spec.specs.Modules.{Config}
@@ -47,10 +48,11 @@ IfRefused P (Refused why) = P why
 IfRefused P ReadFault = ⊤
 IfRefused P Memory = ⊤
 
--- the text of the agreed layout with the digests of the modules, and what is told of it
+-- the text of the layout with the fewest mappings with the digests of the modules, and what is told of it
 pub record IsMapOf (config : Config) (all : Gathered) (generated : Generated) : Type 0 where
+  pub few : HasTooManyChoices all.needs → ⊥
   pub layout : ParsedMap
-  pub agreed : IsAgreedLayout all.needs layout
+  pub is_fewest : IsFewestLayout all.needs layout
   pub map : generated.map.items ≡ map_text (map_base config) (with_digests config all layout)
   pub within : length generated.map.items ≤ limit_number Map
   pub modules : generated.modules ≡ length all.modules
@@ -58,8 +60,9 @@ pub record IsMapOf (config : Config) (all : Gathered) (generated : Generated) : 
   pub mappings : generated.mappings ≡ mapping_count layout
 
 pub record HasLargeMap (config : Config) (all : Gathered) : Type 0 where
+  pub few : HasTooManyChoices all.needs → ⊥
   pub layout : ParsedMap
-  pub agreed : IsAgreedLayout all.needs layout
+  pub is_fewest : IsFewestLayout all.needs layout
   pub large : limit_number Map < length (map_text (map_base config) (with_digests config all layout))
 
 -- own: the map of the tree's trace

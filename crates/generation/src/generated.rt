@@ -1,4 +1,6 @@
 ghost use Rattle.std.specs.Prelude.{◌≡◌, ◌+◌, Err, IfOk, Some};
+ghost use Rattle.fewest_spec.specs.Wishes.{HasTooManyChoices};
+ghost use Rattle.layout.specs.Layouts.{FewestLists};
 ghost use Rattle.request_trace.specs.Tracing.{TakesSteps};
 ghost use Rattle.generator_spec.specs.Generation.{PageIsFile};
 ghost use Rattle.trace_spec.specs.Modules.{web_name};
@@ -7,12 +9,13 @@ ghost use Rattle.generation.specs.Generating.{Generating, IsMapOf, HasLargeMap};
 
 use crate::digests::digests;
 use crate::page::page_url;
-use crate::stop::{Stop, too_large};
+use crate::stop::{Stop, too_large, too_many_choices};
 use crate::tracing::traced;
-use map_flatten::{agreed, mappings};
+use layout::{LayoutFault, layout, mappings};
 use map_print::{PrintFault, print_map};
 use primitives::Steps;
 use request_trace::{Config, Trace};
+use scope_builder::Layout;
 use std::alloc::Global;
 use std::sync::ledger::Ledger;
 use tree_model::Folder;
@@ -26,6 +29,13 @@ pub struct Generated {
     pub modules: usize,
     pub requests: usize,
     pub mappings: usize,
+}
+
+// Why a trace has no map.
+enum MapFault {
+    TooManyChoices,
+    MapTooLarge,
+    Memory,
 }
 
 /// The map of what stands in the folder, for the config. Nothing is written, and no path is looked at twice. A map
@@ -62,8 +72,9 @@ fn generated_from<F: Folder, L: Ledger>(
         Err(stop) => Err(stop),
         Ok(trace) => match map_of(alloc, config, page, &trace) {
             Ok(generated) => Ok(generated),
-            Err(PrintFault::MapTooLarge) => Err(too_large()),
-            Err(PrintFault::Memory) => Err(Stop::Memory),
+            Err(MapFault::TooManyChoices) => Err(too_many_choices()),
+            Err(MapFault::MapTooLarge) => Err(too_large()),
+            Err(MapFault::Memory) => Err(Stop::Memory),
         },
     }
 }
@@ -74,15 +85,40 @@ fn map_of(
     config: &Config,
     page: &WebUrl,
     trace: &Trace,
-) -> Result<Generated, PrintFault>
+) -> Result<Generated, MapFault>
     requires { web_name config.now the_page ≡ Some page.now }
+    ensures map { IfOk result (IsMapOf config.now trace.now) }
+    ensures many { result ≡ Err MapFault.TooManyChoices → HasTooManyChoices trace.now.needs }
+    ensures too_large { result ≡ Err MapFault.MapTooLarge → HasLargeMap config.now trace.now }
+{
+    match layout(alloc, trace.needs()) {
+        Ok(layout) => match printed(alloc, config, page, trace, &layout) {
+            Ok(generated) => Ok(generated),
+            Err(PrintFault::MapTooLarge) => Err(MapFault::MapTooLarge),
+            Err(PrintFault::Memory) => Err(MapFault::Memory),
+        },
+        Err(LayoutFault::TooManyChoices) => Err(MapFault::TooManyChoices),
+        Err(LayoutFault::Memory) => Err(MapFault::Memory),
+    }
+}
+
+// The same, where this is the layout of its needs.
+fn printed(
+    alloc: Global,
+    config: &Config,
+    page: &WebUrl,
+    trace: &Trace,
+    layout: &Layout,
+) -> Result<Generated, PrintFault>
+    requires page { web_name config.now the_page ≡ Some page.now }
+    requires fewest { FewestLists trace.now.needs layout.now }
+    requires few { HasTooManyChoices trace.now.needs → ⊥ }
     ensures map { IfOk result (IsMapOf config.now trace.now) }
     ensures too_large { result ≡ Err PrintFault.MapTooLarge → HasLargeMap config.now trace.now }
 {
-    let layout = agreed(alloc, trace.needs())?;
     let digests = digests(alloc, config, trace)?;
-    let map = print_map(alloc, &layout, &digests, page)?;
-    let Some(mappings) = mappings(&layout) else {
+    let map = print_map(alloc, layout, &digests, page)?;
+    let Some(mappings) = mappings(layout) else {
         return Err(PrintFault::Memory);
     };
     Ok(Generated {

@@ -1,5 +1,5 @@
 ghost use Rattle.std.specs.Prelude.{◌≡◌};
-ghost use Rattle.tree_spec.specs.declared.LimitName.TheVariants.{Map};
+ghost use Rattle.tree_spec.specs.declared.LimitName.TheVariants.{Choices, Map};
 ghost use Rattle.generation.specs.Generating.{StopsAs};
 
 use generator_spec::Refusal;
@@ -26,6 +26,17 @@ pub(crate) fn stop_of(fault: TraceFault) -> Stop
         TraceFault::Memory => Stop::Memory,
         refused => Stop::Refused {
             why: Refusal::Trace { fault: refused },
+        },
+    }
+}
+
+/// How a command ends whose needs have too many choices.
+pub(crate) fn too_many_choices() -> Stop
+    ensures { result ≡ Stop.Refused (Refusal.Limit Choices) }
+{
+    Stop::Refused {
+        why: Refusal::Limit {
+            which: LimitName::Choices,
         },
     }
 }

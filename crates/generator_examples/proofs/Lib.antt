@@ -1,6 +1,8 @@
 pub mod Growing
 pub mod ShortTexts
 pub mod Words
+pub mod LaidLists
+pub mod FewChoices
 pub mod Counting
 pub mod Evaluated
 pub mod TracedExamples

@@ -1,13 +1,13 @@
 -- The worked examples.
 use Rattle.std.proofs.Common.{◌≡◌, refl, sym, ap, ◌∙◌, lit≤, ◌++◌, Ok, subst, append_assoc}
 use Prim.Native.String.{String}
-use Rattle.std.specs.Prelude.{◌≤◌, ℕ, true, false, List, [], ◌∷◌, length, drop, codes, Option, Some, None, IsUtf8}
+use Rattle.std.specs.Prelude.{◌≤◌, ℕ, true, List, [], ◌∷◌, length, drop, codes, Option, Some, None, IsUtf8}
 use Rattle.std.specs.Fmt.{digits}
 use Rattle.url.proofs.OnLiterals.{url_on_literals}
 use Rattle.tree_spec.specs.declared.Entry.TheVariants.{Stored}
 use Rattle.tree_spec.specs.declared.LimitName.TheVariants.{Map}
 use Rattle.tree_spec.specs.Limits.{limit_number}
-use Rattle.tree_spec.specs.Trees.{Tree, IsTree, Places}
+use Rattle.tree_spec.specs.Trees.{IsTree, Places}
 use Rattle.tree_spec.specs.LookAskings.{Sights}
 use Rattle.tree_spec.proofs.Insertion.{get_here}
 use Rattle.tree_spec.proofs.Placings.{in_root}
@@ -18,16 +18,16 @@ use Rattle.import_map_spec.specs.ParsedMap.{ParsedMap, Texts}
 use Rattle.import_map_spec.specs.WrittenMaps.{Lists, map_of, map_of_lists}
 use Rattle.url_spec.specs.Bases.{base_of}
 use Rattle.url_spec.specs.Parsing.{text_of, parse_alone, parse_against}
-use Rattle.url_spec.specs.Specifiers.{ends_in_slash}
 use Rattle.url_spec.specs.WebNames.{escaped, web}
 use Rattle.integrity_spec.specs.DigestTexts.{digest_text}
-use Rattle.layout_spec.proofs.examples.LaidLists.{listed_layout, layout_listed}
+use Rattle.layout_spec.proofs.examples.Agreement.{all_agree}
 use Rattle.layout_spec.proofs.examples.PrintedLists.{listed_text, lists_text}
 use Rattle.layout_spec.specs.Counting.{mapping_count}
 use Rattle.layout_spec.specs.PrintedMap.{map_text}
 use Rattle.layout_spec.specs.ShortForms.{short}
 use Rattle.layout_spec.specs.declared.Need.{Need}
-use Rattle.layout_spec.proofs.SomeAgreed.{is_among, disagrees, agreed, agreed_above, stands_at}
+use Rattle.fewest_spec.specs.Choosing.{is_best, reduced}
+use Rattle.fewest_spec.specs.Wishes.{HasTooManyChoices}
 use Rattle.trace_spec.specs.Modules.{Config}
 use Rattle.trace_spec.specs.Checks.{Gathered}
 use Rattle.config_spec.proofs.ConfigsFit.{configs_are_projects}
@@ -48,7 +48,7 @@ use Rattle.generator_spec.specs.declared.PageFault.TheVariants.{Absent}
 use Rattle.generator_spec.specs.declared.Refusal.TheVariants.{Config as Configured, Page, Trace}
 use Rattle.generator_spec.proofs.MapPaths.{map_is_path, map_in_root, project_in_root}
 use Rattle.generator_spec.specs.Digests.{digests}
-use Rattle.generator_spec.specs.Generation.{Generates, PageIsFile, map_base}
+use Rattle.generator_spec.specs.Generation.{Generates, map_base}
 use Rattle.generator_spec.specs.Lines.{counts_line, done_line}
 use Rattle.generator_spec.specs.Commands.{IsPage, map_path}
 use Rattle.generator_spec.specs.Commands.Opens.{nothing}
@@ -68,6 +68,7 @@ use Rattle.page_spec.specs.declared.kinds.PieceKind.TheVariants.{Start, End, Tex
 use Rattle.page_spec.specs.Pieces.{first_piece, Part, part, Pieces}
 use Rattle.page_spec.specs.Pieces.Pieces.{none, piece}
 use Rattle.std.specs.Str.{is_utf8, chars}
+use Rattle.soundness.proofs.Smallest.{generated_is_smallest}
 use Rattle.soundness.proofs.Sound.{sound, modules_are_known}
 use Rattle.node_spec.specs.NodeExamples.{Files}
 use Rattle.generator_examples.specs.Sites.{tree_of, based, links, injects, refreshes, levels, spelling, spelling_all, spelling_map, site, site_all, site_map, kept, paged, paged_after, missing, kept_missing, clashing, app_project, two_project}
@@ -77,6 +78,8 @@ use Rattle.generator_examples.proofs.ShortTexts.{behind, short_end, short_line}
 use Rattle.generator_examples.specs.Examples.{IsTraced, IsMapped, with_map, linked_files, Trees, TraceExamples, MapExamples, EndExamples, WorkedExamples}
 use Rattle.generator_examples.proofs.TracedExamples.{traced_examples}
 use Rattle.generator_examples.proofs.Growing.{grown}
+use Rattle.generator_examples.proofs.FewChoices.{few_choices}
+use Rattle.generator_examples.proofs.LaidLists.{listed_layout, layout_listed}
 use Rattle.generator_examples.proofs.Words.{is_linking, links_ask, link_gives, inject_gives, refresh_gives, refresh_lacks}
 use Rattle.generator_examples.proofs.Counting.{counts}
 use Rattle.generator_examples.proofs.Evaluated.{levels_traced, spelling_traced, site_traced, kept_traced, paged_traced, packages_traced, missing_traced, clashing_traced}
@@ -191,12 +194,13 @@ page_named : (entries : List String) → map_base (based "https://app.test/" ent
 unfolding web escaped parse_alone text_of url_on_literals
 page_named entries = refl
 
-abbrev generated : (files : Files) (config : Config) (all : Gathered) (pairs : List (List ℕ × List ℕ)) (text : List ℕ) → IsTraced files config all → map_base config ≡ page_url → digests config all.modules all.sources ≡ map_of pairs → listed_text page_url (digested all.needs pairs) ≡ text → length text ≤ limit_number Map → Generates (tree_of files) config text
-generated files config all pairs text is_traced named are e small = record {
+abbrev generated : (files : Files) (config : Config) (all : Gathered) (pairs : List (List ℕ × List ℕ)) (text : List ℕ) → IsTraced files config all → all_agree all.needs ≡ true → (HasTooManyChoices all.needs → ⊥) → map_base config ≡ page_url → digests config all.modules all.sources ≡ map_of pairs → listed_text page_url (digested all.needs pairs) ≡ text → length text ≤ limit_number Map → Generates (tree_of files) config text
+generated files config all pairs text is_traced agree few named are e small = record {
   all = all;
   is_traced = is_traced;
+  few = few;
   layout = map_of_lists (listed_layout all.needs);
-  agreed = layout_listed all.needs;
+  is_fewest = layout_listed all.needs agree;
   text =
       sym (ap (λ url. map_text url (with_integrity (map_of_lists (listed_layout all.needs)) (digests config all.modules all.sources))) named
       ∙ (ap (λ found. map_text page_url (with_integrity (map_of_lists (listed_layout all.needs)) found)) are ∙ (lists_text page_url (digested all.needs pairs) ∙ e)));
@@ -238,16 +242,29 @@ unfolding web escaped parse_alone text_of url_on_literals
 packages_digests = refl
 
 spelling_text : listed_text page_url (digested spelling_all.needs spelling_pairs) ≡ spelling_map
-unfolding parse_alone parse_against short text_of url_on_literals is_among disagrees agreed agreed_above stands_at
+unfolding parse_alone parse_against short text_of url_on_literals is_best reduced
 spelling_text = refl
 
 site_text : listed_text page_url (digested site_all.needs site_pairs) ≡ site_map
-unfolding parse_alone parse_against short text_of url_on_literals is_among disagrees agreed agreed_above stands_at
+unfolding parse_alone parse_against short text_of url_on_literals is_best reduced
 site_text = refl
 
 packages_text : listed_text page_url (digested packages_all.needs packages_pairs) ≡ packages_map
-unfolding parse_alone parse_against short text_of url_on_literals is_among disagrees agreed agreed_above stands_at
+unfolding parse_alone parse_against short text_of url_on_literals is_best reduced
 packages_text = refl
+
+-- no specifier has too many choices
+spelling_few : HasTooManyChoices spelling_all.needs → ⊥
+unfolding parse_alone text_of url_on_literals
+spelling_few = few_choices spelling_all.needs refl
+
+site_few : HasTooManyChoices site_all.needs → ⊥
+unfolding parse_alone text_of url_on_literals
+site_few = few_choices site_all.needs refl
+
+packages_few : HasTooManyChoices packages_all.needs → ⊥
+unfolding parse_alone text_of url_on_literals
+packages_few = few_choices packages_all.needs refl
 
 -- each map is short, whatever its digests are
 spelling_short : length spelling_map ≤ limit_number Map
@@ -271,35 +288,28 @@ packages_short =
 abbrev some_text : List ℕ → Option (List ℕ)
 some_text text = Some text
 
--- the page's URL is no folder's, whatever the entries
-home_is_file : (asked : List String) → PageIsFile (based "https://app.test/" asked)
-unfolding web escaped parse_alone text_of url_on_literals
-home_is_file asked name is =
-    let named : some_text (codes "https://app.test/index.html") ≡ Some name = is in
-    let same : codes "https://app.test/index.html" ≡ name = cc in
-    subst (λ text. ends_in_slash text ≡ false) same refl
-
 mapped : (files : Files) (asked : List String) (text : List ℕ) → Generates (tree_of files) (based "https://app.test/" asked) text → IsMapped files (based "https://app.test/" asked) text
 mapped files asked text is = record {
   generates = is;
-  serves = sound (tree_of files) (based "https://app.test/" asked) text (home_is_file asked) is;
+  serves = sound (tree_of files) (based "https://app.test/" asked) text is;
   knows = modules_are_known (tree_of files) (based "https://app.test/" asked) text is;
+  smallest = generated_is_smallest (tree_of files) (based "https://app.test/" asked) text is;
 }
 
 abbrev spelling_generates : Generates (tree_of spelling) (based "https://app.test/" ("./app.mjs" ∷ [])) spelling_map
-spelling_generates = generated spelling _ spelling_all spelling_pairs spelling_map spelling_traced (page_named ("./app.mjs" ∷ [])) spelling_digests spelling_text spelling_short
+spelling_generates = generated spelling _ spelling_all spelling_pairs spelling_map spelling_traced refl spelling_few (page_named ("./app.mjs" ∷ [])) spelling_digests spelling_text spelling_short
 
 abbrev site_generates : Generates (tree_of site) (based "https://app.test/" ("./app.mjs" ∷ [])) site_map
-site_generates = generated site _ site_all site_pairs site_map site_traced (page_named ("./app.mjs" ∷ [])) site_digests site_text site_short
+site_generates = generated site _ site_all site_pairs site_map site_traced refl site_few (page_named ("./app.mjs" ∷ [])) site_digests site_text site_short
 
 abbrev paged_generates : Generates (tree_of paged) (based "https://app.test/" ("./app.mjs" ∷ [])) spelling_map
-paged_generates = generated paged _ spelling_all spelling_pairs spelling_map paged_traced (page_named ("./app.mjs" ∷ [])) spelling_digests spelling_text spelling_short
+paged_generates = generated paged _ spelling_all spelling_pairs spelling_map paged_traced refl spelling_few (page_named ("./app.mjs" ∷ [])) spelling_digests spelling_text spelling_short
 
 abbrev kept_generates : Generates (tree_of kept) (based "https://app.test/" ("./app.mjs" ∷ [])) spelling_map
-kept_generates = generated kept _ spelling_all spelling_pairs spelling_map kept_traced (page_named ("./app.mjs" ∷ [])) spelling_digests spelling_text spelling_short
+kept_generates = generated kept _ spelling_all spelling_pairs spelling_map kept_traced refl spelling_few (page_named ("./app.mjs" ∷ [])) spelling_digests spelling_text spelling_short
 
 abbrev packages_generate : Generates (tree_of packages) (based "https://app.test/" ("./app.js" ∷ [])) packages_map
-packages_generate = generated packages _ packages_all packages_pairs packages_map packages_traced (page_named ("./app.js" ∷ [])) packages_digests packages_text packages_short
+packages_generate = generated packages _ packages_all packages_pairs packages_map packages_traced refl packages_few (page_named ("./app.js" ∷ [])) packages_digests packages_text packages_short
 
 map_examples : MapExamples
 map_examples = record {
@@ -311,12 +321,12 @@ map_examples = record {
 -- ---- ends
 
 spelling_mappings : mapping_count (map_of_lists (listed_layout spelling_all.needs)) ≡ 1
-unfolding parse_alone parse_against short text_of url_on_literals is_among disagrees agreed agreed_above stands_at
+unfolding parse_alone parse_against short text_of url_on_literals is_best reduced
 spelling_mappings = counts (listed_layout spelling_all.needs) ∙ refl
 
 -- of two needs for one specifier with one target
 site_mappings : mapping_count (map_of_lists (listed_layout site_all.needs)) ≡ 1
-unfolding parse_alone parse_against short text_of url_on_literals is_among disagrees agreed agreed_above stands_at
+unfolding parse_alone parse_against short text_of url_on_literals is_best reduced
 site_mappings = counts (listed_layout site_all.needs) ∙ refl
 
 -- the map stands in the root

@@ -1,6 +1,7 @@
 -- Worked examples of generation.
 --     IsTraced files config all       the tables of the trace of these files
---     IsMapped files config text      the files have a map with this text, which serves and knows the modules
+--     IsMapped files config text      the files have a map with this text, which serves, knows the modules, and is the
+--         smallest
 --     Ends files words status line after      how a command ends: its status, its line, the files that it leaves
 --     with_map files text             the files, with the map beside them
 --     linked_files files text project      the same, and the project behind it
@@ -14,7 +15,7 @@ use Rattle.trace_spec.specs.Modules.{Config}
 use Rattle.trace_spec.specs.Checks.{Gathered}
 use Rattle.trace_spec.specs.Traces.{traced}
 use Rattle.generator_spec.specs.Generation.{Generates}
-use Rattle.generator_spec.specs.Serves.{KnowsModules, Serves}
+use Rattle.generator_spec.specs.Serves.{IsSmallest, KnowsModules, Serves}
 use Rattle.generator_spec.specs.Outcome.{Outcome}
 use Rattle.node_spec.specs.NodeExamples.{Files, file}
 use Rattle.generator_examples.specs.Sites.{tree_of, based, links, injects, refreshes, levels, levels_all}
@@ -27,11 +28,12 @@ use Rattle.generator_examples.specs.Packages.{packages, packages_all, packages_m
 abbrev pub IsTraced : Files → Config → Gathered → Type 0
 IsTraced files config all = traced (get (tree_of files)) config ≡ Ok all
 
--- own: a map with this text is generated, it serves, and it has the digest of each module
+-- own: a map with this text is generated, it serves, it has the digest of each module, and none that serves is smaller
 pub record IsMapped (files : Files) (config : Config) (text : List ℕ) : Type 0 where
   pub generates : Generates (tree_of files) config text
   pub serves : Serves (tree_of files) config text
   pub knows : KnowsModules (tree_of files) config text
+  pub smallest : IsSmallest (tree_of files) config text
 
 -- own: the command of these words ends so, and leaves these files
 abbrev pub Ends : Files → List (List ℕ) → ℕ → String → Files → Type 0

@@ -1,10 +1,11 @@
 mod Choosing
+mod Counts
 mod Grouping
 mod LaidGroups
-mod Ordered
+pub mod Ordered
 mod Penalties
 mod Putting
 mod Settling
 mod Sizes
-mod Updates
+pub mod Updates
 mod Ways

@@ -1,5 +1,6 @@
 pub mod Choices
 pub mod Costs
+pub mod Counting
 pub mod Grouped
 pub mod Groups
 pub mod Laid

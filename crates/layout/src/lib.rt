@@ -3,6 +3,7 @@
 
 mod choose;
 mod costs;
+mod count;
 mod fault;
 mod fewest;
 mod group;
@@ -11,5 +12,6 @@ mod one;
 mod settle;
 mod some;
 
+pub use count::mappings;
 pub use fault::LayoutFault;
 pub use fewest::layout;

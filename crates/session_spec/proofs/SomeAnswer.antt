@@ -15,9 +15,9 @@ use Rattle.config_spec.specs.declared.Command.TheVariants.{Refresh}
 use Rattle.generator_spec.proofs.Generations.{some_generation}
 use Rattle.generator_spec.specs.declared.Refusal.TheVariants.{Trace, Limit}
 use Rattle.generator_spec.specs.Commands.{Refuses as refuses_run, nothing, refresh}
-use Rattle.tree_spec.specs.declared.LimitName.TheVariants.{Map}
+use Rattle.tree_spec.specs.declared.LimitName.TheVariants.{Map, Choices}
 use Rattle.generator_spec.specs.Lines.{line_of}
-use Rattle.generator_spec.specs.Generation.{Generates, IsTooLarge}
+use Rattle.generator_spec.specs.Generation.{Generates, IsTooWide, IsTooLarge}
 use Rattle.session_spec.specs.declared.Change.{Change}
 use Rattle.session_spec.specs.declared.Change.TheVariants.{Link, Unlink, Put, Drop}
 use Rattle.session_spec.specs.declared.EditFault.{EditFault}
@@ -51,6 +51,14 @@ module _ (state : SessionState) (draft : Draft) where
         follows = accepted draft bytes counts (record { generates = generates; counted = refl });
       }
 
+  too_wide : IsTooWide draft.tree config → HasFollowing state (Ok draft)
+  too_wide wide =
+      record {
+        next = state;
+        line = line_of (Limit Choices);
+        follows = refused (Ok draft) (line_of (Limit Choices)) (by_generation draft (Limit Choices) (refuses_run.many_choices Refresh tt (nothing Refresh refresh) wide));
+      }
+
   too_large : IsTooLarge draft.tree config → HasFollowing state (Ok draft)
   too_large large =
       record {
@@ -70,7 +78,10 @@ module _ (state : SessionState) (draft : Draft) where
       let found = some_generation draft.tree config all e in
       elim found.2 [
         | inl generates ↦ generated found.0 generates
-        | inr large ↦ too_large large
+        | inr limit ↦ elim limit [
+          | inl wide ↦ too_wide wide
+          | inr large ↦ too_large large
+        ]
       ]
 
 some_following : (state : SessionState) (made : Result Draft EditFault) → HasFollowing state made

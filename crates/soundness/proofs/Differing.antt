@@ -1,4 +1,4 @@
--- Checked over the same tree, the text of the agreed layout has no difference.
+-- Checked over the same tree, the text of the layout has no difference.
 use Rattle.std.proofs.Common.{refl, sym, ap, ◌∙◌, subst}
 use Rattle.std.proofs.lemmas.Bool.{cond-true}
 use Rattle.std.proofs.lemmas.Slice.Eq.{bytes_eq-Decides}
@@ -42,11 +42,11 @@ same_map : (m parsed : ParsedMap) → ◌≡◌ {A = Result ParsedMap MapFault} 
 same_map m parsed e = cc
 
 pub nothing_differs : NothingDiffers
-nothing_differs tree config all layout parsed base traces page_is_file agreed named parses =
+nothing_differs tree config all layout parsed base traces fewest named parses =
     let files : (need : Need) → Contains all.needs need → NamesUrls need = needs_name tree config all traces in
     let m = with_digests config all layout in
-    let captures : NoCapture all.needs m = no_capture tree config all traces layout agreed page_is_file in
-    let mapped : OfNeeds all.needs m = of_needs tree config all traces layout agreed in
+    let captures : NoCapture all.needs m = no_capture tree config all traces layout fewest in
+    let mapped : OfNeeds all.needs m = of_needs tree config all traces layout fewest in
     let kept = map_kept base (kept_urls.2 _ _ _ _ named) all.needs m mapped files (has_digests tree config all traces layout) in
     let read : ParsesMap base (map_text base m) (Ok parsed) =
     subst (λ text. ParsesMap base text (Ok parsed)) (ap (λ found. map_text (unwrap_or found []) m) named) parses in
@@ -57,5 +57,5 @@ nothing_differs tree config all layout parsed base traces page_is_file agreed na
 pub written_maps_differ_nowhere : WrittenMapsDifferNowhere
 written_maps_differ_nowhere words tree map line is base parsed named parses =
     let generates = is.generates in
-    nothing_differs tree is.config generates.all generates.layout parsed base generates.is_traced is.page_is_file
-    generates.agreed named (subst (λ (text : List ℕ). ParsesMap base text (Ok parsed)) generates.text parses)
+    nothing_differs tree is.config generates.all generates.layout parsed base generates.is_traced
+    generates.is_fewest named (subst (λ (text : List ℕ). ParsesMap base text (Ok parsed)) generates.text parses)

@@ -4,6 +4,7 @@ pub mod Kept
 pub mod Reaching
 pub mod Digested
 pub mod Sound
+pub mod Smallest
 pub mod Differing
 pub mod Checked
 pub mod Clashing

@@ -2,16 +2,14 @@
 use Rattle.std.proofs.Common.{refl, sym, ap, ◌∙◌, subst}
 use Rattle.std.proofs.lemmas.Option.{same_Some}
 use Rattle.std.specs.FinMap.{get}
-use Rattle.std.specs.Prelude.{◌≡◌, ℕ, suc, false, List, [], Option, Some, None, Ok, unwrap_or, Contains}
+use Rattle.std.specs.Prelude.{◌≡◌, ℕ, suc, List, [], Option, Some, None, Ok, unwrap_or, Contains}
 use Rattle.asking_spec.proofs.AskingLemmas.{ok_parts}
 use Rattle.tree_spec.specs.Limits.{limit_number}
 use Rattle.tree_spec.specs.Trees.{Tree}
 use Rattle.tree_spec.specs.declared.LimitName.TheVariants.{Modules}
 use Rattle.url_spec.proofs.KeptUrls.{kept_urls}
-use Rattle.url_spec.specs.Specifiers.{ends_in_slash}
 use Rattle.node_spec.specs.EsmResolve.{Resolves}
 use Rattle.layout_spec.proofs.Contained.{contains_given, given_from}
-use Rattle.layout_spec.specs.Needs.{IsAskedByFile}
 use Rattle.layout_spec.specs.declared.Need.{Need}
 use Rattle.trace_spec.proofs.Steps.{traced_outcome, served_parts, file_name_parts}
 use Rattle.trace_spec.proofs.Traces.{requests_pass, needs_are_requests}
@@ -22,16 +20,14 @@ use Rattle.trace_spec.specs.Modules.{Config, Module, IsServable, path_of, web_na
 use Rattle.trace_spec.specs.Questions.{always}
 use Rattle.trace_spec.specs.Traces.{traced, requests, specifiers, if_ok, leads, ReachedByPage as IsReached}
 use Rattle.trace_spec.specs.Walking.{Referrer, the_page, a_module, Opened, followed, visited, walked}
-use Rattle.generator_spec.specs.Generation.{PageIsFile}
 use Rattle.generator_spec.specs.Serves.{Reachable, page, requested}
 use Rattle.soundness.proofs.Asking.{is_asked}
 use Rattle.soundness.specs.Soundness.{NamesUrls}
 
--- a web name, which is no folder's where that of the page isn't
+-- a web name
 pub record IsNamed (config : Config) (referrer : Referrer Module) : Type 0 where
   pub name : List ℕ
   pub named : web_name config referrer ≡ Some name
-  pub is_file : PageIsFile config → ends_in_slash name ≡ false
 
 module _ (tree : Tree) (config : Config) (all : Gathered) (is_traced : traced (get tree) config ≡ Ok all) where
   -- what a referrer asks for is a request that passes
@@ -41,7 +37,7 @@ module _ (tree : Tree) (config : Config) (all : Gathered) (is_traced : traced (g
       pass.pass specifier (subst (λ some. Contains some specifier) (same_Some specifiers pass.specifiers (sym asks ∙ pass.asks)) asked)
 
   -- Node's answer is the one that the trace asks for
-  node_leads : (referrer : Referrer Module) (specifier : List ℕ) (target : Module) → Resolves tree config.conditions (path_of config referrer) specifier (Ok target) → leads (get tree) config referrer specifier ≡ Some target
+  pub node_leads : (referrer : Referrer Module) (specifier : List ℕ) (target : Module) → Resolves tree config.conditions (path_of config referrer) specifier (Ok target) → leads (get tree) config referrer specifier ≡ Some target
   node_leads referrer specifier target answers = ap if_ok (sym answers)
 
   pub reached : (referrer : Referrer Module) → Reachable tree config referrer → IsReached (get tree) config referrer
@@ -73,13 +69,12 @@ module _ (tree : Tree) (config : Config) (all : Gathered) (is_traced : traced (g
     where
       by : (found : Option (List ℕ)) (opened : Opened Gathered) → served_at config the_page ≡ found → page_opened config nothing_gathered found ≡ Ok opened → IsNamed config the_page
       by None opened is e = absurd (cc)
-      by (Some name) opened is e = let named = (served_parts config.base config.page (web_name config the_page) name is).0 in record { name = name; named = named; is_file = λ page_is_file. page_is_file name named }
+      by (Some name) opened is e = let named = (served_parts config.base config.page (web_name config the_page) name is).0 in record { name = name; named = named }
 
   target_named : (referrer : Referrer Module) (specifier : List ℕ) (target : Module) → Passes (get tree) config all referrer specifier → leads (get tree) config referrer specifier ≡ Some target → IsNamed config (a_module target)
   target_named referrer specifier target passes led =
       let same = same_Some passes.target target (sym (ap if_ok passes.answers) ∙ led) in
-      let need = (needs_are_requests (get tree) config all is_traced).each passes.need passes.is_need in
-      record { name = passes.need.target; named = subst (λ m. web_name config (a_module m) ≡ Some passes.need.target) same passes.servable.name; is_file = λ page_is_file. (file_name_parts config need.target passes.need.target need.is_name).is_file }
+      record { name = passes.need.target; named = subst (λ m. web_name config (a_module m) ≡ Some passes.need.target) same passes.servable.name }
 
   pub is_named : (referrer : Referrer Module) → IsReached (get tree) config referrer → IsNamed config referrer
   is_named the_page _ = page_named
@@ -107,14 +102,4 @@ module _ (tree : Tree) (config : Config) (all : Gathered) (is_traced : traced (g
         referrer = kept_urls.2 _ _ _ _ is.named;
         asked = is_asked need.referrer is.specifier need.asked is.utf8 is.asks;
         target = kept_urls.2 _ _ _ _ file.servable.name;
-      }
-
-  -- where the page is a file, whoever asks is one
-  pub asked_by_file : PageIsFile config → (need : Need) → Contains all.needs need → IsAskedByFile need
-  asked_by_file page_is_file need c =
-      let is = (needs_are_requests (get tree) config all is_traced).each need c in
-      let referrer = is_named is.referrer is.reached in
-      record {
-        referrer = kept_urls.2 _ _ _ _ is.named;
-        is_file = subst (λ name. ends_in_slash name ≡ false) (same_Some referrer.name need.referrer (sym referrer.named ∙ is.named)) (referrer.is_file page_is_file);
       }

@@ -11,31 +11,30 @@ use Rattle.import_map_spec.specs.ParsedMap.{ParsedMap}
 use Rattle.import_map_spec.specs.Parsing.{ParsesMap}
 use Rattle.import_map_spec.specs.LookUps.{resolve_in}
 use Rattle.import_map_spec.specs.Resolving as html
-use Rattle.layout_spec.proofs.AgreedLaws.{agreed_of_needs}
 use Rattle.layout_spec.proofs.TextBack.{texts_read_back, texts_are_plain}
-use Rattle.layout_spec.proofs.Uncaptured.{agreed_layout_captures_nothing}
-use Rattle.layout_spec.specs.AgreedLayout.{IsAgreedLayout}
 use Rattle.layout_spec.specs.PrintedMap.{IsKept, map_text}
 use Rattle.layout_spec.specs.Serving.{NoCapture, OfNeeds}
 use Rattle.layout_spec.specs.declared.Need.{Need}
+use Rattle.fewest_spec.proofs.Laws.{fewest_serves}
+use Rattle.fewest_spec.specs.Fewest.{IsFewestLayout}
 use Rattle.page_spec.proofs.Injections.{one_map_after}
 use Rattle.page_spec.specs.Laws.{IsPlainMap}
-use Rattle.trace_spec.proofs.Traces.{requests_pass, needs_are_requests}
+use Rattle.trace_spec.proofs.Traces.{requests_pass}
 use Rattle.trace_spec.specs.Checks.{Gathered}
 use Rattle.trace_spec.specs.Laws.{Passes}
 use Rattle.trace_spec.specs.Levels.{page as page_is_reached}
 use Rattle.trace_spec.specs.Modules.{Config, Module, web_name}
 use Rattle.trace_spec.specs.Traces.{traced}
 use Rattle.trace_spec.specs.Walking.{Referrer, the_page}
-use Rattle.generator_spec.specs.Generation.{PageIsFile, map_base}
+use Rattle.generator_spec.specs.Generation.{map_base}
 use Rattle.generator_spec.specs.Digests.{with_digests}
 use Rattle.generator_spec.specs.Serves.{Reachable, KnowsModules, Leads, AllLead, Serves}
 use Rattle.soundness.proofs.Asking.{asks_normal}
 use Rattle.soundness.proofs.Digested.{captures_none, has_digests, is_known, is_of_needs, only_modules}
 use Rattle.soundness.proofs.Kept.{map_kept}
 use Rattle.soundness.proofs.Leading.{need_leads}
-use Rattle.soundness.proofs.Reaching.{IsNamed, reached, is_named, needs_name, asked_by_file}
-use Rattle.soundness.specs.Soundness.{HasDigests, NamesUrls, MapsServe, AgreedMapsServe, ModulesAreKnown, Soundness, GeneratedReadsBack, MapsArePlain, OneMapInPage}
+use Rattle.soundness.proofs.Reaching.{IsNamed, reached, is_named, needs_name}
+use Rattle.soundness.specs.Soundness.{HasDigests, NamesUrls, MapsServe, FewestMapsServe, ModulesAreKnown, Soundness, GeneratedReadsBack, MapsArePlain, OneMapInPage}
 
 -- through a map each need is led to its target, whatever text it is asked for by
 abbrev pub AreLed : Gathered → ParsedMap → Type 0
@@ -108,25 +107,21 @@ pub maps_serve : MapsServe
 maps_serve tree config all m traces no_capture of_needs digests =
     text_serves tree config all traces m of_needs digests no_capture (map_text (map_base config) m) refl
 
-module _ (tree : Tree) (config : Config) (all : Gathered) (traces : traced (get tree) config ≡ Ok all) (layout : ParsedMap) (agreed : IsAgreedLayout all.needs layout) where
+module _ (tree : Tree) (config : Config) (all : Gathered) (traces : traced (get tree) config ≡ Ok all) (layout : ParsedMap) (fewest : IsFewestLayout all.needs layout) where
   abbrev digested : ParsedMap
   digested = with_digests config all layout
 
-  pub no_capture : PageIsFile config → NoCapture all.needs digested
-  no_capture page_is_file =
-      captures_none config all layout all.needs
-      (agreed_layout_captures_nothing all.needs layout (needs_are_requests (get tree) config all traces).no_clash
-      (asked_by_file tree config all traces page_is_file) agreed)
+  pub no_capture : NoCapture all.needs digested
+  no_capture = captures_none config all layout all.needs (fewest_serves all.needs layout fewest).0
 
   pub of_needs : OfNeeds all.needs digested
-  of_needs = is_of_needs config all layout all.needs (agreed_of_needs all.needs layout agreed)
+  of_needs = is_of_needs config all layout all.needs (fewest_serves all.needs layout fewest).1
 
   digests : HasDigests digested
   digests = has_digests tree config all traces layout
 
-  agreed_text_serves : PageIsFile config → (bytes : List ℕ) → bytes ≡ map_text (map_base config) digested → Serves tree config bytes
-  agreed_text_serves page_is_file bytes text =
-      text_serves tree config all traces digested of_needs digests (no_capture page_is_file) bytes text
+  fewest_text_serves : (bytes : List ℕ) → bytes ≡ map_text (map_base config) digested → Serves tree config bytes
+  fewest_text_serves bytes text = text_serves tree config all traces digested of_needs digests no_capture bytes text
 
   pub reads_back : (base bytes : List ℕ) → web_name config the_page ≡ Some base → bytes ≡ map_text (map_base config) digested → ParsesMap base bytes (Ok digested)
   reads_back base bytes named text =
@@ -134,8 +129,8 @@ module _ (tree : Tree) (config : Config) (all : Gathered) (traces : traced (get 
       subst (λ name. ParsesMap name bytes (Ok digested)) (same_Some is_page.name base (sym is_page.named ∙ named))
       (text_parses tree config all traces digested of_needs digests bytes text)
 
-  agreed_text_is_plain : (bytes : List ℕ) → bytes ≡ map_text (map_base config) digested → IsPlainMap bytes
-  agreed_text_is_plain bytes text = text_is_plain tree config all traces digested of_needs digests bytes text
+  fewest_text_is_plain : (bytes : List ℕ) → bytes ≡ map_text (map_base config) digested → IsPlainMap bytes
+  fewest_text_is_plain bytes text = text_is_plain tree config all traces digested of_needs digests bytes text
 
   modules_known : (bytes : List ℕ) → bytes ≡ map_text (map_base config) digested → KnowsModules tree config bytes
   modules_known bytes text =
@@ -149,25 +144,24 @@ module _ (tree : Tree) (config : Config) (all : Gathered) (traces : traced (get 
         only = only_modules tree config all traces;
       }
 
-pub agreed_maps_serve : AgreedMapsServe
-agreed_maps_serve tree config all layout traces page_is_file agreed =
-    agreed_text_serves tree config all traces layout agreed page_is_file (map_text (map_base config) (with_digests config all layout)) refl
+pub fewest_maps_serve : FewestMapsServe
+fewest_maps_serve tree config all layout traces fewest =
+    fewest_text_serves tree config all traces layout fewest (map_text (map_base config) (with_digests config all layout)) refl
 
 pub sound : Soundness
-sound tree config bytes page_is_file is =
-    agreed_text_serves tree config is.all is.is_traced is.layout is.agreed page_is_file bytes is.text
+sound tree config bytes is = fewest_text_serves tree config is.all is.is_traced is.layout is.is_fewest bytes is.text
 
 pub generated_reads_back : GeneratedReadsBack
 generated_reads_back tree config base bytes is named =
-    reads_back tree config is.all is.is_traced is.layout is.agreed base bytes named is.text
+    reads_back tree config is.all is.is_traced is.layout is.is_fewest base bytes named is.text
 
 pub modules_are_known : ModulesAreKnown
 modules_are_known tree config bytes is =
-    modules_known tree config is.all is.is_traced is.layout is.agreed bytes is.text
+    modules_known tree config is.all is.is_traced is.layout is.is_fewest bytes is.text
 
 pub maps_are_plain : MapsArePlain
 maps_are_plain tree config map is =
-    agreed_text_is_plain tree config is.all is.is_traced is.layout is.agreed map is.text
+    fewest_text_is_plain tree config is.all is.is_traced is.layout is.is_fewest map is.text
 
 pub one_map_in_page : OneMapInPage
 one_map_in_page tree config map page new is i = one_map_after map page new (maps_are_plain tree config map is) i

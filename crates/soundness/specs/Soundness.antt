@@ -3,13 +3,15 @@
 --     MapsServe      a map that captures no need, and has no mappings but theirs, serves
 --     HasDigests map      in the map's integrity stand texts under URLs
 --     MapsReadBack      the text of such a map is read as that map
---     AgreedMapsServe      the agreed layout of the trace's needs, with the digests of its modules, serves
+--     FewestMapsServe      the layout with the fewest mappings that serves the trace's needs, with the digests of its
+--         modules, serves
 --     NothingDiffers      checked over the same tree, its text has no difference
 --     GeneratedReadsBack      what is generated is read as exactly the layout, with the digests of the trace's modules
 --     WrittenMapsDifferNowhere      checked over the tree of which it was generated, a map that is written has no difference
 --     NoMapServesAClash      of two requests that clash no map serves both
 --     CheckedMapsServe      any text that is read as a map of which no need of the trace differs serves
 --     Soundness      what is generated serves
+--     GeneratedIsSmallest      no map that serves without keys that end in `/` has fewer mappings
 --     ModulesAreKnown      what is generated has the digest of each module that the page reaches
 --     MapsArePlain      what is generated holds no markup
 --     OneMapInPage      a page into which it is put has it as its one map
@@ -23,11 +25,11 @@ use Rattle.import_map_spec.specs.ParsedMap.{ParsedMap}
 use Rattle.import_map_spec.specs.Parsing.{ParsesMap}
 use Rattle.import_map_spec.specs.Resolving.{Resolved}
 use Rattle.check_spec.specs.Differences.{differences, gets}
-use Rattle.layout_spec.specs.AgreedLayout.{IsAgreedLayout}
 use Rattle.layout_spec.specs.Needs.{IsAsked}
 use Rattle.layout_spec.specs.PrintedMap.{map_text}
 use Rattle.layout_spec.specs.Serving.{NoCapture, OfNeeds}
 use Rattle.layout_spec.specs.declared.Need.{Need}
+use Rattle.fewest_spec.specs.Fewest.{IsFewestLayout}
 use Rattle.page_spec.specs.ImportMaps.{IsOneMap}
 use Rattle.page_spec.specs.Injection.{Injection}
 use Rattle.page_spec.specs.Laws.{IsPlainMap}
@@ -38,8 +40,8 @@ use Rattle.trace_spec.specs.Traces.{traced}
 use Rattle.trace_spec.specs.Walking.{the_page}
 use Rattle.generator_spec.specs.Digests.{with_digests}
 use Rattle.generator_spec.specs.Ending.{IsGenerated}
-use Rattle.generator_spec.specs.Generation.{PageIsFile, Generates, map_base}
-use Rattle.generator_spec.specs.Serves.{KnowsModules, Serves}
+use Rattle.generator_spec.specs.Generation.{Generates, map_base}
+use Rattle.generator_spec.specs.Serves.{IsSmallest, KnowsModules, Serves}
 
 -- own: in the map's integrity stand texts under URLs, whatever they are
 abbrev pub HasDigests : ParsedMap → Type 0
@@ -66,18 +68,19 @@ MapsReadBack =
     (base : List ℕ) (needs : List Need) (m : ParsedMap) → IsUrl base → OfNeeds needs m
     → ((need : Need) → Contains needs need → NamesUrls need) → HasDigests m → ParsesMap base (map_text base m) (Ok m)
 
--- own law: the text of the agreed layout of the trace's needs, with the digests of its modules, serves
-abbrev pub AgreedMapsServe : Type 0
-AgreedMapsServe =
+-- own law: the text of the layout with the fewest mappings that serves the trace's needs, with the digests of its
+-- modules, serves
+abbrev pub FewestMapsServe : Type 0
+FewestMapsServe =
     (tree : Tree) (config : Config) (all : Gathered) (layout : ParsedMap) → traced (get tree) config ≡ Ok all
-    → PageIsFile config → IsAgreedLayout all.needs layout
+    → IsFewestLayout all.needs layout
     → Serves tree config (map_text (map_base config) (with_digests config all layout))
 
 -- own law: what that text is read as, against the page's URL, serves each of the trace's needs
 abbrev pub NothingDiffers : Type 0
 NothingDiffers =
     (tree : Tree) (config : Config) (all : Gathered) (layout parsed : ParsedMap) (base : List ℕ)
-    → traced (get tree) config ≡ Ok all → PageIsFile config → IsAgreedLayout all.needs layout
+    → traced (get tree) config ≡ Ok all → IsFewestLayout all.needs layout
     → web_name config the_page ≡ Some base
     → ParsesMap base (map_text (map_base config) (with_digests config all layout)) (Ok parsed) → differences parsed all.needs ≡ []
 
@@ -111,11 +114,14 @@ CheckedMapsServe =
     → traced (get tree) config ≡ Ok all → web_name config the_page ≡ Some base → ParsesMap base bytes (Ok m)
     → differences m all.needs ≡ [] → Serves tree config bytes
 
--- own law: what is generated for a page that is a file serves
+-- own law: what is generated serves
 abbrev pub Soundness : Type 0
-Soundness =
-    (tree : Tree) (config : Config) (bytes : List ℕ) → PageIsFile config → Generates tree config bytes
-    → Serves tree config bytes
+Soundness = (tree : Tree) (config : Config) (bytes : List ℕ) → Generates tree config bytes → Serves tree config bytes
+
+-- own law: and no map that serves has fewer mappings, unless one of its keys ends in `/`
+abbrev pub GeneratedIsSmallest : Type 0
+GeneratedIsSmallest =
+    (tree : Tree) (config : Config) (bytes : List ℕ) → Generates tree config bytes → IsSmallest tree config bytes
 
 -- own law: what is generated has, under the URL of each module that the page reaches, the digest of the file at the
 -- module's path, and no other digest

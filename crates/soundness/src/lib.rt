@@ -1,16 +1,22 @@
 //! The promise of a generated map: the theorem that joins Node's resolution and HTML's. It is a
 //! law of definitions alone; the code owes nothing but to give what generation is defined to give.
-//! It rests on what any map owes to needs, and not on where this layout puts its mappings.
+//! It rests on what any map owes to needs, and not on where this layout puts its mappings; that no map serves with fewer
+//! rests on the layout alone.
 #![tactic(auto)]
 
-ghost use Rattle.soundness.specs.Soundness.{AgreedMapsServe, CheckedMapsServe, GeneratedReadsBack, MapsArePlain};
-ghost use Rattle.soundness.specs.Soundness.{MapsReadBack, MapsServe, ModulesAreKnown, NoMapServesAClash};
+ghost use Rattle.soundness.specs.Soundness.{CheckedMapsServe, FewestMapsServe, GeneratedIsSmallest, GeneratedReadsBack};
+ghost use Rattle.soundness.specs.Soundness.{MapsArePlain, MapsReadBack, MapsServe, ModulesAreKnown, NoMapServesAClash};
 ghost use Rattle.soundness.specs.Soundness.{NothingDiffers, OneMapInPage, Soundness, WrittenMapsDifferNowhere};
 
-/// Wherever generation gives a map's text for a page that is a file, this text serves: through it every request of the
-/// page and of each module that the page reaches leads to exactly the file that Node's resolver gives.
+/// Wherever generation gives a map's text, this text serves: through it every request of the page and of each module
+/// that the page reaches leads to exactly the file that Node's resolver gives.
 pub fn map_is_sound()
     ensures { Soundness }
+{}
+
+/// And no map that serves has fewer mappings, whatever it maps where, unless a key of it ends in `/`.
+pub fn generated_is_smallest()
+    ensures { GeneratedIsSmallest }
 {}
 
 /// And this text has the digest of the file of each module that the page reaches, under the module's URL, and no other:
@@ -30,9 +36,9 @@ pub fn maps_read_back()
     ensures { MapsReadBack }
 {}
 
-/// So the agreed layout serves, with the digests of the trace's modules.
-pub fn agreed_maps_serve()
-    ensures { AgreedMapsServe }
+/// So the layout with the fewest mappings serves, with the digests of the trace's modules.
+pub fn fewest_maps_serve()
+    ensures { FewestMapsServe }
 {}
 
 /// Whoever checks that text over the same tree, from the same page, finds no difference.

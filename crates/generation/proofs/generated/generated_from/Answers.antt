@@ -2,7 +2,7 @@ use Rattle.std.proofs.Common.{Result, Err, ap, ◌∙◌, subst}
 use Rattle.trace_spec.specs.Checks.{Gathered}
 use Rattle.generation.specs.declared.stop.Stop.{Stop}
 use Rattle.generation.specs.Generating.{Tracing}
-use Rattle.generation.proofs.Generatings.{refused_so, generated, too_large}
+use Rattle.generation.proofs.Generatings.{refused_so, generated, too_wide, too_large}
 use Rattle.generation.proofs.generated.generated_from.Goals as goal
 
 pub returns-in-Err-clause-generates : goal.returns-in-Err-clause-generates
@@ -26,3 +26,11 @@ returns-in-Err-MapTooLarge-clause-generates g c =
     too_large c.args.config.now before after c.in-Ok.trace
     (subst (λ (r : Result Gathered Stop). Tracing c.args.config.now before r after) c.in-Ok.is c.traced.ensures.traces) c.too_large.result c.too_large.ensures
     (c.map_of.ensures.too_large (c.in-Err-MapTooLarge.is ∙ ap Err c.in-Err-MapTooLarge.field-0-is))
+
+pub returns-in-Err-TooManyChoices-clause-generates : goal.returns-in-Err-TooManyChoices-clause-generates
+returns-in-Err-TooManyChoices-clause-generates g c =
+    let before = g.F.Folder.state c.args.folder.now in
+    let after = g.F.Folder.state c.traced.new.folder in
+    too_wide c.args.config.now before after c.in-Ok.trace
+    (subst (λ (r : Result Gathered Stop). Tracing c.args.config.now before r after) c.in-Ok.is c.traced.ensures.traces) c.too_many_choices.result c.too_many_choices.ensures
+    (c.map_of.ensures.many (c.in-Err-TooManyChoices.is ∙ ap Err c.in-Err-TooManyChoices.field-0-is))
