@@ -1,17 +1,23 @@
 -- Parts of the walk, and the one behind the other.
-use Rattle.std.proofs.Common.{◌≡◌, ◌≤◌, ◌<◌, ◌+◌, ◌++◌, ◌∷◌, [], ℕ, List, Result, Ok, Err, sym, subst, arith}
+use Rattle.std.proofs.Common.{◌≡◌, ◌≤◌, ◌<◌, ◌+◌, ◌++◌, ◌∷◌, [], ℕ, List, length, Result, Ok, Err, sym, ap, subst, arith, length-append, append-nil, ◌∙◌}
+use Rattle.std.specs.Prelude.{map, flat_map, OnOk}
+use Rattle.std.proofs.lemmas.List.{map-append}
+use Rattle.std.proofs.lemmas.Grind.{flat_map-append}
 use Rattle.std.specs.Result.{IsErrAnd}
 use Rattle.tree_spec.specs.declared.LimitName.TheVariants.{Modules, Requests}
 use Rattle.tree_spec.specs.Limits.{limit_number}
 use Rattle.url_spec.specs.Parsing.{IsUrl}
 use Rattle.trace_spec.specs.declared.TraceFault.{TraceFault}
 use Rattle.trace_spec.specs.Modules.{Config}
+use Rattle.trace_spec.specs.Questions as spec
 use Rattle.module_sources.specs.declared.source.Source.{Source}
+use Rattle.module_sources.specs.Shown.{source_of}
 use Rattle.trace_walk.specs.declared.tables.Tables.{Tables}
 use Rattle.trace_walk.specs.Kinds.{IsOfWalk}
+use Rattle.trace_walk.specs.Shown.{before_of}
 use Rattle.trace_walk.specs.Putting.{Puts}
 use Rattle.trace_walk.specs.Walked.{IsWalked}
-use Rattle.trace_walk.specs.Walking.{AreBeside, AreOfUrls, IsBounded, Advances, Walks, IsOneRequest}
+use Rattle.trace_walk.specs.Walking.{AreBeside, AreOfUrls, module_requests, Counts, IsBounded, Advances, Walks, IsOneRequest}
 use Rattle.trace_walk.proofs.Visiting.{grows_begin, grows_on, grows_by_visit}
 
 -- nothing was done yet
@@ -33,7 +39,7 @@ pub bounded_none : (most : ℕ) (old : Tables) (steps : ℕ) → IsBounded most 
 bounded_none most old steps = λ within. omega (arith, within)
 
 -- a request that is asked for
-pub bounded_request : (old : Tables) (before after : ℕ) → after ≤ before + 1 → old.requests < limit_number Requests → IsBounded 0 old before after
+pub bounded_request : (old : Tables) (before after : ℕ) → after ≤ before + 1 → length old.targets.items < limit_number Requests → IsBounded 0 old before after
 bounded_request old before after step room = λ within. omega (arith, step, room)
 
 -- a module that is asked for
@@ -88,8 +94,47 @@ one_refused config asks old new before after ready fault (Err other) is step bou
   counts = tt;
 }
 
+-- ---- how many requests are put into the tables
+
+one_source : (old new : List Source) (source : Source) → new ≡ old ++ source ∷ [] → module_requests (map source_of new) ≡ module_requests (map source_of old) + length (source_of source).specifiers
+one_source old new source e =
+    ap (λ ss. module_requests (map source_of ss)) e
+    ∙ (ap module_requests (map-append source_of old (source ∷ []))
+    ∙ (ap length (flat_map-append (λ (s : spec.Source). s.specifiers) (map source_of old) (source_of source ∷ []))
+    ∙ (length-append (flat_map (λ (s : spec.Source). s.specifiers) (map source_of old)) ((source_of source).specifiers ++ [])
+    ∙ ap (λ xs. length (flat_map (λ (s : spec.Source). s.specifiers) (map source_of old)) + length xs) (append-nil (source_of source).specifiers))))
+
+pub counts_begin : (tables : Tables) → Counts 0 tables tables
+counts_begin tables = omega arith
+
+pub counts_on : (some others : ℕ) (old middle new : Tables) → Counts some old middle → Counts others middle new → Counts (some + others) old new
+counts_on some others old middle new one two = omega (arith, one, two)
+
+-- a visit puts its source into the tables first
+pub counts_visit : (tables pushed new : Tables) (source : Source) → pushed.sources.items ≡ tables.sources.items ++ source ∷ [] → pushed.targets ≡ tables.targets → Counts (length (source_of source).specifiers) pushed new → Counts 0 tables new
+counts_visit tables pushed new source sources targets counts =
+    let same = ap (λ ts. length ts.items) targets in
+    let more = one_source tables.sources.items pushed.sources.items source sources in
+    omega (arith, same, more, counts)
+
+-- how the part ends that isn't refused
+pub counts_as : (result : Result (Unit {0}) TraceFault) (P Q : Type 0) → (P → Q) → OnOk result P → OnOk result Q
+counts_as (Ok unit) P Q so is = so is
+counts_as (Err fault) P Q so is = tt
+
+-- those of the page and of all modules
+pub counts_all : (entries : ℕ) (empty paged tables : Tables) → empty.sources.items ≡ [] → empty.targets.items ≡ [] → Counts entries empty paged → Counts 0 paged tables → length tables.targets.items ≡ entries + module_requests (before_of tables).sources
+counts_all entries empty paged tables sources targets page all =
+    let none = ap (λ (ss : List Source). module_requests (map source_of ss)) sources in
+    let unled = ap length targets in
+    omega (arith, none, unled, page, all)
+
+-- one target more, and the sources stay
+counts_one : (old new : Tables) → new.sources ≡ old.sources → length new.targets.items ≡ length old.targets.items + 1 → Counts 1 old new
+counts_one old new sources counts = let same = ap (λ ss. module_requests (map source_of ss.items)) sources in omega (arith, same, counts)
+
 -- one that is put into the tables, behind Node's answer
-pub one_put : (config : Config) (referrer : List ℕ) (old new : Tables) (before after : ℕ) (ready : Type 0) (result : Result (Unit {0}) TraceFault) → after ≤ before + 1 → old.requests < limit_number Requests → ready
+pub one_put : (config : Config) (referrer : List ℕ) (old new : Tables) (before after : ℕ) (ready : Type 0) (result : Result (Unit {0}) TraceFault) → after ≤ before + 1 → length old.targets.items < limit_number Requests → ready
     → Puts config referrer old new result → IsOneRequest config (IsUrl referrer) old new before after ready result
 one_put config referrer old new before after ready (Ok unit) step room is puts = record {
   walks = record {
@@ -98,7 +143,7 @@ one_put config referrer old new before after ready (Ok unit) step room is puts =
     kind = tt;
   };
   step = step;
-  counts = puts.counts;
+  counts = counts_one old new puts.sources puts.counts;
 }
 one_put config referrer old new before after ready (Err fault) step room is puts = record {
   walks = record { advances = tt; bounded = bounded_request old before after step room; kind = puts.kind };
@@ -108,17 +153,17 @@ one_put config referrer old new before after ready (Err fault) step room is puts
 
 -- the requests of a module, behind the answerer's answer
 pub walks_visit : (config : Config) (asks : Type 0) (tables pushed new : Tables) (source : Source) (before between after : ℕ) (ready : Type 0) (result : Result (Unit {0}) TraceFault) → pushed.modules ≡ tables.modules → pushed.sources.items ≡ tables.sources.items ++ source ∷ [] → pushed.needs ≡ tables.needs
-    → pushed.requests ≡ tables.requests → between ≤ before + 1 → Walks config 0 0 asks pushed new between after ready result → Walks config 1 1 asks tables new before after ready result
-walks_visit config asks tables pushed new source before between after ready (Ok unit) modules sources needs requests step walks =
+    → pushed.targets ≡ tables.targets → between ≤ before + 1 → Walks config 0 0 asks pushed new between after ready result → Walks config 1 1 asks tables new before after ready result
+walks_visit config asks tables pushed new source before between after ready (Ok unit) modules sources needs targets step walks =
     walks_done config 1 1 asks tables new before after ready unit (omega arith)
     (record {
-      grows = grows_by_visit config tables pushed new source modules sources needs requests walks.advances.grows;
+      grows = grows_by_visit config tables pushed new source modules sources needs targets walks.advances.grows;
       urls = λ asked urls. walks.advances.urls asked (subst AreOfUrls (sym needs) urls);
-      steps = (let a = walks.advances.steps in omega (arith, a, step, requests));
+      steps = (let a = walks.advances.steps in (let same = ap (λ ts. length ts.items) targets in omega (arith, a, step, same)));
       ready = walks.advances.ready;
     })
-walks_visit config asks tables pushed new source before between after ready (Err fault) modules sources needs requests step walks = record {
+walks_visit config asks tables pushed new source before between after ready (Err fault) modules sources needs targets step walks = record {
   advances = tt;
-  bounded = λ within. (let a = walks.bounded (omega (arith, within, requests)) in omega (arith, a, step, requests));
+  bounded = λ within. (let a = walks.bounded (let same = ap (λ ts. length ts.items) targets in omega (arith, within, same)) in (let same = ap (λ ts. length ts.items) targets in omega (arith, a, step, same)));
   kind = walks.kind;
 }

@@ -1,14 +1,17 @@
 -- What is put into the tables of a walk.
-use Rattle.std.proofs.Common.{◌≡◌, ◌≢◌, ◌<◌, ◌+◌, ℕ, zero, suc, true, false, List, [], ◌∷◌, ◌++◌, length, Option, Some, None, Result, Ok, Err, refl, sym, ap, ◌∙◌, subst, arith, length-append}
-use Rattle.std.specs.Prelude.{is_some, slice_get, take}
+use Rattle.std.proofs.Common.{◌≡◌, ◌≢◌, ◌<◌, ◌≤◌, ◌+◌, ℕ, zero, suc, true, false, List, [], ◌∷◌, ◌++◌, length, Option, Some, None, Result, Ok, Err, refl, sym, ap, ◌∙◌, subst, arith, length-append, append-nil}
+use Rattle.std.specs.Prelude.{All, ◌||◌, is_some, map, nat_lt, option_map, slice_get, take}
 use Rattle.std.specs.Result.{IsErrAnd}
 use mathlib.Core.Logic.{inl, inr}
 use Rattle.std.specs.List.{list_any}
-use Rattle.std.specs.Map.{keys_of, lookup}
+use Rattle.std.specs.Map.{keys_of, lookup, lookup_key}
+use Rattle.indexmap.specs.IndexMap.{keys}
 use Rattle.std.proofs.option.Match.{None-if_not_some}
-use Rattle.std.proofs.lemmas.Bool.{cases_Bool, cond-true, cond-false, or_parts}
+use Rattle.std.proofs.lemmas.Bool.{cases_Bool, cond-true, cond-false, or_parts, lt-ltb}
+use Rattle.std.proofs.lemmas.List.{map-append}
+use Rattle.std.proofs.lemmas.Option.{slice_get-map, slice_get_within}
 use Rattle.std.proofs.lemmas.Map.Made.{is_some-lookup}
-use Rattle.std.proofs.lemmas.List.Elements.{All-push, All-head, All-tail}
+use Rattle.std.proofs.lemmas.List.Elements.{All-push, All-head, All-tail, All-weaker}
 use Rattle.tree_spec.specs.declared.LimitName.TheVariants.{Modules, Requests}
 use Rattle.tree_spec.specs.Limits.{limit_number}
 use Rattle.layout_spec.specs.declared.Need.{Need}
@@ -19,16 +22,17 @@ use Rattle.trace_spec.specs.declared.TraceFault.TheVariants.{ReadFault, Memory}
 use Rattle.trace_spec.specs.Walking.{a_module}
 use Rattle.trace_spec.specs.Walking as walking
 use Rattle.trace_spec.specs.Modules.{Config, Module, is_module, file_name, served_at, shown}
-use Rattle.trace_spec.specs.Checks.{Gathered, Spelling, Wanted, clashing, named}
+use Rattle.trace_spec.specs.Checks.{Gathered, Spelling, Wanted, clashing, with_request, has_room, needed, named}
 use Rattle.trace_spec.proofs.Lists.{same_module}
 use Rattle.trace_spec.proofs.NeedLemmas.{no_clash_more}
 use Rattle.trace_walk.specs.declared.referrer.Referrer.{Referrer}
 use Rattle.trace_walk.specs.declared.tables.Name.{Name}
 use Rattle.trace_walk.specs.declared.tables.Tables.{Tables}
-use Rattle.trace_walk.specs.Shown.{done}
-use Rattle.trace_walk.specs.Walking.{IsReferrer, IsNamed, AllNamed, IsAdded, IsGiven, Grows}
+use Rattle.module_sources.specs.Shown.{source_of}
+use Rattle.trace_walk.specs.Shown.{module_at, before_of, done}
+use Rattle.trace_walk.specs.Walking.{IsReferrer, IsNamed, AllNamed, AreBeside, IsAdded, IsGiven, Grows}
 use Rattle.trace_walk.specs.Kinds.{IsOfWalk}
-use Rattle.trace_walk.specs.Putting.{Puts}
+use Rattle.trace_walk.specs.Putting.{IsKnown, Puts}
 use Rattle.trace_walk.specs.Refusing.{clash_by, IsClash, IsMisnamed}
 
 -- ---- a module that is looked up
@@ -70,36 +74,136 @@ names_push : (config : Config) (old new : List (Module × Name)) (target : Modul
 names_push config old new target name e is all = subst (AllNamed config) (sym e) (All-push (λ (x : Module × Name). IsNamed config x.0 x.1) old (target, name) all is)
 
 -- what a request leaves behind whose need clashes with none
-pub record IsPut (old new : Tables) (need : Need) (spelling : Spelling) : Type 0 where
+pub record IsPut (old new : Tables) (need : Need) (spelling : Spelling) (place : ℕ) : Type 0 where
   pub sources : new.sources ≡ old.sources
   pub added : IsAdded old.needs old.spellings.items need spelling new.needs new.spellings.items
-  pub requests : new.requests ≡ old.requests + 1
+  pub targets : new.targets.items ≡ old.targets.items ++ place ∷ []
 
-clear_more : (old new : Tables) (need : Need) (spelling : Spelling) → IsPut old new need spelling → NoClash old.needs → NoClash new.needs
-clear_more old new need spelling put clear = subst NoClash (sym put.added.needs_are) (no_clash_more old.needs need clear put.added.clear)
+-- places stay among more modules, and so does one more
+places_within : (old new : List ℕ) (count more place : ℕ) → new ≡ old ++ place ∷ [] → count ≤ more → place < more → All (λ p. p < count) old → All (λ p. p < more) new
+places_within old new count more place e few is all =
+    subst (All (λ p. p < more)) (sym e) (All-push (λ p. p < more) old place (All-weaker (λ p. p < count) (λ p. p < more) (λ p below. (omega (arith, few, below))) old all) is)
 
-pub grows_by_one : (config : Config) (old new : Tables) (need : Need) (spelling : Spelling) (name : Name) → old.requests < limit_number Requests → length old.modules.entries < limit_number Modules
-    → new.modules.entries ≡ old.modules.entries ++ (spelling.target, name) ∷ [] → IsNamed config spelling.target name → IsPut old new need spelling → Grows config 0 old new
-grows_by_one config old new need spelling name few room e is put = record {
+clear_more : (old new : Tables) (need : Need) (spelling : Spelling) (place : ℕ) → IsPut old new need spelling place → NoClash old.needs → NoClash new.needs
+clear_more old new need spelling place put clear = subst NoClash (sym put.added.needs_are) (no_clash_more old.needs need clear put.added.clear)
+
+pub grows_by_one : (config : Config) (old new : Tables) (need : Need) (spelling : Spelling) (name : Name) → AreBeside old → length old.targets.items < limit_number Requests → length old.modules.entries < limit_number Modules
+    → new.modules.entries ≡ old.modules.entries ++ (spelling.target, name) ∷ [] → IsNamed config spelling.target name → IsPut old new need spelling (length old.modules.entries) → Grows config 0 old new
+grows_by_one config old new need spelling name beside few room e is put = record {
   named = names_push config old.modules.entries new.modules.entries spelling.target name e is;
   few = λ few. let n = ap length e in let m = length-append old.modules.entries ((spelling.target, name) ∷ []) in omega arith;
   longer = let n = ap length e in let m = length-append old.modules.entries ((spelling.target, name) ∷ []) in omega arith;
   sources = let n = ap (λ s. length s.items) put.sources in omega arith;
-  requests = λ within. let n = put.requests in omega arith;
-  beside = put.added.beside;
-  clear = clear_more old new need spelling put;
+  requests = λ within. let n = ap length put.targets in let m = length-append old.targets.items (length old.modules.entries ∷ []) in omega arith;
+  beside = (put.added.beside, places_within old.targets.items new.targets.items (length old.modules.entries) (length new.modules.entries) (length old.modules.entries) put.targets (let n = ap length e in let m = length-append old.modules.entries ((spelling.target, name) ∷ []) in omega arith) (let n = ap length e in let m = length-append old.modules.entries ((spelling.target, name) ∷ []) in omega arith) beside.1);
+  clear = clear_more old new need spelling (length old.modules.entries) put;
 }
 
-pub grows_by_none : (config : Config) (old new : Tables) (need : Need) (spelling : Spelling) → old.requests < limit_number Requests → new.modules ≡ old.modules → IsPut old new need spelling → Grows config 0 old new
-grows_by_none config old new need spelling few modules put = record {
+pub grows_by_none : (config : Config) (old new : Tables) (need : Need) (spelling : Spelling) (place : ℕ) → AreBeside old → place < length old.modules.entries → length old.targets.items < limit_number Requests → new.modules ≡ old.modules → IsPut old new need spelling place → Grows config 0 old new
+grows_by_none config old new need spelling place beside at few modules put = record {
   named = λ all. subst (λ modules. AllNamed config modules.entries) (sym modules) all;
   few = λ few. let n = ap (λ ms. length ms.entries) modules in omega arith;
   longer = let n = ap (λ ms. length ms.entries) modules in omega arith;
   sources = let n = ap (λ s. length s.items) put.sources in omega arith;
-  requests = λ within. let n = put.requests in omega arith;
-  beside = put.added.beside;
-  clear = clear_more old new need spelling put;
+  requests = λ within. let n = ap length put.targets in let m = length-append old.targets.items (place ∷ []) in omega arith;
+  beside = (put.added.beside, places_within old.targets.items new.targets.items (length old.modules.entries) (length new.modules.entries) place put.targets (let n = ap (λ ms. length ms.entries) modules in omega arith) (let n = ap (λ ms. length ms.entries) modules in omega (arith, at)) beside.1);
+  clear = clear_more old new need spelling place put;
 }
+
+-- ---- targets, by the places of modules
+
+key_is : {X : Type 0} (target : Module) (entries : List (Module × X)) (key : Module) → lookup_key (is_module target) entries ≡ Some key → target ≡ key
+key_is target [] key e = absurd (cc)
+key_is target (entry ∷ entries) key e =
+    elim (cases_Bool (is_module target entry.0)) [
+      | inl here ↦ (let f = sym (cond-true (is_module target entry.0) (Some entry.0) (lookup_key (is_module target) entries) here) ∙ e in same_module target entry.0 here ∙ (let p : entry.0 ≡ key = cc in p))
+      | inr other ↦ key_is target entries key (sym (cond-false (is_module target entry.0) (Some entry.0) (lookup_key (is_module target) entries) other) ∙ e)
+    ]
+
+pub known_at : {X : Type 0} (target : Module) (entries : List (Module × X)) (place : ℕ) (key : Module) (found : X) → lookup_key (is_module target) entries ≡ Some key → lookup (is_module target) entries ≡ Some found → slice_get entries place ≡ Some (key, found)
+    → IsKnown (keys_of entries) target place
+known_at target entries place key found by_key by_value at = record {
+  there = is_among target entries found by_value;
+  at = slice_get-map (λ entry. entry.0) entries place ∙ (ap (option_map (λ entry. entry.0)) at ∙ ap Some (sym (key_is target entries key by_key)));
+}
+
+module_there : (modules : List Module) (place : ℕ) (target : Module) → slice_get modules place ≡ Some target → module_at modules place ≡ target
+module_there [] place target at = absurd (cc)
+module_there (m ∷ modules) zero target at = cc
+module_there (m ∷ modules) (suc place) target at = module_there modules place target at
+
+still_there : (modules more : List Module) (place : ℕ) → place < length modules → module_at (modules ++ more) place ≡ module_at modules place
+still_there [] more place below = absurd (omega arith)
+still_there (m ∷ modules) more zero below = refl
+still_there (m ∷ modules) more (suc place) below = still_there modules more place (omega arith)
+
+pub still_all : (modules more : List Module) (places : List ℕ) → All (λ p. p < length modules) places → map (module_at (modules ++ more)) places ≡ map (module_at modules) places
+still_all modules more [] all = refl
+still_all modules more (place ∷ places) all =
+    (λ i. still_there modules more place (All-head (λ p. p < length modules) place places all) i ∷ still_all modules more places (All-tail (λ p. p < length modules) place places all) i)
+
+last_there : (modules : List Module) (target : Module) → module_at (modules ++ target ∷ []) (length modules) ≡ target
+last_there [] target = refl
+last_there (m ∷ modules) target = last_there modules target
+
+pub known_place : (entries : List (Module × Name)) (target : Module) (place : ℕ) → IsKnown (keys_of entries) target place → place < length entries
+known_place entries target place known = let count = keys_of-length entries in let below = slice_get_within (keys_of entries) place target known.at in omega (arith, count, below)
+
+pub one_target : (old new : List ℕ) (place : ℕ) → new ≡ old ++ place ∷ [] → length new ≡ length old + 1
+one_target old new place e = ap length e ∙ length-append old (place ∷ [])
+
+-- ---- the tables behind a request
+
+-- a module that is known
+with_known : (old new : Tables) (need : Need) (spelling : Spelling) (place : ℕ) → IsKnown (keys old.modules) spelling.target place → new.modules ≡ old.modules → IsPut old new need spelling place → with_request (before_of old) need spelling ≡ before_of new
+with_known old new need spelling place known modules put = λ i. record {
+  modules = (ap (λ more. keys old.modules ++ more) (cond-true (list_any (is_module spelling.target) (keys old.modules)) [] (spelling.target ∷ []) known.there) ∙ (append-nil (keys old.modules) ∙ ap keys (sym modules))) i;
+  sources = map source_of (sym put.sources i).items;
+  needs = sym put.added.needs_are i;
+  spellings = sym put.added.spellings_are i;
+  targets =
+      (ap (λ last. map (module_at (keys old.modules)) old.targets.items ++ last ∷ []) (sym (module_there (keys old.modules) place spelling.target known.at))
+      ∙ (sym (map-append (module_at (keys old.modules)) old.targets.items (place ∷ []))
+      ∙ (λ j. map (module_at (keys (sym modules j))) (sym put.targets j)))) i;
+}
+
+-- a new one
+with_new : (old new : Tables) (need : Need) (spelling : Spelling) (name : Name) → AreBeside old → list_any (is_module spelling.target) (keys old.modules) ≡ false → new.modules.entries ≡ old.modules.entries ++ (spelling.target, name) ∷ []
+    → IsPut old new need spelling (length old.modules.entries) → with_request (before_of old) need spelling ≡ before_of new
+with_new old new need spelling name beside fresh e put =
+    let more : keys new.modules ≡ keys old.modules ++ spelling.target ∷ [] = ap keys_of e ∙ map-append (λ (entry : Module × Name). entry.0) old.modules.entries ((spelling.target, name) ∷ []) in
+    let count : length (keys old.modules) ≡ length old.modules.entries = keys_of-length old.modules.entries in
+    λ i. record {
+      modules = (ap (λ more. keys old.modules ++ more) (cond-false (list_any (is_module spelling.target) (keys old.modules)) [] (spelling.target ∷ []) fresh) ∙ sym more) i;
+      sources = map source_of (sym put.sources i).items;
+      needs = sym put.added.needs_are i;
+      spellings = sym put.added.spellings_are i;
+      targets =
+          ((λ j. sym (still_all (keys old.modules) (spelling.target ∷ []) old.targets.items (subst (λ n. All (λ p. p < n) old.targets.items) (sym count) beside.1)) j
+          ++ sym (last_there (keys old.modules) spelling.target) j ∷ [])
+          ∙ (ap (λ n. map (module_at (keys old.modules ++ spelling.target ∷ [])) old.targets.items ++ module_at (keys old.modules ++ spelling.target ∷ []) n ∷ []) count
+          ∙ (sym (map-append (module_at (keys old.modules ++ spelling.target ∷ [])) old.targets.items (length old.modules.entries ∷ []))
+          ∙ (λ j. map (module_at (sym more j)) (sym put.targets j))))) i;
+    }
+
+put_given : (config : Config) (r : walking.Referrer Module) (before after : Gathered) (need : Need) (spelling : Spelling) → list_any (clashes need) before.needs ≡ false → has_room before.modules spelling.target ≡ true → with_request before need spelling ≡ after
+    → IsGiven (needed config before r need spelling) (Ok after)
+put_given config r before after need spelling clear room is = record {
+  given = λ ne. cond-false _ _ _ clear ∙ (cond-true _ _ _ room ∙ ap Ok is);
+  no_look = λ e. cc;
+}
+
+pub known_given : (config : Config) (r : walking.Referrer Module) (old new : Tables) (need : Need) (spelling : Spelling) (place : ℕ) → IsKnown (keys old.modules) spelling.target place → new.modules ≡ old.modules → IsPut old new need spelling place
+    → IsGiven (needed config (before_of old) r need spelling) (Ok (before_of new))
+known_given config r old new need spelling place known modules put =
+    put_given config r (before_of old) (before_of new) need spelling put.added.clear (ap (λ b. b || nat_lt (length (keys old.modules)) (limit_number Modules)) known.there) (with_known old new need spelling place known modules put)
+
+pub new_given : (config : Config) (r : walking.Referrer Module) (old new : Tables) (need : Need) (spelling : Spelling) (name : Name) → AreBeside old → list_any (is_module spelling.target) (keys old.modules) ≡ false → length old.modules.entries < limit_number Modules
+    → new.modules.entries ≡ old.modules.entries ++ (spelling.target, name) ∷ [] → IsPut old new need spelling (length old.modules.entries) → IsGiven (needed config (before_of old) r need spelling) (Ok (before_of new))
+new_given config r old new need spelling name beside fresh room e put =
+    put_given config r (before_of old) (before_of new) need spelling put.added.clear
+    (ap (λ b. b || nat_lt (length (keys old.modules)) (limit_number Modules)) fresh ∙ lt-ltb (length (keys old.modules)) (limit_number Modules) (let count = keys_of-length old.modules.entries in omega (arith, count, room)))
+    (with_new old new need spelling name beside fresh e put)
 
 -- ---- needs and their spellings
 
@@ -145,4 +249,4 @@ given_misnamed config r referrer before want specifier target fault result table
 
 pub puts_refused : (config : Config) (referrer : List ℕ) (old new : Tables) (fault : TraceFault) (result : Result (Unit {0}) TraceFault) → IsErrAnd result (λ f. f ≡ fault) → IsOfWalk config fault → Puts config referrer old new result
 puts_refused config referrer old new fault (Ok unit) is kind = absurd is
-puts_refused config referrer old new fault (Err other) is kind = record { grows = tt; counts = tt; urls = tt; kind = subst (IsOfWalk config) (sym is) kind }
+puts_refused config referrer old new fault (Err other) is kind = record { grows = tt; counts = tt; sources = tt; urls = tt; kind = subst (IsOfWalk config) (sym is) kind }

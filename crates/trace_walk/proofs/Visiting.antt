@@ -27,14 +27,18 @@ use Rattle.trace_walk.specs.Meeting.{AnswererState, fine, Met}
 use Rattle.module_sources.specs.declared.source.NoSource.{NoSource}
 use Rattle.module_sources.specs.declared.source.NoSource.TheVariants.{NotModule, Above}
 use Rattle.module_sources.specs.Shown.{source_of, no_source_of}
-use Rattle.trace_walk.specs.Shown.{before_of, done}
+use Rattle.trace_walk.specs.Shown.{module_at, before_of, done}
 use Rattle.trace_walk.specs.Refusing.{no_source_fault}
-use Rattle.trace_walk.specs.Walking.{IsReferrer, IsNamed, AllNamed, AreBeside, AreOfUrls, IsGiven, Grows, IsWhole, IsUnserved}
+use Rattle.trace_walk.specs.Walking.{IsReferrer, IsNamed, AllNamed, AreBeside, AreOfUrls, module_requests, IsGiven, Grows, IsWhole, IsUnserved}
 use Rattle.trace_walk.proofs.TableLemmas.{keys_of-length}
 use Rattle.trace_walk.proofs.FaultKinds.{handed}
 use Rattle.trace_walk.proofs.Meetings.{met_then, met_failed, met_lost, met_now, Left}
 
 -- ---- how the tables grow
+
+-- as many targets as places of targets
+pub targets_counted : (tables : Tables) (count : ℕ) → count ≡ length tables.targets.items → length (before_of tables).targets ≡ count
+targets_counted tables count is = length-map tables.targets.items (module_at (keys_of tables.modules.entries)) ∙ sym is
 
 pub grows_begin : (config : Config) (tables : Tables) → AreBeside tables → Grows config 0 tables tables
 grows_begin config tables beside = record { named = λ all. all; few = λ few. few; longer = omega arith; sources = omega arith; requests = λ few. few; beside = beside; clear = λ clear. clear }
@@ -51,9 +55,9 @@ grows_on config some others old middle new one two = record {
 }
 
 -- a visit puts its source into the tables first
-pub grows_by_visit : (config : Config) (tables pushed new : Tables) (source : Source) → pushed.modules ≡ tables.modules → pushed.sources.items ≡ tables.sources.items ++ source ∷ [] → pushed.needs ≡ tables.needs → pushed.requests ≡ tables.requests
+pub grows_by_visit : (config : Config) (tables pushed new : Tables) (source : Source) → pushed.modules ≡ tables.modules → pushed.sources.items ≡ tables.sources.items ++ source ∷ [] → pushed.needs ≡ tables.needs → pushed.targets ≡ tables.targets
     → Grows config 0 pushed new → Grows config 1 tables new
-grows_by_visit config tables pushed new source modules sources needs requests grows =
+grows_by_visit config tables pushed new source modules sources needs targets grows =
     let count : length pushed.sources.items ≡ length tables.sources.items + 1 = ap length sources ∙ length-append tables.sources.items (source ∷ []) in
     let same : length pushed.modules.entries ≡ length tables.modules.entries = ap (λ ms. length ms.entries) modules in
     record {
@@ -61,15 +65,15 @@ grows_by_visit config tables pushed new source modules sources needs requests gr
       few = λ few. grows.few (omega (arith, same, few));
       longer = (let a = grows.longer in omega (arith, same, a));
       sources = (let a = grows.sources in omega (arith, count, a));
-      requests = λ few. grows.requests (omega (arith, requests, few));
+      requests = λ few. grows.requests (let same = ap (λ ts. length ts.items) targets in omega (arith, same, few));
       beside = grows.beside;
       clear = λ clear. grows.clear (subst NoClash (sym needs) clear);
     }
 
 -- the tables behind the page's visit and those of all modules
-pub whole_by : (config : Config) (empty paged tables : Tables) → empty.modules.entries ≡ [] → empty.sources.items ≡ [] → empty.needs ≡ [] → empty.requests ≡ 0
-    → Grows config 0 empty paged → Grows config (length tables.modules.entries) paged tables → AreOfUrls tables.needs → IsWhole (before_of tables)
-whole_by config empty paged tables modules sources needs requests page all urls =
+pub whole_by : (config : Config) (empty paged tables : Tables) → empty.modules.entries ≡ [] → empty.sources.items ≡ [] → empty.needs ≡ [] → empty.targets.items ≡ []
+    → Grows config 0 empty paged → Grows config (length tables.modules.entries) paged tables → AreOfUrls tables.needs → module_requests (before_of tables).sources ≤ length tables.targets.items → IsWhole (before_of tables)
+whole_by config empty paged tables modules sources needs targets page all urls counted =
     let none : length empty.modules.entries ≡ 0 = ap length modules in
     let unread : length empty.sources.items ≡ 0 = ap length sources in
     let keys = keys_of-length tables.modules.entries in
@@ -77,8 +81,9 @@ whole_by config empty paged tables modules sources needs requests page all urls 
     record {
       visited = (let a = page.sources in let b = all.sources in omega (arith, unread, keys, reads, a, b));
       few = (let few = all.few (page.few (omega (arith, none))) in omega (arith, few, keys));
-      few_requests = all.requests (page.requests (omega (arith, requests)));
-      spelled = all.beside;
+      few_requests = (let few = all.requests (page.requests (let none = ap length targets in omega (arith, none))) in let same = length-map tables.targets.items (module_at (keys_of tables.modules.entries)) in omega (arith, few, same));
+      counted = (let same = length-map tables.targets.items (module_at (keys_of tables.modules.entries)) in omega (arith, counted, same));
+      spelled = all.beside.0;
       clear = all.clear (page.clear (subst NoClash (sym needs) (λ one other c d. absurd (contains_none one c))));
       urls = urls;
     }
@@ -109,15 +114,15 @@ page_refused before config tables fault result code is unserved =
 abbrev behind : Config → Gathered → Module → Result spec.Source spec.NoSource → Asking Question Answer (Result Gathered TraceFault)
 behind config before m found = on_ok (λ opened. followed (rules config) opened.after (a_module m) opened.specifiers) (module_opened config before m found)
 
-pub pushed_source : (tables pushed : Tables) (source : Source) → pushed.modules ≡ tables.modules → pushed.sources.items ≡ tables.sources.items ++ source ∷ [] → pushed.needs ≡ tables.needs → pushed.spellings ≡ tables.spellings → pushed.requests ≡ tables.requests
+pub pushed_source : (tables pushed : Tables) (source : Source) → pushed.modules ≡ tables.modules → pushed.sources.items ≡ tables.sources.items ++ source ∷ [] → pushed.needs ≡ tables.needs → pushed.spellings ≡ tables.spellings → pushed.targets ≡ tables.targets
     → before_of pushed ≡ with_source (before_of tables) (source_of source)
-pushed_source tables pushed source modules sources needs spellings requests =
+pushed_source tables pushed source modules sources needs spellings targets =
     λ i. record {
       modules = keys_of (modules i).entries;
       sources = (ap (map source_of) sources ∙ map-append source_of tables.sources.items (source ∷ [])) i;
       needs = needs i;
       spellings = (spellings i).items;
-      requests = requests i;
+      targets = map (module_at (keys_of (modules i).entries)) (targets i).items;
     }
 
 -- there is no answer
@@ -211,8 +216,8 @@ no_visit begin middle whole config tables next few past left = place begin middl
 
 -- ---- the whole walk
 
-pub begun_is : (tables : Tables) → tables.modules.entries ≡ [] → tables.sources.items ≡ [] → tables.needs ≡ [] → tables.spellings.items ≡ [] → tables.requests ≡ 0 → before_of tables ≡ nothing_gathered
-begun_is tables modules sources needs spellings requests = λ i. record { modules = keys_of (modules i); sources = map source_of (sources i); needs = needs i; spellings = spellings i; requests = requests i }
+pub begun_is : (tables : Tables) → tables.modules.entries ≡ [] → tables.sources.items ≡ [] → tables.needs ≡ [] → tables.spellings.items ≡ [] → tables.targets.items ≡ [] → before_of tables ≡ nothing_gathered
+begun_is tables modules sources needs spellings targets = λ i. record { modules = keys_of (modules i); sources = map source_of (sources i); needs = needs i; spellings = spellings i; targets = map (module_at (keys_of (modules i))) (targets i) }
 
 pub walk_unpaged : (before after : AnswererState) (config : Config) (tables : Gathered) (fault : TraceFault) → tables ≡ nothing_gathered
     → Met {X = Gathered} before (visited (rules config) tables the_page) (Err fault) after → Met {X = Gathered} before (trace config) (Err fault) after

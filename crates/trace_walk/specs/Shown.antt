@@ -3,16 +3,18 @@
 --     sources                    what an answerer gives for a module
 --     answer_of, resolutions     Node's answer; what an answerer gives for a request
 --     specifiers_of asked        what a referrer asks for
+--     module_at modules place    the module at a place among these
 --     before_of tables           the tables of a walk
 --     done result tables         a call's result, with what the tables hold then
 --     traced_of result           the result of a walk
-use Rattle.std.specs.Prelude.{ℕ, List, map, Result, Ok, Err}
+use Rattle.std.specs.Prelude.{ℕ, List, map, get_or, Result, Ok, Err}
 use Rattle.indexmap.specs.IndexMap.{keys}
 use Rattle.module_spec.specs.declared.request.Request.{Request}
 use Rattle.node_spec.specs.NodeAnswers.{Module, Refusal, by_cause, too_deep}
 use Rattle.trace_spec.specs.declared.TraceFault.{TraceFault}
 use Rattle.trace_spec.specs.Questions as spec
 use Rattle.trace_spec.specs.Checks.{Gathered}
+use Rattle.trace_spec.specs.Laws.{no_module}
 use Rattle.module_sources.specs.declared.source.Source.{Source}
 use Rattle.module_sources.specs.declared.source.NoSource.{NoSource}
 use Rattle.module_sources.specs.Shown.{source_of, source_in}
@@ -42,13 +44,16 @@ abbrev pub specifiers_of : Specifiers → List (List ℕ)
 specifiers_of (Entries entries) = entries.now
 specifiers_of (Requests requests) = map (λ (request : Request). request.text) requests.now
 
+abbrev pub module_at : List Module → ℕ → Module
+module_at modules place = get_or modules place no_module
+
 abbrev pub before_of : Tables → Gathered
 before_of tables = record {
   modules = keys tables.modules;
   sources = map source_of tables.sources.items;
   needs = tables.needs;
   spellings = tables.spellings.items;
-  requests = tables.requests;
+  targets = map (module_at (keys tables.modules)) tables.targets.items;
 }
 
 abbrev pub done : Result (Unit {0}) TraceFault → Tables → Result Gathered TraceFault

@@ -5,14 +5,18 @@
 --     AreEmpty tables                       nothing is in the tables yet
 --     AllNamed config entries               each module stands with its web name, which is no folder's, and the text
 --                                           of that
---     AreBeside tables                      each need has its spelling
+--     AreBeside tables                      each need has its spelling, and each target is the place of a module
+--     module_requests sources               how many requests these sources have together
+--     Counts more old new                   the targets grow by one to each request of the new sources, and so many
+--                                           more
 --     IsAdded needs spellings need spelling after spelled      a need that clashes with none is put with its spelling
 --     AreOfUrls needs                       the referrer of each need is a URL
 --     KeepsUrls asks old new                where the fact `asks` holds, the needs stay of URLs
 --     Grows config visits old new           the tables grow by so many visits, and keep few modules, each with its
 --                                           name, and few requests
 --     IsWhole tables                        each module has its source, there aren't too many, nor too many requests,
---                                           no two needs clash, and the referrer of each is a URL
+--                                           among which are all those of the modules; no two needs clash, and the
+--                                           referrer of each is a URL
 --     IsGiven definition result             a part gives what the definition says, unless memory is wanting
 --     IsUnserved config path suffix fault   the refusal of what isn't served at its web name
 --     wanted_of name asked                  what a referrer of this name asks for
@@ -26,8 +30,8 @@
 --     IsOneRequest config asks old new before after is_ready result
 --                                           a part of the walk that is one request: one step at most, and one request
 --                                           more in the tables, unless it is refused
-use Rattle.std.specs.Prelude.{◌≡◌, ◌≢◌, ◌≤◌, ◌+◌, ◌++◌, [], ℕ, List, length, Some, None, Result, Ok, Err, All, false}
-use Rattle.std.specs.Prelude.{IfErr, OnOk}
+use Rattle.std.specs.Prelude.{◌≡◌, ◌≢◌, ◌≤◌, ◌<◌, ◌+◌, ◌++◌, [], ℕ, List, length, Some, None, Result, Ok, Err}
+use Rattle.std.specs.Prelude.{All, false, IfErr, OnOk, flat_map}
 use Rattle.std.specs.List.{list_any}
 use Rattle.tree_spec.specs.declared.LimitName.TheVariants.{Modules, Requests}
 use Rattle.tree_spec.specs.Limits.{limit_number}
@@ -36,6 +40,7 @@ use Rattle.layout_spec.specs.declared.Need.{Need}
 use Rattle.trace_spec.specs.declared.TraceFault.{TraceFault}
 use Rattle.trace_spec.specs.declared.TraceFault.TheVariants.{Unservable, ReadFault, Memory}
 use Rattle.trace_spec.specs.Checks.{Gathered, Wanted, Spelling, with_spelling}
+use Rattle.trace_spec.specs.Questions.{Source}
 use Rattle.trace_spec.specs.Walking as spec
 use Rattle.trace_spec.specs.Modules.{Config, Module, path_of, web_name, shown, served_name, file_name}
 use Rattle.url_spec.specs.Parsing.{IsUrl}
@@ -44,6 +49,7 @@ use Rattle.trace_walk.specs.declared.referrer.Referrer.{Referrer}
 use Rattle.trace_walk.specs.declared.tables.Name.{Name}
 use Rattle.trace_walk.specs.declared.tables.Tables.{Tables}
 use Rattle.trace_walk.specs.Kinds.{IsOfWalk}
+use Rattle.trace_walk.specs.Shown.{before_of}
 
 pub record IsReferrer (config : Config) (referrer : spec.Referrer Module) (value : Referrer) : Type 0 where
   pub named : web_name config referrer ≡ Some value.name
@@ -63,7 +69,7 @@ pub record AreEmpty (tables : Tables) : Type 0 where
   pub sources : tables.sources.items ≡ []
   pub needs : tables.needs ≡ []
   pub spellings : tables.spellings.items ≡ []
-  pub requests : tables.requests ≡ 0
+  pub targets : tables.targets.items ≡ []
 
 pub record IsNamed (config : Config) (m : Module) (name : Name) : Type 0 where
   pub is : file_name config m ≡ Some name.url
@@ -73,7 +79,17 @@ abbrev pub AllNamed : Config → List (Module × Name) → Type 0
 AllNamed config entries = All (λ entry. IsNamed config entry.0 entry.1) entries
 
 abbrev pub AreBeside : Tables → Type 0
-AreBeside tables = length tables.spellings.items ≡ length tables.needs
+AreBeside tables =
+    (length tables.spellings.items ≡ length tables.needs)
+    × All (λ place. place < length tables.modules.entries) tables.targets.items
+
+abbrev pub module_requests : List Source → ℕ
+module_requests sources = length (flat_map (λ source. source.specifiers) sources)
+
+abbrev pub Counts : ℕ → Tables → Tables → Type 0
+Counts more old new =
+    length new.targets.items + module_requests (before_of old).sources
+    ≡ length old.targets.items + (module_requests (before_of new).sources + more)
 
 pub record IsAdded (needs : List Need) (spellings : List Spelling) (need : Need) (spelling : Spelling)
     (after : List Need) (spelled : List Spelling) : Type 0 where
@@ -102,7 +118,7 @@ pub record Grows (config : Config) (visits : ℕ) (old new : Tables) : Type 0 wh
   pub few : length old.modules.entries ≤ limit_number Modules → length new.modules.entries ≤ limit_number Modules
   pub longer : length old.modules.entries ≤ length new.modules.entries
   pub sources : length new.sources.items ≡ length old.sources.items + visits
-  pub requests : old.requests ≤ limit_number Requests → new.requests ≤ limit_number Requests
+  pub requests : length old.targets.items ≤ limit_number Requests → length new.targets.items ≤ limit_number Requests
   pub beside : AreBeside new
   pub clear : NoClash old.needs → NoClash new.needs
 
@@ -110,7 +126,8 @@ pub record Grows (config : Config) (visits : ℕ) (old new : Tables) : Type 0 wh
 pub record IsWhole (tables : Gathered) : Type 0 where
   pub visited : length tables.sources ≡ length tables.modules
   pub few : length tables.modules ≤ limit_number Modules
-  pub few_requests : tables.requests ≤ limit_number Requests
+  pub few_requests : length tables.targets ≤ limit_number Requests
+  pub counted : module_requests tables.sources ≤ length tables.targets
   pub spelled : length tables.spellings ≡ length tables.needs
   pub clear : NoClash tables.needs
   pub urls : AreOfUrls tables.needs
@@ -129,12 +146,14 @@ wanted_of name (Err refusal) = Err refusal
 
 -- at most as many steps as there are visits, and requests that are put into the tables
 abbrev pub Spends : ℕ → Tables → Tables → ℕ → ℕ → Type 0
-Spends visits old new before after = after + old.requests ≤ before + visits + new.requests
+Spends visits old new before after =
+    after + length old.targets.items ≤ before + visits + length new.targets.items
 
 -- and no more than there is room for, also where the part is refused
 abbrev pub IsBounded : ℕ → Tables → ℕ → ℕ → Type 0
 IsBounded visits old before after =
-    old.requests ≤ limit_number Requests → after + old.requests ≤ before + visits + limit_number Requests
+    length old.targets.items ≤ limit_number Requests
+    → after + length old.targets.items ≤ before + visits + limit_number Requests
 
 -- ---- parts of the walk
 
@@ -158,4 +177,4 @@ pub record IsOneRequest (config : Config) (asks : Type 0) (old new : Tables) (be
     (result : Result (Unit {0}) TraceFault) : Type 0 where
   pub walks : Walks config 0 0 asks old new before after is_ready result
   pub step : after ≤ before + 1
-  pub counts : OnOk result (new.requests ≡ old.requests + 1)
+  pub counts : OnOk result (Counts 1 old new)

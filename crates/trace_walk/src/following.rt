@@ -41,7 +41,7 @@ pub(crate) fn follow<A: Answerer>(
     ensures one { IsOneRequest config.now (IsUrl referrer.now.text) tables.old tables.new
         (A.steps answerer.old) (A.steps answerer.new) (A.ready answerer.new) result }
 {
-    let asked = check(alloc, tables.requests, referrer, specifier)?;
+    let asked = check(alloc, tables.targets.len(), referrer, specifier)?;
     let conditions = config.conditions();
     match answerer.request(alloc, conditions, &referrer.path, specifier.as_str())? {
         NodeAnswer::Resolved { path, suffix } => {
@@ -65,7 +65,7 @@ fn check(
     specifier: &Text,
 ) -> Result<Text, TraceFault>
     ensures checked { (config : spec.Config) (before : Gathered) (r : Referring spec.Module)
-        → before.requests ≡ requests → IsReferrer config r referrer.now
+        → length before.targets ≡ requests → IsReferrer config r referrer.now
         → IsGiven (checked config before r specifier.now) (wanted_of referrer.now.name result) }
     ensures within { MatchResult result
         (λ _. (requests < limit_number Requests) × (length specifier.now ≤ limit_number Specifier))

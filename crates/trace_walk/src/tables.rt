@@ -10,7 +10,7 @@ ghost use Rattle.trace_spec.specs.Walking.{Referrer as Referring};
 ghost use Rattle.trace_spec.specs.Checks.{needed, led};
 ghost use Rattle.trace_walk.specs.Kinds.{IsOfWalk};
 ghost use Rattle.trace_walk.specs.Refusing.{IsMisnamed};
-ghost use Rattle.trace_walk.specs.Putting.{PutsNeed, Puts};
+ghost use Rattle.trace_walk.specs.Putting.{IsKnown, PutsNeed, Puts};
 ghost use Rattle.trace_walk.specs.Walking.{IsReferrer, AllNamed, AreBeside, AreEmpty, IsNamed, IsGiven};
 ghost use Rattle.trace_walk.specs.Shown.{before_of, done};
 
@@ -37,14 +37,15 @@ pub struct Name {
 }
 
 /// The tables of a walk: the modules in trace order with their names, the sources of those that had their visits, the
-/// needs, how each of them is first spelled, and the number of requests.
+/// needs, how each of them is first spelled, and to each request, in their order, the place of the module that it leads
+/// to.
 #[derive(Drop)]
 pub struct Tables {
     pub modules: IndexMap<Module, Name>,
     pub sources: Vec<Source>,
     pub needs: Needs,
     pub spellings: Vec<Spelling>,
-    pub requests: usize,
+    pub targets: Vec<usize>,
 }
 
 impl Tables {
@@ -57,7 +58,7 @@ impl Tables {
             sources: Vec::new(alloc),
             needs: Needs::new(alloc),
             spellings: Vec::new(alloc),
-            requests: 0,
+            targets: Vec::new(alloc),
         }
     }
 
@@ -73,7 +74,7 @@ impl Tables {
         target: Module,
     ) -> Result<(), TraceFault>
         requires beside { AreBeside self.old }
-        requires room { self.old.requests < limit_number Requests }
+        requires room { length self.old.targets.items < limit_number Requests }
         requires short { length specifier.now ≤ limit_number Specifier }
         ensures put { (r : Referring spec.Module) → IsReferrer config.now r referrer.now
             → AllNamed config.now self.old.modules.entries
@@ -81,8 +82,10 @@ impl Tables {
             (record { referrer = referrer.now.name; asked = asked }) (Ok target)) (done result self.new) }
         ensures puts { Puts config.now referrer.now.text self.old self.new result }
     {
-        match known_text(&self.modules, alloc, &target)? {
-            Some(text) => self.put_known(alloc, config, referrer, specifier, asked, &target, text),
+        match known_name(&self.modules, alloc, &target)? {
+            Some(known) => self.put_known(
+                alloc, config, referrer, specifier, asked, &target, known,
+            ),
             None => {
                 let name = name_of(alloc, config, referrer, specifier, &target)?;
                 self.put_new(alloc, config, referrer, specifier, asked, target, name)
@@ -90,7 +93,7 @@ impl Tables {
         }
     }
 
-    // The same where the module is known, with the text of its name.
+    // The same where the module is known, by its place and the text of its name.
     fn put_known(
         &mut self,
         alloc: Global,
@@ -99,15 +102,15 @@ impl Tables {
         specifier: &Text,
         asked: Text,
         target: &Module,
-        text: Text,
+        known: Known,
     ) -> Result<(), TraceFault>
         requires beside { AreBeside self.old }
-        requires room { self.old.requests < limit_number Requests }
+        requires room { length self.old.targets.items < limit_number Requests }
         requires short { length specifier.now ≤ limit_number Specifier }
-        requires known { list_any (spec.is_module target.now) (keys self.old.modules) ≡ true }
+        requires known { IsKnown (keys self.old.modules) target.now known.place }
         ensures put { (r : Referring spec.Module) → IsReferrer config.now r referrer.now
             → IsGiven (needed config.now (before_of self.old) r
-            (record { referrer = referrer.now.text; asked = asked; target = text })
+            (record { referrer = referrer.now.text; asked = asked; target = known.text })
             (record { referrer = referrer.now.shown; specifier = specifier.now; target = target.now }))
             (done result self.new) }
         ensures puts { Puts config.now referrer.now.text self.old self.new result }
@@ -120,9 +123,9 @@ impl Tables {
             specifier,
             asked,
             target,
-            text,
+            known.text,
         )?;
-        self.requests += 1;
+        push_target(&mut self.targets, known.place)?;
         Ok(())
     }
 
@@ -138,7 +141,7 @@ impl Tables {
         name: Name,
     ) -> Result<(), TraceFault>
         requires beside { AreBeside self.old }
-        requires room { self.old.requests < limit_number Requests }
+        requires room { length self.old.targets.items < limit_number Requests }
         requires short { length specifier.now ≤ limit_number Specifier }
         requires new { list_any (spec.is_module target) (keys self.old.modules) ≡ false }
         requires named { IsNamed config.now target name }
@@ -160,8 +163,9 @@ impl Tables {
             &target,
             text,
         )?;
+        let place = self.modules.len();
         put_module(&mut self.modules, target, name)?;
-        self.requests += 1;
+        push_target(&mut self.targets, place)?;
         Ok(())
     }
 }
@@ -228,22 +232,39 @@ fn name_of(
     Ok(Name { url, text })
 }
 
-// The text of the name of a module that is known.
-fn known_text(
+// A module that is known: its place, and the text of its name.
+#[derive(Drop)]
+struct Known {
+    place: usize,
+    text: Text,
+}
+
+// The place and the name of a module that is known.
+fn known_name(
     modules: &IndexMap<Module, Name>,
     alloc: Global,
     target: &Module,
-) -> Result<Option<Text>, Memory>
+) -> Result<Option<Known>, Memory>
     ensures unknown { IfOk result (λ found. found ≡ None
         → list_any (spec.is_module target.now) (keys modules.now) ≡ false) }
-    ensures known { IfOk result (λ found. IfSome found
-        (λ text. (list_any (spec.is_module target.now) (keys modules.now) ≡ true)
-        × ((config : spec.Config) → AllNamed config modules.now.entries → file_name config target.now ≡ Some text))) }
+    ensures known { IfOk result (λ found. IfSome found (λ known. IsKnown (keys modules.now) target.now known.place
+        × ((config : spec.Config) → AllNamed config modules.now.entries
+        → file_name config target.now ≡ Some known.text))) }
 {
-    match modules.get(target) {
+    match modules.get_full(target) {
         None => Ok(None),
-        Some(name) => Ok(Some(name.text.copy(alloc)?)),
+        Some((place, _, name)) => Ok(Some(Known {
+            place,
+            text: name.text.copy(alloc)?,
+        })),
     }
+}
+
+fn push_target(targets: &mut Vec<usize>, place: usize) -> Result<(), Memory>
+    ensures { OnOk result (targets.new.items ≡ targets.old.items ++ place ∷ []) }
+{
+    targets.push(place)?;
+    Ok(())
 }
 
 // The need of a request; where what is asked for is its target, they share their text.

@@ -10,7 +10,7 @@ ghost use Rattle.trace_spec.specs.Checks.{rules};
 ghost use Rattle.trace_spec.specs.Traces.{trace};
 ghost use Rattle.trace_spec.specs.Modules.{served_at};
 ghost use Rattle.trace_walk.specs.Meeting.{Met};
-ghost use Rattle.trace_walk.specs.Walking.{IsReferrer, IsReferrerAt, AllNamed, AreBeside, IsUnserved, Walks};
+ghost use Rattle.trace_walk.specs.Walking.{IsReferrer, IsReferrerAt, AllNamed, AreBeside, IsUnserved, Counts, Walks};
 ghost use Rattle.trace_walk.specs.Walked.{IsWalked};
 ghost use Rattle.trace_walk.specs.Shown.{before_of, done, traced_of, specifiers_of};
 
@@ -60,6 +60,7 @@ fn visit_page<A: Answerer>(
         (done result tables.new) (A.state answerer.new) }
     ensures walks { Walks config.now 0 0 ⊤ tables.old tables.new
         (A.steps answerer.old) (A.steps answerer.new) (A.ready answerer.new) result }
+    ensures counts { OnOk result (Counts (length config.now.entries) tables.old tables.new) }
 {
     let referrer = page_referrer(alloc, config)?;
     let entries = Specifiers::Entries(config.entries());
@@ -101,6 +102,7 @@ fn follow_all<A: Answerer>(
         (done result tables.new) (A.state answerer.new) }
     ensures walks { Walks config.now 0 0 (IsUrl referrer.now.text) tables.old tables.new
         (A.steps answerer.old) (A.steps answerer.new) (A.ready answerer.new) result }
+    ensures counts { OnOk result (Counts (length (specifiers_of specifiers.entry)) tables.old tables.new) }
 {
     let mut next = 0;
     while next < specifiers.len() {
@@ -127,6 +129,7 @@ fn visit_modules<A: Answerer>(
     ensures walks { Walks config.now (length tables.new.modules.entries) (limit_number Modules)
         (AllNamed config.now tables.old.modules.entries) tables.old tables.new
         (A.steps answerer.old) (A.steps answerer.new) (A.ready answerer.new) result }
+    ensures counts { OnOk result (Counts 0 tables.old tables.new) }
 {
     let mut place = 0;
     while place < tables.modules.len() {
@@ -153,6 +156,7 @@ fn visit<A: Answerer>(
         (done result tables.new) (A.state answerer.new) }
     ensures walks { Walks config.now 1 1 (AllNamed config.now tables.old.modules.entries) tables.old tables.new
         (A.steps answerer.old) (A.steps answerer.new) (A.ready answerer.new) result }
+    ensures counts { OnOk result (Counts 0 tables.old tables.new) }
 {
     let (module, name) = tables.modules.get_index(place).unwrap();
     let referrer = referrer_of(alloc, module, name)?;
@@ -175,6 +179,7 @@ fn visit_module<A: Answerer>(
         (done result tables.new) (A.state answerer.new) }
     ensures walks { Walks config.now 1 1 (IsUrl referrer.now.text) tables.old tables.new
         (A.steps answerer.old) (A.steps answerer.new) (A.ready answerer.new) result }
+    ensures counts { OnOk result (Counts 0 tables.old tables.new) }
 {
     match answerer.module(alloc, &referrer.path)? {
         Ok(source) => {

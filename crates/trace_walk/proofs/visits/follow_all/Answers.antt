@@ -1,4 +1,4 @@
-use Rattle.std.proofs.Common.{◌≡◌, [], ◌+◌, drop, Ok, Some, sym, ap, ◌∙◌, subst, arith}
+use Rattle.std.proofs.Common.{◌≡◌, [], ◌+◌, length, drop, Ok, Some, sym, ap, ◌∙◌, subst, arith}
 use Rattle.std.proofs.lemmas.List.{drop_all}
 use Rattle.std.specs.Prelude.{slice_get, option_copied}
 use Rattle.primitives.proofs.ListSteps.{drop_at}
@@ -6,13 +6,14 @@ use Rattle.trace_spec.specs.Walking.{followed}
 use Rattle.trace_spec.specs.Checks.{rules, follows}
 use Rattle.trace_walk.specs.Meeting.{Met}
 use Rattle.trace_walk.specs.Shown.{before_of, done, specifiers_of}
+use Rattle.trace_walk.specs.Walking.{Counts}
 use Rattle.trace_walk.proofs.FaultKinds.{handed}
 use Rattle.trace_walk.proofs.Meetings.{left_begins, left_goes, left_fails, left_completes, met_now, given_same}
-use Rattle.trace_walk.proofs.Advancing.{advances_begin, advances_on, walks_done, walks_stopped}
+use Rattle.trace_walk.proofs.Advancing.{advances_begin, advances_on, walks_done, walks_stopped, counts_begin, counts_on}
 use Rattle.trace_walk.proofs.visits.follow_all.Goals as goal
 
 pub loop-next-init : goal.loop-next-init
-loop-next-init g c = record { left = λ r is all. left_begins _ _; advances = advances_begin _ _ _ _ _ c.requires.beside c.requires.ready }
+loop-next-init g c = record { left = λ r is all. left_begins _ _; advances = advances_begin _ _ _ _ _ c.requires.beside c.requires.ready; counts = counts_begin c.args.tables.now; within = omega arith }
 
 pub loop-next-preserved : goal.loop-next-preserved
 loop-next-preserved g c =
@@ -23,6 +24,8 @@ loop-next-preserved g c =
           left_goes _ _ _ _ (follows c.args.config.now (before_of c.loop-next.tables) r c.unwrap-specifier.result.now) (λ after. followed (rules c.args.config.now) after r (drop (c.loop-next.next + 1) (specifiers_of c.args.specifiers))) (before_of c.follow.new.tables)
           (rw rest at (c.loop-next.invariant.left r is all)) (c.in_ok-follow.ensures.met r is (c.loop-next.invariant.advances.grows.named all));
       advances = advances_on _ 0 0 _ _ _ _ _ _ _ _ _ _ (λ url. url) c.loop-next.invariant.advances c.in_ok-follow.ensures.one.walks.advances;
+      counts = counts_on c.loop-next.next 1 c.args.tables.now c.loop-next.tables c.follow.new.tables c.loop-next.invariant.counts c.in_ok-follow.ensures.one.counts;
+      within = (let e = c.len.ensures in omega (arith, e, c.loop-next-test.true));
     }
 
 pub returns-in_err-follow-clause-met : goal.returns-in_err-follow-clause-met
@@ -45,3 +48,8 @@ returns-in_err-follow-clause-walks g c =
 
 pub returns-clause-walks : goal.returns-clause-walks
 returns-clause-walks g c = walks_done _ 0 0 _ _ _ _ _ _ _ (omega arith) c.loop-next.invariant.advances
+
+pub returns-clause-counts : goal.returns-clause-counts
+returns-clause-counts g c =
+    let all : c.loop-next.next ≡ length (specifiers_of c.args.specifiers) = (let e = c.len.ensures in omega (arith, e, c.loop-next.invariant.within, c.loop-next-test.false)) in
+    subst (λ n. Counts n c.args.tables.now c.loop-next.tables) all c.loop-next.invariant.counts

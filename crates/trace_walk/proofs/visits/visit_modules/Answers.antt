@@ -9,11 +9,11 @@ use Rattle.trace_walk.proofs.FaultKinds.{handed}
 use Rattle.trace_walk.proofs.TableLemmas.{keys_of-length}
 use Rattle.trace_walk.proofs.Meetings.{left_begins, left_goes, left_fails, left_completes, met_now, given_same}
 use Rattle.trace_walk.proofs.Visiting.{at_index, next_visit, no_visit}
-use Rattle.trace_walk.proofs.Advancing.{advances_begin, advances_on, walks_done, walks_stopped}
+use Rattle.trace_walk.proofs.Advancing.{advances_begin, advances_on, walks_done, walks_stopped, counts_begin, counts_on}
 use Rattle.trace_walk.proofs.visits.visit_modules.Goals as goal
 
 pub loop-place-init : goal.loop-place-init
-loop-place-init g c = record { left = λ all. left_begins _ _; advances = advances_begin _ _ _ _ _ c.requires.beside c.requires.ready; few = c.requires.few; within = omega arith }
+loop-place-init g c = record { left = λ all. left_begins _ _; advances = advances_begin _ _ _ _ _ c.requires.beside c.requires.ready; counts = counts_begin c.args.tables.now; few = c.requires.few; within = omega arith }
 
 pub returns-in_err-visit-clause-met : goal.returns-in_err-visit-clause-met
 returns-in_err-visit-clause-met g c = λ all.
@@ -33,6 +33,7 @@ loop-place-preserved g c =
           (next_visit _ _ _ c.args.config.now (before_of c.loop-place.tables) c.loop-place.place at.0 (omega (arith, c.loop-place.invariant.within, c.loop-place.invariant.few)) at.1 (c.loop-place.invariant.left all))
           (c.in_ok-visit.ensures.met at.0 at.1 (c.loop-place.invariant.advances.grows.named all));
       advances = advances_on _ c.loop-place.place 1 _ _ _ _ _ _ _ _ _ _ c.loop-place.invariant.advances.grows.named c.loop-place.invariant.advances c.in_ok-visit.ensures.walks.advances;
+      counts = counts_on 0 0 c.args.tables.now c.loop-place.tables c.visit.new.tables c.loop-place.invariant.counts c.in_ok-visit.ensures.counts;
       few = c.in_ok-visit.ensures.walks.advances.grows.few c.loop-place.invariant.few;
       within = (let e = c.len.ensures.len in let m = c.in_ok-visit.ensures.walks.advances.grows.longer in omega (arith, e, m, c.loop-place-test.true));
     }
@@ -53,3 +54,6 @@ returns-clause-walks g c =
     let all : c.loop-place.place ≡ length c.loop-place.tables.modules.entries = (let e = c.len.ensures.len in omega (arith, e, c.loop-place.invariant.within, c.loop-place-test.false)) in
     walks_done _ _ 20000 _ _ _ _ _ _ _ c.loop-place.invariant.few
     (subst (λ visits. Advances c.args.config.now visits (AllNamed c.args.config.now c.args.tables.now.modules.entries) c.args.tables.now c.loop-place.tables (g.A.Answerer.steps c.args.answerer.now) (g.A.Answerer.steps c.loop-place.answerer) (g.A.Answerer.ready c.loop-place.answerer)) all c.loop-place.invariant.advances)
+
+pub returns-clause-counts : goal.returns-clause-counts
+returns-clause-counts g c = c.loop-place.invariant.counts

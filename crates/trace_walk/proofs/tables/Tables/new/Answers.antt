@@ -7,5 +7,5 @@ returns c = record {
   sources = search rules;
   needs = search rules;
   spellings = search rules;
-  requests = search rules;
+  targets = search rules;
 }
