@@ -18,7 +18,7 @@ use Rattle.session_spec.proofs.Replying.{one_reply}
 
 -- ---- one answer
 
-one_conversation : (is_more : Bool) (state : SessionState) (number : ℕ) (at : Turn) (out other : List ℕ) (status second : ℕ)
+pub one_conversation : (is_more : Bool) (state : SessionState) (number : ℕ) (at : Turn) (out other : List ℕ) (status second : ℕ)
     → Conversation is_more state number at out status → Conversation is_more state number at other second → SameAnswer out other status second
 one_conversation is_more _ _ _ _ _ _ _ (edits state next number status edit rest line out replies goes) (edits _ last _ second _ _ said other replies_too goes_too) =
     let same = one_reply state next last edit line said replies replies_too in
@@ -41,7 +41,7 @@ one_answer state input out other status second a b =
 -- ---- behind `end`
 
 module _ (more : List ℕ) where
-  abbrev turn_on : Turn → Turn
+  abbrev pub turn_on : Turn → Turn
   turn_on (makes edit rest) = makes edit (rest_on more rest)
   turn_on (holds held rest) = holds held (rest_on more rest)
   turn_on (shows rest) = shows (rest_on more rest)
@@ -57,7 +57,7 @@ module _ (more : List ℕ) where
   GoesOn refuses = ⊥
   GoesOn stops = ⊥
 
-  ordered_on : (held : Option (List Change)) (order : Order) (rest : Rest) → ordered held order (rest_on more rest) ≡ turn_on (ordered held order rest)
+  pub ordered_on : (held : Option (List Change)) (order : Order) (rest : Rest) → ordered held order (rest_on more rest) ≡ turn_on (ordered held order rest)
   ordered_on None (changes change) rest = refl
   ordered_on None begins rest = refl
   ordered_on None commits rest = refl
@@ -74,7 +74,7 @@ module _ (more : List ℕ) where
   taken_on held malformed other is goes = absurd goes
   taken_on held unfinished other is goes = absurd goes
 
-  at_on : (held : Option (List Change)) (input : List ℕ) (at : Turn) → at ≡ turn_at held input → GoesOn at → turn_at held (input ++ more) ≡ turn_on at
+  pub at_on : (held : Option (List Change)) (input : List ℕ) (at : Turn) → at ≡ turn_at held input → GoesOn at → turn_at held (input ++ more) ≡ turn_on at
   at_on held input at e goes =
       taken_on held (read_line input) (read_line (input ++ more)) (read_on more input) (subst GoesOn e goes) ∙ ap turn_on (sym e)
 
@@ -105,7 +105,7 @@ module _ (more : List ℕ) where
     behind_end _ _ _ _ _ (bad state number) done held input e = absurd (omega (arith, done))
     behind_end _ _ _ _ _ (stopped state number) done held input e = absurd (not_cut is_more done)
 
-taken_by : (n : ℕ) (front back : List ℕ) → (length front < n) ⊎ (n ≤ length front) → (rest : List ℕ) × (take n (front ++ back) ≡ take n front ++ rest)
+pub taken_by : (n : ℕ) (front back : List ℕ) → (length front < n) ⊎ (n ≤ length front) → (rest : List ℕ) × (take n (front ++ back) ≡ take n front ++ rest)
 taken_by n front back (inr short) = ([], take-append-le n front back short ∙ sym (append-nil (take n front)))
 taken_by n front back (inl long) =
     let k = n - length front in

@@ -5,3 +5,7 @@ pub mod SessionExamples
 pub mod SomeAnswer
 pub mod PutFiles
 pub mod TreesStay
+pub mod Talking
+pub mod WholeSessions
+pub mod LinesWhole
+pub mod Standings

@@ -14,7 +14,7 @@ module _ (more : List ℕ) where
   abbrev pub rest_on : Rest → Rest
   rest_on rest = record { lines = rest.lines; behind = rest.behind ++ more }
 
-  abbrev reading_on : Reading → Reading
+  abbrev pub reading_on : Reading → Reading
   reading_on (reads order rest) = reads order (rest_on rest)
   reading_on malformed = malformed
   reading_on unfinished = unfinished
@@ -96,7 +96,7 @@ module _ (more : List ℕ) where
 
   -- ---- the first line
 
-  abbrev cut_on : Cut → Cut
+  abbrev pub cut_on : Cut → Cut
   cut_on cut = record { front = cut.front; behind = cut.behind ++ more }
 
   same_cut : (cut other : Cut) → Some cut ≡ Some other → cut ≡ other
@@ -110,7 +110,7 @@ module _ (more : List ℕ) where
   cut_further false x rest (Some c) again cut on e =
       ap (option_map (with_front x)) (on c refl) ∙ ap (λ (c : Cut). Some (cut_on c)) (same_cut (with_front x c) cut e)
 
-  first_on : (b : ℕ) (text : List ℕ) (cut : Cut) → cut_first b text ≡ Some cut → cut_first b (text ++ more) ≡ Some (cut_on cut)
+  pub first_on : (b : ℕ) (text : List ℕ) (cut : Cut) → cut_first b text ≡ Some cut → cut_first b (text ++ more) ≡ Some (cut_on cut)
   first_on b [] cut e = absurd (cc)
   first_on b (x ∷ rest) cut e = cut_further (x == b) x rest (cut_first b rest) (cut_first b (rest ++ more)) cut (λ c is. first_on b rest c is) e
 

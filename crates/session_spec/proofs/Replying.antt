@@ -15,7 +15,7 @@ use Rattle.session_spec.specs.Replies.{IsRefused, by_change, by_generation, Foll
 use Rattle.session_spec.specs.Replies.{nowhere, on, none, then}
 use Rattle.session_spec.specs.SessionStates.{SessionState, Counts, counts_of, draft_of, config_with, next_state, IsGenerated, IsCurrent}
 
-one_count : (tree : Tree) (config : Config) (map other : List ℕ) (counts second : Counts) → IsGenerated tree config map counts → IsGenerated tree config other second → counts ≡ second
+pub one_count : (tree : Tree) (config : Config) (map other : List ℕ) (counts second : Counts) → IsGenerated tree config map counts → IsGenerated tree config other second → counts ≡ second
 one_count tree config map other counts second a b =
     let traces = one_trace tree config config map other refl a.generates b.generates in
     let layouts = one_layout tree config config map other refl a.generates b.generates in
@@ -56,7 +56,7 @@ accepted_by state _ edit _ _ e (accepted draft map counts generated) = inl (reco
 pub accepted_or_left : AcceptedOrLeft
 accepted_or_left state next edit line replies = accepted_by state next edit line (edited (draft_of state) edit) refl replies
 
-next_current : (state next : SessionState) (line : List ℕ) (made : Result Draft EditFault) → IsCurrent state → Follows state made next line → IsCurrent next
+pub next_current : (state next : SessionState) (line : List ℕ) (made : Result Draft EditFault) → IsCurrent state → Follows state made next line → IsCurrent next
 next_current state _ _ _ current (refused _ _ is) = current
 next_current state _ _ _ current (accepted draft map counts generated) = generated
 

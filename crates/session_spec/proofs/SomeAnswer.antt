@@ -186,10 +186,10 @@ read_shorter input order rest e = line_shorter (length input) (cut_first 10 inpu
 
 -- ---- answers
 
-record HasConversation (is_more : Bool) (state : SessionState) (number : ℕ) (at : Turn) : Type 0 where
-  out : List ℕ
-  status : ℕ
-  conversation : Conversation is_more state number at out status
+pub record HasConversation (is_more : Bool) (state : SessionState) (number : ℕ) (at : Turn) : Type 0 where
+  pub out : List ℕ
+  pub status : ℕ
+  pub conversation : Conversation is_more state number at out status
 
 module _ (is_more : Bool) where
   -- each line behind this one is answered
@@ -230,7 +230,7 @@ module _ (is_more : Bool) where
   reading_answered state number held malformed later = refused_answered state number
   reading_answered state number held unfinished later = record { out = stop_line is_more number; status = stop_status is_more; conversation = stopped state number }
 
-  input_answered : (most : ℕ) (state : SessionState) (number : ℕ) (held : Option (List Change)) (input : List ℕ) → length input < most → HasConversation is_more state number (turn_at held input)
+  pub input_answered : (most : ℕ) (state : SessionState) (number : ℕ) (held : Option (List Change)) (input : List ℕ) → length input < most → HasConversation is_more state number (turn_at held input)
   input_answered zero state number held input less = absurd (omega (arith, less))
   input_answered (suc most) state number held input less =
       reading_answered state number held (read_line input)

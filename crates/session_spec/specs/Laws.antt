@@ -1,16 +1,21 @@
 -- The laws of sessions. Each is the contract of a function of this crate.
 use Rattle.std.specs.FinMap.{get}
-use Rattle.std.specs.Prelude.{◌≡◌, ◌⊎◌, ◌++◌, ⊤, ℕ, true, List, flat_map, Ok, All}
+use Rattle.std.specs.Prelude.{◌≡◌, ◌≤◌, ◌⊎◌, ◌++◌, ◌∷◌, ⊤, ℕ, true, List, length, flat_map, Ok, All}
+use Rattle.tree_spec.specs.Limits.{limit_number}
 use Rattle.tree_spec.specs.Paths.{IsPath}
 use Rattle.tree_spec.specs.Trees.{Tree, IsTree, Places}
 use Rattle.tree_spec.specs.declared.Entry.TheVariants.{Stored}
-use Rattle.generator_spec.specs.Statuses.{done_status}
+use Rattle.tree_spec.specs.declared.LimitName.TheVariants.{Session}
+use Rattle.generator_spec.specs.Lines.{limit_line}
+use Rattle.generator_spec.specs.Statuses.{done_status, file_status, limit_status}
 use Rattle.session_spec.specs.declared.Change.{Change}
 use Rattle.session_spec.specs.declared.Change.TheVariants.{Link, Unlink, Put, Drop}
-use Rattle.session_spec.specs.Conversations.{Answers}
+use Rattle.session_spec.specs.Conversations.{Answers, ends, refuses, stops, end_reply, bad_line}
 use Rattle.session_spec.specs.Edits.{Draft, can_put, put_file, edited, then_edited}
 use Rattle.session_spec.specs.Replies.{IsRefused, Replies, IsAccepted, Leads, AllAccepted}
+use Rattle.session_spec.specs.SessionRuns.{SessionComesTo, IsStanding}
 use Rattle.session_spec.specs.SessionStates.{SessionState, draft_of, config_with, IsCurrent}
+use Rattle.session_spec.specs.Talks.{Standing, begun, turn_of, Talks}
 
 -- the two states are one, and so are the lines
 pub record SameReply (next other : SessionState) (line said : List ℕ) : Type 0 where
@@ -123,3 +128,57 @@ abbrev pub NothingBehindEnd : Type 0
 NothingBehindEnd =
     (state : SessionState) (input more out : List ℕ) → Answers state input out done_status
     → Answers state (input ++ more) out done_status
+
+-- ---- whole sessions
+
+-- own: the text is this front and then some more
+pub record BeginsWith (front text : List ℕ) : Type 0 where
+  pub rest : List ℕ
+  pub whole : text ≡ front ++ rest
+
+-- what is replied to the first bytes of an input is the front of what is replied to it all
+abbrev pub FrontReplies : Type 0
+FrontReplies =
+    (state : SessionState) (taken more front out : List ℕ) (status : ℕ) (later : Standing)
+    → length taken ≤ limit_number Session → Talks (begun state taken) front later
+    → Answers state (taken ++ more) out status → BeginsWith front out
+
+-- wherever a session stands, its map is the one that is generated for its tree and config
+abbrev pub TalksStayCurrent : Type 0
+TalksStayCurrent =
+    (at later : Standing) (out : List ℕ) → IsCurrent at.state → Talks at out later → IsCurrent later.state
+
+-- a session on a tree says one text to an input at most, with one status
+abbrev pub OneSession : Type 0
+OneSession =
+    (tree : Tree) (input out other : List ℕ) (status second : ℕ) → SessionComesTo tree input status out
+    → SessionComesTo tree input second other → SameAnswer out other status second
+
+-- own: some text and status
+pub record HasSession (tree : Tree) (input : List ℕ) : Type 0 where
+  pub out : List ℕ
+  pub status : ℕ
+  pub comes : SessionComesTo tree input status out
+
+-- it says something to each input
+abbrev pub SomeSession : Type 0
+SomeSession = (tree : Tree) (input : List ℕ) → HasSession tree input
+
+-- own: what a session says in the end that stands there: behind `end`, behind a line that has no meaning or stands in
+-- the wrong place, where the input ends within a line, and where the limit does
+pub record EndsThere (tree : Tree) (taken text : List ℕ) (at : Standing) : Type 0 where
+  pub ended :
+      (more : List ℕ) → turn_of at ≡ ends → SessionComesTo tree (taken ++ more) done_status (text ++ end_reply)
+  pub refused :
+      (more : List ℕ) → turn_of at ≡ refuses
+      → SessionComesTo tree (taken ++ more) file_status (text ++ bad_line at.number)
+  pub short : turn_of at ≡ stops → SessionComesTo tree taken file_status (text ++ bad_line at.number)
+  pub long :
+      (byte : ℕ) (more : List ℕ) → length taken ≡ limit_number Session → turn_of at ≡ stops
+      → SessionComesTo tree (taken ++ byte ∷ more) limit_status (text ++ limit_line Session)
+
+-- a session that stands there, with bytes that the limit allows, ends so
+abbrev pub SessionsEnd : Type 0
+SessionsEnd =
+    (tree : Tree) (taken text : List ℕ) (at : Standing) → length taken ≤ limit_number Session
+    → IsStanding tree taken text at → EndsThere tree taken text at

@@ -3,5 +3,8 @@ pub mod SessionStates
 pub mod Replies
 pub mod SessionLines
 pub mod Conversations
+pub mod Talks
+pub mod TakenInput
+pub mod SessionRuns
 pub mod Laws
 pub mod WorkedExamples

@@ -5,6 +5,7 @@
 ghost use Rattle.session_spec.specs.Laws.{OneReply, SomeReply, RefusedLeaves, AcceptedOrLeft, AlwaysCurrent};
 ghost use Rattle.session_spec.specs.Laws.{PutPlaces, EditsKeepTree, EditsJoin, AcceptedJoin};
 ghost use Rattle.session_spec.specs.Laws.{OneAnswer, SomeAnswer, NothingBehindEnd};
+ghost use Rattle.session_spec.specs.Laws.{FrontReplies, TalksStayCurrent, OneSession, SomeSession, SessionsEnd};
 ghost use Rattle.session_spec.specs.WorkedExamples.{LineExamples, TurnExamples, EntryExamples};
 ghost use Rattle.session_spec.specs.WorkedExamples.{EditExamples, AnswerExamples};
 
@@ -93,6 +94,31 @@ pub fn some_answer()
 /// What comes behind `end` changes nothing.
 pub fn nothing_behind_end()
     ensures { NothingBehindEnd }
+{}
+
+/// What is replied to the first bytes of an input stays what is replied, whatever comes behind them.
+pub fn front_replies()
+    ensures { FrontReplies }
+{}
+
+/// Wherever a session stands, its map is that of its tree and config.
+pub fn talks_stay_current()
+    ensures { TalksStayCurrent }
+{}
+
+/// A session on a tree says one text to an input.
+pub fn one_session()
+    ensures { OneSession }
+{}
+
+/// It says something to each input.
+pub fn some_session()
+    ensures { SomeSession }
+{}
+
+/// How a session ends, where it stands.
+pub fn sessions_end()
+    ensures { SessionsEnd }
 {}
 
 /// How lines are read.

@@ -1,0 +1,4 @@
+pub mod ByteTests
+pub mod CutLemmas
+pub mod LineLemmas
+pub mod ReaderLemmas

@@ -1,0 +1,161 @@
+-- A whole session, from the words that ask for one. own.
+--     refresh_words                   the words that ask for the map anew: a session is opened on the same project
+--     OpensAt tree state              a session is opened with this state
+--     opening_line state              what is said of it then
+--     SessionComesTo tree input status text     what a session on this tree says to this input, and its exit status
+--     RepliesTo tree taken text       the line of the opening and replies to lines of these bytes, or nothing yet
+--     RepliesToAll tree taken text    so, to each line that stands whole in them
+--     IsStanding tree taken text at   where a session stands that took these bytes and said this
+--     IsAwaited tree taken            the last of these bytes were taken where what came before them didn't end the
+--                                     session
+--     AsksOnce old after              the folder was asked for the project's path, and then for none twice
+--     MapsServe tree input            each map that such a session can show serves the tree and config of its state
+--     SessionSays before after source later status text      why a session ends with this status and this text
+--     SessionStops before after source later taken out out_after result      all of the text went out, or the sink
+--                                     failed and that ended the session
+--     SessionEnds before after source later out out_after result      all that is promised of a session, whatever
+--                                     folder, source and sink do
+use Rattle.std.specs.Prelude.{◌≡◌, ◌≤◌, ◌⊎◌, ◌++◌, ◌∷◌, [], ℕ, List, codes, bytes_eq, Option, Some, IfSome}
+use Rattle.std.specs.List.{IsDistinct}
+use Rattle.tree_spec.specs.Counts.{Rose}
+use Rattle.tree_spec.specs.States.{FolderState, SourceState, SinkState}
+use Rattle.tree_spec.specs.Trees.{Tree}
+use Rattle.trace_spec.specs.Modules.{Config}
+use Rattle.config_spec.specs.Projects.{project_path, IsConfigOf}
+use Rattle.config_spec.specs.declared.Command.TheVariants.{Refresh}
+use Rattle.generator_spec.specs.Ending.{Ends, Gives}
+use Rattle.generator_spec.specs.Lines.{status_of, line_of, memory_line, read_fault_line}
+use Rattle.generator_spec.specs.Outcome.{RefusesRun}
+use Rattle.generator_spec.specs.Serves.{Serves, KnowsModules}
+use Rattle.generator_spec.specs.Statuses.{memory_status, read_fault_status, write_fault_status}
+use Rattle.generator_spec.specs.declared.Refusal.{Refusal}
+use Rattle.session_spec.specs.Conversations.{Answers, stops}
+use Rattle.session_spec.specs.Replies.{accepted_line}
+use Rattle.session_spec.specs.SessionStates.{Counts, SessionState, IsGenerated}
+use Rattle.session_spec.specs.Talks.{Standing, begun, turn_of, Talks}
+use Rattle.session_spec.specs.TakenInput.{Takes}
+
+-- ---- what is said
+
+abbrev pub refresh_words : List (List ℕ)
+refresh_words = codes "refresh" ∷ []
+
+-- own: its config is the project's, and the map is generated for it
+pub data OpensAt (tree : Tree) : SessionState → Type 0 where
+  opens :
+      (config : Config) (map : List ℕ) (counts : Counts) → IsConfigOf refresh_words tree Refresh config
+      → IsGenerated tree config map counts
+      → OpensAt tree (record { tree = tree; config = config; map = map; counts = counts })
+
+abbrev pub opening_line : SessionState → List ℕ
+opening_line state = accepted_line state.counts
+
+-- own: what would be refused anew isn't opened, and no input is read then; else each line is answered behind the line of
+-- the opening
+pub data SessionComesTo (tree : Tree) (input : List ℕ) : ℕ → List ℕ → Type 0 where
+  refused :
+      (why : Refusal) → RefusesRun refresh_words tree why → SessionComesTo tree input (status_of why) (line_of why)
+  replied :
+      (state : SessionState) (status : ℕ) (out : List ℕ) → OpensAt tree state → Answers state input out status
+      → SessionComesTo tree input status (opening_line state ++ out)
+
+pub data RepliesTo (tree : Tree) (taken : List ℕ) : List ℕ → Type 0 where
+  unopened : RepliesTo tree taken []
+  opened :
+      (state : SessionState) (out : List ℕ) (later : Standing) → OpensAt tree state
+      → Talks (begun state taken) out later → RepliesTo tree taken (opening_line state ++ out)
+
+pub data RepliesToAll (tree : Tree) (taken : List ℕ) : List ℕ → Type 0 where
+  opened :
+      (state : SessionState) (out : List ℕ) (later : Standing) → OpensAt tree state
+      → Talks (begun state taken) out later → turn_of later ≡ stops
+      → RepliesToAll tree taken (opening_line state ++ out)
+
+-- own: of these bytes all but its input are read, and this text is replied
+pub record IsStanding (tree : Tree) (taken text : List ℕ) (at : Standing) : Type 0 where
+  pub state : SessionState
+  pub opens : OpensAt tree state
+  pub out : List ℕ
+  pub talks : Talks (begun state taken) out at
+  pub said : text ≡ opening_line state ++ out
+
+-- ---- what is taken, asked and shown
+
+pub record StandsBeforeLast (tree : Tree) (taken : List ℕ) : Type 0 where
+  pub front : List ℕ
+  pub last : List ℕ
+  pub whole : taken ≡ front ++ last
+  pub text : List ℕ
+  pub replied : RepliesToAll tree front text
+
+abbrev pub IsAwaited : Tree → List ℕ → Type 0
+IsAwaited tree taken = (taken ≡ []) ⊎ StandsBeforeLast tree taken
+
+pub record AsksOnce (old : List (List ℕ)) (after : FolderState) : Type 0 where
+  pub first : List (List ℕ)
+  pub is_first : (first ≡ []) ⊎ (first ≡ project_path ∷ [])
+  pub more : List (List ℕ)
+  pub asked : after.asked ≡ Some (old ++ (first ++ more))
+  pub once : IsDistinct bytes_eq more
+
+pub record MapServes (state : SessionState) : Type 0 where
+  pub serves : Serves state.tree state.config state.map
+  pub knows : KnowsModules state.tree state.config state.map
+
+-- own: wherever the session stands, its map is generated for its tree and config, and leads each request to its file
+abbrev pub MapsServe : Tree → List ℕ → Type 0
+MapsServe tree input =
+    (state : SessionState) (out : List ℕ) (later : Standing) → OpensAt tree state → Talks (begun state input) out later
+    → IsGenerated later.state.tree later.state.config later.state.map later.state.counts × MapServes later.state
+
+-- ---- how it ends
+
+abbrev pub NoFault : FolderState → FolderState → SourceState → SourceState → Type 0
+NoFault before after source later =
+    (after.look_faults ≡ before.look_faults) × (later.faults ≡ source.faults)
+
+-- own: the session says what is defined, and no fault was counted; or there is want of memory, or a fault that was
+-- counted, behind the line of the opening and whole replies, or behind nothing. Where a take fails, each line that stands
+-- whole in the bytes that were taken was answered
+pub data SessionSays (before after : FolderState) (source later : SourceState) (taken : List ℕ) (status : ℕ)
+    (text : List ℕ) : Type 0 where
+  outcome :
+      NoFault before after source later → IfSome before.holds (λ tree. SessionComesTo tree taken status text)
+      → IfSome before.holds (λ tree. IfSome source.left (λ input. SessionComesTo tree input status text))
+      → SessionSays before after source later taken status text
+  memory :
+      (front : List ℕ) → NoFault before after source later → IfSome before.holds (λ tree. RepliesTo tree taken front)
+      → status ≡ memory_status → text ≡ front ++ memory_line → SessionSays before after source later taken status text
+  look_fault :
+      (front : List ℕ) → Rose before.look_faults after.look_faults → later.faults ≡ source.faults
+      → IfSome before.holds (λ tree. RepliesTo tree taken front) → status ≡ read_fault_status
+      → text ≡ front ++ read_fault_line → SessionSays before after source later taken status text
+  take_fault :
+      (front : List ℕ) → after.look_faults ≡ before.look_faults → Rose source.faults later.faults
+      → IfSome before.holds (λ tree. RepliesToAll tree taken front) → status ≡ read_fault_status
+      → text ≡ front ++ read_fault_line → SessionSays before after source later taken status text
+
+-- own: where the sink fails, a front of the text went out, or of what was replied until then
+pub data SessionStops (before after : FolderState) (source later : SourceState) (taken : List ℕ)
+    (out out_after : SinkState) (result : ℕ) : Type 0 where
+  said :
+      (status : ℕ) (text : List ℕ) → SessionSays before after source later taken status text
+      → Ends status text out out_after result → SessionStops before after source later taken out out_after result
+  cut_off :
+      (text : List ℕ) → NoFault before after source later → IfSome before.holds (λ tree. RepliesTo tree taken text)
+      → result ≡ write_fault_status → Gives out.got out_after.got text → Rose out.faults out_after.faults
+      → SessionStops before after source later taken out out_after result
+
+-- own: nothing is written
+pub record SessionEnds (before after : FolderState) (source later : SourceState) (out out_after : SinkState)
+    (result : ℕ) : Type 0 where
+  pub tree : after.holds ≡ before.holds
+  pub writes : after.write_faults ≡ before.write_faults
+  pub looks_later : before.look_faults ≤ after.look_faults
+  pub output_later : out.faults ≤ out_after.faults
+  pub taken : List ℕ
+  pub takes : Takes source taken later
+  pub awaited : IfSome before.holds (λ tree. IsAwaited tree taken)
+  pub asked : IfSome before.asked (λ old. AsksOnce old after)
+  pub stops : SessionStops before after source later taken out out_after result
+  pub serves : IfSome before.holds (λ tree. MapsServe tree taken)

@@ -1,0 +1,32 @@
+-- Bytes that were taken from a source. own: no public standard speaks of it.
+--     IsFront bytes input left        the input is these bytes and then what is left
+--     Takes before bytes after        these bytes were taken from the source, one after another
+--     IsSpent state                   nothing is left
+--     IsNeeded unread taken           the last of the taken bytes were asked for where what was at hand held no whole
+--                                     line
+use Rattle.std.specs.Prelude.{◌≡◌, ◌≤◌, ◌⊎◌, ◌++◌, [], ℕ, List, Option, Some, None, IfSome}
+use Rattle.tree_spec.specs.States.{SourceState}
+use Rattle.session_spec.specs.SessionLines.{unfinished, read_line}
+
+pub record IsFront (bytes input : List ℕ) (left : Option (List ℕ)) : Type 0 where
+  pub rest : List ℕ
+  pub whole : input ≡ bytes ++ rest
+  pub told : left ≡ Some rest
+
+-- own: what the source tells is the bytes and what it tells afterwards
+pub record Takes (before : SourceState) (bytes : List ℕ) (after : SourceState) : Type 0 where
+  pub came : IfSome before.left (λ input. IsFront bytes input after.left)
+  pub untold : before.left ≡ None → after.left ≡ None
+  pub later : before.faults ≤ after.faults
+
+abbrev pub IsSpent : SourceState → Type 0
+IsSpent state = IfSome state.left (λ left. left ≡ [])
+
+pub record IsLastOf (unread taken : List ℕ) : Type 0 where
+  pub front : List ℕ
+  pub last : List ℕ
+  pub whole : taken ≡ front ++ last
+  pub needed : read_line (unread ++ front) ≡ unfinished
+
+abbrev pub IsNeeded : List ℕ → List ℕ → Type 0
+IsNeeded unread taken = (taken ≡ []) ⊎ IsLastOf unread taken
