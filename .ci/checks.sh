@@ -35,7 +35,7 @@ packages() {
     cp -R examples/packages "$kept/packages" &&
         rm -f "$kept/packages/importmap.json" "$kept/packages/importmap.project.json" &&
         (cd "$kept/packages" && "$program" link --base https://app.test/ ./app.js >"$kept/out") &&
-        echo 'ok: 9 modules, 11 requests, 8 mappings' | diff - "$kept/out" &&
+        echo 'ok: 9 modules, 11 requests, 7 mappings' | diff - "$kept/out" &&
         diff examples/expected-packages.json "$kept/packages/importmap.json"
 }
 
@@ -94,7 +94,7 @@ injected_packages() {
     (cd "$kept/packages" &&
         "$program" link --base http://localhost:8000/packages/ >"$kept/out" &&
         "$program" inject >>"$kept/out") &&
-        printf '%s\n' 'ok: 9 modules, 11 requests, 8 mappings' 'ok: 9 modules, 11 requests, 8 mappings' |
+        printf '%s\n' 'ok: 9 modules, 11 requests, 7 mappings' 'ok: 9 modules, 11 requests, 7 mappings' |
         diff - "$kept/out" &&
         diff examples/expected-packages.html "$kept/packages/index.html"
 }
@@ -157,6 +157,7 @@ check "rows of layers" rows layer_rows
 check "rows on disk" .ci/rows.sh
 check "a program that must not compile" .ci/must_not_compile.sh
 check "values that are dropped once" .ci/drops.sh
+check "the smallest maps of random needs" python3 -B .ci/fewest.py --program build/salimgub
 check "the benchmark on small trees" bench/run.sh smoke
 check "specifiers of small trees" python3 -B bench/resolve.py smoke
 echo "$passed passed, $failed failed"

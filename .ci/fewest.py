@@ -3,6 +3,7 @@
 
     .ci/fewest.py [--tables N] [--seed S] [--places N] [--targets N]              prints random needs and the least mappings of each
     .ci/fewest.py --program build/salimgub [the same options]     links a site for each table, and compares its map
+    .ci/fewest.py --rows [the same options]     prints such sites as rows of crates/run_rows, each with its map
 
 A table has needs for one specifier: who asks (by URL), and which URL has to come of it. A choice holds targets at some
 places; who asks gets the target at the longest of its places that is held, and the specifier itself where none is, which
@@ -10,6 +11,8 @@ is a target only where it is a URL. Of the choices with the fewest places that s
 are compared in byte order; at the first at which two choices differ, to hold it comes before not to hold it, and a smaller
 target before a greater one. All of this is tried, and nothing of the program's way of finding it is used."""
 import argparse
+import base64
+import hashlib
 import itertools
 import json
 import os
@@ -96,28 +99,58 @@ def printed(number, asked, needs, choice):
         print(f'map {place or "-"} {asked} {choice[place]}')
 
 
-def site_of(folder, needs):
-    """A site in which each referrer asks for `#c`, which its folder's package.json leads to its target; the entries."""
-    def write(path, text):
-        path = os.path.join(folder, path)
-        os.makedirs(os.path.dirname(path), exist_ok=True)
-        with open(path, 'w', encoding='utf-8') as file:
-            file.write(text)
-    for target in {target for _, target in needs}:
-        write(target[len(BASE):], '')
-        write(os.path.dirname(target[len(BASE):]) + '/package.json', json.dumps({'exports': './index.mjs'}))
+def site_of(needs):
+    """A site in which each referrer asks for `#c`, which its folder's package.json leads to its target: its files, of
+    which the modules have URLs; and the entries."""
+    records, modules = {}, {}
+    for target in sorted({target for _, target in needs}):
+        modules[target[len(BASE):]] = ''
+        records[os.path.dirname(target[len(BASE):]) + '/package.json'] = {'exports': './index.mjs'}
     for referrer, target in needs:
         path = referrer[len(BASE):]
-        write(path, 'import "#c";\n')
+        modules[path] = 'import "#c";'
         name = target[len(BASE):].split('/')[1]
-        write(os.path.join(os.path.dirname(path), 'package.json'), json.dumps({'imports': {'#c': name}}))
-    return ['./' + referrer[len(BASE):] for referrer, _ in needs]
+        records[os.path.join(os.path.dirname(path), 'package.json')] = {'imports': {'#c': name}}
+    texts = {path: json.dumps(record, separators=(',', ':')) for path, record in records.items()}
+    return texts, modules, ['./' + referrer[len(BASE):] for referrer, _ in needs]
+
+
+def digest(text):
+    return 'sha384-' + base64.b64encode(hashlib.sha384(text.encode()).digest()).decode()
+
+
+def short(url):
+    return './' + url[len(BASE):]
+
+
+def row_of(number, needs, choice):
+    """The site as a row: its files, the command, and the map of the choice with all digests, as it is written."""
+    records, modules, entries = site_of(needs)
+    yield f'row Table {number}'
+    for path, text in sorted({**records, **modules}.items()):
+        yield f'/{path}: {text}'.rstrip()
+    yield f'$ link --base {BASE} {" ".join(entries)}'
+    yield f'=> 0 ok: {len(modules)} modules, {2 * len(needs)} requests, {len(choice)} mappings'
+    scopes = {short(place): {'#c': short(choice[place])} for place in sorted(choice, key=str.encode) if place}
+    parts = {'imports': {'#c': short(choice[''])} if '' in choice else {}}
+    if scopes:
+        parts['scopes'] = scopes
+    parts['integrity'] = {BASE + path: digest(modules[path]) for path in sorted(modules, key=str.encode)}
+    yield '+ /importmap.json:'
+    yield from ('| ' + line for line in json.dumps(parts, indent=2).split('\n'))
+    yield '+ /importmap.project.json ...'
+    yield ''
 
 
 def linked(program, needs):
     """The mappings that the program gives for these needs, by their places."""
     with tempfile.TemporaryDirectory() as folder:
-        entries = site_of(folder, needs)
+        records, modules, entries = site_of(needs)
+        for path, text in {**records, **modules}.items():
+            path = os.path.join(folder, path)
+            os.makedirs(os.path.dirname(path), exist_ok=True)
+            with open(path, 'w', encoding='utf-8') as file:
+                file.write(text)
         done = subprocess.run([os.path.abspath(program), 'link', '--base', BASE, *entries], cwd=folder, capture_output=True, text=True)
         if done.returncode:
             sys.exit(f'{program}: {done.stdout}{done.stderr}')
@@ -136,11 +169,18 @@ def main():
     options.add_argument('--places', type=int, default=8)
     options.add_argument('--targets', type=int, default=3)
     options.add_argument('--program')
+    options.add_argument('--rows', action='store_true')
     chosen = options.parse_args()
     draw = random.Random(chosen.seed)
     for number in range(1, chosen.tables + 1):
-        asked, needs = random_needs(draw, chosen.places, chosen.targets, chosen.program is not None)
+        asked, needs = random_needs(draw, chosen.places, chosen.targets, chosen.rows or chosen.program is not None)
+        # A row has two targets at least.
+        while chosen.rows and len({target for _, target in needs}) < 2:
+            asked, needs = random_needs(draw, chosen.places, chosen.targets, True)
         choice = least(asked, needs)
+        if chosen.rows:
+            print('\n'.join(row_of(number, needs, choice)))
+            continue
         if not chosen.program:
             printed(number, asked, needs, choice)
             continue

@@ -160,7 +160,7 @@ row order ./src/main.js 0 'ok: 5 modules, 5 requests, 3 mappings' <<'MAP'
 }
 MAP
 
-# Two versions of one package, each where its folder asks for it.
+# Two versions of one package: one stands at the top, and the users of the other one are scoped.
 mkdir "$kept/versions"
 for side in a b; do
     file "versions/$side/m.mjs" 'import "c";'
@@ -170,11 +170,10 @@ done
 file versions/app.mjs 'import "./a/m.mjs"; import "./b/m.mjs";'
 row versions ./app.mjs 0 'ok: 5 modules, 5 requests, 2 mappings' <<'MAP'
 {
-  "imports": {},
+  "imports": {
+    "c": "./a/node_modules/c/index.mjs"
+  },
   "scopes": {
-    "./a/": {
-      "c": "./a/node_modules/c/index.mjs"
-    },
     "./b/": {
       "c": "./b/node_modules/c/index.mjs"
     }

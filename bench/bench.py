@@ -195,17 +195,19 @@ def measure_names(work, modules, slack, tries):
     say(run.memory <= 1024 * MIB, f"{label}: {run.memory / MIB:.1f} MiB, at most 1024 MiB")
 
 
-def measure_layout(work, modules, slack, tries):
-    """Measures modules that disagree on one specifier, at half of them and at all."""
-    for slashes in (0, 4000):
-        label = f"{modules} modules that disagree" + (f", with queries of {slashes} slashes" if slashes else "")
-        half = trees.disagreeing(os.path.join(work, f"half-{slashes}"), modules // 2, slashes)
-        whole = trees.disagreeing(os.path.join(work, f"whole-{slashes}"), modules, slashes)
-        once, twice = link(half, tries), link(whole, tries)
-        seconds = max(2 * slack * modules / 20000, NOISE)
-        say(twice.seconds <= seconds, f"{label}: {twice.times()}, at most {seconds:g} s")
-        ratio = twice.seconds / max(once.seconds, NOISE)
-        say(ratio <= 2.5, f"{label}: {ratio:.2f} times as long as for half of them, {once.seconds:.3f} s, at most 2.5")
+def measure_layout(work, referrers, targets, slack, tries):
+    """Measures modules that ask for versions of one package: for two, for many, and at the limit of choices, which is so
+    many places times a fourth of them."""
+    def measured(referrers, targets, seconds):
+        label = f"{referrers} modules and {targets} versions of what they ask for"
+        run = link(trees.versions(os.path.join(work, f"versions-{referrers}-{targets}"), referrers, targets), tries)
+        say(run.seconds <= max(seconds, NOISE), f"{label}: {run.times()}, at most {seconds:g} s")
+        say(run.memory <= 1024 * MIB, f"{label}: {run.memory / MIB:.1f} MiB, at most 1024 MiB")
+
+    measured(referrers, 2, 2 * slack * referrers / 19000)
+    measured(referrers, targets, 2 * slack * referrers / 19000)
+    versions = 2048 * referrers // 19000
+    measured(3 * versions - 3, versions, 10 * slack * (referrers / 19000) ** 2)
 
 
 def measure_refresh(work, count, slack, tries):
@@ -294,7 +296,7 @@ def main():
         if smoke:
             measure_packages(work, 200, 10, 2, False)
             measure_names(work, 2000, 10, 2)
-            measure_layout(work, 2000, 10, 2)
+            measure_layout(work, 1900, 80, 10, 2)
             measure_refresh(work, 200, 10, 2)
             measure_check(work, 200, 10, 2)
             measure_maps(work, MIB, 10, 2)
@@ -302,7 +304,7 @@ def main():
         else:
             measure_packages(work, 2000, 1, 3, True)
             measure_names(work, 18000, 1, 2)
-            measure_layout(work, 19000, 1, 3)
+            measure_layout(work, 19000, 800, 1, 3)
             measure_refresh(work, 2000, 1, 3)
             measure_check(work, 2000, 1, 3)
             measure_maps(work, 64 * MIB, 1, 2)

@@ -107,7 +107,8 @@ def packages(folder, count):
         tree.add(f"{place}/index.js", ["./x/a.js", "c"] + ([f"p{i + 1}"] if i + 1 < count else []))
         if i % 10 == 3:
             common(place, 1)
-    tree.mappings = 2 * count + 2 if count > 3 else count + 2
+    # The versions below are scoped, each to its package.
+    tree.mappings = count + 2 + len(range(3, count, 10))
     return tree
 
 
@@ -128,32 +129,20 @@ def names(folder, modules):
     return tree
 
 
-def disagreeing(folder, modules, slashes=0):
-    """Modules in folders of one folder that all ask for `c`, of which every second one has a version of its own. Of
-    the others, as many as a twentieth of the modules are asked for with queries of so many slashes."""
+def versions(folder, referrers, targets):
+    """Modules in folders of one folder that all ask for `c`, of which each folder but the first has a version of its
+    own; so many versions and folders. The modules have so many places, and three more with those of the folders."""
     tree = Tree(folder)
-    asking = modules * 2 // 3
-    hubs = -(-asking // MOST_REQUESTS)
+    hubs = -(-referrers // MOST_REQUESTS)
     tree.add("app.mjs", [f"./h{h}.mjs" for h in range(hubs)])
-    rest = modules // 20 if slashes else 0
-
-    def version(above):
+    places = [f"all/f{i % targets}/m{i}.mjs" for i in range(referrers)]
+    for h in range(hubs):
+        tree.add(f"h{h}.mjs", [f"./{place}" for place in places[h::hubs]])
+    for place in places:
+        tree.add(place, ["c"])
+    for above in [".", *(f"all/f{i}" for i in range(1, targets))]:
         tree.record(f"{above}/node_modules/c/package.json", '{"exports":"./index.mjs"}')
         tree.add(f"{above}/node_modules/c/index.mjs", [])
-
-    version(".")
-    for h in range(hubs):
-        wanted = []
-        for i in range(h, asking, hubs):
-            query = ""
-            if i % 2 and rest:
-                query, rest = "?" + "/" * slashes + "x", rest - 1
-            wanted.append(f"./all/f{i}/m.mjs{query}")
-        tree.add(f"h{h}.mjs", wanted)
-    for i in range(asking):
-        tree.add(f"all/f{i}/m.mjs", ["c"])
-        if i % 2 == 0:
-            version(f"all/f{i}")
-    # Each module that asks has a mapping of its own: where it has a version, at its folder, and else at itself.
-    tree.mappings = asking
+    # One version stands at the top, each other one at its folder.
+    tree.mappings = targets
     return tree

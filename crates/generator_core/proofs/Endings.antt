@@ -34,7 +34,7 @@ use Rattle.generator_spec.proofs.Endings.{one_line_text}
 use Rattle.generator_spec.specs.Commands.{IsGenerating, HoldsMap, NewFile, new_file, map_path, Writes, Writes as writes_file}
 use Rattle.generator_spec.specs.Checking.{difference_line, difference_lines, check_status}
 use Rattle.generator_spec.specs.Digests.{with_digests}
-use Rattle.generator_spec.specs.Generation.{Generates, PageIsFile, map_base}
+use Rattle.generator_spec.specs.Generation.{Generates, map_base}
 use Rattle.config_spec.specs.declared.ConfigFault.{ConfigFault}
 use Rattle.config_spec.specs.declared.ConfigFault.TheVariants as config
 use Rattle.config_spec.specs.declared.ProjectFault.{ProjectFault}
@@ -47,6 +47,7 @@ use Rattle.generator_spec.specs.Outcome.{ComesTo as comes, RefusesRun as refuses
 use Rattle.generator_spec.specs.Ending.{AreWritten, IsGenerated, IsCarried, Linked, IsDone, MapServes, IsCounted, CanRefuse, CanRefuse as can_refuse, StopsWriting, Says, Ends, EndsAs, TellsRefusal}
 use Rattle.generator_spec.specs.Ending.{IsDone as done, Shaped as shaped, Says as says, Ends as ends}
 use Rattle.soundness.proofs.Checked.{checked_maps_serve}
+use Rattle.soundness.proofs.Smallest.{generated_is_smallest}
 use Rattle.soundness.proofs.Sound.{sound, modules_are_known, one_map_in_page}
 use Rattle.generation.specs.declared.stop.Stop.{Stop}
 use Rattle.generation.specs.declared.stop.Stop.TheVariants as stops
@@ -134,15 +135,16 @@ carried tree config map command files generates writes_file.unlinked = record { 
 carried tree config map command files generates writes_file.refreshed = record { carrier = new_file map_path map; is_written = contains_here (new_file map_path map) []; is_carried = refl }
 carried tree config map command files generates (writes_file.in_page page new is i) = record { carrier = _; is_written = contains_here (new_file config.page new) []; is_carried = one_map_in_page tree config map page new generates i }
 
-linked : (words : List (List ℕ)) (tree : Tree) (map line : List ℕ) (files : List NewFile) (told : Option Tree) → (is : IsGenerated words tree map line) → PageIsFile is.config → Writes tree is.config map is.command files → AreWritten tree files told → Linked words tree told
-linked words tree map line files told is is_file wrote written =
+linked : (words : List (List ℕ)) (tree : Tree) (map line : List ℕ) (files : List NewFile) (told : Option Tree) → (is : IsGenerated words tree map line) → Writes tree is.config map is.command files → AreWritten tree files told → Linked words tree told
+linked words tree map line files told is wrote written =
     let found = carried tree is.config map is.command files is.generates wrote in
     record {
       map = map;
       line = line;
       generated = is;
-      serves = sound tree is.config map is_file is.generates;
+      serves = sound tree is.config map is.generates;
       knows = modules_are_known tree is.config map is.generates;
+      smallest = generated_is_smallest tree is.config map is.generates;
       files = files;
       writes = wrote;
       carrier = found.carrier;
@@ -374,7 +376,7 @@ module _ (words : List (List ℕ)) (command : Command) (config : Config) (before
     is_config = of;
     page_is_file = is.page_is_file;
     opens = written_is_opened tree config (map_text (map_base config) (with_digests config ready.all ready.layout)) new_here command ready.writes;
-    generates = record { all = ready.all; is_traced = ready.is_traced; layout = ready.layout; agreed = ready.agreed; text = refl; within = ready.within };
+    generates = record { all = ready.all; is_traced = ready.is_traced; few = ready.few; layout = ready.layout; is_fewest = ready.is_fewest; text = refl; within = ready.within };
     says = λ i. counts_line (ready.modules i) (ready.requests i) (ready.mappings i);
   }
 
@@ -390,7 +392,7 @@ module _ (words : List (List ℕ)) (command : Command) (config : Config) (before
   unfolding generated_of
   linked_told None told of ready written = tt
   linked_told (Some tree) told of ready written =
-      done.linked (linked words tree (map_text (map_base config) (with_digests config ready.all ready.layout)) done_here new_here told (generated_of tree of ready) is.page_is_file ready.writes written)
+      done.linked (linked words tree (map_text (map_base config) (with_digests config ready.all ready.layout)) done_here new_here told (generated_of tree of ready) ready.writes written)
 
   -- those before the one that failed were written
   stops_told : (held told : Option Tree) → IfSome held (λ tree. IsConfigOf words tree command config) → IfSome held (λ tree. IsPrepared command config tree prepared) → IfSome held (λ tree. AreSome new_here tree told) → IfSome held (λ tree. StopsWriting words tree done_here told)
@@ -399,8 +401,9 @@ module _ (words : List (List ℕ)) (command : Command) (config : Config) (before
   stops_told (Some tree) told of ready some = record {
     map = map_text (map_base config) (with_digests config ready.all ready.layout);
     generated = generated_of tree of ready;
-    serves = sound tree config (map_text (map_base config) (with_digests config ready.all ready.layout)) is.page_is_file (generated_of tree of ready).generates;
+    serves = sound tree config (map_text (map_base config) (with_digests config ready.all ready.layout)) (generated_of tree of ready).generates;
     knows = modules_are_known tree config (map_text (map_base config) (with_digests config ready.all ready.layout)) (generated_of tree of ready).generates;
+    smallest = generated_is_smallest tree config (map_text (map_base config) (with_digests config ready.all ready.layout)) (generated_of tree of ready).generates;
     files = new_here;
     writes = ready.writes;
     count = some.count;

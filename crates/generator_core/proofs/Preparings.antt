@@ -119,7 +119,8 @@ module _ (config : Config) (before after : FolderState) where
     all = is.all;
     is_traced = is.is_traced;
     layout = is.is_map.layout;
-    agreed = is.is_map.agreed;
+    few = is.is_map.few;
+    is_fewest = is.is_map.is_fewest;
     within = subst (λ text. length text ≤ limit_number Map) is.is_map.map is.is_map.within;
     modules = counts.modules ∙ is.is_map.modules;
     requests = counts.requests ∙ is.is_map.requests;

@@ -14,9 +14,10 @@ use Rattle.tree_spec.specs.States.{FolderState, OnlyLooks}
 use Rattle.tree_spec.specs.Trees.{Tree}
 use Rattle.page_spec.specs.Injection.{Injection}
 use Rattle.import_map_spec.specs.ParsedMap.{ParsedMap}
-use Rattle.layout_spec.specs.AgreedLayout.{IsAgreedLayout}
 use Rattle.layout_spec.specs.Counting.{mapping_count}
 use Rattle.layout_spec.specs.PrintedMap.{map_text}
+use Rattle.fewest_spec.specs.Fewest.{IsFewestLayout}
+use Rattle.fewest_spec.specs.Wishes.{HasTooManyChoices}
 use Rattle.trace_spec.specs.Checks.{Gathered}
 use Rattle.trace_spec.specs.Modules.{Config}
 use Rattle.trace_spec.specs.Traces.{traced}
@@ -92,8 +93,9 @@ pub record IsPageFile (config : Config) (page : List ℕ) (generated : Generated
 pub record IsPrepared (command : Command) (config : Config) (tree : Tree) (prepared : Prepared) : Type 0 where
   pub all : Gathered
   pub is_traced : traced (get tree) config ≡ Ok all
+  pub few : HasTooManyChoices all.needs → ⊥
   pub layout : ParsedMap
-  pub agreed : IsAgreedLayout all.needs layout
+  pub is_fewest : IsFewestLayout all.needs layout
   pub within : length (map_text (map_base config) (with_digests config all layout)) ≤ limit_number Map
   pub modules : prepared.modules ≡ length all.modules
   pub requests : prepared.requests ≡ all.requests
