@@ -65,4 +65,4 @@ pub record TracesTables (config : Config) (before : FolderState) (known : Known)
     (after : FolderState) (later : Known) (from to : ℕ) : Type 0 where
   pub traces : Traces config before known (traced_of result) after later
   pub tables : IfOk result (AreWalked config)
-  pub steps : TakesSteps result (λ tables. length tables.sources.items + tables.requests) from to
+  pub steps : TakesSteps result (λ tables. length tables.sources.items + length tables.targets.items) from to

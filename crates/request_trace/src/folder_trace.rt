@@ -22,7 +22,7 @@ pub fn trace<F: Folder, L: Ledger>(
     steps: &mut Steps<L>,
 ) -> Result<Trace, TraceFault>
     ensures traces { Traces config.now (F.state folder.old) known.old result (F.state folder.new) known.new }
-    ensures steps { TakesSteps result (λ trace. length trace.sources + trace.requests) steps.old steps.new }
+    ensures steps { TakesSteps result (λ trace. length trace.sources + length trace.targets) steps.old steps.new }
 {
     let base = config.base().copy(alloc)?;
     let tables = tables_of(alloc, folder, known, config, steps)?;

@@ -4,7 +4,7 @@ ghost use Rattle.tree_spec.specs.Limits.{limit_number};
 ghost use Rattle.layout_spec.specs.Needs.{NoClash};
 ghost use Rattle.url_spec.specs.WebNames.{web};
 ghost use Rattle.trace_walk.specs.Shown.{before_of};
-ghost use Rattle.trace_walk.specs.Walking.{IsWhole, AreOfUrls};
+ghost use Rattle.trace_walk.specs.Walking.{IsWhole, AreOfUrls, module_requests};
 ghost use Rattle.request_trace.specs.Naming.{AllNamedAt};
 ghost use Rattle.request_trace.specs.Tracing.{CountsModules};
 
@@ -16,8 +16,8 @@ use trace_walk::{Module, Spelling, Tables};
 use tree_model::Path;
 use web_url::{Base, WebFault, web_of};
 
-/// What a trace holds: the modules in trace order, the source of each, the needs, and how many requests were followed;
-/// and the base at which its modules are named.
+/// What a trace holds: the modules in trace order, the source of each, the needs, and where each request leads; and the
+/// base at which its modules are named.
 #[derive(Drop)]
 pub struct Trace {
     base: Base,
@@ -70,12 +70,13 @@ impl Trace {
         self.tables.modules.len()
     }
 
-    /// How many requests were followed, those of the page too.
+    /// How many requests were followed: those of the page, and all those of the modules.
     pub fn request_count(&self) -> usize
-        ensures requests { result ≡ self.now.requests }
+        ensures requests { result ≡ length self.now.targets }
         ensures few { result ≤ limit_number Requests }
+        ensures of_modules { module_requests self.now.sources ≤ result }
     {
-        self.tables.requests
+        self.tables.targets.len()
     }
 
     /// The module at a place.
