@@ -1,2 +1,3 @@
 pub mod WordParts
 pub mod Agreeing
+pub mod SpotsSoFar

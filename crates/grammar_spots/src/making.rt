@@ -1,9 +1,9 @@
 ghost use Rattle.std.specs.Prelude.{◌≡◌, ◌≤◌, ◌==◌, ◌&&◌, ◌||◌, not, length};
 ghost use Rattle.module_spec.specs.declared.token.Kind.TheVariants as kinds;
 ghost use Rattle.grammar_spec.specs.Sights.{code_of, reserved, assignment_operators, operators};
-ghost use Rattle.grammar_tokens.specs.Spots.{IsSpot, key_ends, short_ends, sight_of};
+ghost use Rattle.grammar_tokens.specs.Spots.{key_ends, short_ends};
 ghost use Rattle.grammar_spots.specs.Words.{closing, is_one_of};
-ghost use Rattle.grammar_spots.specs.Making.{sight_at};
+ghost use Rattle.grammar_spots.specs.Making.{IsSpotOf};
 
 use crate::words::{is_assignment, is_closing, is_key_end, is_operator, is_reserved, is_short_end};
 use grammar_tokens::Spot;
@@ -91,8 +91,7 @@ fn is_word(kind: Kind) -> bool
 pub fn spot_of(text: &[u8], token: Token, line: bool, depth: usize, behind: usize) -> Spot
     requires begins { token.from ≤ token.to }
     requires ends { token.to ≤ length text.now }
-    ensures kept { IsSpot text.now result }
-    ensures sight { sight_of text.now result ≡ sight_at text.now token line depth behind }
+    ensures { IsSpotOf text.now token line depth behind result }
 {
     let spelled = &text[token.from..token.to];
     let word = is_word(token.kind);
