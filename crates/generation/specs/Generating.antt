@@ -56,7 +56,7 @@ pub record IsMapOf (config : Config) (all : Gathered) (generated : Generated) : 
   pub map : generated.map.items ≡ map_text (map_base config) (with_digests config all layout)
   pub within : length generated.map.items ≤ limit_number Map
   pub modules : generated.modules ≡ length all.modules
-  pub requests : generated.requests ≡ all.requests
+  pub requests : generated.requests ≡ length all.targets
   pub mappings : generated.mappings ≡ mapping_count layout
 
 pub record HasLargeMap (config : Config) (all : Gathered) : Type 0 where

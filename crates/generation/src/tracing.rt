@@ -19,7 +19,7 @@ pub fn traced<F: Folder, L: Ledger>(
     steps: &mut Steps<L>,
 ) -> Result<Trace, Stop>
     ensures traces { Tracing config.now (F.state folder.old) result (F.state folder.new) }
-    ensures steps { TakesSteps result (λ all. length all.modules + all.requests) steps.old steps.new }
+    ensures steps { TakesSteps result (λ all. length all.modules + length all.targets) steps.old steps.new }
 {
     let mut known = Known::new(alloc);
     match trace(alloc, folder, &mut known, config, steps) {

@@ -1,2 +1,4 @@
 pub mod WellMade
 pub mod Naming
+pub mod Many
+mod Dealing

@@ -54,8 +54,8 @@ module-set old new i to true (within, is) ok = subst IsModule (sym is) (record {
 module-set old new i to false (past, is) ok = subst IsModule (sym is) ok
 
 -- there is no request past the end
-pub span-past : (m : Module) (i : ℕ) → length m.requests ≤ i → HasSpan m i
-span-past m i past r is = let bad : Some r ≡ None = sym is ∙ slice_get_past m.requests i past in cc
+pub span-past : (m : Module) (i : ℕ) → length m.requests.value ≤ i → HasSpan m i
+span-past m i past r is = let bad : Some r ≡ None = sym is ∙ slice_get_past m.requests.value i past in cc
 
 pub span-next : (m : Module) (n i : ℕ) → ((j : ℕ) → j < n → HasSpan m j) → HasSpan m n → i < n + 1 → HasSpan m i
 span-next m n i before here lt = elim (below_or_not i n) [

@@ -15,6 +15,6 @@ AreModules g = (i : ℕ) (m : Module) → (place_at g i).value ≡ Some m → Is
 
 abbrev pub Connects : List (Place Module) → List (Place Module) → Slot → ℕ → Slot → Bool → Type 0
 Connects old new from i to true =
-    (m : Module) × (value_at old from ≡ Some m) × (i < length m.requests)
+    (m : Module) × (value_at old from ≡ Some m) × (i < length m.requests.value)
     × (new ≡ set_at old from (Some (with_target m i to)))
-Connects old new from i to false = (new ≡ old) × ((m : Module) → value_at old from ≡ Some m → length m.requests ≤ i)
+Connects old new from i to false = (new ≡ old) × ((m : Module) → value_at old from ≡ Some m → length m.requests.value ≤ i)

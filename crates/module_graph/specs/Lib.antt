@@ -1,4 +1,5 @@
 pub mod Modules
 pub mod Graphs
 pub mod Calls
+pub mod Many
 pub mod Laws

@@ -15,10 +15,10 @@ use Rattle.module_spec.specs.declared.request.Request.{Request}
 use Rattle.module_graph.specs.declared.module.Module.{Module}
 
 abbrev pub HasSpan : Module → ℕ → Type 0
-HasSpan m i = (r : Request) → slice_get m.requests i ≡ Some r → (r.from ≤ r.to) × (r.to ≤ length m.source)
+HasSpan m i = (r : Request) → slice_get m.requests.value i ≡ Some r → (r.from ≤ r.to) × (r.to ≤ length m.source.value)
 
 pub record IsModule (m : Module) : Type 0 where
-  pub one_each : length m.targets ≡ length m.requests
+  pub one_each : length m.targets ≡ length m.requests.value
   pub inside : (i : ℕ) → HasSpan m i
 
 -- bytes from one number on, and before another
@@ -38,10 +38,10 @@ set_one None = None
 set_one (Some target) = target
 
 abbrev pub asked_at : Module → ℕ → Option (List ℕ)
-asked_at m i = asked_by (slice_get m.requests i)
+asked_at m i = asked_by (slice_get m.requests.value i)
 
 abbrev pub literal_at : Module → ℕ → Option (List ℕ)
-literal_at m i = literal_of m.source (slice_get m.requests i)
+literal_at m i = literal_of m.source.value (slice_get m.requests.value i)
 
 abbrev pub target_at : Module → ℕ → Option Slot
 target_at m i = set_one (slice_get m.targets i)

@@ -4,11 +4,12 @@
 
 mod graph;
 mod laws;
+mod lists;
 mod module;
 mod view;
 
 pub use graph::Graph;
-pub use laws::slot_names_its_module;
+pub use laws::{slot_names_its_module, targets_are_dealt};
 pub use module::{Module, Targets};
 pub use slot_arena::Slot;
 pub use view::{ModuleView, View};

@@ -4,19 +4,21 @@ ghost use Rattle.module_graph.specs.Modules.{HasSpan, IsModule};
 use es_module_parser::Requests;
 use primitives::{Bytes, Listed};
 use slot_arena::Slot;
+use std::rc::Rc;
 use tree_model::Path;
 use web_url::Suffix;
 
 /// To each request of a module the slot of the module that answers it, once that is known.
 pub type Targets = Listed<Option<Slot>>;
 
-/// A module: the file at a path, read under a suffix of its URL, and what its text asks for.
+/// A module: the file at a path, read under a suffix of its URL, and what its text asks for. Its source and its
+/// requests are shared with what is kept of its folder.
 #[derive(Drop)]
 pub struct Module {
     pub path: Path,
     pub suffix: Suffix,
-    pub source: Bytes,
-    pub requests: Requests,
+    pub source: Rc<Bytes>,
+    pub requests: Rc<Requests>,
     pub targets: Targets,
 }
 

@@ -5,6 +5,7 @@ ghost use Rattle.module_graph.specs.Modules.{IsModule, asked_at, literal_at, tar
 
 use crate::graph::Graph;
 use crate::module::Module;
+use primitives::Bytes;
 use slot_arena::Slot;
 use std::marker::Model;
 use tree_model::Path;
@@ -81,9 +82,17 @@ impl<'a> ModuleView<'a> {
         self.module.suffix.as_str()
     }
 
+    /// The bytes of the module.
+    pub fn source(&self) -> &'a [u8]
+        ensures { result.now ≡ self.now.source.value }
+    {
+        let source: &'a Bytes = &self.module.source;
+        source.as_bytes()
+    }
+
     /// The number of requests.
     pub fn requests(&self) -> usize
-        ensures count { result ≡ length self.now.requests }
+        ensures count { result ≡ length self.now.requests.value }
         ensures well_made { IsModule self.now }
     {
         self.module.requests.len()

@@ -1,4 +1,4 @@
-use Rattle.std.proofs.Common.{inl, inr, refl, arith}
+use Rattle.std.proofs.Common.{length, ap, inl, inr, refl, arith}
 use Rattle.slot_arena.proofs.Times.{below_or_not}
 use Rattle.module_graph.proofs.WellMade.{span-past, span-next}
 use Rattle.module_graph.proofs.module.Module.is_well_made.Goals as goal
@@ -11,12 +11,12 @@ loop-index-preserved c = λ i lt. span-next c.args.self.now c.loop-index.index i
 
 pub returns : goal.returns
 returns c =
-    let m = c.args.self.now in let last = c.loop-index.index in (
+    let m = c.args.self.now in let last = c.loop-index.index in let same = ap length c.deref.ensures in (
       λ yes. record {
-        one_each = omega (arith, c.len.ensures, c.len-count.ensures, c.if-len-count.false);
+        one_each = omega (arith, same, c.len.ensures, c.len-count.ensures, c.if-len-count.false);
         inside = λ i. elim (below_or_not i last) [
           | inl lt ↦ c.loop-index.invariant i lt
-          | inr past ↦ span-past m i (omega (arith, c.len-count.ensures, c.loop-index-test.false, past))
+          | inr past ↦ span-past m i (omega (arith, same, c.len-count.ensures, c.loop-index-test.false, past))
         ];
       },
       λ ok. refl,
