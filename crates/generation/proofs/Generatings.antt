@@ -1,4 +1,4 @@
--- What comes of a trace for which nothing was known.
+-- What comes of a trace over what is known of a folder, and of one for which nothing was.
 use Rattle.std.proofs.Common.{◌∙◌, ◌≡◌, ◌≢◌, ℕ, List, [], Bool, true, false, arith, append-nil, Option, Some, None, IfSome, Result, Ok, Err, refl, sym, ap, subst}
 use Rattle.std.specs.FinMap.{get}
 use Rattle.std.specs.List.{ends_with}
@@ -12,10 +12,11 @@ use Rattle.tree_spec.specs.LookAskings.{Sights, footprint}
 use Rattle.tree_spec.specs.States.{FolderState, OnlyLooks}
 use Rattle.tree_spec.specs.Trees.{Tree}
 use Rattle.tree_spec.specs.declared.LimitName.TheVariants.{Map, Choices}
-use Rattle.tree_spec.proofs.ToldStates.{if_some, looks_as}
-use Rattle.tree_spec.proofs.FootprintSets.{distinct_none}
+use Rattle.tree_spec.proofs.ToldStates.{if_some, if_all, looks_as}
 use Rattle.package_lookup.specs.declared.known.Known.{Known}
 use Rattle.package_lookup.specs.Looked.{kept_at, laid_at, look_or, Sees}
+use Rattle.package_lookup.specs.Learning.{Learns}
+use Rattle.package_lookup.proofs.Learnings.{learns_as, learns_nothing}
 use Rattle.trace_spec.specs.declared.TraceFault.{TraceFault}
 use Rattle.trace_spec.specs.declared.TraceFault.TheVariants as fault
 use Rattle.trace_spec.specs.Checks.{Gathered}
@@ -35,12 +36,14 @@ use Rattle.generator_spec.specs.Generation.{PageIsFile}
 use Rattle.trace_spec.specs.Traces.{traced, generation}
 use Rattle.trace_walk.specs.Kinds.{IsOfWalk}
 use Rattle.trace_walk.specs.Meeting.{IsTold}
-use Rattle.request_trace.specs.Tracing.{IsOfFootprint, Traces}
-use Rattle.generator_spec.specs.Commands.{Refuses as refuses, IsRefusalOf as kind}
+use Rattle.request_trace.specs.Tracing.{known_of, IsOfFootprint, Traces}
+use Rattle.generator_spec.specs.Commands.{IsGenerating, Opens, Refuses as refuses, IsRefusalOf as kind}
+use Rattle.generator_spec.specs.declared.Command.{Command}
 use Rattle.generation.specs.declared.generated.Generated.{Generated}
 use Rattle.generation.specs.declared.stop.Stop.{Stop}
 use Rattle.generation.specs.declared.stop.Stop.TheVariants.{Refused, ReadFault, Memory}
-use Rattle.generation.specs.Generating.{StopsAs, IsMapOf, HasLargeMap, AsksNoPathTwice, AsksFootprint, Tracing, Generating}
+use Rattle.generation.specs.Generating.{StopsAs, IsMapOf, IsMapOfTree, HasLargeMap, AsksNoPathTwice, AsksFootprint, Tracing, Generating}
+use Rattle.generation.specs.Generating.{IfSeen, TracingOver, GeneratingOver}
 use Rattle.generation.specs.Generating.StopsAs.{failed_look, memory, refused}
 use Rattle.generation.specs.Paging.{IsUnserved, IsUnserved as unserved_page, IsUnservedAt, IsUnservedAt as unserved_there}
 use Rattle.generator_spec.specs.declared.Refusal.TheVariants.{Limit, Trace}
@@ -54,7 +57,7 @@ pub record IsFresh (known : Known) : Type 0 where
 sees_all : (tree : Tree) (known : Known) → IsFresh known → Sees tree known (get tree)
 sees_all tree known fresh = record { each = λ path. sym (λ i. look_or (option_or (fresh.laid path i) (fresh.kept path i)) (get tree path)) }
 
--- ---- what is asked for
+-- ---- what is asked for, where nothing is known
 
 same_more : (old some more : List (List ℕ)) → Some (old ++ some) ≡ Some (old ++ more) → some ≡ more
 same_more old some more e = append_cancel_left old some more (cc)
@@ -81,98 +84,123 @@ of_trace config fault.Memory no_look no_memory is = absurd (no_memory refl)
 abbrev as_err : TraceFault → Result Gathered TraceFault
 as_err why = Err why
 
-module _ (config : Config) (before after : FolderState) (known later : Known) (fresh : IsFresh known) where
+module _ (config : Config) (before after : FolderState) (known later : Known) where
   abbrev IsTraced : Result Gathered TraceFault → Type 0
-  IsTraced result = IfSome before.holds (λ tree. traced (get tree) config ≡ result)
+  IsTraced result = IfSome before.holds (λ tree. IfSeen tree known (λ seen. traced (get seen) config ≡ result))
 
   traced_so : (result : Result Gathered TraceFault) → Traces config before known result after later → IsTold result → IsTraced result
-  traced_so result is told = if_some before.holds (λ tree each. each (get tree) (sees_all tree known fresh) told) is.is
+  traced_so result is told = if_some before.holds (λ tree each seen sees. each (get seen) sees told) is.is
 
-  asks : (result : Result Gathered TraceFault) → Traces config before known result after later → IfSome before.asked (λ old. AsksNoPathTwice old after)
-  asks result is = if_some before.asked (λ old once. record { more = once.more; asked = once.asked; once = once.once }) is.learns.asked
+  learns_so : (X : Type 0) (result : Result Gathered TraceFault) (stops : Result X Stop) → (result ≡ Err fault.Memory → stops ≡ Err Memory) → Traces config before known result after later
+      → Learns (known_of before known) (known_of after later) (stops ≡ Err Memory) (IsOfFootprint config before known)
+  learns_so X result stops weaker is =
+      learns_as (known_of before known) (known_of after later) (result ≡ Err fault.Memory) (stops ≡ Err Memory) (IsOfFootprint config before known) (IsOfFootprint config before known) weaker (λ path here. here) is.learns
+
+  pub stopped : (why : TraceFault) (stop : Stop) → Traces config before known (Err why) after later → StopsAs why stop → TracingOver config before known (Err stop) after later
+  stopped why stop is (failed_look same) = record { traces = tt; refused = tt; kind = tt; learns = learns_so Gathered (Err why) (Err ReadFault) (λ e. absurd (cc)) is; looks = looks_as before after (λ e. ap as_err same) (λ e. refl) is.looks }
+  stopped why stop is (memory same) = record { traces = tt; refused = tt; kind = tt; learns = learns_so Gathered (Err why) (Err Memory) (λ e. refl) is; looks = looks_as before after (λ e. absurd (cc)) (λ e. absurd (cc)) is.looks }
+  stopped why stop is (refused no_look no_memory) = record {
+    traces = tt;
+    refused = if_some before.holds (λ tree each seen sees command opened. refuses.trace command why opened (each seen sees)) (traced_so (Err why) is (λ e. no_look (cc), λ e. no_memory (cc)));
+    kind = λ command. kind.trace command why (of_trace config why no_look no_memory is.kind);
+    learns = learns_so Gathered (Err why) (Err (Refused (Trace why))) (λ e. absurd (no_memory (cc))) is;
+    looks = looks_as before after (λ e. absurd (cc)) (λ e. absurd (no_look (cc))) is.looks;
+  }
+
+  pub traced_there : (all : Gathered) → Traces config before known (Ok all) after later → TracingOver config before known (Ok all) after later
+  traced_there all is = record {
+    traces = traced_so (Ok all) is (λ e. absurd (cc), λ e. absurd (cc));
+    refused = tt;
+    kind = tt;
+    learns = learns_so Gathered (Ok all) (Ok all) (λ e. absurd (cc)) is;
+    looks = looks_as before after (λ e. absurd (cc)) (λ e. absurd (cc)) is.looks;
+  }
+
+-- ---- what a trace comes to
+
+module _ (config : Config) (before after : FolderState) (known later : Known) where
+  learns_same : (some other : Type 0) → (some → other) → Learns (known_of before known) (known_of after later) some (IsOfFootprint config before known)
+      → Learns (known_of before known) (known_of after later) other (IsOfFootprint config before known)
+  learns_same some other weaker learns =
+      learns_as (known_of before known) (known_of after later) some other (IsOfFootprint config before known) (IsOfFootprint config before known) weaker (λ path here. here) learns
+
+  pub refused_so : (stop : Stop) → TracingOver config before known (Err stop) after later → GeneratingOver config before known (Err stop) after later
+  refused_so (Refused why) is = record {
+    generated = tt;
+    refused = if_some before.holds (λ tree each seen sees command generating opened. each seen sees command opened) is.refused;
+    kind = λ command generating. is.kind command;
+    learns = learns_same _ _ (λ e. absurd (cc)) is.learns;
+    looks = looks_as before after (λ e. absurd (cc)) (λ e. absurd (cc)) is.looks;
+  }
+  refused_so ReadFault is = record { generated = tt; refused = tt; kind = tt; learns = learns_same _ _ (λ e. absurd (cc)) is.learns; looks = looks_as before after (λ e. refl) (λ e. refl) is.looks }
+  refused_so Memory is = record { generated = tt; refused = tt; kind = tt; learns = learns_same _ _ (λ e. refl) is.learns; looks = looks_as before after (λ e. absurd (cc)) (λ e. absurd (cc)) is.looks }
+
+  module _ (all : Gathered) (is : TracingOver config before known (Ok all) after later) where
+    pub generated : (found : Generated) → IsMapOf config all found → GeneratingOver config before known (Ok found) after later
+    generated found is_map = record {
+      generated = if_some before.holds (λ tree each seen sees. record { all = all; is_traced = each seen sees; is_map = is_map }) is.traces;
+      refused = tt;
+      kind = tt;
+      learns = learns_same _ _ (λ e. absurd (cc)) is.learns;
+      looks = looks_as before after (λ e. absurd (cc)) (λ e. absurd (cc)) is.looks;
+    }
+
+    pub too_wide : (stop : Stop) → stop ≡ Refused (Limit Choices) → HasTooManyChoices all.needs → GeneratingOver config before known (Err stop) after later
+    too_wide stop same many =
+        subst (λ s. GeneratingOver config before known (Err s) after later) (sym same)
+        (record {
+          generated = tt;
+          refused = if_some before.holds (λ tree each seen sees command generating opened. refuses.many_choices command generating opened (record { all = all; is_traced = each seen sees; many = many })) is.traces;
+          kind = λ command generating. kind.many_choices command generating;
+          learns = learns_same _ _ (λ e. absurd (cc)) is.learns;
+          looks = looks_as before after (λ e. absurd (cc)) (λ e. absurd (cc)) is.looks;
+        })
+
+    pub too_large : (stop : Stop) → stop ≡ Refused (Limit Map) → HasLargeMap config all → GeneratingOver config before known (Err stop) after later
+    too_large stop same large =
+        subst (λ s. GeneratingOver config before known (Err s) after later) (sym same)
+        (record {
+          generated = tt;
+          refused = if_some before.holds (λ tree each seen sees command generating opened. refuses.large_map command generating opened (record { all = all; is_traced = each seen sees; few = large.few; layout = large.layout; is_fewest = large.is_fewest; large = large.large })) is.traces;
+          kind = λ command generating. kind.large_map command generating;
+          learns = learns_same _ _ (λ e. absurd (cc)) is.learns;
+          looks = looks_as before after (λ e. absurd (cc)) (λ e. absurd (cc)) is.looks;
+        })
+
+    pub lacks : GeneratingOver config before known (Err Memory) after later
+    lacks = record { generated = tt; refused = tt; kind = tt; learns = learns_same _ _ (λ e. absurd (cc)) is.learns; looks = looks_as before after (λ e. absurd (cc)) (λ e. absurd (cc)) is.looks }
+
+-- ---- where nothing was known
+
+module _ (config : Config) (before after : FolderState) (known later : Known) (fresh : IsFresh known) where
+  abbrev LearnsSo : Type 0 → Type 0
+  LearnsSo unfinished = Learns (known_of before known) (known_of after later) unfinished (IsOfFootprint config before known)
+
+  asks : (unfinished : Type 0) → LearnsSo unfinished → IfSome before.asked (λ old. AsksNoPathTwice old after)
+  asks unfinished learns = if_some before.asked (λ old once. record { more = once.more; asked = once.asked; once = once.once }) learns.asked
 
   -- by what stands at each path in the tree
   in_tree : (more : List (List ℕ)) → All (IsOfFootprint config before known) more
       → IfSome before.holds (λ tree. All (Contains (footprint (get tree) (generation config))) more)
   in_tree more all = within_tree before.holds known fresh config more all
 
-  looks_at : (result : Result Gathered TraceFault) → Traces config before known result after later → IfSome before.asked (λ old. AsksFootprint config before.holds old after)
-  looks_at result is = if_some before.asked (λ old once more same. in_tree more (subst (λ paths. All (IsOfFootprint config before known) paths) (same_more old once.more more (sym once.asked ∙ same)) once.among)) is.learns.asked
+  looks_at : (unfinished : Type 0) → LearnsSo unfinished → IfSome before.asked (λ old. AsksFootprint config before.holds old after)
+  looks_at unfinished learns = if_some before.asked (λ old once more same. in_tree more (subst (λ paths. All (IsOfFootprint config before known) paths) (same_more old once.more more (sym once.asked ∙ same)) once.among)) learns.asked
 
-  pub stopped : (why : TraceFault) (stop : Stop) → Traces config before known (Err why) after later → StopsAs why stop → Tracing config before (Err stop) after
-  stopped why stop is (failed_look same) = record { traces = tt; refused = tt; kind = tt; asked = asks (Err why) is; footprint = looks_at (Err why) is; looks = looks_as before after (λ e. ap as_err same) (λ e. refl) is.looks }
-  stopped why stop is (memory same) = record { traces = tt; refused = tt; kind = tt; asked = asks (Err why) is; footprint = looks_at (Err why) is; looks = looks_as before after (λ e. absurd (cc)) (λ e. absurd (cc)) is.looks }
-  stopped why stop is (refused no_look no_memory) = record {
-    traces = tt;
-    refused = if_some before.holds (λ tree e command opened. refuses.trace command why opened e) (traced_so (Err why) is (λ e. no_look (cc), λ e. no_memory (cc)));
-    kind = λ command. kind.trace command why (of_trace config why no_look no_memory is.kind);
-    asked = asks (Err why) is;
-    footprint = looks_at (Err why) is;
-    looks = looks_as before after (λ e. absurd (cc)) (λ e. absurd (no_look (cc))) is.looks;
-  }
+  in_the_tree : (P : Tree → Type 0) → IfSome before.holds (λ tree. IfSeen tree known P) → IfSome before.holds P
+  in_the_tree P is = if_some before.holds (λ tree each. each tree (sees_all tree known fresh)) is
 
-  pub traced_fresh : (all : Gathered) → Traces config before known (Ok all) after later → Tracing config before (Ok all) after
-  traced_fresh all is = record {
-    traces = traced_so (Ok all) is (λ e. absurd (cc), λ e. absurd (cc));
-    refused = tt;
-    kind = tt;
-    asked = asks (Ok all) is;
-    footprint = looks_at (Ok all) is;
-    looks = looks_as before after (λ e. absurd (cc)) (λ e. absurd (cc)) is.looks;
-  }
+  pub traced_fresh : (result : Result Gathered Stop) → TracingOver config before known result after later → Tracing config before result after
+  traced_fresh (Ok all) is = record { traces = in_the_tree (λ tree. traced (get tree) config ≡ Ok all) is.traces; refused = tt; kind = tt; asked = asks _ is.learns; footprint = looks_at _ is.learns; looks = is.looks }
+  traced_fresh (Err (Refused why)) is = record { traces = tt; refused = in_the_tree (λ tree. (command : Command) → Opens tree config command → refuses tree config command why) is.refused; kind = is.kind; asked = asks _ is.learns; footprint = looks_at _ is.learns; looks = is.looks }
+  traced_fresh (Err ReadFault) is = record { traces = tt; refused = tt; kind = tt; asked = asks _ is.learns; footprint = looks_at _ is.learns; looks = is.looks }
+  traced_fresh (Err Memory) is = record { traces = tt; refused = tt; kind = tt; asked = asks _ is.learns; footprint = looks_at _ is.learns; looks = is.looks }
 
--- ---- what a trace comes to
-
-module _ (config : Config) (before after : FolderState) where
-  pub refused_so : (stop : Stop) → Tracing config before (Err stop) after → Generating config before (Err stop) after
-  refused_so (Refused why) is = record {
-    generated = tt;
-    refused = if_some before.holds (λ tree refuses_each command generating opened. refuses_each command opened) is.refused;
-    kind = λ command generating. is.kind command;
-    asked = is.asked;
-    footprint = is.footprint;
-    looks = looks_as before after (λ e. absurd (cc)) (λ e. absurd (cc)) is.looks;
-  }
-  refused_so ReadFault is = record { generated = tt; refused = tt; kind = tt; asked = is.asked; footprint = is.footprint; looks = looks_as before after (λ e. refl) (λ e. refl) is.looks }
-  refused_so Memory is = record { generated = tt; refused = tt; kind = tt; asked = is.asked; footprint = is.footprint; looks = looks_as before after (λ e. absurd (cc)) (λ e. absurd (cc)) is.looks }
-
-  module _ (all : Gathered) (is : Tracing config before (Ok all) after) where
-    pub generated : (found : Generated) → IsMapOf config all found → Generating config before (Ok found) after
-    generated found is_map = record {
-      generated = if_some before.holds (λ tree e. record { all = all; is_traced = e; is_map = is_map }) is.traces;
-      refused = tt;
-      kind = tt;
-      asked = is.asked;
-      footprint = is.footprint;
-      looks = looks_as before after (λ e. absurd (cc)) (λ e. absurd (cc)) is.looks;
-    }
-
-    pub too_wide : (stop : Stop) → stop ≡ Refused (Limit Choices) → HasTooManyChoices all.needs → Generating config before (Err stop) after
-    too_wide stop same many =
-        subst (λ s. Generating config before (Err s) after) (sym same)
-        (record {
-          generated = tt;
-          refused = if_some before.holds (λ tree e command generating opened. refuses.many_choices command generating opened (record { all = all; is_traced = e; many = many })) is.traces;
-          kind = λ command generating. kind.many_choices command generating;
-          asked = is.asked;
-          footprint = is.footprint;
-          looks = looks_as before after (λ e. absurd (cc)) (λ e. absurd (cc)) is.looks;
-        })
-
-    pub too_large : (stop : Stop) → stop ≡ Refused (Limit Map) → HasLargeMap config all → Generating config before (Err stop) after
-    too_large stop same large =
-        subst (λ s. Generating config before (Err s) after) (sym same)
-        (record {
-          generated = tt;
-          refused = if_some before.holds (λ tree e command generating opened. refuses.large_map command generating opened (record { all = all; is_traced = e; few = large.few; layout = large.layout; is_fewest = large.is_fewest; large = large.large })) is.traces;
-          kind = λ command generating. kind.large_map command generating;
-          asked = is.asked;
-          footprint = is.footprint;
-          looks = looks_as before after (λ e. absurd (cc)) (λ e. absurd (cc)) is.looks;
-        })
-
-    pub lacks : Generating config before (Err Memory) after
-    lacks = record { generated = tt; refused = tt; kind = tt; asked = is.asked; footprint = is.footprint; looks = looks_as before after (λ e. absurd (cc)) (λ e. absurd (cc)) is.looks }
+  pub generated_fresh : (result : Result Generated Stop) → GeneratingOver config before known result after later → Generating config before result after
+  generated_fresh (Ok found) is = record { generated = in_the_tree (λ tree. IsMapOfTree tree config found) is.generated; refused = tt; kind = tt; asked = asks _ is.learns; footprint = looks_at _ is.learns; looks = is.looks }
+  generated_fresh (Err (Refused why)) is = record { generated = tt; refused = in_the_tree (λ tree. (command : Command) → IsGenerating command → Opens tree config command → refuses tree config command why) is.refused; kind = is.kind; asked = asks _ is.learns; footprint = looks_at _ is.learns; looks = is.looks }
+  generated_fresh (Err ReadFault) is = record { generated = tt; refused = tt; kind = tt; asked = asks _ is.learns; footprint = looks_at _ is.learns; looks = is.looks }
+  generated_fresh (Err Memory) is = record { generated = tt; refused = tt; kind = tt; asked = asks _ is.learns; footprint = looks_at _ is.learns; looks = is.looks }
 
 -- ---- a page that isn't served
 
@@ -185,43 +213,23 @@ unserved_kind config lost = record { which = the_page; path_is = sym (page_shown
 unserved_traced : (tree : Tree) (config : Config) → served_at config the_page ≡ None → traced (get tree) config ≡ Err (fault.Unservable config.page (web_name config the_page))
 unserved_traced tree config lost = unserved_is_refused (get tree) config lost ∙ ap (λ path. Err (fault.Unservable path (web_name config the_page))) (page_shown config)
 
-same_after : (old more : List (List ℕ)) → Some old ≡ Some (old ++ more) → more ≡ []
-same_after old more e = append_cancel_left old more [] (let f : old ≡ old ++ more = cc in sym f ∙ sym (append-nil old))
-
-module _ (config : Config) (state : FolderState) where
+module _ (config : Config) (state : FolderState) (known : Known) where
   nothing_looked : {P : Type 0} → (P → ⊥) → OnlyLooks state state P
   nothing_looked none = record { tree = refl; writes = refl; later = omega arith; cause = λ p. absurd (none p); quiet = λ quiet. refl }
 
-  nothing_asked : (told : Option (List (List ℕ))) → state.asked ≡ told → IfSome told (λ old. AsksNoPathTwice old state)
-  nothing_asked None e = tt
-  nothing_asked (Some old) e = record { more = []; asked = e ∙ ap Some (sym (append-nil old)); once = distinct_none }
-
-  of_nothing : (told : Option (List (List ℕ))) → state.asked ≡ told → IfSome told (λ old. AsksFootprint config state.holds old state)
-  of_nothing None e = tt
-  of_nothing (Some old) e = λ more asked. subst (λ paths. IfSome state.holds (λ tree. All (Contains (footprint (get tree) (generation config))) paths)) (sym (same_after old more (sym e ∙ asked))) (none_of state.holds)
-    where
-      none_of : (holds : Option Tree) → IfSome holds (λ tree. All (Contains (footprint (get tree) (generation config))) [])
-      none_of None = tt
-      none_of (Some tree) = All-nil (Contains (footprint (get tree) (generation config)))
-
-  pub unserved : (stop : Stop) → IsUnserved config stop → Generating config state (Err stop) state
+  pub unserved : (stop : Stop) → IsUnserved config stop → GeneratingOver config state known (Err stop) state known
   unserved stop (unserved_page.refused lost same) =
-      subst (λ s. Generating config state (Err s) state) (sym same)
+      subst (λ s. GeneratingOver config state known (Err s) state known) (sym same)
       (record {
         generated = tt;
-        refused = if_told state.holds (λ tree command generating opened. refuses.trace command (fault.Unservable config.page (web_name config the_page)) opened (unserved_traced tree config lost));
+        refused = if_all state.holds (λ tree seen sees command generating opened. refuses.trace command (fault.Unservable config.page (web_name config the_page)) opened (unserved_traced seen config lost));
         kind = λ command generating. kind.trace command (fault.Unservable config.page (web_name config the_page)) (unserved_kind config lost);
-        asked = nothing_asked state.asked refl;
-        footprint = of_nothing state.asked refl;
+        learns = learns_nothing (known_of state known) _ _;
         looks = nothing_looked (λ e. absurd (cc));
       })
-    where
-      if_told : {P : Tree → Type 0} (holds : Option Tree) → ((tree : Tree) → P tree) → IfSome holds P
-      if_told None f = tt
-      if_told (Some tree) f = f tree
   unserved stop (unserved_page.memory same) =
-      subst (λ s. Generating config state (Err s) state) (sym same)
-      (record { generated = tt; refused = tt; kind = tt; asked = nothing_asked state.asked refl; footprint = of_nothing state.asked refl; looks = nothing_looked (λ e. absurd (cc)) })
+      subst (λ s. GeneratingOver config state known (Err s) state known) (sym same)
+      (record { generated = tt; refused = tt; kind = tt; learns = learns_nothing (known_of state known) _ _; looks = nothing_looked (λ e. absurd (cc)) })
 
 -- the page's web name, where it is served at it
 pub page_is_file : (config : Config) (url : List ℕ) → web config.base config.page [] ≡ Some url → ends_with nat_eq url (codes "/") ≡ false → PageIsFile config

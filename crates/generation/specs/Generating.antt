@@ -8,6 +8,9 @@
 --     AsksFurther config before after      a folder that tells what it is asked for was asked so
 --     Tracing config before result after      the trace of a folder, and what is left of that
 --     Generating config before result after      what the call that generates gives for a folder, and what it leaves
+--     IfSeen tree known P      of each tree that is seen where this is known of the tree behind, this
+--     TracingOver, GeneratingOver config before known result after later      the same, where something is known of the
+--                                                                             folder
 use Rattle.std.specs.Prelude.{◌≡◌, ◌≢◌, ◌≤◌, ◌<◌, ◌++◌, ⊤, ℕ, List, length, bytes_eq, All, Contains}
 use Rattle.std.specs.Prelude.{Option, Some, Result, Ok, Err, IfOk, IfErr, IfSome}
 use Rattle.std.specs.FinMap.{get}
@@ -27,6 +30,10 @@ use Rattle.trace_spec.specs.declared.TraceFault.TheVariants as fault
 use Rattle.trace_spec.specs.Modules.{Config}
 use Rattle.trace_spec.specs.Checks.{Gathered}
 use Rattle.trace_spec.specs.Traces.{traced, generation}
+use Rattle.package_lookup.specs.declared.known.Known.{Known}
+use Rattle.package_lookup.specs.Looked.{Sees}
+use Rattle.package_lookup.specs.Learning.{Learns}
+use Rattle.request_trace.specs.Tracing.{known_of, IsOfFootprint}
 use Rattle.generator_spec.specs.declared.Command.{Command}
 use Rattle.generator_spec.specs.declared.Refusal.{Refusal}
 use Rattle.generator_spec.specs.declared.Refusal.TheVariants.{Trace}
@@ -113,4 +120,35 @@ pub record Generating (config : Config) (before : FolderState) (result : Result 
       IfErr result (IfRefused (λ why. (command : Command) → IsGenerating command → IsRefusalOf config command why))
   pub asked : IfSome before.asked (λ old. AsksNoPathTwice old after)
   pub footprint : IfSome before.asked (λ old. AsksFootprint config before.holds old after)
+  pub looks : OnlyLooks before after (result ≡ Err ReadFault)
+
+-- ---- where something is known of the folder
+
+-- own: whatever is laid over the tree behind, or was kept of it
+abbrev pub IfSeen : Tree → Known → (Tree → Type 0) → Type 0
+IfSeen tree known P = (seen : Tree) → Sees tree known (get seen) → P seen
+
+pub record TracingOver (config : Config) (before : FolderState) (known : Known) (result : Result Gathered Stop)
+    (after : FolderState) (later : Known) : Type 0 where
+  pub traces :
+      IfOk result (λ all. IfSome before.holds (λ tree. IfSeen tree known (λ seen. traced (get seen) config ≡ Ok all)))
+  pub refused :
+      IfErr result (IfRefused (λ why. IfSome before.holds (λ tree. IfSeen tree known (λ seen. (command : Command)
+      → Opens seen config command → Refuses seen config command why))))
+  pub kind : IfErr result (IfRefused (λ why. (command : Command) → IsRefusalOf config command why))
+  pub learns :
+      Learns (known_of before known) (known_of after later) (result ≡ Err Memory) (IsOfFootprint config before known)
+  pub looks : OnlyLooks before after (result ≡ Err ReadFault)
+
+pub record GeneratingOver (config : Config) (before : FolderState) (known : Known) (result : Result Generated Stop)
+    (after : FolderState) (later : Known) : Type 0 where
+  pub generated :
+      IfOk result (λ found. IfSome before.holds (λ tree. IfSeen tree known (λ seen. IsMapOfTree seen config found)))
+  pub refused :
+      IfErr result (IfRefused (λ why. IfSome before.holds (λ tree. IfSeen tree known (λ seen. (command : Command)
+      → IsGenerating command → Opens seen config command → Refuses seen config command why))))
+  pub kind :
+      IfErr result (IfRefused (λ why. (command : Command) → IsGenerating command → IsRefusalOf config command why))
+  pub learns :
+      Learns (known_of before known) (known_of after later) (result ≡ Err Memory) (IsOfFootprint config before known)
   pub looks : OnlyLooks before after (result ≡ Err ReadFault)

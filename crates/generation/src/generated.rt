@@ -5,14 +5,15 @@ ghost use Rattle.request_trace.specs.Tracing.{TakesSteps};
 ghost use Rattle.generator_spec.specs.Generation.{PageIsFile};
 ghost use Rattle.trace_spec.specs.Modules.{web_name};
 ghost use Rattle.trace_spec.specs.Walking.{the_page};
-ghost use Rattle.generation.specs.Generating.{Generating, IsMapOf, HasLargeMap};
+ghost use Rattle.generation.specs.Generating.{Generating, GeneratingOver, IsMapOf, HasLargeMap};
 
 use crate::digests::digests;
 use crate::page::page_url;
 use crate::stop::{Stop, too_large, too_many_choices};
-use crate::tracing::traced;
+use crate::tracing::traced_over;
 use layout::{LayoutFault, layout, mappings};
 use map_print::{PrintFault, print_map};
+use package_lookup::Known;
 use primitives::Steps;
 use request_trace::{Config, Trace};
 use scope_builder::Layout;
@@ -50,9 +51,27 @@ pub fn generate<F: Folder, L: Ledger>(
     ensures page { IfOk result (λ found. PageIsFile config.now) }
     ensures steps { TakesSteps result (λ found. found.modules + found.requests) steps.old steps.new }
 {
+    let mut known = Known::new(alloc);
+    generate_over(alloc, folder, &mut known, config, steps)
+}
+
+/// The same, where something is known of the folder: the looks that are laid over it, and those that were kept. It is
+/// asked for no path that is known.
+pub fn generate_over<F: Folder, L: Ledger>(
+    alloc: Global,
+    folder: &mut F,
+    known: &mut Known,
+    config: &Config,
+    steps: &mut Steps<L>,
+) -> Result<Generated, Stop>
+    ensures generates { GeneratingOver config.now (F.state folder.old) known.old result
+        (F.state folder.new) known.new }
+    ensures page { IfOk result (λ found. PageIsFile config.now) }
+    ensures steps { TakesSteps result (λ found. found.modules + found.requests) steps.old steps.new }
+{
     match page_url(alloc, config) {
         Err(stop) => Err(stop),
-        Ok(page) => generated_from(alloc, folder, config, &page, steps),
+        Ok(page) => generated_from(alloc, folder, known, config, &page, steps),
     }
 }
 
@@ -60,15 +79,17 @@ pub fn generate<F: Folder, L: Ledger>(
 fn generated_from<F: Folder, L: Ledger>(
     alloc: Global,
     folder: &mut F,
+    known: &mut Known,
     config: &Config,
     page: &WebUrl,
     steps: &mut Steps<L>,
 ) -> Result<Generated, Stop>
     requires { web_name config.now the_page ≡ Some page.now }
-    ensures generates { Generating config.now (F.state folder.old) result (F.state folder.new) }
+    ensures generates { GeneratingOver config.now (F.state folder.old) known.old result
+        (F.state folder.new) known.new }
     ensures steps { TakesSteps result (λ found. found.modules + found.requests) steps.old steps.new }
 {
-    match traced(alloc, folder, config, steps) {
+    match traced_over(alloc, folder, known, config, steps) {
         Err(stop) => Err(stop),
         Ok(trace) => match map_of(alloc, config, page, &trace) {
             Ok(generated) => Ok(generated),

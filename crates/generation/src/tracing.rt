@@ -1,6 +1,6 @@
 ghost use Rattle.std.specs.Prelude.{◌+◌, length};
 ghost use Rattle.request_trace.specs.Tracing.{TakesSteps};
-ghost use Rattle.generation.specs.Generating.{Tracing};
+ghost use Rattle.generation.specs.Generating.{Tracing, TracingOver};
 
 use crate::stop::{Stop, stop_of};
 use package_lookup::Known;
@@ -22,7 +22,21 @@ pub fn traced<F: Folder, L: Ledger>(
     ensures steps { TakesSteps result (λ all. length all.modules + length all.targets) steps.old steps.new }
 {
     let mut known = Known::new(alloc);
-    match trace(alloc, folder, &mut known, config, steps) {
+    traced_over(alloc, folder, &mut known, config, steps)
+}
+
+/// The same, where something is known of the folder: the looks that are laid over it, and those that were kept.
+pub(crate) fn traced_over<F: Folder, L: Ledger>(
+    alloc: Global,
+    folder: &mut F,
+    known: &mut Known,
+    config: &Config,
+    steps: &mut Steps<L>,
+) -> Result<Trace, Stop>
+    ensures traces { TracingOver config.now (F.state folder.old) known.old result (F.state folder.new) known.new }
+    ensures steps { TakesSteps result (λ all. length all.modules + all.requests) steps.old steps.new }
+{
+    match trace(alloc, folder, known, config, steps) {
         Err(fault) => Err(stop_of(fault)),
         Ok(trace) => Ok(trace),
     }

@@ -1,5 +1,7 @@
-use Rattle.generation.proofs.Generatings.{unserved}
+use Rattle.generation.proofs.Generatings.{generated_fresh}
 use Rattle.generation.proofs.generated.generate.Goals as goal
 
-pub returns-in-Err-clause-generates : goal.returns-in-Err-clause-generates
-returns-in-Err-clause-generates g c = unserved c.args.config.now (g.F.Folder.state c.args.folder.now) c.in-Err.stop c.in-Err.ensures.stopped
+pub returns-clause-generates : goal.returns-clause-generates
+returns-clause-generates g c =
+    generated_fresh c.args.config.now (g.F.Folder.state c.args.folder.now) (g.F.Folder.state c.generate_over.new.folder) c.new-known.result c.generate_over.new.known
+    (record { kept = c.new-known.ensures.kept; laid = c.new-known.ensures.laid }) c.generate_over.result c.generate_over.ensures.generates
