@@ -22,3 +22,9 @@ pub mod TargetInduction
 pub mod TargetsFollowed
 pub mod TargetsAnswered
 pub mod NodeConditions
+pub mod SparedAnswers
+pub mod FolderUrls
+pub mod IgnoredFolders
+pub mod SparedTargets
+pub mod SparedPackages
+pub mod SparedResolutions

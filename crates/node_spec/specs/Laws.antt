@@ -12,9 +12,10 @@
 --     IsRelativeNode sights conditions parent specifier      a relative specifier is answered as the asking for it is
 --     IsTargetOutcome sights bares rules target came      the target comes to this by calls that are answered as its
 --         bare texts are
+--     SeesBytes sights      something stands at texts of bytes alone
 --     IsBare specifier      the text is no URL, isn't empty, and doesn't end in `/`
 use Rattle.std.specs.Prelude.{◌≡◌, ◌≢◌, ◌⊎◌, ◌↔◌, ◌<◌, ◌+◌, ◌-◌, ℕ, true, false, List, [], ◌++◌, length, take, drop}
-use Rattle.std.specs.Prelude.{codes, Result, IfOk, ⊤}
+use Rattle.std.specs.Prelude.{codes, Result, IfOk, ⊤, All}
 use Rattle.std.specs.List.{Contains}
 use Rattle.tree_spec.specs.Trees.{Tree, IsTree}
 use Rattle.json_spec.specs.Value.{HasDistinctNames, Json}
@@ -36,7 +37,9 @@ use Rattle.asking_spec.specs.Evaluation.{Ended, evaluated}
 use Rattle.asking_spec.specs.Laws.{AgreesOn}
 use Rattle.tree_spec.specs.Laws.{IsSameAsking}
 use Rattle.tree_spec.specs.LookAskings.{Sights, looks, footprint}
+use Rattle.tree_spec.specs.LeftOutFolders.{Spares, IgnoresFolders}
 use Rattle.tree_spec.specs.Paths.{IsPath}
+use Rattle.tree_spec.specs.declared.Entry.{Entry}
 use Rattle.tree_spec.specs.declared.Entry.TheVariants.{Stored}
 use Rattle.url_spec.specs.Parsing.{parse_alone}
 use Rattle.node_spec.specs.EsmFileFormat.{file_format}
@@ -377,3 +380,22 @@ TargetAnswered T S X =
     (asked : List Call) (out : Outcome) (after : Answerer T S X) → before.stop ≡ None
     → ResolvesTarget rules target asked out → Calls (GivesBare answers bares) before asked after
     → IsTargetAnswer answers bares rules target before out after
+
+-- ---- folders that are left out
+
+-- own: something stands at texts of bytes alone
+pub record SeesBytes (sights : Sights) : Type 0 where
+  pub small : (path : List ℕ) (entry : Entry) → sights path ≡ Some entry → All (λ b. b < 256) path
+
+-- own law: where a resolution comes to a module, the folders that are left out decide nothing in it, whatever is looked
+-- at behind it
+abbrev pub NodeSpares : Type 0
+NodeSpares =
+    (sights : Sights) → SeesBytes sights
+    → (later : List (List ℕ)) (conditions : List (List ℕ)) (parent specifier : List ℕ) (found : Module)
+    → outcome sights (node conditions parent specifier) ≡ Ok found
+    → Spares sights later (node conditions parent specifier)
+
+-- own law: the format of a file tells no folder from nothing
+abbrev pub FormatIgnoresFolders : Type 0
+FormatIgnoresFolders = (path : List ℕ) → IgnoresFolders (file_format path)

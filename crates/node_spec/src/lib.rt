@@ -14,7 +14,7 @@ ghost use Rattle.node_spec.specs.Laws.{OneNearest, FindsPackageScope, FindsPacka
 ghost use Rattle.node_spec.specs.Laws.{OneRecordAt, RecordIsRead, FindsTarget, ExportsLookAtNothing};
 ghost use Rattle.node_spec.specs.Laws.{FindsKey, NodeConditionsAreASet, AnsweredIsBare};
 ghost use Rattle.node_spec.specs.PatternExamples.{PatternExamples};
-ghost use Rattle.node_spec.specs.Laws.{FollowsTarget, TargetAnswered};
+ghost use Rattle.node_spec.specs.Laws.{FollowsTarget, TargetAnswered, NodeSpares, FormatIgnoresFolders};
 ghost use Rattle.node_spec.specs.Laws.{FindsRelative};
 ghost use Rattle.node_spec.specs.RecordExamples.{RecordExamples};
 ghost use Rattle.node_spec.specs.TargetExamples.{TargetExamples};
@@ -352,4 +352,14 @@ pub fn node_conditions_are_a_set()
 /// A specifier that isn't relative and has an answer is no URL, and names no folder.
 pub fn answered_is_bare()
     ensures { AnsweredIsBare }
+{}
+
+/// A resolution that comes to a module comes to it without the folders that have no file among those looked at.
+pub fn node_spares()
+    ensures { NodeSpares }
+{}
+
+/// The format of a file tells no folder from nothing.
+pub fn format_ignores_folders()
+    ensures { FormatIgnoresFolders }
 {}

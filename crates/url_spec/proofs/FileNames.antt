@@ -7,7 +7,7 @@ use Rattle.std.proofs.lemmas.Grind.{flat_map-append}
 use Rattle.std.proofs.lemmas.List.{take-append-drop, reverse-append}
 use Rattle.std.proofs.lemmas.List.Elements.{All-take, All-weaker, All-nil, All-append, All-drop, All-filter, All-cons}
 use Rattle.std.specs.Cmp.Lexicographic.{same_text}
-use Rattle.std.specs.List.{prefix_len, suffix_len, ends_with, onto_first}
+use Rattle.std.specs.List.{prefix_len, suffix_len, ends_with}
 use Rattle.std.specs.Prelude.{Ok, Err, codes, nat_eq, ◌⊎◌, flat_map}
 use mathlib.Core.Logic.{inl, inr}
 use Rattle.percent_encoding.proofs.PercentLemmas.{IsEscapeByte}
@@ -21,6 +21,7 @@ use Rattle.url.specs.declared.slicing.Position.TheVariants.{AfterQuery}
 use Rattle.tree_spec.proofs.PathParts.{last_of}
 use Rattle.tree_spec.specs.Paths.{IsPath}
 use Rattle.url_spec.proofs.FileUrls.{All_escaped}
+use Rattle.url_spec.proofs.SpelledPaths.{segments_behind}
 use Rattle.url_spec.specs.Laws.{FilesEndInNoSlash}
 use Rattle.url_spec.specs.Parsing.{text_of}
 use Rattle.url_spec.specs.ServedPaths.{IsServed, segments, read_segment}
@@ -129,31 +130,6 @@ ends_in text e =
     let cut = length text - 1 in
     (take cut text, sym (take-append-drop cut text) ∙ ap (λ last. take cut text ++ last) (sym (same_text (codes "/") (drop cut text) (sym e))))
 
-record HasFirst (parts : List (List ℕ)) : Type 0 where
-  pub first : List ℕ
-  pub more : List (List ℕ)
-  pub split : parts ≡ first ∷ more
-
-first_segment : (text : List ℕ) → HasFirst (segments text)
-first_segment [] = record { first = []; more = []; split = refl }
-first_segment (b ∷ text) =
-    elim (cases_Bool (b == 47)) [
-      | inl slash ↦ record { first = []; more = segments text; split = cond-true _ _ _ slash }
-      | inr other ↦ let tail = first_segment text in record { first = b ∷ tail.first; more = tail.more; split = cond-false _ _ _ other ∙ ap (onto_first b) tail.split }
-    ]
-
-onto_front : (b : ℕ) (parts others : List (List ℕ)) → HasFirst parts → onto_first b (parts ++ others) ≡ onto_first b parts ++ others
-onto_front b parts others h = ap (λ ps. onto_first b (ps ++ others)) h.split ∙ sym (ap (λ ps. onto_first b ps ++ others) h.split)
-
-segments_ended : (text : List ℕ) → segments (text ++ 47 ∷ []) ≡ segments text ++ [] ∷ []
-segments_ended [] = refl
-segments_ended (b ∷ text) =
-    elim (cases_Bool (b == 47)) [
-      | inl slash ↦ cond-true _ _ _ slash ∙ (ap (λ (parts : List (List ℕ)). [] ∷ parts) (segments_ended text) ∙ sym (ap (λ (parts : List (List ℕ)). parts ++ [] ∷ []) (cond-true _ _ _ slash)))
-      | inr other ↦ cond-false _ _ _ other
-          ∙ (ap (onto_first b) (segments_ended text) ∙ (onto_front b (segments text) ([] ∷ []) (first_segment text) ∙ sym (ap (λ (parts : List (List ℕ)). parts ++ [] ∷ []) (cond-false _ _ _ other))))
-    ]
-
 -- nothing, or a last byte behind others
 last_byte : (text : List ℕ) → (text ≡ []) ⊎ ((front : List ℕ) × (b : ℕ) × (text ≡ front ++ b ∷ []))
 last_byte [] = inl refl
@@ -172,7 +148,7 @@ nothing_spelled = refl
 
 slash_spelled : (rest : List ℕ) → flat_map read_segment (segments (rest ++ 47 ∷ [])) ≡ flat_map read_segment (segments rest) ++ 47 ∷ []
 unfolding percent_decode
-slash_spelled rest = ap (flat_map read_segment) (segments_ended rest) ∙ flat_map-append read_segment (segments rest) ([] ∷ [])
+slash_spelled rest = ap (flat_map read_segment) (segments_behind rest []) ∙ flat_map-append read_segment (segments rest) ([] ∷ [])
 
 no_final_slash : (path front : List ℕ) → IsPath path → path ≢ codes "/" → path ≡ front ++ 47 ∷ [] → ⊥
 no_final_slash path front is not_root e = (last_of is.depth path front [] is.segments not_root e (All-nil (λ b. b ≢ 47))).segment.nonempty refl

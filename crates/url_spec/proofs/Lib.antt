@@ -12,3 +12,7 @@ pub mod FileNames
 pub mod examples
 pub mod PathDecisions
 pub mod PathTestLemmas
+pub mod FileUrlParts
+pub mod SpelledPaths
+pub mod UrlsInFolders
+pub mod IndexUrls

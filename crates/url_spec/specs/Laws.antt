@@ -1,20 +1,21 @@
 -- The laws of URLs as texts. Each is the contract of a function of this crate.
 --     IsNoStart b      the byte is neither a letter nor one that the URL parser trims or drops
+--     index_texts      the relative texts of the files that Node tries in a folder
 use Rattle.std.specs.Prelude.{◌≡◌, ◌↔◌, ℕ, List, Some, None, true, false, [], ◌∷◌, ◌≢◌, ◌<◌, ◌++◌, drop, All, codes}
-use Rattle.std.specs.Prelude.{Bool, Option, Ok}
+use Rattle.std.specs.Prelude.{◌⊎◌, Bool, Option, Ok, Contains}
 use Rattle.std.specs.Char.{is_ascii_alphabetic}
 use Rattle.std.specs.Str.{IsAscii}
 use Rattle.url.specs.Canonical.{IsCanonical}
 use Rattle.url.specs.Input.{is_c0_control_or_space, is_tab_or_new_line}
 use Rattle.url.specs.Parser.{parse_url}
 use Rattle.url.specs.Parts.{Parts, IsValid}
-use Rattle.tree_spec.specs.Paths.{IsPath}
+use Rattle.tree_spec.specs.Paths.{IsPath, IsAbove}
 use Rattle.url_spec.specs.Bases.{base_of, IsBase}
-use Rattle.url_spec.specs.FileUrls.{IsPlace, file_text, names_host, url_path}
+use Rattle.url_spec.specs.FileUrls.{IsPlace, file_text, names_host, spelled_path, url_path}
 use Rattle.url_spec.specs.PathTests.{is_path, is_served}
 use Rattle.url_spec.specs.Parsing.{parse_alone, parse_against, IsUrl, text_of}
 use Rattle.url_spec.specs.ServedPaths.{IsServed}
-use Rattle.url_spec.specs.Specifiers.{is_relative, as_url, normalized, ends_in_slash}
+use Rattle.url_spec.specs.Specifiers.{is_relative, as_url, normalized, begins, ends_in_slash}
 use Rattle.url_spec.specs.WebNames.{web, escaped}
 
 -- own law: what parsing gives, with or without a base, is the text of a URL, and so is a web name
@@ -107,3 +108,22 @@ abbrev pub PathsAreTested : Type 0
 PathsAreTested =
     ((text : List ℕ) → (is_path text ≡ true) ↔ IsPath text)
     × ((base url path : List ℕ) → (is_served base url path ≡ true) ↔ IsServed base url path)
+
+-- own law: where the text of a URL without a host begins with that of a folder other than the root, the path that it
+-- spells is the folder, or stands below it
+abbrev pub NamedInFolder : Type 0
+NamedInFolder =
+    (folder url path : List ℕ) → IsPath folder → folder ≢ codes "/" → All (λ b. b < 256) folder → IsUrl url
+    → names_host url ≡ false → begins url (file_text folder true) ≡ true → IsPath path
+    → path ≡ spelled_path (url_path url) → (path ≡ folder) ⊎ IsAbove folder path
+
+-- the files that Node tries in a folder, each as a text relative to it (Node.js, "ECMAScript modules": legacy main)
+abbrev pub index_texts : List (List ℕ)
+index_texts = codes "./index.js" ∷ codes "./index.json" ∷ codes "./index.node" ∷ []
+
+-- own law: joined to the URL of a folder other than the root, these begin with it
+abbrev pub IndexUrls : Type 0
+IndexUrls =
+    (folder text url : List ℕ) → IsPath folder → folder ≢ codes "/" → All (λ b. b < 256) folder
+    → Contains index_texts text → parse_against (file_text folder true) text ≡ Some url
+    → begins url (file_text folder true) ≡ true

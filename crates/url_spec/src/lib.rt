@@ -4,6 +4,7 @@
 
 ghost use Rattle.url_spec.specs.Laws.{SameAgainst, FilesEndInNoSlash, FileUrls, AsciiUrls, KeptWhole, KeptUrls, NoUrls};
 ghost use Rattle.url_spec.specs.Laws.{OwnUrls, NormalTexts, BasesStay, OneServed, OnePlace, PathsAreTested};
+ghost use Rattle.url_spec.specs.Laws.{NamedInFolder, IndexUrls};
 ghost use Rattle.url_spec.specs.WorkedExamples.{WorkedExamples};
 
 /// What parsing gives, with or without a base, is the text of a URL, and so is a web name.
@@ -74,6 +75,16 @@ pub fn one_place()
 /// The file URL of a path is a URL without a host, and its path is what follows `file://`.
 pub fn file_urls()
     ensures { FileUrls }
+{}
+
+/// A URL whose text begins with that of a folder spells the folder or a path below it.
+pub fn named_in_folder()
+    ensures { NamedInFolder }
+{}
+
+/// The URLs of the files that Node tries in a folder begin with the folder's.
+pub fn index_urls()
+    ensures { IndexUrls }
 {}
 
 /// The tests of paths, and of what is served, say exactly what they are named for.

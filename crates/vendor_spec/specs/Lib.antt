@@ -1,0 +1,2 @@
+pub mod Vendored
+pub mod Laws
