@@ -1,13 +1,13 @@
 -- Targets that are dealt out to modules.
-use Rattle.std.proofs.Common.{◌≡◌, ◌≤◌, ◌+◌, ◌++◌, ℕ, zero, suc, List, [], ◌∷◌, length, map, take, drop, slice_set, Some, refl, sym, ap, ◌∙◌, subst, arith, append-nil, append_assoc, length-set}
-use Rattle.std.specs.Prelude.{All, flat_map}
+use Rattle.std.proofs.Common.{◌≡◌, ◌≤◌, ◌+◌, ◌++◌, ℕ, zero, suc, List, [], ◌∷◌, length, map, take, drop, Some, refl, sym, ap, ◌∙◌, arith, append-nil, append_assoc, length-set}
+use Rattle.std.specs.Prelude.{All}
 use Rattle.std.proofs.lemmas.Grind.{take-set_at}
-use Rattle.std.proofs.lemmas.List.{map-append, take_all, length-take-le, length-map}
+use Rattle.std.proofs.lemmas.List.{map-append, take_all, length-take-le}
 use Rattle.std.proofs.lemmas.List.Elements.{All-head, All-tail}
 use Rattle.slot_arena.specs.declared.slot.Slot.{Slot}
 use Rattle.module_graph.specs.declared.module.Module.{Module}
 use Rattle.module_graph.specs.Modules.{IsModule, with_target}
-use Rattle.module_graph.specs.Many.{with_targets, requests_in, dealt}
+use Rattle.module_graph.specs.Many.{with_targets, requests_in}
 use Rattle.module_graph.specs.Laws.{Deals, DealsInOrder}
 
 -- what isn't a target stays

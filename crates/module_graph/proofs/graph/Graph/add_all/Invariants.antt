@@ -1,4 +1,4 @@
-use Rattle.std.proofs.Common.{◌≡◌, ◌≤◌, ◌+◌, ◌++◌, List, length, reverse}
+use Rattle.std.proofs.Common.{◌≡◌, ◌≤◌, ◌+◌, ◌++◌, List, reverse}
 use Rattle.std.specs.Prelude.{All, vec_len, vec_capacity}
 use Rattle.slot_arena.specs.Slots.{Place}
 use Rattle.slot_arena.specs.Counts.{spare}

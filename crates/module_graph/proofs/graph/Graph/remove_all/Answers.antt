@@ -1,4 +1,4 @@
-use Rattle.std.proofs.Common.{◌≡◌, [], ◌∷◌, length, sym, subst, arith}
+use Rattle.std.proofs.Common.{sym, subst}
 use Rattle.module_graph.specs.Many.{RemovesAll}
 use Rattle.module_graph.proofs.Many.{no_slots, removes_none, removes_one}
 use Rattle.module_graph.proofs.graph.Graph.remove_all.Goals as goal
