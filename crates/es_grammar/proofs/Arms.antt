@@ -23,7 +23,7 @@ use Rattle.es_grammar.proofs.Steps.{enter_rule, enter_asks, enter_deep, enter_ne
 
 -- ---- a form is read
 
-at_form : {tokens : List Sight} {fs : List Frame} {c : Context} {p : Place} {whole form : Form} → whole ≡ form
+pub at_form : {tokens : List Sight} {fs : List Frame} {c : Context} {p : Place} {whole form : Form} → whole ≡ form
     → Enters tokens fs c p whole → Enters tokens fs c p form
 at_form {tokens} {fs} {c} {p} e enters = subst (λ f. Enters tokens fs c p f) e enters
 

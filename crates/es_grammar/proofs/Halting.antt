@@ -12,6 +12,8 @@ use Rattle.grammar_spec.specs.Readings.Reads.{or_first, or_second, reads_maybe, 
 use Rattle.grammar_spec.specs.Readings.Reads.{reads_asks, nested_deep, reads_nested, reads_headed}
 use Rattle.grammar_spec.proofs.Existence.{some_reading}
 use Rattle.es_grammar.specs.Turning.{Job, read_then, read_or, may_come, may_come_again, came_before, has_taken, may_ask, goes_back}
+use Rattle.es_grammar.specs.Turning.{Leads}
+use Rattle.es_grammar.specs.Turning.Leads.{once, further}
 use Rattle.es_grammar.specs.Turning.{Doing, reads, stayed, took, missed, over, State, state, tested, looked, next}
 
 -- the reading ends behind so many turns
@@ -268,3 +270,10 @@ fewer_by tokens s t n (goes {t = u} {n = m} e h) f =
 
 pub fewer_left : (tokens : List Sight) (s t : State) → next tokens s ≡ Some t → turns_left tokens t < turns_left tokens s
 fewer_left tokens s t e = fewer_by tokens s t (turns_left tokens s) (ends tokens s).1 e
+
+pub fewer_behind : (tokens : List Sight) (s t : State) → Leads tokens s t → turns_left tokens t < turns_left tokens s
+fewer_behind tokens s t (once e) = fewer_left tokens s t e
+fewer_behind tokens s t (further {t = u} e more) =
+    let first = fewer_left tokens s u e in
+    let later = fewer_behind tokens u t more in
+    omega (first, later, arith)

@@ -3,3 +3,4 @@ pub mod Steps
 pub mod Arms
 pub mod Ends
 pub mod Halting
+pub mod Absences

@@ -1,9 +1,14 @@
 -- The reader's turns as a function of its state, by which it is shown to end.
 --     next tokens state      the state behind one turn, or none where the reading ends
 --     state_of reader step      what the reader stands at
---     TurnsTo tokens state reader turn      where one turn goes on, it is this
+--     Leads tokens state other      the other state is reached behind one turn or some
+--     Absent tokens context at form      by the token at the place alone, the form misses
+--     TurnsTo tokens state reader turn      where it goes on, it stands at what the state leads to
 use Rattle.std.specs.Prelude.{◌≡◌, ℕ, suc, Bool, true, false, nat_le, List, [], ◌∷◌, map, Option, Some, None, if◌then◌else◌}
 use Rattle.grammar_spec.specs.declared.names.Context.{Context}
+use Rattle.grammar_spec.specs.declared.names.Test.{Test}
+use Rattle.grammar_spec.specs.declared.names.Guard.{Guard}
+use Rattle.grammar_spec.specs.declared.names.Rule.{Rule}
 use Rattle.grammar_spec.specs.Sights.{Sight, passes, is_quoted, holds, depth_at}
 use Rattle.grammar_spec.specs.Forms.{Form, quoted, one, ahead, ◌▸◌, ◌∣◌, maybe, many, rule, asks, nested, headed}
 use Rattle.grammar_spec.specs.Statements.{body}
@@ -114,6 +119,20 @@ turned tokens jobs c at over = None
 abbrev pub next : List Sight → State → Option State
 next tokens s = turned tokens s.jobs s.context s.at s.doing
 
+pub data Leads (tokens : List Sight) : State → State → Type 0 where
+  once : {s t : State} → next tokens s ≡ Some t → Leads tokens s t
+  further : {s t u : State} → next tokens s ≡ Some t → Leads tokens t u → Leads tokens s u
+
+-- ---- what can't begin here
+
+pub data Absent (tokens : List Sight) (c : Context) (at : ℕ) : Form → Type 0 where
+  no_word : {word : List ℕ} → is_quoted word tokens at ≡ false → Absent tokens c at (quoted word)
+  no_one : {test : Test} → passes test c.head tokens at ≡ false → Absent tokens c at (one test)
+  no_guard : {guard : Guard} → holds guard tokens at ≡ false → Absent tokens c at (ahead guard)
+  no_first : {a b : Form} → Absent tokens c at a → Absent tokens c at (a ▸ b)
+  no_choice : {a b : Form} → Absent tokens c at a → Absent tokens c at b → Absent tokens c at (a ∣ b)
+  no_rule : {r : Rule} → Absent tokens c at (body r) → Absent tokens c at (rule r)
+
 -- ---- the reader
 
 abbrev pub job_of : Frame → Job
@@ -141,5 +160,5 @@ abbrev pub state_of : Reader → Step → State
 state_of r now = state (jobs_of r) r.context r.at (doing_of now)
 
 abbrev pub TurnsTo : List Sight → State → Reader → Turn → Type 0
-TurnsTo tokens before r (turn.Goes now) = next tokens before ≡ Some (state_of r now)
+TurnsTo tokens before r (turn.Goes now) = Leads tokens before (state_of r now)
 TurnsTo tokens before r (turn.Ends told) = Unit {0}

@@ -4,7 +4,8 @@ ghost use Rattle.grammar_table.specs.NodeForms.{form_of};
 ghost use Rattle.es_grammar.specs.Unwinding.{place, EntersAt, LeavesBefore, TookBefore, StandsAt};
 ghost use Rattle.es_grammar.specs.Unwinding.{TurnsAt, TellsOf};
 ghost use Rattle.es_grammar.specs.Turning.{entered, behind_stay, behind_miss, behind_take, job_of, jobs_of};
-ghost use Rattle.es_grammar.specs.Turning.{state_of, TurnsTo};
+ghost use Rattle.es_grammar.specs.Turning.{state_of, TurnsTo, state, reads, Leads, Absent};
+ghost use Rattle.std.specs.Bool.{OnTrue};
 ghost use Rattle.grammar_spec.specs.Readings.{stays, misses, is_sole};
 
 use crate::stack::{Frame, Stack};
@@ -58,6 +59,8 @@ pub struct Reader {
 }
 
 const MOST_OPEN: usize = 1000;
+// How far a form is looked into, before it is read.
+const MOST_LOOKS: usize = 16;
 
 impl Reader {
     /// A form is read.
@@ -218,6 +221,73 @@ impl Reader {
         }
     }
 
+    // By the token here alone the form misses, where one look or a test says so.
+    fn lacks_one(&self, tokens: &Tokens<'_>, node: &'static Node<'static>) -> bool
+        ensures { OnTrue result (Absent tokens.now self.now.context self.now.at (form_of node.now)) }
+    {
+        match *node {
+            Node::Quoted(word) => !tokens.quoted(word, self.at),
+            Node::One(test) => !tokens.passes(test, self.context.head, self.at),
+            Node::Ahead(guard) => !tokens.holds(guard, self.at),
+            _ => false,
+        }
+    }
+
+    // By the token here alone the form misses, where that is found by few looks.
+    fn lacks(&self, tokens: &Tokens<'_>, node: &'static Node<'static>) -> bool
+        ensures { OnTrue result (Absent tokens.now self.now.context self.now.at (form_of node.now)) }
+    {
+        let mut left = node;
+        'down: for _ in 0..MOST_LOOKS {
+            match *left {
+                Node::Then(first, _) => left = first,
+                Node::Call(rule) => left = body(rule),
+                Node::Or(first, second) => {
+                    if !self.lacks_one(tokens, first) {
+                        return false;
+                    }
+                    left = second;
+                }
+                _ => return self.lacks_one(tokens, left),
+            }
+        }
+        false
+    }
+
+    /// A form is read; one that misses by the token here alone is passed over.
+    pub fn open(
+        &mut self,
+        tokens: &Tokens<'_>,
+        node: &'static Node<'static>,
+    ) -> Result<Step, Memory>
+        ensures stands { IfOk result (λ step. EntersAt tokens.now self.old (form_of node.now)
+            → StandsAt tokens.now self.new step) }
+        ensures turns { IfOk result (λ step. Leads tokens.now (state (jobs_of self.old) self.old.context self.old.at
+            (reads (form_of node.now))) (state_of self.new step)) }
+    {
+        match *node {
+            Node::Or(first, second) => {
+                if self.lacks(tokens, first) {
+                    return Ok(Step::Enter(second));
+                }
+                self.enter(tokens, node)
+            }
+            Node::Maybe(inner) => {
+                if self.lacks(tokens, inner) {
+                    return Ok(Step::Stays);
+                }
+                self.enter(tokens, node)
+            }
+            Node::Many(inner) => {
+                if self.lacks(tokens, inner) {
+                    return Ok(Step::Stays);
+                }
+                self.enter(tokens, node)
+            }
+            _ => self.enter(tokens, node),
+        }
+    }
+
     /// One step.
     pub fn turn(&mut self, tokens: &Tokens<'_>, step: Step) -> Result<Turn, Memory>
         ensures stands { IfOk result (λ turn. StandsAt tokens.now self.old step
@@ -225,7 +295,7 @@ impl Reader {
         ensures turns { IfOk result (λ turn. TurnsTo tokens.now (state_of self.old step) self.new turn) }
     {
         match step {
-            Step::Enter(node) => Ok(Turn::Goes(self.enter(tokens, node)?)),
+            Step::Enter(node) => Ok(Turn::Goes(self.open(tokens, node)?)),
             Step::Stays => match self.stack.pop() {
                 None => Ok(Turn::Ends(End::Nothing)),
                 Some(frame) => Ok(Turn::Goes(self.stay(tokens, frame))),
