@@ -20,8 +20,15 @@ OUTLINE = measure.program("outline_count")
 TOKENS = measure.program("token_count")
 PEER = "/usr/share/nodejs/es-module-lexer"
 IMPORTS = 4000
+# What Debian's packages put there: libjs-three, node-lodash, node-acorn, node-yjs and so on.
+INSTALLED = "/usr/share/nodejs"
+PACKAGES = ["three/build/three.module.js", "lodash/lodash.js", "acorn/dist/acorn.mjs", "yjs/dist/yjs.mjs",
+            "immutable/dist/immutable.es.js", "chart.js/dist/chart.esm.js", "vue/dist/vue.esm.browser.js",
+            "jquery/dist/jquery.js", "react/cjs/react.development.js", "marked/lib/marked.esm.js"]
 # Bytes in a second, of ordinary code.
 SPEED = 100_000_000
+# The same of the texts of packages.
+PACKAGES_SPEED = 160_000_000
 # The part of the pace at which tokens alone are read.
 PACE = 0.9
 # How much longer than the peer it may take.
@@ -153,12 +160,34 @@ def ordinary(folder):
                                            f"at most {PEER_TIMES}")
 
 
+def packages(folder):
+    """The texts of packages that are installed, one behind the other, again and again."""
+    texts = []
+    for name in PACKAGES:
+        path = os.path.join(INSTALLED, name)
+        if os.path.isfile(path):
+            with open(path, encoding="utf-8") as file:
+                texts.append(file.read())
+    if not texts:
+        print("      no texts of packages: skipped")
+        return
+    joined = "\n;\n".join(texts) + "\n;\n"
+    path, size = measure.written(folder, "module.mjs", joined * max(1, SIZE // len(joined)))
+    line = measure.run([OUTLINE, path])[1]
+    seconds = measure.fewest("packages", [OUTLINE, path], line)
+    alone = min(measure.run([TOKENS, path])[0] for _ in range(TRIES))
+    say(line.endswith("requests, a module") and size / seconds >= PACKAGES_SPEED,
+        f"{len(texts)} texts of packages: {seconds:.3f} s for {size} bytes, {size / seconds / 1e6:.0f} MB/s, "
+        f"at least {PACKAGES_SPEED / 1e6:.0f}; their tokens alone {size / alone / 1e6:.0f} MB/s")
+
+
 def main():
     if sys.argv[1:]:
         sys.exit("usage: python3 -B bench/outline.py")
     measure.need(OUTLINE, TOKENS)
     with tempfile.TemporaryDirectory(prefix="salimgub-outline-") as folder:
         ordinary(folder)
+        packages(folder)
         for shape in HOSTILE:
             half, _ = best(shape, SIZE // 2, folder)
             whole, size = best(shape, SIZE, folder)

@@ -1,4 +1,5 @@
 pub mod Passed
+pub mod NameBytes
 pub mod Tops
 pub mod Stack
 pub mod Calls

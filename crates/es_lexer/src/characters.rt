@@ -95,7 +95,8 @@ pub fn begins_line_end(bytes: &[u8]) -> bool
     }
 }
 
-fn is_ascii_space(b: u8) -> bool
+/// Whether a byte is white space or a line end.
+pub fn is_ascii_space(b: u8) -> bool
     ensures { result ≡ is_ascii_space b }
 {
     b == b' ' || b == b'\t' || b == b'\n' || b == b'\r' || b == 11 || b == 12

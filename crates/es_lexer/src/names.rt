@@ -1,4 +1,5 @@
 ghost use Rattle.std.specs.Prelude.{◌≡◌, ◌==◌, ◌+◌, ◌<◌, slice_index, ◌≤◌, length, MatchOption};
+ghost use Rattle.std.specs.Prelude.{IfSome};
 ghost use Rattle.std.specs.Char.{is_ascii_digit};
 ghost use Rattle.module_spec.specs.Characters.{is_hex_digit, hex_digits, braced_size};
 ghost use Rattle.module_spec.specs.Characters.{unicode_size, escape_size, is_name_byte};
@@ -89,10 +90,34 @@ fn escape_size(bytes: &[u8]) -> usize
     }
 }
 
+// Whether each byte is a letter, a digit, `_` or `$`.
+const NAME_BYTES: [bool; 256] = [
+    false, false, false, false, false, false, false, false, false, false, false, false, false,
+    false, false, false, false, false, false, false, false, false, false, false, false, false,
+    false, false, false, false, false, false, false, false, false, false, true, false, false,
+    false, false, false, false, false, false, false, false, false, true, true, true, true, true,
+    true, true, true, true, true, false, false, false, false, false, false, false, true, true,
+    true, true, true, true, true, true, true, true, true, true, true, true, true, true, true, true,
+    true, true, true, true, true, true, true, true, false, false, false, false, true, false, true,
+    true, true, true, true, true, true, true, true, true, true, true, true, true, true, true, true,
+    true, true, true, true, true, true, true, true, true, false, false, false, false, false, false,
+    false, false, false, false, false, false, false, false, false, false, false, false, false,
+    false, false, false, false, false, false, false, false, false, false, false, false, false,
+    false, false, false, false, false, false, false, false, false, false, false, false, false,
+    false, false, false, false, false, false, false, false, false, false, false, false, false,
+    false, false, false, false, false, false, false, false, false, false, false, false, false,
+    false, false, false, false, false, false, false, false, false, false, false, false, false,
+    false, false, false, false, false, false, false, false, false, false, false, false, false,
+    false, false, false, false, false, false, false, false, false, false, false, false, false,
+    false, false, false, false, false, false, false, false, false, false, false, false, false,
+    false, false, false, false, false, false, false, false, false, false,
+];
+
+#[inline]
 fn is_name_byte(b: u8) -> bool
     ensures { result ≡ is_name_byte b }
 {
-    b'a' <= b && b <= b'z' || b'A' <= b && b <= b'Z' || is_digit(b) || b == b'_' || b == b'$'
+    NAME_BYTES[b as usize]
 }
 
 // How many bytes of a character of names, or of an escape, stand at the front.
@@ -117,8 +142,8 @@ fn any_name_size(bytes: &[u8]) -> usize
     }
 }
 
-/// How many bytes of a character of names, or of an escape, stand at the front. Nearly all of them are single bytes, so
-/// what these need stands here, and the rest is called.
+/// How many bytes of a character of names, or of an escape, stand at the front. Nearly always the first byte alone says
+/// it, so what this needs stands here, and the rest is called.
 #[tactic(auto, unfolding(module_spec::specs::Characters::name_size))]
 #[inline]
 pub fn name_size(bytes: &[u8]) -> usize
@@ -129,6 +154,8 @@ pub fn name_size(bytes: &[u8]) -> usize
         Some((first, _)) => {
             if is_name_byte(*first) {
                 1
+            } else if *first < 128 && *first != b'\\' {
+                0
             } else {
                 any_name_size(bytes)
             }
@@ -165,8 +192,9 @@ fn name_more(bytes: &[u8]) -> Option<&[u8]>
     }
 }
 
-/// The bytes behind the characters of names at the front.
-pub fn name_rest(bytes: &[u8]) -> &[u8]
+// The bytes behind the characters of names at the front, whatever they are.
+#[inline(never)]
+fn any_name_rest(bytes: &[u8]) -> &[u8]
     ensures { result.now ≡ name_rest bytes.now }
 {
     let mut rest = bytes;
@@ -174,4 +202,37 @@ pub fn name_rest(bytes: &[u8]) -> &[u8]
         rest = more;
     }
     rest
+}
+
+// The bytes behind one letter, digit, `_` or `$`.
+#[inline]
+fn plain_more(bytes: &[u8]) -> Option<&[u8]>
+    ensures { IfSome result (λ more. (name_rest bytes.now ≡ name_rest more.now) × (length more.now < length bytes.now)) }
+{
+    match bytes.split_first() {
+        None => None,
+        Some((first, rest)) => {
+            if is_name_byte(*first) {
+                Some(rest)
+            } else {
+                None
+            }
+        }
+    }
+}
+
+/// The bytes behind the characters of names at the front. The loop goes over letters and digits alone, and a call over
+/// what may stand behind them.
+pub fn name_rest(bytes: &[u8]) -> &[u8]
+    ensures { result.now ≡ name_rest bytes.now }
+{
+    let mut rest = bytes;
+    while let Some(more) = plain_more(rest) {
+        rest = more;
+    }
+    if name_size(rest) == 0 {
+        rest
+    } else {
+        any_name_rest(rest)
+    }
 }

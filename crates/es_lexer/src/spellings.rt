@@ -1,12 +1,13 @@
-ghost use Rattle.std.specs.Prelude.{◌≡◌, ◌<◌, ◌==◌, ◌||◌, false, [], ◌∷◌, None, Some, length, MatchOption};
+ghost use Rattle.std.specs.Prelude.{◌≡◌, ◌≢◌, ◌<◌, ◌==◌, ◌||◌, false, [], ◌∷◌, None, Some, length, drop};
+ghost use Rattle.std.specs.Prelude.{MatchOption, IfSome};
 ghost use Rattle.module_spec.specs.Spellings.{begins_with, line_rest, comment_rest, slash_rest, blank_rest};
 ghost use Rattle.module_spec.specs.Spellings.{hashbang_rest, has_base_letter, begins_sign, number_size, number_rest};
 ghost use Rattle.module_spec.specs.Spellings.{begins_number, text_size, closed_rest, text_rest, begins_substitution};
 ghost use Rattle.module_spec.specs.Spellings.{template_size, part_rest, template_rest, regex_body_rest};
-ghost use Rattle.module_spec.specs.Characters.{passed};
+ghost use Rattle.module_spec.specs.Characters.{passed, space_size};
 ghost use Rattle.module_spec.specs.Tokens.{Skips};
 
-use crate::characters::{begins_line_end, behind, space_size};
+use crate::characters::{begins_line_end, behind, is_ascii_space, space_size};
 use crate::names::{begins_digit, is_digit, name_size};
 
 fn stands_first(wanted: u8, bytes: &[u8]) -> bool
@@ -64,6 +65,20 @@ fn slash_rest(bytes: &[u8]) -> Option<&[u8]>
     }
 }
 
+// The bytes behind one character of white space or one line end past ASCII.
+#[inline(never)]
+fn wide_rest(bytes: &[u8]) -> Option<&[u8]>
+    ensures { MatchOption result (space_size bytes.now ≡ 0)
+        (λ rest. (space_size bytes.now ≢ 0) × (rest.now ≡ drop (space_size bytes.now) bytes.now)) }
+{
+    let size = space_size(bytes);
+    if size == 0 {
+        None
+    } else {
+        Some(behind(bytes, size))
+    }
+}
+
 // The bytes behind one character of white space, one line end or one comment.
 #[tactic(auto, unfolding(module_spec::specs::Spellings::blank_rest))]
 fn blank_rest(bytes: &[u8]) -> Option<&[u8]>
@@ -72,14 +87,14 @@ fn blank_rest(bytes: &[u8]) -> Option<&[u8]>
     match bytes.split_first() {
         None => None,
         Some((first, rest)) => {
-            if *first == b'/' {
-                return slash_rest(rest);
-            }
-            let size = space_size(bytes);
-            if size == 0 {
+            if is_ascii_space(*first) {
+                Some(rest)
+            } else if *first == b'/' {
+                slash_rest(rest)
+            } else if *first < 128 {
                 None
             } else {
-                Some(behind(bytes, size))
+                wide_rest(bytes)
             }
         }
     }
@@ -250,8 +265,9 @@ fn closed_rest(quote: u8, bytes: &[u8]) -> Option<&[u8]>
     }
 }
 
-/// The bytes behind the closing quote of a string literal, by those behind the opening one.
-pub fn text_rest(quote: u8, bytes: &[u8]) -> Option<&[u8]>
+// The same of a string with escapes, or without an end.
+#[inline(never)]
+fn any_text_rest(quote: u8, bytes: &[u8]) -> Option<&[u8]>
     ensures { MatchOption result (text_rest quote bytes.now ≡ None)
         (λ rest. text_rest quote bytes.now ≡ Some rest.now) }
 {
@@ -260,6 +276,38 @@ pub fn text_rest(quote: u8, bytes: &[u8]) -> Option<&[u8]>
         rest = more;
     }
     closed_rest(quote, rest)
+}
+
+// The bytes behind one that stands for itself in a string.
+#[inline]
+fn plain_more(quote: u8, bytes: &[u8]) -> Option<&[u8]>
+    ensures { IfSome result (λ more. (text_rest quote bytes.now ≡ text_rest quote more.now)
+        × (length more.now < length bytes.now)) }
+{
+    match bytes.split_first() {
+        None => None,
+        Some((first, rest)) => {
+            if *first == quote || *first == b'\\' || *first == b'\n' || *first == b'\r' {
+                None
+            } else {
+                Some(rest)
+            }
+        }
+    }
+}
+
+/// The bytes behind the closing quote of a string literal, by those behind the opening one. Few strings have escapes,
+/// so the first loop goes without them. In a caller's body both would have fewer registers.
+#[inline(never)]
+pub fn text_rest(quote: u8, bytes: &[u8]) -> Option<&[u8]>
+    ensures { MatchOption result (text_rest quote bytes.now ≡ None)
+        (λ rest. text_rest quote bytes.now ≡ Some rest.now) }
+{
+    let mut rest = bytes;
+    while let Some(more) = plain_more(quote, rest) {
+        rest = more;
+    }
+    any_text_rest(quote, rest)
 }
 
 fn begins_substitution(bytes: &[u8]) -> bool

@@ -1,10 +1,9 @@
 use Rattle.std.proofs.Common.{◌≡◌, length}
-use Rattle.module_spec.specs.Characters.{passed}
-use Rattle.module_spec.specs.Spellings.{text_size}
+use Rattle.module_spec.specs.Spellings.{text_rest}
 use Rattle.es_lexer.proofs.spellings.text_rest.Given as goal
 
 abbrev pub invariant-loop-more : goal.invariant-loop-more
-invariant-loop-more l = passed (text_size l.quote) 0 l.bytes ≡ passed (text_size l.quote) 0 l.rest
+invariant-loop-more l = text_rest l.quote l.bytes ≡ text_rest l.quote l.rest
 
 abbrev pub decreases-loop-more : goal.decreases-loop-more
 decreases-loop-more l = length l.rest

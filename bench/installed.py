@@ -1,0 +1,119 @@
+"""Measures build/salimgub on npm packages as Debian installs them, and says PASS or FAIL to each target; without any in
+/usr/share/nodejs it says so and ends. One module imports each package, each subpath that one exports and each file that
+one names for bundlers, where a map comes of it alone."""
+
+import json
+import os
+import re
+import shutil
+import subprocess
+import sys
+import tempfile
+
+import bench
+import maps
+
+INSTALLED = "/usr/share/nodejs"
+LINK = [bench.PROGRAM, "link", "--base", maps.BASE]
+TRIES = 5
+
+
+class Site:
+    """The folder with the packages, and what its module asks for."""
+
+    def __init__(self, folder):
+        self.folder = folder
+        self.packages = os.path.join(folder, "node_modules")
+        # Links that lead nowhere aren't copied.
+        subprocess.run(["cp", "-RL", INSTALLED, self.packages], stderr=subprocess.DEVNULL, check=False)
+        self.paths, self.records = [], []
+
+    def record(self, name):
+        with open(os.path.join(self.packages, name, "package.json"), encoding="utf-8") as file:
+            return json.load(file)
+
+    def names(self):
+        """The packages, those below an `@` too."""
+        for name in sorted(os.listdir(self.packages)):
+            inner = sorted(os.listdir(os.path.join(self.packages, name))) if name.startswith("@") else [None]
+            for one in inner:
+                whole = name if one is None else f"{name}/{one}"
+                if os.path.isfile(os.path.join(self.packages, whole, "package.json")):
+                    yield whole
+
+    def specifiers(self, name):
+        """What a package may be asked for by."""
+        record = self.record(name)
+        exports = record.get("exports")
+        subpaths = [key for key in exports if re.fullmatch(r"\./[^*]*", key)] if isinstance(exports, dict) else []
+        files = [record.get(key) for key in ("module", "jsnext:main", "es2015")]
+        return [name] + [name + key[1:] for key in subpaths] + [
+            f"./node_modules/{name}/{re.sub(r'^[.]/', '', file)}" for file in files if isinstance(file, str)]
+
+    def put_module(self, specifiers):
+        with open(os.path.join(self.folder, "app.mjs"), "w", encoding="utf-8") as file:
+            file.write("".join(f"import {json.dumps(specifier)};\n" for specifier in specifiers))
+
+    def clear(self):
+        for name in ("importmap.json", "importmap.project.json"):
+            path = os.path.join(self.folder, name)
+            if os.path.exists(path):
+                os.remove(path)
+
+    def link(self, tries=1):
+        runs = []
+        for _ in range(tries):
+            self.clear()
+            runs.append(bench.Run(LINK + [bench.ENTRY], self.folder))
+        return min(runs, key=lambda run: run.seconds)
+
+    def has_map(self, specifier):
+        self.put_module([specifier])
+        return self.link().status == 0
+
+    def read_paths(self):
+        """The files whose digests stand in the map, and the records beside them."""
+        with open(os.path.join(self.folder, "importmap.json"), encoding="utf-8") as file:
+            for url in json.load(file)["integrity"]:
+                self.paths.append(os.path.join(self.folder, url.removeprefix(maps.BASE).lstrip("/")))
+        self.records = [os.path.join(self.packages, name, "package.json") for name in self.names()]
+
+
+def measure(work):
+    site = Site(os.path.join(work, "installed"))
+    asked = [specifier for name in site.names() for specifier in site.specifiers(name) if site.has_map(specifier)]
+    site.put_module(asked)
+    run = site.link(TRIES)
+    if run.status != 0:
+        bench.say(False, f"installed packages: status {run.status}, {run.out!r}")
+        return
+    site.read_paths()
+    label = f"installed packages, {len(asked)} specifiers"
+    print(f"      {label}: {run.times()}, {run.memory / bench.MIB:.1f} MiB; {run.out.strip()}", flush=True)
+    sums = bench.floor(site, TRIES)
+    bench.say(run.seconds <= 1.6 * sums.seconds, f"{label}: {run.seconds / sums.seconds:.2f} times as long as "
+                                                 f"sha384sum, {sums.seconds:.3f} s, at most 1.6")
+    bench.against_peer("esbuild", run, bench.esbuild(site, TRIES), 0.2, label)
+    bench.against_peer("Node with es-module-lexer", run, bench.node(site, TRIES), 0.1, label)
+
+
+def main():
+    if sys.argv[1:] not in ([], ["smoke"]):
+        sys.exit("usage: python3 -B bench/installed.py")
+    if not os.path.isdir(INSTALLED) or sys.argv[1:]:
+        print(f"SKIP  installed packages: {'small trees alone' if sys.argv[1:] else 'none in ' + INSTALLED}")
+        return
+    if not os.access(bench.PROGRAM, os.X_OK):
+        sys.exit("bench: there is no build/salimgub: run ./build.sh first")
+    work = tempfile.mkdtemp(prefix="salimgub-installed-")
+    try:
+        os.makedirs(os.path.join(work, "installed"))
+        measure(work)
+    finally:
+        shutil.rmtree(work)
+    print(f"{bench.failures} failed" if bench.failures else "all passed")
+    sys.exit(1 if bench.failures else 0)
+
+
+if __name__ == "__main__":
+    main()
