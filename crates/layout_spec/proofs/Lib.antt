@@ -4,9 +4,6 @@ pub mod PlaceLemmas
 pub mod NestedPlaces
 pub mod Laying
 pub mod OneMap
-pub mod AgreedLaws
-pub mod SomeAgreed
-pub mod Uncaptured
 pub mod MapMembers
 pub mod ShortBack
 pub mod MapBack

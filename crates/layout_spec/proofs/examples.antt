@@ -1,4 +1,3 @@
-pub mod LaidLists
 pub mod PrintedLists
 pub mod Agreement
 pub mod WorkedExamples

@@ -1,16 +1,14 @@
--- The laws of needs, layouts and printed maps. Each is the contract of a function of this crate.
-use Rattle.std.specs.Prelude.{◌↔◌, List, ◌∷◌, ◌++◌, Contains, ◌≡◌, ◌==◌, ℕ, false, Option, Some, Ok, All, IsUtf8}
+-- The laws of needs, places and printed maps. Each is the contract of a function of this crate.
+use Rattle.std.specs.Prelude.{◌↔◌, List, ◌∷◌, ◌++◌, Contains, ◌≡◌, ◌==◌, ℕ, false, Some, Ok, All, IsUtf8}
 use Rattle.std.specs.List.{IsDistinct}
 use Rattle.import_map_spec.specs.ParsedMap.{ParsedMap}
 use Rattle.import_map_spec.specs.Parsing.{ParsesMap}
 use Rattle.url_spec.specs.Parsing.{parse_against, IsUrl}
 use Rattle.url_spec.specs.Specifiers.{as_url}
-use Rattle.layout_spec.specs.AgreedLayout.{IsAgreedLayout}
-use Rattle.layout_spec.specs.Needs.{counted, is_need, NoClash, IsAskedByFile}
+use Rattle.layout_spec.specs.Needs.{counted, is_need}
 use Rattle.layout_spec.specs.Places.{places, above, IsPlace, AreShrinking}
 use Rattle.layout_spec.specs.PrintedMap.{map_text, IsKept}
 use Rattle.layout_spec.specs.ShortForms.{short, IsShort}
-use Rattle.layout_spec.specs.Serving.{held, NoCapture, OfNeeds}
 use Rattle.layout_spec.specs.declared.Need.{Need}
 
 -- own law: to count each need once leaves out none and adds none
@@ -34,38 +32,6 @@ abbrev pub PlacesNest : Type 0
 PlacesNest =
     (referrer place : List ℕ) (longer shorter : List (List ℕ)) → places referrer ≡ longer ++ place ∷ shorter
     → shorter ≡ above place
-
--- own law: needs have one agreed layout at most
-abbrev pub OneAgreedLayout : Type 0
-OneAgreedLayout = (needs : List Need) (m n : ParsedMap) → IsAgreedLayout needs m → IsAgreedLayout needs n → m ≡ n
-
--- own law: all needs have one, also such as clash
-abbrev pub SomeAgreedLayout : Type 0
-SomeAgreedLayout = (needs : List Need) → (m : ParsedMap) × IsAgreedLayout needs m
-
--- own law: needs in another order, or counted more than once, have the same
-abbrev pub AgreedInAnyOrder : Type 0
-AgreedInAnyOrder =
-    (needs others : List Need) (m : ParsedMap) → ((need : Need) → Contains needs need ↔ Contains others need)
-    → IsAgreedLayout needs m → IsAgreedLayout others m
-
--- own law: under the agreed layout at most one place of a referrer holds a specifier
-abbrev pub AgreedOnce : Type 0
-AgreedOnce =
-    (needs : List Need) (m : ParsedMap) → IsAgreedLayout needs m → (referrer asked one other : List ℕ)
-    → Contains (places referrer) one → Contains (places referrer) other
-    → (address second : Option (List ℕ)) → held m asked one ≡ Some address → held m asked other ≡ Some second
-    → one ≡ other
-
--- own law: the agreed layout has no mappings but those of needs
-abbrev pub AgreedOfNeeds : Type 0
-AgreedOfNeeds = (needs : List Need) (m : ParsedMap) → IsAgreedLayout needs m → OfNeeds needs m
-
--- own law: the agreed layout of needs of files, of which no two clash, captures none of them
-abbrev pub AgreedLayoutCapturesNothing : Type 0
-AgreedLayoutCapturesNothing =
-    (needs : List Need) (m : ParsedMap) → NoClash needs → ((need : Need) → Contains needs need → IsAskedByFile need)
-    → IsAgreedLayout needs m → NoCapture needs m
 
 -- own law: the short form of a URL is what its definition by cases says
 abbrev pub ShortByCases : Type 0

@@ -2,7 +2,6 @@ pub mod Needs
 pub mod Places
 pub mod Serving
 pub mod PutMappings
-pub mod AgreedLayout
 pub mod Counting
 pub mod ShortForms
 pub mod PrintedMap

@@ -1,13 +1,11 @@
 -- Needs: who asks (by its URL), what for (the specifier as HTML normalizes it), and the URL that has to come of it.
 --     counted needs      each need once, at its first place
 --     NoClash needs      needs of one referrer and one specifier have one target
---     IsAskedByFile need      the referrer is the URL of a file
 --     IsAsked asked      the text stands for itself at every base, and is no folder's
 use Rattle.std.specs.List.{list_any}
 use Rattle.std.specs.Prelude.{Bool, ◌&&◌, not, bytes_eq, ℕ, List, [], ◌∷◌, ◌++◌, if◌then◌else◌, ◌≡◌, ◌≢◌, Contains}
 use Rattle.std.specs.Prelude.{false}
 use Rattle.std.specs.Str.{IsUtf8}
-use Rattle.url_spec.specs.Parsing.{IsUrl}
 use Rattle.url_spec.specs.Specifiers.{normalized, ends_in_slash}
 use Rattle.layout_spec.specs.declared.Need.{Need}
 
@@ -38,11 +36,6 @@ abbrev pub NoClash : List Need → Type 0
 NoClash needs =
     (one other : Need) → Contains needs one → Contains needs other → one.referrer ≡ other.referrer
     → one.asked ≡ other.asked → one.target ≡ other.target
-
--- own: the referrer of a need is a URL, and no folder
-pub record IsAskedByFile (need : Need) : Type 0 where
-  pub referrer : IsUrl need.referrer
-  pub is_file : ends_in_slash need.referrer ≡ false
 
 -- own: a URL or a bare text that can be the key of a mapping: it isn't empty, is its own normalized specifier at every
 -- base, and ends in no `/`

@@ -1,14 +1,12 @@
 -- Worked examples. The base is `https://app.test/`.
 --     PlaceExamples      places of referrers
---     LayoutExamples, CountExamples, ClashExamples      layouts and their texts, needs counted once, needs that clash
+--     CountExamples, ClashExamples      needs counted once, needs that clash
 --     ServingExamples      maps that serve needs, and maps that capture them
 --     TextExamples      maps and their texts
 --     lines written      a text of these lines
 use Rattle.std.specs.Prelude.{codes, ◌≡◌, ◌++◌, ℕ, List, [], ◌∷◌, map}
-use Rattle.import_map_spec.specs.ParsedMap.{ParsedMap}
 use Rattle.import_map_spec.specs.WorkedExamples.{pair, to_url, to_null, scope}
 use Rattle.import_map_spec.specs.WrittenMaps.{Lists, map_of_lists}
-use Rattle.layout_spec.specs.AgreedLayout.{IsAgreedLayout}
 use Rattle.layout_spec.specs.Needs.{counted, NoClash}
 use Rattle.layout_spec.specs.Places.{places}
 use Rattle.layout_spec.specs.PrintedMap.{map_text}
@@ -67,10 +65,6 @@ pub record PlaceExamples : Type 0 where
   pub of_file : HasPlaces "file:///a/m.mjs" ("file:///a/m.mjs" ∷ "file:///a/" ∷ "file:///" ∷ "" ∷ [])
   pub of_none : HasPlaces "" ("" ∷ [])
 
--- two folders with modules of their own, which ask for the same
-abbrev pub of_folder : String → String → Need
-of_folder referrer target = need referrer "c" target
-
 -- a text of these lines, each with its end
 abbrev pub lines : List String → List ℕ
 lines [] = []
@@ -79,83 +73,6 @@ lines (line ∷ more) = codes line ++ (10 ∷ lines more)
 -- the map base of the examples
 abbrev pub the_base : List ℕ
 the_base = codes "https://app.test/index.html"
-
--- the agreed layout of the needs is printed as these lines
-pub record PrintsAs (needs : List Need) (text : List String) : Type 0 where
-  pub map : ParsedMap
-  pub agreed : IsAgreedLayout needs map
-  pub text_is : map_text the_base map ≡ lines text
-
-pub record LayoutExamples : Type 0 where
-  pub no_needs :
-      PrintsAs []
-      ("{"
-      ∷ "  \"imports\": {}"
-      ∷ "}" ∷ [])
-  -- a need that its target's URL itself serves
-  pub no_mapping :
-      PrintsAs (page_app ∷ app_home ∷ [])
-      ("{"
-      ∷ "  \"imports\": {}"
-      ∷ "}" ∷ [])
-  -- any other has a mapping, at the top level where no need for its specifier has another target
-  pub one_mapping :
-      PrintsAs (page_app ∷ app_ab ∷ [])
-      ("{"
-      ∷ "  \"imports\": {"
-      ∷ "    \"https://app.test/a%62.mjs\": \"./ab.mjs\""
-      ∷ "  }"
-      ∷ "}" ∷ [])
-  pub two_referrers :
-      PrintsAs (app_id ∷ home_id ∷ [])
-      ("{"
-      ∷ "  \"imports\": {"
-      ∷ "    \"https://app.test/pages/[id].mjs\": \"./pages/%5Bid%5D.mjs\""
-      ∷ "  }"
-      ∷ "}" ∷ [])
-  -- the keys stand in the order of their bytes, whatever the order of the needs
-  pub two_mappings :
-      PrintsAs (app_id ∷ app_ab ∷ [])
-      ("{"
-      ∷ "  \"imports\": {"
-      ∷ "    \"https://app.test/a%62.mjs\": \"./ab.mjs\","
-      ∷ "    \"https://app.test/pages/[id].mjs\": \"./pages/%5Bid%5D.mjs\""
-      ∷ "  }"
-      ∷ "}" ∷ [])
-  -- a need with another target keeps it below their common places, also one that wants no mapping
-  pub two_targets :
-      PrintsAs (below_app ∷ neighbor ∷ [])
-      ("{"
-      ∷ "  \"imports\": {},"
-      ∷ "  \"scopes\": {"
-      ∷ "    \"./app/m.mjs\": {"
-      ∷ "      \"https://app.test/app/x.mjs\": \"./app/app/x.mjs\""
-      ∷ "    }"
-      ∷ "  }"
-      ∷ "}" ∷ [])
-  pub two_folders :
-      PrintsAs
-      (of_folder "https://app.test/b/m.mjs" "https://app.test/b/c.mjs"
-      ∷ of_folder "https://app.test/a/m.mjs" "https://app.test/a/c.mjs" ∷ [])
-      ("{"
-      ∷ "  \"imports\": {},"
-      ∷ "  \"scopes\": {"
-      ∷ "    \"./a/\": {"
-      ∷ "      \"c\": \"./a/c.mjs\""
-      ∷ "    },"
-      ∷ "    \"./b/\": {"
-      ∷ "      \"c\": \"./b/c.mjs\""
-      ∷ "    }"
-      ∷ "  }"
-      ∷ "}" ∷ [])
-  -- of two needs with one key and one address there is one mapping
-  pub same_mapping :
-      PrintsAs (app_ab ∷ app_ab ∷ [])
-      ("{"
-      ∷ "  \"imports\": {"
-      ∷ "    \"https://app.test/a%62.mjs\": \"./ab.mjs\""
-      ∷ "  }"
-      ∷ "}" ∷ [])
 
 pub record CountExamples : Type 0 where
   pub once : counted (app_id ∷ home_id ∷ app_id ∷ app_ab ∷ home_id ∷ []) ≡ app_id ∷ home_id ∷ app_ab ∷ []
@@ -200,6 +117,9 @@ pub record ServingExamples : Type 0 where
   -- a mapping that is no need's
   pub no_need : OfNeeds (neighbor ∷ []) (map_of_lists (with_addresses [] (x_below ∷ []))) → ⊥
 
+abbrev pub nothing_mapped : Lists
+nothing_mapped = record { imports = []; scopes = []; integrity = [] }
+
 abbrev pub only_integrity : Lists
 only_integrity = record { imports = []; scopes = []; integrity = pair "https://app.test/app.mjs" "sha384-x" ∷ [] }
 
@@ -211,7 +131,38 @@ several =
       integrity = [];
     }
 
+abbrev pub two_scopes : Lists
+two_scopes =
+    record {
+      imports = [];
+      scopes =
+          scope "https://app.test/b/" (to_url "c" "https://app.test/b/c.mjs" ∷ [])
+          ∷ scope "https://app.test/a/" (to_url "c" "https://app.test/a/c.mjs" ∷ []) ∷ [];
+      integrity = [];
+    }
+
 pub record TextExamples : Type 0 where
+  pub empty :
+      map_text the_base (map_of_lists nothing_mapped)
+      ≡ lines
+      ("{"
+      ∷ "  \"imports\": {}"
+      ∷ "}" ∷ [])
+  -- scopes stand in the order of their keys
+  pub scoped :
+      map_text the_base (map_of_lists two_scopes)
+      ≡ lines
+      ("{"
+      ∷ "  \"imports\": {},"
+      ∷ "  \"scopes\": {"
+      ∷ "    \"./a/\": {"
+      ∷ "      \"c\": \"./a/c.mjs\""
+      ∷ "    },"
+      ∷ "    \"./b/\": {"
+      ∷ "      \"c\": \"./b/c.mjs\""
+      ∷ "    }"
+      ∷ "  }"
+      ∷ "}" ∷ [])
   pub no_scopes :
       map_text the_base (map_of_lists only_integrity)
       ≡ lines
@@ -238,4 +189,4 @@ pub record TextExamples : Type 0 where
 
 abbrev pub WorkedExamples : Type 0
 WorkedExamples =
-    PlaceExamples × LayoutExamples × CountExamples × ClashExamples × ServingExamples × TextExamples
+    PlaceExamples × CountExamples × ClashExamples × ServingExamples × TextExamples

@@ -1,10 +1,9 @@
-//! Needs, the places where a map can serve them, the layout that does, and the map as it is printed: definitions and
-//! their laws.
+//! Needs, the places where a map can serve them, what serves them, and the map as it is printed: definitions and their
+//! laws.
 #![tactic(auto)]
 
-ghost use Rattle.layout_spec.specs.Laws.{AgreedInAnyOrder, AgreedLayoutCapturesNothing, AgreedOfNeeds, AgreedOnce};
-ghost use Rattle.layout_spec.specs.Laws.{CountedKeeps, CountedOnce, OneAgreedLayout, PlacesByCases, PlacesNest};
-ghost use Rattle.layout_spec.specs.Laws.{PlacesShrink, SomeAgreedLayout, TextsArePlain, TextsReadBack};
+ghost use Rattle.layout_spec.specs.Laws.{CountedKeeps, CountedOnce, PlacesByCases, PlacesNest, PlacesShrink};
+ghost use Rattle.layout_spec.specs.Laws.{TextsArePlain, TextsReadBack};
 ghost use Rattle.layout_spec.specs.Laws.{ShortByCases, ShortFormsDiffer, ShortFormsParse};
 ghost use Rattle.layout_spec.specs.ShortExamples.{ShortExamples};
 ghost use Rattle.layout_spec.specs.WorkedExamples.{WorkedExamples};
@@ -46,37 +45,6 @@ pub fn places_shrink()
 /// What stands behind a place of a referrer is what is above it; so the place above one is the next of the referrer's.
 pub fn places_nest()
     ensures { PlacesNest }
-{}
-
-/// Needs have one agreed layout at most.
-pub fn one_agreed_layout()
-    ensures { OneAgreedLayout }
-{}
-
-/// All needs have an agreed layout, also such as clash.
-pub fn some_agreed_layout()
-    ensures { SomeAgreedLayout }
-{}
-
-/// The order of the needs doesn't matter for their agreed layout, and how often one stands among them.
-pub fn agreed_in_any_order()
-    ensures { AgreedInAnyOrder }
-{}
-
-/// Under the agreed layout at most one place of a referrer holds a specifier.
-pub fn agreed_once()
-    ensures { AgreedOnce }
-{}
-
-/// Each mapping of the agreed layout is that of a need, at a place of its referrer.
-pub fn agreed_of_needs()
-    ensures { AgreedOfNeeds }
-{}
-
-/// The agreed layout captures no need of a file where no two needs clash: a mapping never stands above a need for its
-/// specifier with another target, unless a nearer place holds that target.
-pub fn agreed_layout_captures_nothing()
-    ensures { AgreedLayoutCapturesNothing }
 {}
 
 /// The short form of a URL is `./` and what it has behind the folder of the map base, where that leads back to it; and

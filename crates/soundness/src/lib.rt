@@ -1,7 +1,7 @@
 //! The promise of a generated map: the theorem that joins Node's resolution and HTML's. It is a
 //! law of definitions alone; the code owes nothing but to give what generation is defined to give.
-//! It rests on what any map owes to needs, and not on where this layout puts its mappings; that no map serves with fewer
-//! rests on the layout alone.
+//! It rests on what any map owes to needs, and not on where this layout puts its mappings; that no map serves with
+//! fewer rests on the layout alone.
 #![tactic(auto)]
 
 ghost use Rattle.soundness.specs.Soundness.{CheckedMapsServe, FewestMapsServe, GeneratedIsSmallest, GeneratedReadsBack};

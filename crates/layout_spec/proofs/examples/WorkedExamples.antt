@@ -1,40 +1,19 @@
 -- The worked examples, by computation.
 use Rattle.tree_spec.proofs.ByteLists.{texts_differ}
 use Rattle.std.proofs.Common.{◌∙◌, refl}
-use Rattle.std.specs.Prelude.{◌≡◌, List, [], ◌∷◌, codes}
-use Prim.Native.String.{String}
+use Rattle.std.specs.Prelude.{[], ◌∷◌, codes}
 use Rattle.url.proofs.OnLiterals.{url_on_literals}
 use Rattle.url_spec.specs.Parsing.{parse_alone, parse_against, text_of}
 use Rattle.layout_spec.specs.ShortForms.{short}
-use Rattle.import_map_spec.specs.WrittenMaps.{map_of_lists}
 use Rattle.layout_spec.proofs.examples.Agreement.{no_clash_from_test}
 use Rattle.layout_spec.proofs.Contained.{contains_here, contains_there}
-use Rattle.layout_spec.proofs.examples.LaidLists.{listed_layout, layout_listed}
-use Rattle.layout_spec.proofs.examples.PrintedLists.{listed_text, lists_text}
+use Rattle.layout_spec.proofs.examples.PrintedLists.{lists_text}
 use Rattle.layout_spec.proofs.examples.HeldLists.{none_captured, captured, of_no_need}
-use Rattle.layout_spec.proofs.SomeAgreed.{is_among, disagrees, agreed, agreed_above, stands_at}
-use Rattle.layout_spec.specs.WorkedExamples.{PlaceExamples, lines, the_base, app_ab, page_app, app_home, app_id, home_id, PrintsAs, LayoutExamples, CountExamples, below_app, beside, ClashExamples, WorkedExamples, only_integrity, several, TextExamples, neighbor, with_addresses, x_below, x_itself, ServingExamples}
-use Rattle.layout_spec.specs.declared.Need.{Need}
-
-abbrev printed : (needs : List Need) (text : List String) → listed_text the_base (listed_layout needs) ≡ lines text → PrintsAs needs text
-printed needs text e = record { map = map_of_lists (listed_layout needs); agreed = layout_listed needs; text_is = lists_text the_base (listed_layout needs) ∙ e }
+use Rattle.layout_spec.specs.WorkedExamples.{PlaceExamples, the_base, app_ab, page_app, app_home, app_id, home_id, CountExamples, below_app, beside, ClashExamples, WorkedExamples, nothing_mapped, only_integrity, two_scopes, several, TextExamples, neighbor, with_addresses, x_below, x_itself, ServingExamples}
 
 place_examples : PlaceExamples
 unfolding parse_alone text_of url_on_literals
 place_examples = record { page = refl; at_root = refl; deep = refl; in_query = refl; no_own_text = refl; of_file = refl; of_none = refl }
-
-layout_examples : LayoutExamples
-unfolding parse_alone parse_against short text_of url_on_literals is_among disagrees agreed agreed_above stands_at
-layout_examples = record {
-  no_needs = printed _ _ refl;
-  no_mapping = printed _ _ refl;
-  one_mapping = printed _ _ refl;
-  two_referrers = printed _ _ refl;
-  two_mappings = printed _ _ refl;
-  two_targets = printed _ _ refl;
-  two_folders = printed _ _ refl;
-  same_mapping = printed _ _ refl;
-}
 
 count_examples : CountExamples
 count_examples = record { once = refl; clashing = refl }
@@ -59,7 +38,7 @@ serving_examples = record {
 
 text_examples : TextExamples
 unfolding parse_against short text_of url_on_literals
-text_examples = record { no_scopes = lists_text the_base only_integrity ∙ refl; sorted = lists_text the_base several ∙ refl }
+text_examples = record { empty = lists_text the_base nothing_mapped ∙ refl; scoped = lists_text the_base two_scopes ∙ refl; no_scopes = lists_text the_base only_integrity ∙ refl; sorted = lists_text the_base several ∙ refl }
 
 pub worked_examples : WorkedExamples
-worked_examples = (place_examples, layout_examples, count_examples, clash_examples, serving_examples, text_examples)
+worked_examples = (place_examples, count_examples, clash_examples, serving_examples, text_examples)
