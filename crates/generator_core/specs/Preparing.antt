@@ -98,7 +98,7 @@ pub record IsPrepared (command : Command) (config : Config) (tree : Tree) (prepa
   pub is_fewest : IsFewestLayout all.needs layout
   pub within : length (map_text (map_base config) (with_digests config all layout)) ≤ limit_number Map
   pub modules : prepared.modules ≡ length all.modules
-  pub requests : prepared.requests ≡ all.requests
+  pub requests : prepared.requests ≡ length all.targets
   pub mappings : prepared.mappings ≡ mapping_count layout
   pub writes :
       Writes tree config (map_text (map_base config) (with_digests config all layout)) command (shown_files prepared)
