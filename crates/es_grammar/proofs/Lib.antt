@@ -4,3 +4,4 @@ pub mod Arms
 pub mod Ends
 pub mod Halting
 pub mod Absences
+pub mod Sayings

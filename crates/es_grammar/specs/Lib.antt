@@ -1,3 +1,4 @@
 pub mod Pending
 pub mod Unwinding
 pub mod Turning
+pub mod Saying

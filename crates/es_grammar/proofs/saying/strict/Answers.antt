@@ -1,0 +1,10 @@
+use Rattle.es_module_parser.specs.Outlines.{as_outline}
+use Rattle.es_grammar.proofs.Sayings.{says_all}
+use Rattle.es_grammar.proofs.saying.strict.Goals as goal
+
+pub returns : goal.returns
+returns c =
+    says_all c.args.text.now c.as_bytes.result.now c.in_ok-spots.spots c.as_slice.result.now c.as_slice-2.result.now
+    (as_outline c.args.outline.now) c.as_slice-3.result.now c.in_ok-told.asked.items c.in_ok-told.told c.of-tokens.result
+    c.answer.result c.in_ok-spots.ensures c.as_bytes.ensures.value c.as_slice.ensures c.as_slice-2.ensures
+    c.of-tokens.ensures c.in_ok-told.ensures c.as_slice-3.ensures.value c.answer.ensures
