@@ -13,7 +13,9 @@ use Rattle.words_spec.specs.PlainWords.{Asked, Asks}
 use Rattle.command_words.specs.declared.fault.WordsFault.{WordsFault}
 use Rattle.command_words.specs.declared.order.Order.{Order}
 use Rattle.command_words.specs.Settings.{IsFilePage}
-use Rattle.command_words.specs.Orders.{IsOrderOf, IsOrder}
+use Rattle.command_words.specs.Orders.{IsOrderOf, IsWanted, IsWantedOf}
+use Rattle.command_words.specs.declared.order.Wanted.{Wanted}
+use Rattle.command_words.specs.declared.order.Wanted.TheVariants as wanted
 use Rattle.command_words.specs.Faults.{RefusesAs, RefusesOrder, Explains}
 use Rattle.command_words.proofs.Refusals.{words_refused}
 
@@ -49,6 +51,7 @@ set_is_file (Some text) (Some found) (some_page other is_page) = is_page.no_root
 pub same_asked : (order : Order) (asked other : Asked) → asked ≡ other → IsOrderOf order other → IsOrderOf order asked
 same_asked order asked other same is = subst (IsOrderOf order) (sym same) is
 
-pub of_words : (texts : List (List ℕ)) (asked : Asked) (result : Result Order WordsFault) → Asks texts asked → MatchResult result (λ order. IsOrderOf order asked) (RefusesAs (RefusesOrder asked)) → MatchResult result (IsOrder texts) (Explains texts)
-of_words texts asked (Ok order) asks is = record { asked = asked; asks = asks; is_order = is }
+pub of_words : (texts : List (List ℕ)) (asked : Asked) (result : Result Wanted WordsFault) → Asks texts asked → MatchResult result (λ wanted. IsWantedOf wanted asked) (RefusesAs (RefusesOrder asked)) → MatchResult result (IsWanted texts) (Explains texts)
+of_words texts asked (Ok (wanted.Order order)) asks is = record { asked = asked; asks = asks; is_order = is }
+of_words texts asked (Ok (wanted.Measure number)) asks is = subst (Asks texts) is asks
 of_words texts asked (Err fault) asks refuses = words_refused texts asked fault asks refuses

@@ -2,15 +2,19 @@
 --     command_ordered order, settings_ordered order      its command, and what its options set
 --     IsOrderOf order asked      the order is what is asked for
 --     IsOrder words order        it is what these words ask for
+--     IsWantedOf wanted asked    what is wanted is what is asked for: an order, or a measure
+--     IsWanted words wanted      it is what these words ask for
 use Rattle.std.specs.Prelude.{◌≡◌, ℕ, List, Some, map, string_bytes}
 use Rattle.config_spec.specs.declared.Command.{Command}
 use Rattle.config_spec.specs.declared.Command.TheVariants as command
-use Rattle.config_spec.specs.Words.{Settings, Sets, no_settings, command_of, options_of}
+use Rattle.config_spec.specs.Words.{Settings, Sets, no_settings, command_of, options_of, Measures}
 use Rattle.words_spec.specs.PlainWords.{Asked, Asks, LinkOptions, linking, unlinking, refreshing, checking, listing}
-use Rattle.words_spec.specs.PlainWords.{injecting}
+use Rattle.words_spec.specs.PlainWords.{injecting, measuring}
 use Rattle.command_words.specs.declared.order.Order.{Order}
 use Rattle.command_words.specs.declared.order.Order.TheVariants.{Link, Unlink, Refresh, Check, Inject}
 use Rattle.command_words.specs.declared.order.Order.TheVariants as order
+use Rattle.command_words.specs.declared.order.Wanted.{Wanted}
+use Rattle.command_words.specs.declared.order.Wanted.TheVariants as wanted
 
 abbrev pub command_ordered : Order → Command
 command_ordered (Link settings entries) = command.Link
@@ -47,3 +51,11 @@ pub record IsOrder (words : List (List ℕ)) (order : Order) : Type 0 where
   pub asked : Asked
   pub asks : Asks words asked
   pub is_order : IsOrderOf order asked
+
+abbrev pub IsWantedOf : Wanted → Asked → Type 0
+IsWantedOf (wanted.Order order) asked = IsOrderOf order asked
+IsWantedOf (wanted.Measure number) asked = asked ≡ measuring number
+
+abbrev pub IsWanted : List (List ℕ) → Wanted → Type 0
+IsWanted words (wanted.Order order) = IsOrder words order
+IsWanted words (wanted.Measure number) = Measures words number

@@ -8,5 +8,5 @@ mod order;
 mod settings;
 
 pub use fault::WordsFault;
-pub use order::{Order, order_of};
+pub use order::{Order, Wanted, order_of};
 pub use settings::Settings;

@@ -2,7 +2,7 @@ ghost use Rattle.std.specs.Prelude.{◌≡◌, MatchResult, Some, map, string_by
 ghost use Rattle.words_read.specs.Shown.{options_of, shown};
 ghost use Rattle.words_spec.specs.PlainWords.{linking};
 ghost use Rattle.command_words.specs.Faults.{Explains, RefusesAs, RefusesOrder};
-ghost use Rattle.command_words.specs.Orders.{IsOrder, IsOrderOf, command_ordered};
+ghost use Rattle.command_words.specs.Orders.{IsOrderOf, IsWanted, IsWantedOf, command_ordered};
 
 use crate::fault::WordsFault;
 use crate::settings::{Settings, settings_of};
@@ -10,7 +10,7 @@ use config_spec::{Command, ConfigFault};
 use std::alloc::Global;
 use words_parse::{Command as Parsed, LinkValues, WordsFault as ParseFault, parse};
 
-/// What plain words ask for, of the commands that are built. Entries are the last of the words, as they stand there.
+/// A command on the project of a folder. Entries are the last of the words, as they stand there.
 #[derive(Drop)]
 pub enum Order<'a> {
     /// The map and the project, with these entries and options.
@@ -48,9 +48,18 @@ impl<'a> Order<'a> {
     }
 }
 
+/// What plain words ask for, of what is built.
+#[derive(Drop)]
+pub enum Wanted<'a> {
+    /// A command on the project of a folder.
+    Order(Order<'a>),
+    /// The map of a stated tree of so many packages.
+    Measure { number: u64 },
+}
+
 /// What the words ask for, or why they are refused.
-pub fn order_of<'a>(alloc: Global, words: &'a [String]) -> Result<Order<'a>, WordsFault>
-    ensures { MatchResult result (IsOrder (map string_bytes words.now)) (Explains (map string_bytes words.now)) }
+pub fn order_of<'a>(alloc: Global, words: &'a [String]) -> Result<Wanted<'a>, WordsFault>
+    ensures { MatchResult result (IsWanted (map string_bytes words.now)) (Explains (map string_bytes words.now)) }
 {
     match parse(alloc, words) {
         Ok(parsed) => order_parsed(alloc, parsed),
@@ -60,19 +69,19 @@ pub fn order_of<'a>(alloc: Global, words: &'a [String]) -> Result<Order<'a>, Wor
     }
 }
 
-fn order_parsed<'a>(alloc: Global, parsed: Parsed<'a>) -> Result<Order<'a>, WordsFault>
-    ensures { MatchResult result (λ order. IsOrderOf order (shown parsed.entry))
+fn order_parsed<'a>(alloc: Global, parsed: Parsed<'a>) -> Result<Wanted<'a>, WordsFault>
+    ensures { MatchResult result (λ wanted. IsWantedOf wanted (shown parsed.entry))
         (RefusesAs (RefusesOrder (shown parsed.entry))) }
 {
     match parsed {
         Parsed::Link(values, entries) => link_order(alloc, values, entries),
-        Parsed::Unlink(entries) => Ok(Order::Unlink { entries }),
-        Parsed::Refresh => Ok(Order::Refresh),
-        Parsed::Check => Ok(Order::Check),
-        Parsed::Inject => Ok(Order::Inject),
-        Parsed::List => Ok(Order::List),
+        Parsed::Unlink(entries) => Ok(Wanted::Order(Order::Unlink { entries })),
+        Parsed::Refresh => Ok(Wanted::Order(Order::Refresh)),
+        Parsed::Check => Ok(Wanted::Order(Order::Check)),
+        Parsed::Inject => Ok(Wanted::Order(Order::Inject)),
+        Parsed::List => Ok(Wanted::Order(Order::List)),
         Parsed::Session => Err(not_built()),
-        Parsed::Measure(_) => Err(not_built()),
+        Parsed::Measure(number) => Ok(Wanted::Measure { number }),
     }
 }
 
@@ -80,13 +89,13 @@ fn link_order<'a>(
     alloc: Global,
     values: LinkValues<'a>,
     entries: &'a [String],
-) -> Result<Order<'a>, WordsFault>
+) -> Result<Wanted<'a>, WordsFault>
     ensures { MatchResult result
-        (λ order. IsOrderOf order (linking (options_of values.entry) (map string_bytes entries.now)))
+        (λ wanted. IsWantedOf wanted (linking (options_of values.entry) (map string_bytes entries.now)))
         (RefusesAs (RefusesOrder (linking (options_of values.entry) (map string_bytes entries.now)))) }
 {
     match settings_of(alloc, values) {
-        Ok(settings) => Ok(Order::Link { settings, entries }),
+        Ok(settings) => Ok(Wanted::Order(Order::Link { settings, entries })),
         Err(fault) => Err(fault),
     }
 }

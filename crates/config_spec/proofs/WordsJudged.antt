@@ -1,12 +1,13 @@
--- Words ask for one command or are refused in one way.
+-- Words ask for one command, are refused in one way, or ask for one measure.
 use Rattle.std.proofs.Common.{◌≡◌, ◌⊎◌, ℕ, List, Option, Some, None, refl, sym, ap, ◌∙◌, subst, inl, inr}
 use Rattle.words_spec.proofs.PlainIsRead.{one_asked, plain_is_read}
 use Rattle.words_spec.proofs.ReadIsPlain.{read_is_plain}
-use Rattle.words_spec.specs.PlainWords.{Asked, Asks}
+use Rattle.words_spec.specs.PlainWords.{Asked, Asks, linking, unlinking, refreshing, checking, listing, injecting}
+use Rattle.words_spec.specs.PlainWords.{editing, measuring}
 use Rattle.words_spec.specs.Reading.{reading_of}
 use Rattle.config_spec.proofs.Options.{one_options_fault, set_or_fault, set_or_refused}
 use Rattle.config_spec.specs.Laws.{WordsAreJudged}
-use Rattle.config_spec.specs.Words.{command_of, IsCommandOf, IsPlain, options_of, RefusesOptions, RefusesWords}
+use Rattle.config_spec.specs.Words.{command_of, IsCommandOf, IsPlain, Measures, options_of, RefusesOptions, RefusesWords}
 use Rattle.config_spec.specs.Words.RefusesWords.{bad_option, not_built}
 use Rattle.config_spec.specs.declared.Command.{Command}
 use Rattle.config_spec.specs.declared.ConfigFault.{ConfigFault}
@@ -35,11 +36,11 @@ one_command words some other a b =
 one_fault :
     (words : List (List ℕ)) (some other : ConfigFault) → RefusesWords words some → RefusesWords words other
     → some ≡ other
-one_fault words some other (not_built asked asks none) (not_built asked_too asks_too none_too) = refl
-one_fault words some other (not_built asked asks none) (bad_option asked_too command fault asks_too is refuses) =
-    absurd (built asked_too asked command (one_asked words asked_too asked asks_too asks) is none)
-one_fault words some other (bad_option asked_too command fault asks_too is refuses) (not_built asked asks none) =
-    absurd (built asked_too asked command (one_asked words asked_too asked asks_too asks) is none)
+one_fault words some other (not_built asks) (not_built asks_too) = refl
+one_fault words some other (not_built asks) (bad_option asked_too command fault asks_too is refuses) =
+    absurd (built asked_too editing command (one_asked words asked_too editing asks_too asks) is refl)
+one_fault words some other (bad_option asked_too command fault asks_too is refuses) (not_built asks) =
+    absurd (built asked_too editing command (one_asked words asked_too editing asks_too asks) is refl)
 one_fault words some other (bad_option asked command fault asks is refuses)
     (bad_option asked_too command_too fault_too asks_too is_too refuses_too) =
     let same = one_asked words asked_too asked asks_too asks in
@@ -49,12 +50,26 @@ one_fault words some other (bad_option asked command fault asks is refuses)
 not_both :
     (words : List (List ℕ)) (command : Command) (fault : ConfigFault) → IsCommandOf words command
     → RefusesWords words fault → ⊥
-not_both words command fault is (not_built asked asks none) =
-    built is.asked asked command (one_asked words is.asked asked is.asks asks) is.is none
+not_both words command fault is (not_built asks) =
+    built is.asked editing command (one_asked words is.asked editing is.asks asks) is.is refl
 not_both words command fault is (bad_option asked command_too fault_too asks is_too refuses) =
     let same = one_asked words asked is.asked asks is.asks in
     set_or_refused (options_of is.asked) is.settings fault is.sets
     (subst (λ a. RefusesOptions (options_of a) fault) same refuses)
+
+one_measure : (words : List (List ℕ)) (some other : ℕ) → Measures words some → Measures words other → some ≡ other
+one_measure words some other asks too =
+    let same : measuring some ≡ measuring other = one_asked words (measuring some) (measuring other) asks too in cc
+
+no_command : (words : List (List ℕ)) (number : ℕ) (command : Command) → Measures words number → IsCommandOf words command → ⊥
+no_command words number command asks is =
+    built is.asked (measuring number) command (one_asked words is.asked (measuring number) is.asks asks) is.is refl
+
+no_fault : (words : List (List ℕ)) (number : ℕ) (fault : ConfigFault) → Measures words number → RefusesWords words fault → ⊥
+no_fault words number fault asks (not_built asks_too) =
+    let same : measuring number ≡ editing = one_asked words (measuring number) editing asks asks_too in absurd (cc)
+no_fault words number fault asks (bad_option asked command why asks_too is refuses) =
+    built asked (measuring number) command (one_asked words asked (measuring number) asks_too asks) is refl
 
 -- ---- some command, or a fault
 
@@ -64,19 +79,35 @@ HaveCommand words = (command : Command) × IsCommandOf words command
 abbrev AreRefused : List (List ℕ) → Type 0
 AreRefused words = (fault : ConfigFault) × RefusesWords words fault
 
+abbrev HaveNumber : List (List ℕ) → Type 0
+HaveNumber words = (number : ℕ) × Measures words number
+
+-- without a command it is a session or a measure
+without_command :
+    (words : List (List ℕ)) (asked : Asked) → Asks words asked → command_of asked ≡ None
+    → HaveCommand words ⊎ (AreRefused words ⊎ HaveNumber words)
+without_command words (linking options entries) asks e = absurd (cc)
+without_command words (unlinking entries) asks e = absurd (cc)
+without_command words refreshing asks e = absurd (cc)
+without_command words checking asks e = absurd (cc)
+without_command words listing asks e = absurd (cc)
+without_command words injecting asks e = absurd (cc)
+without_command words editing asks e = inr (inl (NotBuilt, not_built asks))
+without_command words (measuring number) asks e = inr (inr (number, asks))
+
 command_by :
     (words : List (List ℕ)) (asked : Asked) → Asks words asked → (found : Option Command)
-    → command_of asked ≡ found → HaveCommand words ⊎ AreRefused words
-command_by words asked asks None e = inr (NotBuilt, not_built asked asks e)
+    → command_of asked ≡ found → HaveCommand words ⊎ (AreRefused words ⊎ HaveNumber words)
+command_by words asked asks None e = without_command words asked asks e
 command_by words asked asks (Some command) e =
     elim (set_or_fault (options_of asked)) [
       | inl set ↦ inl (command, record { asked = asked; asks = asks; is = e; settings = set.0; sets = set.1 })
-      | inr refused ↦ inr (refused.0, bad_option asked command refused.0 asks e refused.1)
+      | inr refused ↦ inr (inl (refused.0, bad_option asked command refused.0 asks e refused.1))
     ]
 
 judged_by :
     (words : List (List ℕ)) (found : Option Asked) → reading_of words ≡ found
-    → (IsPlain words → ⊥) ⊎ (HaveCommand words ⊎ AreRefused words)
+    → (IsPlain words → ⊥) ⊎ (HaveCommand words ⊎ (AreRefused words ⊎ HaveNumber words))
 judged_by words None e = inl (λ plain. let f : None ≡ Some plain.asked = sym e ∙ plain_is_read plain.asks in absurd (cc))
 judged_by words (Some asked) e = inr (command_by words asked (read_is_plain words asked e) (command_of asked) refl)
 
@@ -85,5 +116,8 @@ words_are_judged words = record {
   one_command = one_command words;
   one_fault = one_fault words;
   not_both = not_both words;
+  one_measure = one_measure words;
+  no_command = no_command words;
+  no_fault = no_fault words;
   some = judged_by words (reading_of words) refl;
 }

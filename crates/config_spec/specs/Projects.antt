@@ -19,6 +19,7 @@
 --     without entry entries             the entries without this one
 --     config_in asked settings found    the config that a command takes from a project, or from none, or why there is
 --                                       none
+--     measure_config                    the config of a measure, which needs no project
 use Rattle.std.specs.FinMap.{get}
 use Rattle.std.specs.List.{IsDistinct, list_any}
 use Rattle.std.specs.Prelude.{◌≡◌, ◌≤◌, ◌<◌, ℕ, nat_lt, not, List, [], ◌∷◌, ◌++◌, length, filter, codes, bytes_eq}
@@ -72,6 +73,15 @@ page_path = codes "/index.html"
 -- own: the conditions of a browser's modules
 abbrev pub link_conditions : List (List ℕ)
 link_conditions = codes "browser" ∷ codes "import" ∷ []
+
+-- own: a page that asks for the application of the stated tree
+abbrev pub measure_config : Config
+measure_config = record {
+  base = codes "https://app.test/";
+  page = page_path;
+  conditions = link_conditions;
+  entries = codes "./app.mjs" ∷ [];
+}
 
 -- own: each text once, behind those that are there
 abbrev pub once_onto : List (List ℕ) → List (List ℕ) → List (List ℕ)

@@ -6,7 +6,8 @@
 --     RefusesOptions options fault      the text of an option is refused
 --     IsPlain words                     the words have a meaning
 --     IsCommandOf words command         they ask for this command, and none of their texts is refused
---     RefusesWords words fault          plain words that ask for no command that is built, or have such a text
+--     Measures words number             they ask for the map of a stated tree of so many packages
+--     RefusesWords words fault          plain words that ask for what isn't built, or have such a text
 use Rattle.std.specs.Prelude.{◌≡◌, ℕ, List, Option, Some, None}
 use Rattle.url_spec.specs.Bases.{base_of}
 use Rattle.node_spec.specs.Conditions.{AreConditions, names_in}
@@ -19,7 +20,7 @@ use Rattle.config_spec.specs.declared.Command.TheVariants.{List as Lists}
 use Rattle.config_spec.specs.declared.ConfigFault.{ConfigFault}
 use Rattle.config_spec.specs.declared.ConfigFault.TheVariants.{NotBuilt, BadBase, BadPath, BadConditions}
 
--- own: the others aren't built yet
+-- own: `session` isn't built yet, and a measure needs no project
 abbrev pub command_of : Asked → Option Command
 command_of (linking options entries) = Some Link
 command_of (unlinking entries) = Some Unlink
@@ -96,8 +97,11 @@ pub record IsCommandOf (words : List (List ℕ)) (command : Command) : Type 0 wh
   pub settings : Settings
   pub sets : Sets (options_of asked) settings
 
+abbrev pub Measures : List (List ℕ) → ℕ → Type 0
+Measures words number = Asks words (measuring number)
+
 pub data RefusesWords (words : List (List ℕ)) : ConfigFault → Type 0 where
-  not_built : (asked : Asked) → Asks words asked → command_of asked ≡ None → RefusesWords words NotBuilt
+  not_built : Asks words editing → RefusesWords words NotBuilt
   bad_option :
       (asked : Asked) (command : Command) (fault : ConfigFault) → Asks words asked → command_of asked ≡ Some command
       → RefusesOptions (options_of asked) fault → RefusesWords words fault

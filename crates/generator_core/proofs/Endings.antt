@@ -238,7 +238,7 @@ refusal_not_done why out out_after result (inl told) zero = refusal_is_not_zero 
 refusal_not_done why out out_after result (inr memory) zero = let e = status_done 8 memory_line out out_after result memory zero in absurd (omega (arith, e))
 
 -- a stop isn't answered by 0
-stop_not_done : (stop : Stop) (out out_after : SinkState) (result : ℕ) → TellsStop stop out out_after result → result ≢ 0
+pub stop_not_done : (stop : Stop) (out out_after : SinkState) (result : ℕ) → TellsStop stop out out_after result → result ≢ 0
 stop_not_done (stops.Refused why) out out_after result told zero = refusal_not_done why out out_after result told zero
 stop_not_done stops.ReadFault out out_after result told zero = let e = status_done 4 read_fault_line out out_after result told zero in absurd (omega (arith, e))
 stop_not_done stops.Memory out out_after result told zero = let e = status_done 8 memory_line out out_after result told zero in absurd (omega (arith, e))
@@ -309,7 +309,7 @@ read_fault_ends words command is before after out out_after result h rose later 
 
 -- ---- words that are refused
 
-still : (state : FolderState) → OnlyLooks state state ⊥
+pub still : (state : FolderState) → OnlyLooks state state ⊥
 still state = record { tree = refl; writes = refl; later = omega arith; cause = λ e. absurd e; quiet = λ e. refl }
 
 text_told : (words : List (List ℕ)) (text : List ℕ) → (IsPlain words → ⊥) → (told : Option Tree) → IfSome told (λ tree. (later : Tree) × Outcome words tree 2 (text ∷ []) later × (told ≡ Some later))

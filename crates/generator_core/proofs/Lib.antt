@@ -5,3 +5,4 @@ pub mod ReportLemmas
 pub mod Configurings
 pub mod Runs
 pub mod Listings
+pub mod Measurings

@@ -5,3 +5,4 @@ pub mod Listing
 pub mod Configuring
 pub mod Spending
 pub mod Running
+pub mod Measuring

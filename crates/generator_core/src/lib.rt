@@ -5,6 +5,7 @@
 
 mod checking;
 mod listing;
+mod measuring;
 mod paths;
 mod prepared;
 mod project;

@@ -1,4 +1,5 @@
 ghost use Rattle.std.specs.Prelude.{◌≡◌, ◌≤◌, List, ℕ, map, string_bytes, IfSome};
+ghost use Rattle.words_spec.specs.PlainWords.{most_packages};
 ghost use Rattle.config_spec.specs.declared.Command.{Command as Commanded};
 ghost use Rattle.config_spec.specs.declared.Command.TheVariants.{Inject, Check, List as ListModules};
 ghost use Rattle.config_spec.specs.Words.{IsCommandOf};
@@ -8,22 +9,24 @@ ghost use Rattle.generator_spec.specs.Asked.{AsksInOrder};
 ghost use Rattle.generator_spec.specs.Steps.{RunSpends};
 ghost use Rattle.command_words.specs.Orders.{IsOrder, command_ordered};
 ghost use Rattle.generator_core.specs.Preparing.{KeepsProject, shown_file};
+ghost use Rattle.generator_core.specs.Measuring.{RunsMeasure, TellsMeasure};
 ghost use Rattle.generator_core.specs.Running.{RunsCommand};
 ghost use Rattle.generator_core.specs.Spending.{CommandSpends};
 ghost use Rattle.generator_core.specs.Writing.{TellsStop, TellsWords, EndsWriting, WritesFiles};
 
 use crate::checking::checked;
 use crate::listing::listed;
+use crate::measuring::measured;
 use crate::prepared::{Fresh, Prepared, prepare_map, prepare_page};
 use crate::project::configured;
-use command_words::{Order, WordsFault, order_of};
-use generation::Stop;
+use command_words::{Order, Wanted, WordsFault, order_of};
+use generation::{Generated, Stop};
 use generator_spec::{Command, Refusal};
 use primitives::Steps;
 use request_trace::Config;
 use run_texts::{
-    BAD_WORDS, DONE, MEMORY, READ_FAULT, WRITE_FAULT, done_line, line_of, memory_line,
-    not_plain_line, read_fault_line, status_of, write_fault_line,
+    BAD_WORDS, DONE, MEMORY, READ_FAULT, WRITE_FAULT, done_line, line_of, measure_line,
+    memory_line, not_plain_line, read_fault_line, status_of, write_fault_line,
 };
 use std::alloc::Global;
 use std::sync::ledger::Ledger;
@@ -50,7 +53,8 @@ pub fn run<F: Folder, I: Source, O: Sink, L: Ledger>(
         steps.new }
 {
     match order_of(alloc, words) {
-        Ok(order) => ordered(alloc, folder, order, out, steps),
+        Ok(Wanted::Order(order)) => ordered(alloc, folder, order, out, steps),
+        Ok(Wanted::Measure { number }) => measure(alloc, number, out, steps),
         Err(fault) => misworded(alloc, fault, out),
     }
 }
@@ -179,6 +183,42 @@ fn list<F: Folder, O: Sink, L: Ledger>(
     match listed(alloc, folder, config, steps) {
         Ok(report) => tell(out, report.text.as_slice(), report.status),
         Err(stop) => close(alloc, stop, out),
+    }
+}
+
+// `measure`: generates over a stated tree, and says how much came of it.
+fn measure<O: Sink, L: Ledger>(alloc: Global, number: u64, out: &mut O, steps: &mut Steps<L>) -> u8
+    requires { number ≤ most_packages }
+    ensures { RunsMeasure number (O.state out.old) (O.state out.new) result steps.old steps.new }
+{
+    let count = narrow(number);
+    match measured(alloc, count, steps) {
+        Ok(generated) => tell_measure(alloc, count, &generated, out),
+        Err(stop) => close(alloc, stop, out),
+    }
+}
+
+// The number in 32 bits.
+fn narrow(number: u64) -> u32
+    requires { number ≤ most_packages }
+    ensures { result ≡ number }
+{
+    number as u32
+}
+
+fn tell_measure<O: Sink>(alloc: Global, number: u32, generated: &Generated, out: &mut O) -> u8
+    ensures tells { TellsMeasure number generated.now (O.state out.old) (O.state out.new) result }
+    ensures later { (O.state out.old).faults ≤ (O.state out.new).faults }
+{
+    match measure_line(
+        alloc,
+        number,
+        generated.modules,
+        generated.requests,
+        generated.mappings,
+    ) {
+        Ok(line) => tell(out, line.as_slice(), DONE),
+        Err(_) => tell(out, memory_line(), MEMORY),
     }
 }
 

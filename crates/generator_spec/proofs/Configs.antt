@@ -5,7 +5,8 @@ use Rattle.tree_spec.specs.Trees.{Tree}
 use Rattle.trace_spec.specs.Modules.{Config}
 use Rattle.config_spec.specs.declared.Command.{Command}
 use Rattle.config_spec.specs.declared.ConfigFault.{ConfigFault}
-use Rattle.config_spec.specs.Words.{IsCommandOf, IsPlain, RefusesWords}
+use Rattle.words_spec.specs.PlainWords.{editing, measuring}
+use Rattle.config_spec.specs.Words.{IsCommandOf, IsPlain, Measures, RefusesWords}
 use Rattle.config_spec.specs.Words.RefusesWords.{not_built, bad_option}
 use Rattle.config_spec.specs.Projects.{Configures, IsConfigOf, IsConfigFor, RefusesConfig}
 use Rattle.config_spec.proofs.Configs.{configs_are_judged}
@@ -32,8 +33,11 @@ pub command_is_plain : (words : List (List ℕ)) (command : Command) → IsComma
 command_is_plain words command is = record { asked = is.asked; asks = is.asks }
 
 pub refused_is_plain : (words : List (List ℕ)) (fault : ConfigFault) → RefusesWords words fault → IsPlain words
-refused_is_plain words fault (not_built asked asks none) = record { asked = asked; asks = asks }
+refused_is_plain words fault (not_built asks) = record { asked = editing; asks = asks }
 refused_is_plain words fault (bad_option asked command why asks is refuses) = record { asked = asked; asks = asks }
+
+pub measured_is_plain : (words : List (List ℕ)) (number : ℕ) → Measures words number → IsPlain words
+measured_is_plain words number asks = record { asked = measuring number; asks = asks }
 
 module _ (words : List (List ℕ)) where
   pub refused_or_command : (fault : ConfigFault) (command : Command) → RefusesWords words fault → IsCommandOf words command → ⊥
@@ -78,6 +82,7 @@ pub data Judged (words : List (List ℕ)) (tree : Tree) : Type 0 where
   words_refused : (fault : ConfigFault) → RefusesWords words fault → Judged words tree
   config_refused : (fault : ConfigFault) → RefusesConfig words tree fault → Judged words tree
   configured : (command : Command) (config : Config) → IsConfigOf words tree command config → Judged words tree
+  measured : (number : ℕ) → Measures words number → Judged words tree
 
 by_outcome : (words : List (List ℕ)) (tree : Tree) (command : Command) (outcome : Result Config ConfigFault) → Configures words tree command outcome → Judged words tree
 by_outcome words tree command (Ok config) is = configured command config is
@@ -89,7 +94,10 @@ judged words tree =
       | inl other ↦ not_plain other
       | inr plain ↦ elim plain [
         | inl command ↦ let found = (configs_are_judged words tree).some command.0 command.1 in by_outcome words tree command.0 found.0 found.1
-        | inr refused ↦ words_refused refused.0 refused.1
+        | inr more ↦ elim more [
+          | inl refused ↦ words_refused refused.0 refused.1
+          | inr number ↦ measured number.0 number.1
+        ]
       ]
     ]
 
@@ -99,6 +107,9 @@ plain_or_not words =
       | inl none ↦ inr none
       | inr plain ↦ elim plain [
         | inl command ↦ inl (command_is_plain words command.0 command.1)
-        | inr refused ↦ inl (refused_is_plain words refused.0 refused.1)
+        | inr more ↦ elim more [
+          | inl refused ↦ inl (refused_is_plain words refused.0 refused.1)
+          | inr number ↦ inl (measured_is_plain words number.0 number.1)
+        ]
       ]
     ]

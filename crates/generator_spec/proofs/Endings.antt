@@ -19,11 +19,11 @@ use Rattle.config_spec.specs.declared.ConfigFault.{ConfigFault}
 use Rattle.config_spec.specs.Words.{IsPlain, options_of, RefusesOptions, RefusesWords}
 use Rattle.config_spec.specs.Words.RefusesOptions.{bad_base, bad_path, bad_conditions}
 use Rattle.config_spec.specs.Words.RefusesWords.{not_built, bad_option}
-use Rattle.config_spec.specs.Projects.{RefusesAsked}
+use Rattle.config_spec.specs.Projects.{RefusesAsked, measure_config}
 use Rattle.config_spec.specs.Projects.IsReadFault.{too_large, not_project, above}
 use Rattle.config_spec.specs.Projects.RefusesAsked.{bad_project, no_project, no_base, too_many_entries, not_linked}
 use Rattle.config_spec.specs.declared.Command.{Command}
-use Rattle.config_spec.specs.declared.Command.TheVariants.{Check, List as Lists}
+use Rattle.config_spec.specs.declared.Command.TheVariants.{Check, Refresh, List as Lists}
 use Rattle.generator_spec.specs.declared.MapFileFault.{MapFileFault}
 use Rattle.generator_spec.specs.declared.MapFileFault.TheVariants as map_file
 use Rattle.generator_spec.specs.declared.PageFault.{PageFault}
@@ -36,7 +36,7 @@ use Rattle.generator_spec.specs.Outcome.{ComesTo, ComesTo as comes, FilesPlaced,
 use Rattle.generator_spec.specs.Ending.{CanRefuse, CanRefuse as can, IsDone, StopsWriting, Shaped, Says, Ends}
 use Rattle.generator_spec.specs.Ending.{Shaped as shaped, Says as says, Ends as ends}
 use Rattle.generator_spec.specs.Promises.{AreWrong, HasStopped, Untouched, Shows}
-use Rattle.generator_spec.proofs.Configs.{command_for, command_is_plain, refused_is_plain, refused_or_command}
+use Rattle.generator_spec.proofs.Configs.{command_for, command_is_plain, measured_is_plain, refused_is_plain, refused_or_command}
 
 -- ---- statuses
 
@@ -55,7 +55,7 @@ options_refusing options fault (bad_path base text sets given none) = two refl
 options_refusing options fault (bad_conditions base page text sets sets_page given none) = two refl
 
 words_refusing : (words : List (List ℕ)) (fault : ConfigFault) → RefusesWords words fault → IsRefusing (config_status fault)
-words_refusing words fault (not_built asked asks none) = nine refl
+words_refusing words fault (not_built asks) = nine refl
 words_refusing words fault (bad_option asked command why asks is refuses) = options_refusing (options_of asked) fault refuses
 
 asked_refusing : (asked : Asked) (fault : ConfigFault) → RefusesAsked asked fault → IsRefusing (config_status fault)
@@ -102,6 +102,7 @@ can_refusing : (words : List (List ℕ)) (why : Refusal) → CanRefuse words why
 can_refusing words why (can.by_words fault is) = words_refusing words fault is
 can_refusing words why (can.by_project fault is) = asked_refusing is.asked fault is.refuses
 can_refusing words why (can.by_tree command config reason is of) = refusing config command reason of
+can_refusing words why (can.by_measure number reason asks of) = refusing measure_config Refresh reason of
 
 check_refusing : (differing : List (List ℕ)) → (check_status differing ≡ 0) ⊎ IsRefusing (check_status differing)
 check_refusing [] = inl refl
@@ -116,6 +117,7 @@ shaped_status words status lines (shaped.done line s l counted) = inl s
 shaped_status words status lines (shaped.checked is) =
     subst (λ n. (n ≡ 0) ⊎ IsRefusing n) (sym is.ends) (check_refusing is.differing)
 shaped_status words status lines (shaped.listed is) = inl is.ends
+shaped_status words status lines (shaped.measured is) = inl is.ends
 
 refusal_status : (status : ℕ) → IsRefusing status → LeavesTree status
 refusal_status status (one e) = inl e
@@ -164,6 +166,7 @@ unmoved words tree status lines files later (comes.refused why is s l f) placed 
 unmoved words tree status lines files later (comes.written command config map is generates wrote s l) placed other = absurd (other s)
 unmoved words tree status lines files later (comes.checked config map all is holds traces s l f) placed other = nothing_placed files tree later f placed
 unmoved words tree status lines files later (comes.listed config all is traces s l f) placed other = nothing_placed files tree later f placed
+unmoved words tree status lines files later (comes.measured number map asks generates s l f) placed other = nothing_placed files tree later f placed
 
 kept_where_refused :
     (words : List (List ℕ)) (status : ℕ) (lines : List (List ℕ)) (held told : Option Tree) → (held ≡ None → told ≡ None)
@@ -229,6 +232,7 @@ module _ (words : List (List ℕ)) (before after : FolderState) (status : ℕ) (
   shaped_two (shaped.done line s l counted) is_two = absurd (omega arith)
   shaped_two (shaped.checked is) is_two = absurd (check_not_two is.differing (sym is.ends ∙ is_two))
   shaped_two (shaped.listed is) is_two = let zero = is.ends in absurd (omega (arith, zero, is_two))
+  shaped_two (shaped.measured is) is_two = let zero = is.ends in absurd (omega (arith, zero, is_two))
 
   said_two : Says words before after status lines → status ≡ 2 → AreWrong words
   said_two (says.outcome shape o l w) is_two = shaped_two shape is_two
@@ -253,6 +257,7 @@ module _ (words : List (List ℕ)) (before after : FolderState) (status : ℕ) (
   can_be fault refuses why (can.by_words other is) = ap Configured ((words_are_judged words).one_fault other fault is refuses)
   can_be fault refuses why (can.by_project other is) = absurd (refused_or_command words fault is.command refuses (record { asked = is.asked; asks = is.asks; is = is.is; settings = is.settings; sets = is.sets }))
   can_be fault refuses why (can.by_tree command config reason is of) = absurd (refused_or_command words fault command refuses (command_for words command config is))
+  can_be fault refuses why (can.by_measure number reason asks of) = absurd ((words_are_judged words).no_fault number fault asks refuses)
 
   refused_shape :
       (fault : ConfigFault) → RefusesWords words fault → Shaped words status lines
@@ -267,6 +272,7 @@ module _ (words : List (List ℕ)) (before after : FolderState) (status : ℕ) (
       absurd (refused_or_command words fault Check refuses (command_for words Check is.config is.is_config))
   refused_shape fault refuses (shaped.listed is) =
       absurd (refused_or_command words fault Lists refuses (command_for words Lists is.config is.is_config))
+  refused_shape fault refuses (shaped.measured is) = absurd ((words_are_judged words).no_fault is.number fault is.measures refuses)
 
   refused_says :
       (untold : before.holds ≡ None → after.holds ≡ None) (fault : ConfigFault) → RefusesWords words fault
@@ -291,6 +297,7 @@ module _ (words : List (List ℕ)) (before after : FolderState) (status : ℕ) (
   can_is_plain why (can.by_words fault is) = refused_is_plain words fault is
   can_is_plain why (can.by_project fault is) = record { asked = is.asked; asks = is.asks }
   can_is_plain why (can.by_tree command config reason is of) = record { asked = is.asked; asks = is.asks }
+  can_is_plain why (can.by_measure number reason asks of) = measured_is_plain words number asks
 
   no_meaning_shape : (IsPlain words → ⊥) → Shaped words status lines → status ≡ 2
   no_meaning_shape none (shaped.not_plain text too s l) = s
@@ -298,6 +305,7 @@ module _ (words : List (List ℕ)) (before after : FolderState) (status : ℕ) (
   no_meaning_shape none (shaped.done line s l counted) = absurd (none (command_is_plain words counted.command (command_for words counted.command counted.config counted.is_config)))
   no_meaning_shape none (shaped.checked is) = absurd (none (command_is_plain words Check (command_for words Check is.config is.is_config)))
   no_meaning_shape none (shaped.listed is) = absurd (none (command_is_plain words Lists (command_for words Lists is.config is.is_config)))
+  no_meaning_shape none (shaped.measured is) = absurd (none (measured_is_plain words is.number is.measures))
 
   no_meaning_says :
       (untold : before.holds ≡ None → after.holds ≡ None) → (IsPlain words → ⊥) → Says words before after status lines

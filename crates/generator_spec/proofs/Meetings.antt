@@ -41,6 +41,7 @@ no_map words tree line told expected texts files stops (comes.checked config map
     (one_config words tree stops.generated.command Check stops.generated.config config stops.generated.is_config is).one_command
     (writes_generate tree stops.generated.config stops.map stops.generated.command stops.files stops.writes)
 no_map words tree line told expected texts files stops (comes.listed config all is traces s l f) other = other s
+no_map words tree line told expected texts files stops (comes.measured number map asks generates s l f) other = other s
 
 module _ (words : List (List ℕ)) (tree : Tree) (before after : FolderState) (out out_after : SinkState)
     (result status : ℕ) (lines : List (List ℕ)) (told : before.holds ≡ Some tree) where

@@ -28,15 +28,18 @@ use Rattle.generator_spec.specs.Commands.{IsGenerating, map_path, HoldsMap, Open
 use Rattle.generator_spec.specs.Commands.{NewFile, new_file, map_and_project, Writes, Writes as writes}
 use Rattle.generator_spec.specs.Generation.{Generates, IsTooWide, IsTooLarge}
 use Rattle.project_spec.specs.ProjectFiles.{project_text}
-use Rattle.config_spec.specs.Words.{IsPlain}
-use Rattle.config_spec.specs.Projects.{IsConfigOf, project_path}
-use Rattle.generator_spec.specs.Lines.{status_of, line_of, done_line}
+use Rattle.config_spec.specs.Words.{IsPlain, Measures, RefusesWords}
+use Rattle.config_spec.specs.declared.ConfigFault.{ConfigFault}
+use Rattle.workload_spec.specs.Packages.{tree_of}
+use Rattle.config_spec.specs.Projects.{IsConfigOf, RefusesConfig, measure_config, project_path}
+use Rattle.generator_spec.specs.Lines.{status_of, line_of, done_line, measured_line}
+use Rattle.generator_spec.specs.Measuring.{RefusesMeasure}
 use Rattle.generator_spec.specs.Outcome.{ComesTo, FilesPlaced, Outcome, RefusesRun, RefusesRun as runs}
-use Rattle.generator_spec.specs.Outcome.ComesTo.{not_plain, refused, written, checked, listed}
+use Rattle.generator_spec.specs.Outcome.ComesTo.{not_plain, refused, written, checked, listed, measured}
 use Rattle.generator_spec.specs.Laws.{OneOutcome, HasOutcome, SomeOutcome}
 use Rattle.generator_spec.proofs.Configs.{SameConfig, one_config, one_config_fault, refused_or_config}
 use Rattle.generator_spec.proofs.Configs.{words_refused_or_config, words_refused_or_refused, page_is_path, plain_or_not}
-use Rattle.generator_spec.proofs.Configs.{command_is, command_is_plain, refused_is_plain}
+use Rattle.generator_spec.proofs.Configs.{command_is, command_is_plain, refused_is_plain, measured_is_plain}
 use Rattle.generator_spec.proofs.Configs.{Judged, Judged as judgement, judged}
 use Rattle.generator_spec.proofs.Generations.{one_trace, one_layout, one_text, some_generation}
 use Rattle.generator_spec.proofs.MapPaths.{map_is_path, project_is_path, map_in_root, project_in_root}
@@ -112,6 +115,7 @@ paths_of words tree status lines files (refused why is s l f) = no_paths files f
 paths_of words tree status lines files (written command config map is generates wrote s l) = paths_written words tree command config map files is wrote
 paths_of words tree status lines files (checked config map all is holds traces s l f) = no_paths files f
 paths_of words tree status lines files (listed config all is traces s l f) = no_paths files f
+paths_of words tree status lines files (measured number map is generates s l f) = no_paths files f
 
 -- ---- what it comes to
 
@@ -189,6 +193,22 @@ module _ (words : List (List ℕ)) (tree : Tree) (status other : ℕ) (lines oth
         same_files = f ∙ sym g;
       }
 
+  both_measured :
+      (number second : ℕ) (map map_too : List ℕ) → number ≡ second → (generates : Generates (tree_of number) measure_config map)
+      → status ≡ 0 → lines ≡ measured_line number generates.all generates.layout ∷ [] → files ≡ []
+      → (too : Generates (tree_of second) measure_config map_too) → other ≡ 0
+      → others ≡ measured_line second too.all too.layout ∷ [] → more ≡ [] → SameEnd status other lines others files more
+  both_measured number second map map_too same generates s l f =
+      subst (λ n. (too : Generates (tree_of n) measure_config map_too) → other ≡ 0 → others ≡ measured_line n too.all too.layout ∷ [] → more ≡ [] → SameEnd status other lines others files more) same
+      (λ too t m g.
+      let traces = one_trace (tree_of number) measure_config measure_config map map_too refl generates too in
+      let layouts = one_layout (tree_of number) measure_config measure_config map map_too refl generates too in
+      record {
+        one_status = s ∙ sym t;
+        same_lines = l ∙ ((λ i. measured_line number (traces i) (layouts i) ∷ []) ∙ sym m);
+        same_files = f ∙ sym g;
+      })
+
   -- what is listed isn't checked
   checked_and_listed :
       (config second : Config) → IsConfigOf words tree Check config → IsConfigOf words tree Lists second → ⊥
@@ -212,8 +232,30 @@ module _ (words : List (List ℕ)) (tree : Tree) (status other : ℕ) (lines oth
       subst IsGenerating (one_config words tree command Check config second is is_too).one_command
       (writes_generate tree config map command new wrote)
 
+-- a measure is no command on a project, and isn't refused for its words
+module _ (words : List (List ℕ)) (tree : Tree) where
+  measured_or_config : (number : ℕ) (command : Command) (config : Config) → Measures words number → IsConfigOf words tree command config → ⊥
+  measured_or_config number command config asks is = (words_are_judged words).no_command number command asks (command_is words tree command (Ok config) is)
+
+  measured_or_no_config : (number : ℕ) (fault : ConfigFault) → Measures words number → RefusesConfig words tree fault → ⊥
+  measured_or_no_config number fault asks is = (words_are_judged words).no_command number is.command asks (command_is words tree is.command (Err fault) is.configures)
+
+  measured_or_refused : (number : ℕ) (fault : ConfigFault) → Measures words number → RefusesWords words fault → ⊥
+  measured_or_refused number fault asks is = (words_are_judged words).no_fault number fault asks is
+
+  same_measure : (number other : ℕ) (why : Refusal) → Measures words number → Measures words other → RefusesMeasure other why → RefusesMeasure number why
+  same_measure number other why asks too refuses = subst (λ n. RefusesMeasure n why) (sym ((words_are_judged words).one_measure number other asks too)) refuses
+
 -- a run is refused for one reason
 pub one_run_refusal : (words : List (List ℕ)) (tree : Tree) (why because : Refusal) → RefusesRun words tree why → RefusesRun words tree because → why ≡ because
+one_run_refusal words tree why because (runs.by_measure number reason asks is) (runs.by_words other too) = absurd (measured_or_refused words tree number other asks too)
+one_run_refusal words tree why because (runs.by_measure number reason asks is) (runs.by_project other too) = absurd (measured_or_no_config words tree number other asks too)
+one_run_refusal words tree why because (runs.by_measure number reason asks is) (runs.by_tree command config other is_config too) = absurd (measured_or_config words tree number command config asks is_config)
+one_run_refusal words tree why because (runs.by_measure number reason asks is) (runs.by_measure second other asks_too too) =
+    one_refusal (tree_of number) measure_config Refresh why because is (same_measure words tree number second because asks asks_too too)
+one_run_refusal words tree why because (runs.by_words fault is) (runs.by_measure number other asks too) = absurd (measured_or_refused words tree number fault asks is)
+one_run_refusal words tree why because (runs.by_project fault is) (runs.by_measure number other asks too) = absurd (measured_or_no_config words tree number fault asks is)
+one_run_refusal words tree why because (runs.by_tree command config reason is_config is) (runs.by_measure number other asks too) = absurd (measured_or_config words tree number command config asks is_config)
 one_run_refusal words tree why because (runs.by_words fault is) (runs.by_words other too) = ap Configured ((words_are_judged words).one_fault fault other is too)
 one_run_refusal words tree why because (runs.by_words fault is) (runs.by_project other too) = absurd (words_refused_or_refused words tree fault other is too)
 one_run_refusal words tree why because (runs.by_words fault is) (runs.by_tree command config reason is_config too) = absurd (words_refused_or_config words tree fault command config is is_config)
@@ -233,6 +275,7 @@ run_is_plain : (words : List (List ℕ)) (tree : Tree) (why : Refusal) → Refus
 run_is_plain words tree why (runs.by_words fault is) = refused_is_plain words fault is
 run_is_plain words tree why (runs.by_project fault is) = command_is_plain words is.command (command_is words tree is.command (Err fault) is.configures)
 run_is_plain words tree why (runs.by_tree command config reason is_config is) = config_is_plain words tree command config is_config
+run_is_plain words tree why (runs.by_measure number reason asks is) = measured_is_plain words number asks
 
 -- what is refused isn't written
 pub refused_or_written :
@@ -243,6 +286,7 @@ refused_or_written words tree why command config map (runs.by_words fault is) is
 refused_or_written words tree why command config map (runs.by_project fault is) is_config opened generates = refused_or_config words tree fault command config is is_config
 refused_or_written words tree why command config map (runs.by_tree other second reason is_too is) is_config opened generates =
     refused_or_generated tree map why (one_config words tree other command second config is_too is_config) is opened generates
+refused_or_written words tree why command config map (runs.by_measure number reason asks is) is_config opened generates = measured_or_config words tree number command config asks is_config
 
 refused_or_checked_too :
     (words : List (List ℕ)) (tree : Tree) (why : Refusal) (config : Config) (map : ParsedMap) (all : Gathered)
@@ -253,6 +297,7 @@ refused_or_checked_too words tree why config map all (runs.by_project fault is) 
 refused_or_checked_too words tree why config map all (runs.by_tree other second reason is_too is) is_config holds traces =
     let same = one_config words tree Check other config second is_config is_too in
     refused_or_checked tree config why map all (same_refusals tree why same is) holds traces
+refused_or_checked_too words tree why config map all (runs.by_measure number reason asks is) is_config holds traces = measured_or_config words tree number Check config asks is_config
 
 refused_or_listed_too :
     (words : List (List ℕ)) (tree : Tree) (why : Refusal) (config : Config) (all : Gathered)
@@ -262,6 +307,17 @@ refused_or_listed_too words tree why config all (runs.by_project fault is) is_co
 refused_or_listed_too words tree why config all (runs.by_tree other second reason is_too is) is_config traces =
     let same = one_config words tree Lists other config second is_config is_too in
     refused_or_listed tree config why all (same_refusals tree why same is) traces
+refused_or_listed_too words tree why config all (runs.by_measure number reason asks is) is_config traces = measured_or_config words tree number Lists config asks is_config
+
+refused_or_measured :
+    (words : List (List ℕ)) (tree : Tree) (why : Refusal) (number : ℕ) (map : List ℕ) → RefusesRun words tree why
+    → Measures words number → Generates (tree_of number) measure_config map → ⊥
+refused_or_measured words tree why number map (runs.by_words fault is) asks generates = measured_or_refused words tree number fault asks is
+refused_or_measured words tree why number map (runs.by_project fault is) asks generates = measured_or_no_config words tree number fault asks is
+refused_or_measured words tree why number map (runs.by_tree command config reason is_config is) asks generates = measured_or_config words tree number command config asks is_config
+refused_or_measured words tree why number map (runs.by_measure other reason asks_too is) asks generates =
+    refused_or_opened_and_generated (tree_of number) measure_config Refresh why map (same_measure words tree number other why asks asks_too is)
+    (opens.nothing Refresh mapping.refresh) generates
 
 module _ (words : List (List ℕ)) (tree : Tree) (status other : ℕ) (lines others : List (List ℕ)) (files more : List NewFile) (plain : IsPlain words) where
   both :
@@ -277,6 +333,25 @@ module _ (words : List (List ℕ)) (tree : Tree) (status other : ℕ) (lines oth
       absurd (refused_or_checked_too words tree why config map all is is_config holds traces)
   both (refused why is s l f) (listed config all is_config traces t m g) =
       absurd (refused_or_listed_too words tree why config all is is_config traces)
+  both (refused why is s l f) (measured number map asks generates t m g) =
+      absurd (refused_or_measured words tree why number map is asks generates)
+  both (written command config map is_config generates wrote s l) (measured number map_too asks too t m g) =
+      absurd (measured_or_config words tree number command config asks is_config)
+  both (checked config map all is_config holds traces s l f) (measured number map_too asks too t m g) =
+      absurd (measured_or_config words tree number Check config asks is_config)
+  both (listed config all is_config traces s l f) (measured number map_too asks too t m g) =
+      absurd (measured_or_config words tree number Lists config asks is_config)
+  both (measured number map asks generates s l f) (refused because too t m g) =
+      absurd (refused_or_measured words tree because number map too asks generates)
+  both (measured number map asks generates s l f) (written command config map_too is_config too wrote t m) =
+      absurd (measured_or_config words tree number command config asks is_config)
+  both (measured number map asks generates s l f) (checked config map_too all is_config holds traces t m g) =
+      absurd (measured_or_config words tree number Check config asks is_config)
+  both (measured number map asks generates s l f) (listed config all is_config traces t m g) =
+      absurd (measured_or_config words tree number Lists config asks is_config)
+  both (measured number map asks generates s l f) (measured second map_too asks_too too t m g) =
+      both_measured words tree status other lines others files more number second map map_too
+      ((words_are_judged words).one_measure number second asks asks_too) generates s l f too t m g
   both (written command config map is_config generates wrote s l) (refused because too t m g) =
       absurd (refused_or_written words tree because command config map too is_config (written_is_opened tree config map files command wrote) generates)
   both (written command config map is_config generates wrote s l) (written command_too second map_too is_too too wrote_too t m) =
@@ -319,6 +394,7 @@ no_meaning_status words tree status lines files none (not_plain text too s l f) 
 no_meaning_status words tree status lines files none (refused why is s l f) = absurd (none (run_is_plain words tree why is))
 no_meaning_status words tree status lines files none (written command config map is generates wrote s l) = absurd (none (config_is_plain words tree command config is))
 no_meaning_status words tree status lines files none (checked config map all is holds traces s l f) = absurd (none (config_is_plain words tree Check config is))
+no_meaning_status words tree status lines files none (measured number map asks generates s l f) = absurd (none (measured_is_plain words number asks))
 no_meaning_status words tree status lines files none (listed config all is traces s l f) = absurd (none (config_is_plain words tree Lists config is))
 
 pub one_status : (words : List (List ℕ)) (tree : Tree) (status other : ℕ) (lines others : List (List ℕ)) (after last : Tree) → Outcome words tree status lines after → Outcome words tree other others last → status ≡ other
@@ -453,7 +529,24 @@ module _ (words : List (List ℕ)) (tree : Tree) (is_tree : IsTree tree) where
   by_opening command config is (inl opened) = by_result command config is opened (traced (get tree) config) refl
   by_opening command config is (inr none) = by_refusal command config is none.why none.refuses
 
+  module _ (number : ℕ) (asks : Measures words number) where
+    by_measured : (map : List ℕ) → Generates (tree_of number) measure_config map ⊎ IsTooLarge (tree_of number) measure_config → HasOutcome words tree
+    by_measured map (inr large) = by_why (Limit Map) (runs.by_measure number (Limit Map) asks (refuses.large_map Refresh tt (opens.nothing Refresh mapping.refresh) large))
+    by_measured map (inl generates) = record {
+      status = 0;
+      lines = measured_line number generates.all generates.layout ∷ [];
+      after = tree;
+      outcome = record { files = []; comes = measured number map asks generates refl refl refl; placed = refl };
+    }
+
+    by_measure : (found : Result Gathered TraceFault) → traced (get (tree_of number)) measure_config ≡ found → HasOutcome words tree
+    by_measure (Err fault) e = by_why (Trace fault) (runs.by_measure number (Trace fault) asks (refuses.trace Refresh fault (opens.nothing Refresh mapping.refresh) e))
+    by_measure (Ok all) e =
+        let found = some_generation (tree_of number) measure_config all e in
+        by_measured found.0 found.2
+
   by_judgement : Judged words tree → HasOutcome words tree
+  by_judgement (judgement.measured number asks) = by_measure number asks (traced (get (tree_of number)) measure_config) refl
   by_judgement (judgement.not_plain none) = no_meaning none
   by_judgement (judgement.words_refused fault is) = by_why (Configured fault) (runs.by_words fault is)
   by_judgement (judgement.config_refused fault is) = by_why (Configured fault) (runs.by_project fault is)

@@ -174,6 +174,7 @@ module _ (words : List (List ℕ)) (before after : FolderState) (status : ℕ) (
   shaped_line plain (shaped.done line s l counted) = inr (done s)
   shaped_line plain (shaped.checked is) = checked_line is
   shaped_line plain (shaped.listed is) = inr (done is.ends)
+  shaped_line plain (shaped.measured is) = inr (done is.ends)
 
   said_line : IsPlain words → Says words before after status lines → IsAnother (concat lines) ⊎ WasDone
   said_line plain (says.outcome shape o l w) = shaped_line plain shape

@@ -4,6 +4,7 @@
 --     Linked words tree told         the tree's map was written, this is told afterwards, and the map serves
 --     MapServes words tree           the map that is there serves
 --     HasModules words tree          there is a trace, whose modules can be listed
+--     IsMeasured words               there is a map of the stated tree
 --     Says words before after status lines      why a command ends with this status and these lines
 --     Ends status text out out_after result     the text went out and the status is answered, or the output failed
 --     TellsRefusal why out out_after result     the same of a refusal, or of want of memory in its place
@@ -32,9 +33,11 @@ use Rattle.generator_spec.specs.Generation.{PageIsFile, Generates}
 use Rattle.generator_spec.specs.Serves.{Serves, KnowsModules, IsSmallest}
 use Rattle.generator_spec.specs.Statuses.{done_status, words_status, read_fault_status, write_fault_status}
 use Rattle.generator_spec.specs.Statuses.{memory_status}
-use Rattle.config_spec.specs.Words.{IsCommandOf, IsPlain, RefusesWords}
-use Rattle.config_spec.specs.Projects.{IsConfigOf, IsConfigFor, CanRefuseConfig}
+use Rattle.config_spec.specs.Words.{IsCommandOf, IsPlain, Measures, RefusesWords}
+use Rattle.config_spec.specs.Projects.{IsConfigOf, IsConfigFor, CanRefuseConfig, measure_config}
 use Rattle.generator_spec.specs.Lines.{status_of, line_of, counts_line, done_line, differs_line, module_line}
+use Rattle.generator_spec.specs.Lines.{measure_line}
+use Rattle.workload_spec.specs.Packages.{tree_of}
 use Rattle.generator_spec.specs.Lines.{memory_line, read_fault_line, write_fault_line}
 use Rattle.generator_spec.specs.Outcome.{FilesPlaced, Outcome}
 
@@ -96,11 +99,20 @@ pub record HasModules (words : List (List ℕ)) (tree : Tree) : Type 0 where
   pub all : Gathered
   pub is_traced : traced (get tree) config ≡ Ok all
 
--- own: the map was written; or the map that is there serves, or the modules were listed, and nothing was written
+-- own: it is asked to measure a stated tree, for which a map is generated
+pub record IsMeasured (words : List (List ℕ)) : Type 0 where
+  pub number : ℕ
+  pub measures : Measures words number
+  pub map : List ℕ
+  pub generates : Generates (tree_of number) measure_config map
+
+-- own: the map was written; or the map that is there serves, or the modules were listed, or a stated tree was measured,
+-- and nothing was written
 pub data IsDone (words : List (List ℕ)) (tree : Tree) (told : Option Tree) : Type 0 where
   linked : Linked words tree told → IsDone words tree told
   served : MapServes words tree → told ≡ Some tree → IsDone words tree told
   listed : HasModules words tree → told ≡ Some tree → IsDone words tree told
+  measured : IsMeasured words → told ≡ Some tree → IsDone words tree told
 
 -- ---- what is said
 
@@ -150,6 +162,16 @@ pub record IsListing (words : List (List ℕ)) (status : ℕ) (lines : List (Lis
   pub are_modules : All IsModuleLine lines
   pub ends : status ≡ done_status
 
+-- own: the line is that of a measure of as many packages as the words ask for, with some counts
+pub record IsMeasuring (words : List (List ℕ)) (status : ℕ) (lines : List (List ℕ)) : Type 0 where
+  pub number : ℕ
+  pub measures : Measures words number
+  pub modules : ℕ
+  pub requests : ℕ
+  pub mappings : ℕ
+  pub ends : status ≡ done_status
+  pub says : lines ≡ measure_line number modules requests mappings ∷ []
+
 -- own: a run of these words can be refused so, whatever the folder tells
 pub data CanRefuse (words : List (List ℕ)) : Refusal → Type 0 where
   by_words : (fault : ConfigFault) → RefusesWords words fault → CanRefuse words (Configured fault)
@@ -157,9 +179,11 @@ pub data CanRefuse (words : List (List ℕ)) : Refusal → Type 0 where
   by_tree :
       (command : Command) (config : Config) (why : Refusal) → IsConfigFor words command config
       → IsRefusalOf config command why → CanRefuse words why
+  by_measure :
+      (number : ℕ) (why : Refusal) → Measures words number → IsRefusalOf measure_config Refresh why → CanRefuse words why
 
 -- own: status and lines belong together, whatever the folder tells: they are those of words without a meaning, of a
--- refusal, of a map that is written, of a check, or of a list
+-- refusal, of a map that is written, of a check, of a list, or of a measure
 pub data Shaped (words : List (List ℕ)) (status : ℕ) (lines : List (List ℕ)) : Type 0 where
   not_plain :
       (text : List ℕ) → (IsPlain words → ⊥) → status ≡ words_status → lines ≡ text ∷ [] → Shaped words status lines
@@ -169,6 +193,7 @@ pub data Shaped (words : List (List ℕ)) (status : ℕ) (lines : List (List ℕ
   done : (line : List ℕ) → status ≡ done_status → lines ≡ line ∷ [] → IsCounted words line → Shaped words status lines
   checked : IsChecked words status lines → Shaped words status lines
   listed : IsListing words status lines → Shaped words status lines
+  measured : IsMeasuring words status lines → Shaped words status lines
 
 -- own: there is a map, whose files were written up to one of them, with which this line would have been said; it serves
 -- as that of a command that is done

@@ -1,5 +1,6 @@
 pub mod Statuses
 pub mod Commands
+pub mod Measuring
 pub mod Digests
 pub mod Generation
 pub mod Serves

@@ -2,6 +2,8 @@
 --     status_of why, line_of why      those of a refusal
 --     counts_line modules requests mappings      the line of a map that is written
 --     done_line all map               the same for a trace and its map
+--     measure_line number modules requests mappings      the line of a measure of so many packages
+--     measured_line number all map    the same for a trace and its map
 --     differs_line referrer specifier wants gets      the line of a need that a map doesn't serve
 --     served_line needs, differences_line count       the last line of a check
 --     trace_status fault      the exit status of a fault of the trace
@@ -235,9 +237,17 @@ counts_line modules requests mappings =
     codes "ok: " ++ (decimal modules ++ (codes " modules, "
     ++ (decimal requests ++ (codes " requests, " ++ (decimal mappings ++ (codes " mappings" ++ end_of_line))))))
 
+abbrev pub measure_line : ℕ → ℕ → ℕ → ℕ → List ℕ
+measure_line number modules requests mappings =
+    codes "measure " ++ (decimal number ++ (codes ": " ++ (decimal modules ++ (codes " modules, "
+    ++ (decimal requests ++ (codes " requests, " ++ (decimal mappings ++ (codes " mappings" ++ end_of_line))))))))
+
 -- own: the modules of the trace without the page, its requests with the entries, and the mappings of the map
 abbrev pub done_line : Gathered → ParsedMap → List ℕ
 done_line all map = counts_line (length all.modules) (length all.targets) (mapping_count map)
+
+abbrev pub measured_line : ℕ → Gathered → ParsedMap → List ℕ
+measured_line number all map = measure_line number (length all.modules) all.requests (mapping_count map)
 
 -- ---- what a check says
 

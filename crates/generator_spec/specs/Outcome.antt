@@ -21,22 +21,26 @@ use Rattle.generator_spec.specs.Listing.{list_lines}
 use Rattle.generator_spec.specs.Commands.{HoldsMap, Refuses, NewFile, Writes}
 use Rattle.generator_spec.specs.Generation.{Generates}
 use Rattle.generator_spec.specs.Statuses.{done_status, words_status}
-use Rattle.config_spec.specs.Words.{IsPlain, RefusesWords}
-use Rattle.config_spec.specs.Projects.{IsConfigOf, RefusesConfig}
-use Rattle.generator_spec.specs.Lines.{status_of, line_of, done_line}
+use Rattle.config_spec.specs.Words.{IsPlain, Measures, RefusesWords}
+use Rattle.config_spec.specs.Projects.{IsConfigOf, RefusesConfig, measure_config}
+use Rattle.generator_spec.specs.Lines.{status_of, line_of, done_line, measured_line}
+use Rattle.generator_spec.specs.Measuring.{RefusesMeasure}
+use Rattle.workload_spec.specs.Packages.{tree_of}
 
 -- own: a refusal comes of the words, or else of the project, or else of what the command needs, or else it is the first
--- one of the trace, or that of a specifier with too many choices, or else of a map that is too large; it writes nothing
+-- one of the trace, or that of a specifier with too many choices, or else of a map that is too large; or it is that of a measure. It writes nothing
 pub data RefusesRun (words : List (List ℕ)) (tree : Tree) : Refusal → Type 0 where
   by_words : (fault : ConfigFault) → RefusesWords words fault → RefusesRun words tree (Configured fault)
   by_project : (fault : ConfigFault) → RefusesConfig words tree fault → RefusesRun words tree (Configured fault)
   by_tree :
       (command : Command) (config : Config) (why : Refusal) → IsConfigOf words tree command config
       → Refuses tree config command why → RefusesRun words tree why
+  by_measure : (number : ℕ) (why : Refusal) → Measures words number → RefusesMeasure number why → RefusesRun words tree why
 
 -- own: a refusal writes nothing. Where nothing is refused, the command's files are written, with the map that is
 -- generated; or it is said which of the trace's needs the map that is there doesn't serve, or which modules it has.
--- Words without a meaning are answered with some text
+-- A measure says how much is generated for its own tree, whatever the folder holds. Words without a meaning are answered
+-- with some text
 pub data ComesTo (words : List (List ℕ)) (tree : Tree) (status : ℕ) (lines : List (List ℕ))
     (files : List NewFile) : Type 0 where
   not_plain :
@@ -58,6 +62,10 @@ pub data ComesTo (words : List (List ℕ)) (tree : Tree) (status : ℕ) (lines :
   listed :
       (config : Config) (all : Gathered) → IsConfigOf words tree Lists config → traced (get tree) config ≡ Ok all
       → status ≡ done_status → lines ≡ list_lines all → files ≡ [] → ComesTo words tree status lines files
+  measured :
+      (number : ℕ) (map : List ℕ) → Measures words number → (generates : Generates (tree_of number) measure_config map)
+      → status ≡ done_status → lines ≡ measured_line number generates.all generates.layout ∷ [] → files ≡ []
+      → ComesTo words tree status lines files
 
 abbrev pub FilesPlaced : Tree → List NewFile → Tree → Type 0
 FilesPlaced tree [] after = after ≡ tree

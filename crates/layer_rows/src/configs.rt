@@ -2,7 +2,7 @@
 
 use crate::texts::{owned, push_all};
 use crate::words::{push_bracketed, words_of};
-use command_words::{WordsFault, order_of};
+use command_words::{Wanted, WordsFault, order_of};
 use condition_match::Conditions;
 use config_spec::{ConfigFault, ProjectFault};
 use primitives::Text;
@@ -67,7 +67,10 @@ fn outcome_of(
     found: Option<Config>,
 ) -> io::Result<(String, Option<Config>)> {
     let order = match order_of(alloc, words) {
-        Ok(order) => order,
+        Ok(Wanted::Order(order)) => order,
+        Ok(Wanted::Measure { number }) => {
+            return Ok((format!(in alloc; "measure {number}")?, None));
+        }
         Err(WordsFault::Refused { fault }) => return Ok((fault_text(alloc, &fault)?, None)),
         Err(WordsFault::Told(_)) => return Ok((owned(alloc, "told")?, None)),
         Err(WordsFault::NotPlain) => return Ok((owned(alloc, "not plain")?, None)),

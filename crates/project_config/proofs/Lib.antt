@@ -1,3 +1,4 @@
 mod Once
 mod NewProject
 mod Taken
+mod MeasureConfig

@@ -25,7 +25,7 @@ pub(crate) fn page_or_first(alloc: Global, page: Option<Path>) -> Result<Path, M
     }
 }
 
-fn first_page(alloc: Global) -> Result<Path, Memory>
+pub(crate) fn first_page(alloc: Global) -> Result<Path, Memory>
     ensures { IfOk result (λ page. page ≡ spec.page_path) }
 {
     match Path::parse(alloc, PAGE) {
@@ -48,7 +48,7 @@ pub(crate) fn conditions_or_first(
     }
 }
 
-fn first_conditions(alloc: Global) -> Result<Conditions, Memory>
+pub(crate) fn first_conditions(alloc: Global) -> Result<Conditions, Memory>
     ensures { IfOk result (λ conditions. conditions ≡ spec.link_conditions) }
 {
     match Conditions::parse(alloc, CONDITIONS) {

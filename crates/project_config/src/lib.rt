@@ -5,8 +5,10 @@ mod defaults;
 mod entries;
 mod fault;
 mod linking;
+mod measured;
 mod order;
 mod unlinking;
 
 pub use fault::NoConfig;
+pub use measured::measure_config;
 pub use order::config_of;

@@ -59,6 +59,22 @@ pub fn done_line(
     Ok(line.into_bytes())
 }
 
+/// The line of a measure of so many packages.
+pub fn measure_line(
+    alloc: Global,
+    number: u32,
+    modules: usize,
+    requests: usize,
+    mappings: usize,
+) -> Result<Vec<u8>, Memory>
+    ensures { IfOk result (λ line. line.items ≡ spec.measure_line number modules requests mappings) }
+{
+    let line = format!(in alloc;
+        "measure {number}: {modules} modules, {requests} requests, {mappings} mappings\n"
+    )?;
+    Ok(line.into_bytes())
+}
+
 /// The line of a check of a map that serves this number of needs.
 pub fn served_line(alloc: Global, needs: usize) -> Result<Vec<u8>, Memory>
     ensures { IfOk result (λ line. line.items ≡ spec.served_line needs) }

@@ -11,6 +11,10 @@ pub(crate) const AFTER: &str = "Examples, in the folder of the site:
       add what two packages export, with the base that the project already has
   salimgub refresh
       write the map anew after a file or a package has changed
+  salimgub list
+      print the modules in the order in which they are first asked for
+  salimgub measure 200
+      show that the program runs, and how fast, on 200 packages in memory
 
 Options of link, before the entries, each at most once:
   --base <URL>          the URL of this folder on the web, as https://app.test/; needed the first time
@@ -42,13 +46,13 @@ pub(crate) const INJECT: &str = "Write the page with the map in it";
 pub(crate) const CHECK: &str =
     "Compare the map's file with what the modules need, and write nothing";
 
-pub(crate) const LIST: &str = "Print the modules (not built yet)";
+pub(crate) const LIST: &str = "Print the modules, each with the number of its requests";
 
 pub(crate) const SESSION: &str =
     "Read edits from the standard input and answer each (not built yet)";
 
 pub(crate) const MEASURE: &str =
-    "Generate over a made tree of N packages and print counts (not built yet)";
+    "Generate over a stated tree of N packages in memory, and print counts";
 
 pub(crate) const BASE: &str =
     "The URL of this folder on the web, as https://app.test/; needed the first time";

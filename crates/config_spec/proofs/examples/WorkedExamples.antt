@@ -180,7 +180,8 @@ refused_by words tree asked command found fault read is none holds comes = recor
 
 word_examples : WordExamples
 word_examples = record {
-  not_built = not_built _ (read_is_plain (codes "session" ∷ []) _ refl) refl;
+  not_built = not_built (read_is_plain (codes "session" ∷ []) _ refl);
+  measured = read_is_plain (codes "measure" ∷ codes "200" ∷ []) _ refl;
   no_base =
       refused_by (codes "link" ∷ codes "./app.mjs" ∷ []) bare_tree (linking no_options (codes "./app.mjs" ∷ [])) Link
       (Ok None) NoBase refl refl refl no_project refl;

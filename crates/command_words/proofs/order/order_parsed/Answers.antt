@@ -1,5 +1,4 @@
 use Rattle.std.proofs.Common.{ap, refl}
-use Rattle.config_spec.specs.Words.{command_of}
 use Rattle.words_read.specs.Shown.{shown}
 use Rattle.command_words.proofs.Orders.{same_asked}
 use Rattle.config_spec.proofs.Options.{no_settings_set}
@@ -28,10 +27,7 @@ returns-in-List c =
 
 pub returns-in-Session : goal.returns-in-Session
 returns-in-Session c =
-    not_built_refused (shown c.args.parsed) c.not_built.result
-    (ap (λ p. command_of (shown p)) c.in-Session.is) c.not_built.ensures
+    not_built_refused (shown c.args.parsed) c.not_built.result (ap shown c.in-Session.is) c.not_built.ensures
 
 pub returns-in-Measure : goal.returns-in-Measure
-returns-in-Measure c =
-    not_built_refused (shown c.args.parsed) c.not_built-in-Measure.result
-    (ap (λ p. command_of (shown p)) c.in-Measure.is) c.not_built-in-Measure.ensures
+returns-in-Measure c = ap shown c.in-Measure.is
