@@ -88,7 +88,7 @@ module _ (words : List (List ℕ)) (number : ℕ) (asked : AsksMeasure words num
     line_here = measure_line number generated.modules generated.requests generated.mappings
 
     generates : Generates (tree_of number) measure_config generated.map.items
-    generates = record { all = is.all; is_traced = is.is_traced; layout = is.is_map.layout; agreed = is.is_map.agreed; text = is.is_map.map; within = is.is_map.within }
+    generates = record { all = is.all; is_traced = is.is_traced; few = is.is_map.few; layout = is.is_map.layout; is_fewest = is.is_map.is_fewest; text = is.is_map.map; within = is.is_map.within }
 
     said_same : line_here ≡ measured_line number is.all is.is_map.layout
     said_same = λ i. measure_line number (is.is_map.modules i) (is.is_map.requests i) (is.is_map.mappings i)

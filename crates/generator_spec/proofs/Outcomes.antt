@@ -530,8 +530,10 @@ module _ (words : List (List ℕ)) (tree : Tree) (is_tree : IsTree tree) where
   by_opening command config is (inr none) = by_refusal command config is none.why none.refuses
 
   module _ (number : ℕ) (asks : Measures words number) where
-    by_measured : (map : List ℕ) → Generates (tree_of number) measure_config map ⊎ IsTooLarge (tree_of number) measure_config → HasOutcome words tree
-    by_measured map (inr large) = by_why (Limit Map) (runs.by_measure number (Limit Map) asks (refuses.large_map Refresh tt (opens.nothing Refresh mapping.refresh) large))
+    by_measured : (map : List ℕ)
+        → Generates (tree_of number) measure_config map ⊎ IsTooWide (tree_of number) measure_config ⊎ IsTooLarge (tree_of number) measure_config → HasOutcome words tree
+    by_measured map (inr (inl wide)) = by_why (Limit Choices) (runs.by_measure number (Limit Choices) asks (refuses.many_choices Refresh tt (opens.nothing Refresh mapping.refresh) wide))
+    by_measured map (inr (inr large)) = by_why (Limit Map) (runs.by_measure number (Limit Map) asks (refuses.large_map Refresh tt (opens.nothing Refresh mapping.refresh) large))
     by_measured map (inl generates) = record {
       status = 0;
       lines = measured_line number generates.all generates.layout ∷ [];

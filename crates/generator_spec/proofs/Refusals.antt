@@ -241,6 +241,7 @@ module _ (tree : Tree) (config : Config) where
   refused_or_listed why all (refuses.trace same fault before e) traces =
       let both : Ok all ≡ Err fault = sym traces ∙ e in
       absurd (cc)
+  refused_or_listed why all (refuses.many_choices same generating before wide) traces = generating
   refused_or_listed why all (refuses.large_map same generating before large) traces = generating
 
   -- a command that writes was opened
