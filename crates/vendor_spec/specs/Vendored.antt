@@ -32,7 +32,9 @@ pub data Copied (to : List ℕ) : Tree → List Pair → Tree → Type 0 where
 pub record IsPlan (old : Tree) (to : List ℕ) (paths : List (List ℕ)) (pairs : List Pair) : Type 0 where
   pub files : (pair : Pair) → Contains pairs pair → get old pair.0 ≡ Some (Stored pair.1)
   pub looked_at : (pair : Pair) → Contains pairs pair → Contains paths pair.0
-  pub whole : (path bytes : List ℕ) → Contains paths path → get old path ≡ Some (Stored bytes) → Contains pairs (path, bytes)
+  pub whole :
+      (path bytes : List ℕ) → Contains paths path → get old path ≡ Some (Stored bytes)
+      → Contains pairs (path, bytes)
   pub goals : (pair : Pair) → Contains pairs pair → IsPath (to ++ pair.0)
 
 -- own: what is written below the folder makes the folders above it, and touches nothing else
