@@ -1,5 +1,5 @@
 -- Changes of a draft, one after another.
-use Rattle.std.proofs.Common.{◌≡◌, ◌∷◌, [], ◌++◌, ℕ, Bool, true, false, List, Option, Some, None, Result, Ok, Err, refl, sym, ap, ◌∙◌, subst, arith, length-append}
+use Rattle.std.proofs.Common.{◌≡◌, ◌∷◌, [], ◌++◌, ℕ, Bool, true, false, List, Some, Result, Ok, Err, refl, sym, ap, ◌∙◌, subst, arith, length-append}
 use Rattle.std.specs.FinMap.{get, remove}
 use Rattle.std.specs.List.{list_any}
 use Rattle.std.specs.Prelude.{◌<◌, bytes_eq, not, length, Contains, if◌then◌else◌}

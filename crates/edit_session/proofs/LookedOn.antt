@@ -1,6 +1,6 @@
 -- Calls that look, one after another; and looks that are laid for a call and taken back.
 use Rattle.std.proofs.Common.{◌≡◌, ℕ, List, Option, Some, None, IfSome, refl, sym, ap, ◌∙◌, subst, arith}
-use Rattle.std.specs.Prelude.{All, is_some, true, bytes_eq}
+use Rattle.std.specs.Prelude.{is_some, true, bytes_eq}
 use Rattle.std.specs.HashMap as map
 use Rattle.std.proofs.lemmas.List.Elements.{All-weaker}
 use Rattle.tree_spec.specs.LookLimits.{Trail}
@@ -8,7 +8,6 @@ use Rattle.tree_spec.specs.States.{FolderState, OnlyLooks}
 use Rattle.tree_spec.specs.Trees.{Tree}
 use Rattle.tree_spec.proofs.ToldStates.{looks_then, looks_as}
 use Rattle.package_lookup.specs.declared.known.Known.{Known}
-use Rattle.package_lookup.specs.declared.over.Over.{Over}
 use Rattle.package_lookup.specs.Answered.{state, AsksOnce}
 use Rattle.package_lookup.specs.LaidTrees.{StandsBehind}
 use Rattle.package_lookup.specs.Learning.{Learns, IsSameIn}

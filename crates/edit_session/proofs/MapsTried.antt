@@ -1,5 +1,5 @@
 -- A generation over looks that are laid for it.
-use Rattle.std.proofs.Common.{◌≡◌, ℕ, List, Option, Some, Result, Ok, Err, IfSome, sym, ap, ◌∙◌, subst}
+use Rattle.std.proofs.Common.{◌≡◌, ℕ, List, Some, Result, Ok, Err, IfSome, sym, ap, ◌∙◌, subst}
 use Rattle.std.specs.FinMap.{get}
 use Rattle.std.specs.Prelude.{Contains}
 use Rattle.tree_spec.specs.LookAskings.{Sights, footprint}
@@ -17,7 +17,7 @@ use Rattle.package_lookup.specs.LaidTrees.{StandsBehind, IsLaid}
 use Rattle.package_lookup.specs.Looked.{over_at, Sees}
 use Rattle.package_lookup.proofs.Laying.{laid_is_seen}
 use Rattle.request_trace.specs.Tracing.{IsOfFootprint}
-use Rattle.generation.specs.Generating.{IfRefused, IfSeen, IsMapOfTree, GeneratingOver}
+use Rattle.generation.specs.Generating.{IfSeen, IsMapOfTree, GeneratingOver}
 use Rattle.generation.specs.declared.generated.Generated.{Generated}
 use Rattle.generation.specs.declared.stop.Stop.{Stop}
 use Rattle.generation.specs.declared.stop.Stop.TheVariants.{Refused, ReadFault, Memory}

@@ -16,12 +16,11 @@ use Rattle.config_spec.specs.declared.Command.TheVariants.{Refresh}
 use Rattle.generator_spec.specs.Commands.{IsGenerating, IsRefusalOf, Opens, Refuses, nothing, refresh}
 use Rattle.generator_spec.specs.Generation.{PageIsFile}
 use Rattle.package_lookup.specs.declared.known.Known.{Known}
-use Rattle.package_lookup.specs.declared.over.Over.{Over}
 use Rattle.package_lookup.specs.Answered.{state, AsksOnce}
 use Rattle.package_lookup.specs.LaidTrees.{StandsBehind, IsLaid}
 use Rattle.package_lookup.specs.Learning.{Learns, IsSameIn}
-use Rattle.package_lookup.specs.Looked.{laid_at, kept_at, over_at, Sees}
-use Rattle.package_lookup.proofs.Laying.{laid_is_seen, laid_alike, nothing_kept, nothing_laid, looks_keep_behind}
+use Rattle.package_lookup.specs.Looked.{laid_at, kept_at, Sees}
+use Rattle.package_lookup.proofs.Laying.{laid_is_seen, nothing_kept, nothing_laid, looks_keep_behind}
 use Rattle.request_trace.specs.Tracing.{IsOfFootprint}
 use Rattle.generation.specs.Generating as generating
 use Rattle.generation.specs.Generating.{IfSeen, IsMapOfTree, GeneratingOver, AsksNoPathTwice, AsksFootprint}
@@ -35,9 +34,9 @@ use Rattle.session_spec.specs.SessionStates.{SessionState, draft_of, config_with
 use Rattle.generator_spec.specs.Lines.{line_of}
 use Rattle.edit_session.specs.LooksOn.{LooksOn}
 use Rattle.edit_session.specs.NewLooks.{AsksNew, AsksKept, LooksNew}
-use Rattle.edit_session.specs.SessionTrees.{counts_in, IsSessionOf, IsPendingOf}
+use Rattle.edit_session.specs.SessionTrees.{counts_in, IsSessionOf}
 use Rattle.edit_session.specs.Sessions.{IsOpened, OpensSession, IfRefused, IsEditLook, Accepts, Prepares, Commits}
-use Rattle.edit_session.specs.Steps.{LeadsTo, IsAsBefore, MakesNext, IsStep}
+use Rattle.edit_session.specs.Steps.{MakesNext, IsStep}
 use Rattle.edit_session.specs.declared.session.Pending.{Pending}
 use Rattle.edit_session.specs.declared.session.Session.{Session}
 use Rattle.edit_session.specs.declared.stop.EditStop.{EditStop}

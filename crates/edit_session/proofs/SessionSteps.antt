@@ -1,5 +1,5 @@
 -- What an edit makes of a session.
-use Rattle.std.proofs.Common.{◌≡◌, ◌++◌, ℕ, List, Option, Some, None, Result, Ok, Err, IfSome, refl, sym, ap, ◌∙◌, subst}
+use Rattle.std.proofs.Common.{◌≡◌, ℕ, List, Some, Result, Ok, Err, refl, sym, ap, ◌∙◌, subst}
 use Rattle.std.specs.FinMap.{get}
 use Rattle.std.specs.Prelude.{Contains}
 use Rattle.tree_spec.specs.LookAskings.{footprint}
@@ -10,10 +10,9 @@ use Rattle.trace_spec.specs.Traces.{generation}
 use Rattle.config_spec.specs.declared.Command.TheVariants.{Refresh}
 use Rattle.generator_spec.specs.Commands.{Refuses}
 use Rattle.generator_spec.specs.Lines.{line_of}
-use Rattle.package_lookup.specs.declared.known.Known.{Known}
 use Rattle.package_lookup.specs.declared.over.Over.{Over}
 use Rattle.package_lookup.specs.LaidTrees.{StandsBehind, IsLaid}
-use Rattle.package_lookup.specs.Looked.{kept_at, over_at}
+use Rattle.package_lookup.specs.Looked.{over_at}
 use Rattle.package_lookup.proofs.Laying.{laid_alike}
 use Rattle.generation.specs.declared.generated.Generated.{Generated}
 use Rattle.generation.specs.declared.stop.Stop.{Stop}

@@ -1,11 +1,11 @@
 -- What a look tells of a path, where it is the first of its trail.
 use Rattle.std.proofs.Common.{◌≡◌, ◌∷◌, [], ℕ, Bool, true, false, List, Option, Some, None, Result, Ok, Err, refl, sym, ap, ◌∙◌, subst}
 use Rattle.std.specs.FinMap.{get}
-use Rattle.std.specs.Prelude.{Contains, IfSome}
+use Rattle.std.specs.Prelude.{Contains}
 use Rattle.std.proofs.lemmas.List.Elements.{All-contains, All-cons, All-nil}
-use Rattle.asking_spec.specs.Evaluation.{Ended, ends, stopped, then_ended, evaluated}
+use Rattle.asking_spec.specs.Evaluation.{Ended, ends, stopped, then_ended}
 use Rattle.tree_spec.specs.LookAskings.{Sights, look_at, looks}
-use Rattle.tree_spec.specs.LookLimits.{Trail, no_trail, look_limits, seen_first, counted, told, limited}
+use Rattle.tree_spec.specs.LookLimits.{Trail, no_trail, look_limits, seen_first, counted, told}
 use Rattle.tree_spec.specs.Paths.{IsPath}
 use Rattle.tree_spec.specs.States.{FolderState}
 use Rattle.tree_spec.specs.Trees.{Tree}
@@ -21,7 +21,7 @@ use Rattle.package_lookup.specs.declared.held.Seen.{Seen}
 use Rattle.package_lookup.specs.declared.known.Known.{Known}
 use Rattle.package_lookup.specs.declared.over.Over.{Over}
 use Rattle.package_lookup.specs.Answered.{state, Comes, Tells, IsLookOf, Answered}
-use Rattle.package_lookup.specs.LaidTrees.{StandsBehind, IsLaid}
+use Rattle.package_lookup.specs.LaidTrees.{IsLaid}
 use Rattle.package_lookup.specs.Looked.{over_at, Sees}
 use Rattle.package_lookup.specs.Responses.{Response, given, fails, passes, not_read, no_memory, never, by_limit, looked}
 use Rattle.package_lookup.specs.SeenLooks.{entry_of}
@@ -30,7 +30,7 @@ use Rattle.package_lookup.proofs.Learnings.{learns_by}
 use Rattle.package_lookup.proofs.Sights.{some_sights}
 use Rattle.edit_session.specs.Standings.{standing_at, standing_by, Stands}
 use Rattle.edit_session.specs.declared.standing.Standing.{Standing}
-use Rattle.edit_session.specs.declared.standing.Standing.TheVariants.{Nothing, Folder, File}
+use Rattle.edit_session.specs.declared.standing.Standing.TheVariants.{File}
 use Rattle.edit_session.proofs.LookedOn.{some_told, laid_back, stands_same}
 
 abbrev End : Type 0

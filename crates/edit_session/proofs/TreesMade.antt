@@ -2,7 +2,7 @@
 use Rattle.std.proofs.Common.{◌≡◌, ◌∷◌, [], ℕ, Bool, true, false, List, Option, Some, None, Result, Ok, Err, refl, sym, ap, ◌∙◌, subst}
 use Rattle.std.specs.FinMap.{get, insert, remove}
 use Rattle.std.specs.List.{list_all}
-use Rattle.std.specs.Prelude.{◌&&◌, not, drop, bytes_eq, cond, codes, Contains, All, is_some, if◌then◌else◌}
+use Rattle.std.specs.Prelude.{◌&&◌, not, drop, bytes_eq, cond, codes, Contains, is_some, if◌then◌else◌}
 use Rattle.std.proofs.lemmas.List.Elements.{All-cons, All-nil, Contains-push, Contains-append_left, Contains-append_right}
 use Rattle.std.proofs.lemmas.Slice.Eq.{bytes_eq-Decides}
 use Rattle.std.specs.Bool.{Decides}
@@ -15,7 +15,6 @@ use Rattle.tree_spec.specs.States.{FolderState}
 use Rattle.tree_spec.specs.Trees.{Tree, IsTree}
 use Rattle.tree_spec.specs.declared.Entry.{Entry}
 use Rattle.tree_spec.specs.declared.Entry.TheVariants.{Stored, Directory}
-use Rattle.tree_spec.specs.declared.Look.{Look}
 use Rattle.tree_spec.specs.declared.Look.TheVariants as seen_look
 use Rattle.tree_spec.specs.declared.LookFault.{LookFault}
 use Rattle.tree_spec.specs.declared.LookFault.TheVariants as look
@@ -26,7 +25,6 @@ use Rattle.package_lookup.specs.Looked.{Puts}
 use Rattle.package_lookup.proofs.Laying.{laid_alike, setting_lays, dropping_lays}
 use Rattle.session_spec.specs.Edits.{is_folder, is_file, above, can_put, with_folders, put_file, edited, then_edited}
 use Rattle.session_spec.specs.Laws.{NamesPath}
-use Rattle.session_spec.specs.declared.Change.{Change}
 use Rattle.session_spec.specs.declared.Change.TheVariants.{Put, Drop}
 use Rattle.session_spec.specs.declared.EditFault.TheVariants.{BadEdit}
 use Rattle.session_spec.proofs.TreesStay.{edits_keep_tree}

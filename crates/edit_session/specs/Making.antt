@@ -11,13 +11,12 @@ use Rattle.std.specs.Prelude.{◌≡◌, ◌≤◌, ⊤, ℕ, List, Bool, true, 
 use Rattle.std.specs.List.{IsDistinct}
 use Rattle.tree_spec.specs.Limits.{limit_number}
 use Rattle.tree_spec.specs.States.{FolderState}
-use Rattle.tree_spec.specs.Trees.{Tree, IsTree}
+use Rattle.tree_spec.specs.Trees.{Tree}
 use Rattle.tree_spec.specs.declared.LimitName.TheVariants.{Entries}
 use Rattle.tree_spec.specs.declared.LookFault.{LookFault}
 use Rattle.tree_spec.specs.declared.LookFault.TheVariants as look
 use Rattle.package_lookup.specs.declared.known.Known.{Known}
 use Rattle.package_lookup.specs.declared.over.Over.{Over}
-use Rattle.package_lookup.specs.LaidTrees.{StandsBehind, IsLaid}
 use Rattle.session_spec.specs.Edits.{Draft}
 use Rattle.session_spec.specs.declared.EditFault.{EditFault}
 use Rattle.session_spec.specs.declared.EditFault.TheVariants.{BadEdit}

@@ -6,7 +6,7 @@
 --     LooksNew before old after new failed unfinished Among
 --                                                 calls that look and do nothing else
 --     AsksKept old after later                    each path that the folder was asked for is kept
-use Rattle.std.specs.Prelude.{◌≡◌, ◌++◌, ℕ, List, Option, Some, None, true, All, IfSome, is_some, bytes_eq}
+use Rattle.std.specs.Prelude.{◌≡◌, ◌++◌, ℕ, List, Some, None, true, All, IfSome, is_some, bytes_eq}
 use Rattle.std.specs.List.{IsDistinct}
 use Rattle.tree_spec.specs.States.{FolderState, OnlyLooks}
 use Rattle.tree_spec.specs.declared.Look.{Look}

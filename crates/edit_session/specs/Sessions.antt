@@ -6,7 +6,7 @@
 --     Accepts tree state edit session the edit is accepted, and the state that it leads to is pending
 --     Prepares before old edit result after new       an edit that is prepared
 --     Commits old new                 what is pending becomes the state
-use Rattle.std.specs.Prelude.{◌≡◌, ⊤, ℕ, List, true, Option, Some, None, Result, Err, IfOk, IfErr, IfSome, OnOk, OnErr}
+use Rattle.std.specs.Prelude.{◌≡◌, ⊤, ℕ, List, true, None, Result, Err, IfOk, IfErr, IfSome, OnOk, OnErr}
 use Rattle.std.specs.Prelude.{Contains, is_some, Ok}
 use Rattle.std.specs.FinMap.{get}
 use Rattle.tree_spec.specs.LookAskings.{footprint}

@@ -1,6 +1,5 @@
-use Rattle.std.proofs.Common.{Ok, Err, sym, ap, subst}
 use Rattle.edit_session.specs.Making.{work}
-use Rattle.edit_session.proofs.DraftsMade.{makes_nothing, makes_stops, makes_then, begins, goes_on, stops_now, ends_now}
+use Rattle.edit_session.proofs.DraftsMade.{begins, goes_on, stops_now, ends_now}
 use Rattle.edit_session.proofs.changes.make_all.Goals as goal
 
 pub loop-change-init : goal.loop-change-init

@@ -1,4 +1,4 @@
-use Rattle.std.proofs.Common.{sym, ◌∙◌, subst}
+use Rattle.std.proofs.Common.{◌∙◌, subst}
 use Rattle.tree_spec.specs.LookAskings.{look_at}
 use Rattle.tree_spec.specs.LookLimits.{Trail}
 use Rattle.package_lookup.specs.Answered.{state, Answered}

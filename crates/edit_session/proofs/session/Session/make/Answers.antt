@@ -1,5 +1,5 @@
-use Rattle.std.proofs.Common.{refl, Ok, Err}
-use Rattle.edit_session.proofs.SessionSteps.{no_change, accepted_next, refused_next, made_next}
+use Rattle.std.proofs.Common.{refl}
+use Rattle.edit_session.proofs.SessionSteps.{no_change, made_next}
 use Rattle.edit_session.proofs.session.Session.make.Goals as goal
 
 pub returns-in-Err-clause-makes : goal.returns-in-Err-clause-makes
