@@ -1,0 +1,375 @@
+-- What the calls of a session come to.
+use Rattle.std.proofs.Common.{◌≡◌, ◌++◌, ℕ, List, Option, Some, None, Result, Ok, Err, IfSome, refl, sym, ap, ◌∙◌, subst}
+use Rattle.std.specs.FinMap.{get}
+use Rattle.std.specs.HashMap as map
+use Rattle.std.specs.Prelude.{All, Contains, true, is_some, bytes_eq, ⊤}
+use Rattle.std.proofs.lemmas.List.{append_cancel_left}
+use Rattle.std.proofs.lemmas.List.Elements.{All-weaker}
+use Rattle.tree_spec.specs.LookAskings.{Sights, footprint}
+use Rattle.tree_spec.specs.LookLimits.{no_trail}
+use Rattle.tree_spec.specs.States.{FolderState}
+use Rattle.tree_spec.specs.Trees.{Tree, IsTree}
+use Rattle.trace_spec.specs.Modules.{Config}
+use Rattle.trace_spec.specs.Traces.{generation}
+use Rattle.config_spec.specs.declared.Command.{Command}
+use Rattle.config_spec.specs.declared.Command.TheVariants.{Refresh}
+use Rattle.generator_spec.specs.Commands.{IsGenerating, IsRefusalOf, Opens, Refuses, nothing, refresh}
+use Rattle.generator_spec.specs.Generation.{PageIsFile}
+use Rattle.package_lookup.specs.declared.known.Known.{Known}
+use Rattle.package_lookup.specs.Answered.{state, AsksOnce}
+use Rattle.package_lookup.specs.LaidTrees.{StandsBehind, IsLaid}
+use Rattle.package_lookup.specs.Learning.{Learns, IsSameIn}
+use Rattle.package_lookup.specs.Looked.{laid_at, kept_at, Sees}
+use Rattle.package_lookup.proofs.Laying.{laid_is_seen, nothing_kept, nothing_laid, looks_keep_behind}
+use Rattle.request_trace.specs.Tracing.{IsOfFootprint}
+use Rattle.generation.specs.Generating as generating
+use Rattle.generation.specs.Generating.{IfSeen, IsMapOfTree, GeneratingOver, AsksNoPathTwice, AsksFootprint}
+use Rattle.generation.specs.declared.generated.Generated.{Generated}
+use Rattle.generation.specs.declared.stop.Stop.{Stop}
+use Rattle.generation.specs.declared.stop.Stop.TheVariants as stop
+use Rattle.session_spec.specs.declared.Change.{Change}
+use Rattle.session_spec.specs.Edits.{edited}
+use Rattle.session_spec.specs.Replies.{IsRefused, fault_line}
+use Rattle.session_spec.specs.SessionStates.{SessionState, draft_of, config_with}
+use Rattle.generator_spec.specs.Lines.{line_of}
+use Rattle.edit_session.specs.LooksOn.{LooksOn}
+use Rattle.edit_session.specs.NewLooks.{AsksNew, AsksKept, LooksNew}
+use Rattle.edit_session.specs.SessionTrees.{counts_in, IsSessionOf}
+use Rattle.edit_session.specs.Sessions.{IsOpened, OpensSession, IfRefused, IsEditLook, Accepts, Prepares, Commits}
+use Rattle.edit_session.specs.Steps.{MakesNext, IsStep}
+use Rattle.edit_session.specs.declared.session.Pending.{Pending}
+use Rattle.edit_session.specs.declared.session.Session.{Session}
+use Rattle.edit_session.specs.declared.stop.EditStop.{EditStop}
+use Rattle.edit_session.specs.declared.stop.EditStop.TheVariants.{Change as NoChange, Generation, ReadFault, Memory}
+use Rattle.edit_session.proofs.AskedPaths.{asks_as, asks_once_new}
+use Rattle.edit_session.proofs.LookedOn.{some_told, all_told}
+use Rattle.edit_session.proofs.MapsTried.{generated_of}
+
+abbrev Done : Type 0
+Done = Result (Unit {0}) EditStop
+
+-- ---- an edit is prepared
+
+pub session_by : (tree : Tree) (old new : Session) (known : StandsBehind tree old.known → StandsBehind tree new.known)
+    → new.known.laid ≡ old.known.laid → new.config ≡ old.config → new.generated ≡ old.generated → (state : SessionState)
+    → IsSessionOf tree old state → IsSessionOf tree new state
+session_by tree old new behind laid config generated state is = record {
+  stands = behind is.stands;
+  is_state = record {
+    laid = subst (λ over. IsLaid tree over state.tree) (sym laid) is.is_state.laid;
+    is_tree = is.is_state.is_tree;
+    config_is = is.is_state.config_is ∙ sym config;
+    map_is = is.is_state.map_is ∙ sym (ap (λ (g : Generated). g.map.items) generated);
+    counts_are = is.is_state.counts_are ∙ sym (ap counts_in generated);
+  };
+}
+
+-- the session without what was pending
+abbrev pub cleared : Session → Session
+cleared old = record { known = old.known; config = old.config; generated = old.generated; pending = None }
+
+-- the session with what is pending now
+abbrev pub with_next : Session → Pending → Session
+with_next session pending =
+    record { known = session.known; config = session.config; generated = session.generated; pending = Some pending }
+
+module _ (before after : FolderState) (old mid : Session) (edit : List Change) where
+  cleared_so : (tree : Tree) (state : SessionState) → IsSessionOf tree old state → IsSessionOf tree (cleared old) state
+  cleared_so tree state is = record { stands = is.stands; is_state = is.is_state }
+
+  abbrev AsksEdit : Tree → List ℕ → Type 0
+  AsksEdit tree path = (state : SessionState) → IsSessionOf tree old state → IsEditLook state edit path
+
+  abbrev Asks : List ℕ → Type 0
+  Asks path = IfSome before.holds (λ tree. AsksEdit tree path)
+
+  abbrev AsksCleared : Tree → List ℕ → Type 0
+  AsksCleared tree path = (state : SessionState) → IsSessionOf tree (cleared old) state → IsEditLook state edit path
+
+  looks_new : (known : Known) (failed some fails unfinished : Type 0) → (fails → failed) → (failed → fails) → (some → unfinished)
+      → LooksOn before old.known after known failed some AsksCleared
+      → LooksNew before old.known after known fails unfinished Asks
+  looks_new known failed some fails unfinished back on weaker looks = record {
+    laid = looks.laid;
+    kept = looks.kept;
+    behind = all_told (λ tree. StandsBehind tree old.known → StandsBehind tree known) before.holds (λ tree e. looks.behind tree e);
+    asked = all_told (λ list. AsksNew list old.known after known unfinished Asks) before.asked
+        (λ list e. asks_as list old.known known after some unfinished
+        (λ path. (tree : Tree) → before.holds ≡ Some tree → AsksCleared tree path) Asks weaker
+        (λ path there. all_told (λ tree. AsksEdit tree path) before.holds
+        (λ tree told state is. there tree told state (cleared_so tree state is))) (looks.asked list e));
+    looks = record {
+      tree = looks.looks.tree;
+      writes = looks.looks.writes;
+      later = looks.looks.later;
+      cause = λ e. looks.looks.cause (back e);
+      quiet = λ none. looks.looks.quiet (λ e. none (on e));
+    };
+  }
+
+  abbrev next_stops : EditStop → Result Pending EditStop
+  next_stops why = Err why
+
+  abbrev next_leads : Pending → Result Pending EditStop
+  next_leads pending = Ok pending
+
+  abbrev is_done : Done
+  is_done = Ok tt
+
+  abbrev stops : EditStop → Done
+  stops why = Err why
+
+  module _ (result : Result Pending EditStop) (is : MakesNext before (cleared old) edit result after mid) where
+    stays_so : (new : Session) → new.known ≡ mid.known → new.config ≡ mid.config → new.generated ≡ mid.generated
+        → IfSome before.holds (λ tree. (state : SessionState) → IsSessionOf tree old state → IsSessionOf tree new state)
+    stays_so new known config generated =
+        all_told (λ tree. (state : SessionState) → IsSessionOf tree old state → IsSessionOf tree new state) before.holds
+        (λ tree e state there. session_by tree old new
+        (λ stands. subst (StandsBehind tree) (sym known) (is.looks.behind tree e stands))
+        (ap (λ (k : Known). k.laid) known ∙ is.looks.laid) (config ∙ is.same.config) (generated ∙ is.same.generated) state there)
+
+  refusal_so : (why : EditStop)
+      → IfRefused (λ line. (tree : Tree) (state : SessionState) → before.holds ≡ Some tree
+      → IsSessionOf tree (cleared old) state → IsRefused state (edited (draft_of state) edit) line) why
+      → IfRefused (λ line. IfSome before.holds (λ tree. (state : SessionState) → IsSessionOf tree old state
+      → IsRefused state (edited (draft_of state) edit) line)) why
+  refusal_so (NoChange fault) is =
+      all_told (λ tree. (state : SessionState) → IsSessionOf tree old state → IsRefused state (edited (draft_of state) edit) (fault_line fault))
+      before.holds (λ tree e state there. is tree state e (cleared_so tree state there))
+  refusal_so (Generation why) is =
+      all_told (λ tree. (state : SessionState) → IsSessionOf tree old state → IsRefused state (edited (draft_of state) edit) (line_of why))
+      before.holds (λ tree e state there. is tree state e (cleared_so tree state there))
+  refusal_so ReadFault is = tt
+  refusal_so Memory is = tt
+
+  pub not_prepared : (why : EditStop) → MakesNext before (cleared old) edit (Err why) after mid
+      → Prepares before old edit (Err why) after mid
+  not_prepared why is = record {
+    config = is.same.config;
+    generated = is.same.generated;
+    looks = looks_new mid.known (next_stops why ≡ Err ReadFault) (next_stops why ≡ Err Memory) (stops why ≡ Err ReadFault)
+        (stops why ≡ Err Memory) (λ e. let same : why ≡ ReadFault = cc in ap next_stops same)
+        (λ e. let same : why ≡ ReadFault = cc in ap stops same) (λ e. let same : why ≡ Memory = cc in ap stops same) is.looks;
+    accepted = tt;
+    refused = refusal_so why is.refused;
+    stays = stays_so (next_stops why) is mid refl refl refl;
+    pending = tt;
+    nothing_pending = is.same.pending;
+  }
+
+  pub prepared : (pending : Pending) → MakesNext before (cleared old) edit (Ok pending) after mid
+      → Prepares before old edit (Ok tt) after (with_next mid pending)
+  prepared pending is = record {
+    config = is.same.config;
+    generated = is.same.generated;
+    looks = looks_new mid.known (next_leads pending ≡ Err ReadFault) (next_leads pending ≡ Err Memory)
+        (is_done ≡ Err ReadFault) (is_done ≡ Err Memory) (λ e. absurd (cc))
+        (λ e. absurd (cc)) (λ e. absurd (cc)) is.looks;
+    accepted = all_told (λ tree. (state : SessionState) → IsSessionOf tree old state → Accepts tree state edit (with_next mid pending))
+        before.holds
+        (λ tree e state there.
+        let leads = is.accepted tree state e (cleared_so tree state there) in
+        record {
+          next = leads.next;
+          line = leads.line;
+          is_pending = record {
+            pending = pending;
+            is_there = refl;
+            is_state = record {
+              laid = leads.is_state.laid;
+              is_tree = leads.is_state.is_tree;
+              config_is = leads.is_state.config_is ∙ ap (λ (config : Config). config_with config pending.entries) (sym is.same.config);
+              map_is = leads.is_state.map_is;
+              counts_are = leads.is_state.counts_are;
+            };
+          };
+          accepted = leads.accepted;
+        });
+    refused = tt;
+    stays = stays_so (next_leads pending) is (with_next mid pending) refl refl refl;
+    pending = refl;
+    nothing_pending = tt;
+  }
+
+-- ---- a step
+
+same_pending : (one other : Pending) (there : Option Pending) → there ≡ Some one → there ≡ Some other → one ≡ other
+same_pending one other there e f = (let same : Some one ≡ Some other = sym e ∙ f in let p : one ≡ other = cc in p)
+
+pub committed : (old new : Session) (pending : Pending) → old.pending ≡ Some pending
+    → IsStep (cleared old) pending new → Commits old new
+committed old new pending there step = record {
+  becomes = λ tree state next is is_next.
+      (let same : is_next.pending ≡ pending = same_pending is_next.pending pending old.pending is_next.is_there there in
+      record {
+        stands = record {
+          kept = λ path look e. is.stands.kept path look (sym (ap (λ kept. map.get bytes_eq kept path) step.kept) ∙ e);
+        };
+        is_state = record {
+          laid = subst (λ over. IsLaid tree over next.tree) (ap (λ (p : Pending). p.over) same ∙ sym step.laid) is_next.is_state.laid;
+          is_tree = is_next.is_state.is_tree;
+          config_is = is_next.is_state.config_is ∙ (ap (λ (p : Pending). config_with old.config p.entries) same ∙ sym step.config);
+          map_is = is_next.is_state.map_is ∙ ap (λ (g : Generated). g.map.items) (ap (λ (p : Pending). p.generated) same ∙ sym step.generated);
+          counts_are = is_next.is_state.counts_are ∙ ap counts_in (ap (λ (p : Pending). p.generated) same ∙ sym step.generated);
+        };
+      });
+  kept = λ path. ap (λ kept. map.get bytes_eq kept path) step.kept;
+  nothing_pending = step.pending_is;
+}
+
+-- the session without what was taken
+abbrev pub without : Session → Option Pending → Session
+without old left = record { known = old.known; config = old.config; generated = old.generated; pending = left }
+
+pub committed_by : (old new : Session) (pending : Pending) (left : Option Pending) → left ≡ None
+    → old.pending ≡ Some pending → IsStep (without old left) pending new → Commits old new
+committed_by old new pending left none there step =
+    committed old new pending there (subst (λ l. IsStep (without old l) pending new) none step)
+
+-- ---- the opening
+
+same_more : (old some more : List (List ℕ)) → Some (old ++ some) ≡ Some (old ++ more) → some ≡ more
+same_more old some more e = append_cancel_left old some more (cc)
+
+module _ (config : Config) (before after : FolderState) (known later : Known)
+    (none_kept : (path : List ℕ) → kept_at known path ≡ None) (none_laid : (path : List ℕ) → laid_at known path ≡ None)
+    (told : IfSome before.holds IsTree) where
+  abbrev Made : Result Generated Stop → Type 0
+  Made result = GeneratingOver config before known result after later
+
+  abbrev LearnsSo : Type 0 → Type 0
+  LearnsSo unfinished =
+      Learns (state before known no_trail) (state after later no_trail) unfinished (IsOfFootprint config before known)
+
+  sees_tree : (tree : Tree) → Sees tree known (get tree)
+  sees_tree tree = laid_is_seen tree tree known (nothing_kept tree known none_kept) (nothing_laid tree known.laid none_laid)
+
+  in_tree : (P : Tree → Type 0) → IfSome before.holds (λ tree. IfSeen tree known P) → (tree : Tree)
+      → before.holds ≡ Some tree → P tree
+  in_tree P is tree e = some_told (λ tree. IfSeen tree known P) before.holds tree e is tree (sees_tree tree)
+
+  asks : (unfinished : Type 0) → LearnsSo unfinished → IfSome before.asked (λ old. AsksNoPathTwice old after)
+  asks unfinished learns =
+      all_told (λ old. AsksNoPathTwice old after) before.asked
+      (λ old e.
+      let once = some_told
+      (λ old. AsksOnce old (state before known no_trail) (state after later no_trail) unfinished (IsOfFootprint config before known))
+      before.asked old e learns.asked in
+      record { more = once.more; asked = once.asked; once = once.once })
+
+  asks_within : (unfinished : Type 0) → LearnsSo unfinished → IfSome before.asked (λ old. AsksFootprint config before.holds old after)
+  asks_within unfinished learns =
+      all_told (λ old. AsksFootprint config before.holds old after) before.asked
+      (λ old e more asked.
+      let once = some_told
+      (λ old. AsksOnce old (state before known no_trail) (state after later no_trail) unfinished (IsOfFootprint config before known))
+      before.asked old e learns.asked in
+      let among = subst (λ paths. All (IsOfFootprint config before known) paths) (same_more old once.more more (sym once.asked ∙ asked)) once.among in
+      all_told (λ tree. All (Contains (footprint (get tree) (generation config))) more) before.holds
+      (λ tree there. All-weaker (IsOfFootprint config before known) (Contains (footprint (get tree) (generation config)))
+      (λ path is. some_told (λ tree. (sights : Sights) → Sees tree known sights → Contains (footprint sights (generation config)) path)
+      before.holds tree there is (get tree) (sees_tree tree)) more among))
+
+  asks_kept : (unfinished : Type 0) → (unfinished → ⊥) → LearnsSo unfinished → IfSome before.asked (λ old. AsksKept old after later)
+  asks_kept unfinished finished learns =
+      all_told (λ old. AsksKept old after later) before.asked
+      (λ old e more asked.
+      let once = some_told
+      (λ old. AsksOnce old (state before known no_trail) (state after later no_trail) unfinished (IsOfFootprint config before known))
+      before.asked old e learns.asked in
+      let new = asks_once_new old (state before known no_trail) (state after later no_trail) unfinished unfinished
+      (IsOfFootprint config before known) (λ path. ⊤) learns.known.laid (λ e. e) (λ path is. tt) once in
+      subst (λ paths. All (λ path. is_some (kept_at later path) ≡ true) paths)
+      (same_more old new.more more (sym new.asked ∙ asked)) (new.held finished))
+
+  abbrev gives : Generated → Result Generated Stop
+  gives found = Ok found
+
+  abbrev opened_by : Generated → Session
+  opened_by found = record { known = later; config = config; generated = found; pending = None }
+
+  is_opened : (found : Generated) → Made (Ok found) → (tree : Tree) → before.holds ≡ Some tree
+      → IsOpened tree config (opened_by found)
+  is_opened found is tree e = record {
+    state = record { tree = tree; config = config; map = found.map.items; counts = counts_in found };
+    is_state = record {
+      stands = looks_keep_behind tree known later is.learns.known
+          (some_told (λ tree. IsSameIn tree (state before known no_trail) (state after later no_trail)) before.holds tree e is.learns.same)
+          (nothing_kept tree known none_kept);
+      is_state = record {
+        laid = nothing_laid tree later.laid (λ path. is.learns.known.laid path ∙ none_laid path);
+        is_tree = some_told IsTree before.holds tree e told;
+        config_is = refl;
+        map_is = refl;
+        counts_are = refl;
+      };
+    };
+    tree_is = refl;
+    config_is = refl;
+    current = generated_of tree config found (in_tree (λ seen. IsMapOfTree seen config found) is.generated tree e);
+  }
+
+  pub opened : (found : Generated) → PageIsFile config → Made (Ok found)
+      → OpensSession config before (Ok (opened_by found)) after
+  opened found page is = record {
+    opened = all_told (λ tree. IsOpened tree config (opened_by found)) before.holds (is_opened found is);
+    page = page;
+    nothing_laid = λ path. is.learns.known.laid path ∙ none_laid path;
+    nothing_pending = refl;
+    refused = tt;
+    kind = tt;
+    asked = asks (gives found ≡ Err stop.Memory) is.learns;
+    footprint = asks_within (gives found ≡ Err stop.Memory) is.learns;
+    kept = asks_kept (gives found ≡ Err stop.Memory) (λ e. absurd (cc)) is.learns;
+    looks = record {
+      tree = is.looks.tree;
+      writes = is.looks.writes;
+      later = is.looks.later;
+      cause = λ e. absurd (cc);
+      quiet = λ none. is.looks.quiet (λ e. absurd (cc));
+    };
+  }
+
+  abbrev no_map : Stop → Result Generated Stop
+  no_map why = Err why
+
+  abbrev no_session : Stop → Result Session Stop
+  no_session why = Err why
+
+  refuses_so : (why : Stop)
+      → generating.IfRefused (λ why. IfSome before.holds (λ tree. IfSeen tree known (λ seen. (command : Command) → IsGenerating command
+      → Opens seen config command → Refuses seen config command why))) why
+      → generating.IfRefused (λ why. IfSome before.holds (λ tree. Refuses tree config Refresh why)) why
+  refuses_so (stop.Refused why) is =
+      all_told (λ tree. Refuses tree config Refresh why) before.holds
+      (λ tree e. in_tree (λ seen. (command : Command) → IsGenerating command → Opens seen config command → Refuses seen config command why) is tree e
+      Refresh tt (nothing Refresh refresh))
+  refuses_so stop.ReadFault is = tt
+  refuses_so stop.Memory is = tt
+
+  kind_so : (why : Stop)
+      → generating.IfRefused (λ why. (command : Command) → IsGenerating command → IsRefusalOf config command why) why
+      → generating.IfRefused (λ why. IsRefusalOf config Refresh why) why
+  kind_so (stop.Refused why) is = is Refresh tt
+  kind_so stop.ReadFault is = tt
+  kind_so stop.Memory is = tt
+
+  pub not_opened : (why : Stop) → Made (Err why) → OpensSession config before (Err why) after
+  not_opened why is = record {
+    opened = tt;
+    page = tt;
+    nothing_laid = tt;
+    nothing_pending = tt;
+    refused = refuses_so why is.refused;
+    kind = kind_so why is.kind;
+    asked = asks (no_map why ≡ Err stop.Memory) is.learns;
+    footprint = asks_within (no_map why ≡ Err stop.Memory) is.learns;
+    kept = tt;
+    looks = record {
+      tree = is.looks.tree;
+      writes = is.looks.writes;
+      later = is.looks.later;
+      cause = λ e. is.looks.cause (let same : why ≡ stop.ReadFault = cc in ap no_map same);
+      quiet = λ none. is.looks.quiet (λ e. none (let same : why ≡ stop.ReadFault = cc in ap no_session same));
+    };
+  }

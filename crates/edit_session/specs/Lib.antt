@@ -1,0 +1,10 @@
+pub mod EditLooks
+pub mod SessionTrees
+pub mod NewLooks
+pub mod Sessions
+pub mod LooksOn
+pub mod Standings
+pub mod Making
+pub mod Trying
+pub mod Stopping
+pub mod Steps

@@ -1,0 +1,62 @@
+-- What a session holds, as a state of `session_spec`.
+--     counts_in generated, counts_told told   the counts that go with a generation, and those that a caller gets
+--     shown_map, shown_counts session         the bytes of its map, and the counts that go with it
+--     steps_of generated                      how many steps a generation may take
+--     pending_steps session                   how many what is pending may have taken
+--     IsStateOf tree over config generated state      the state that these make over a tree
+--     IsSessionOf tree session state          the tree stands behind the session, and this is its state
+--     IsPendingOf tree session next           this is the state that is pending
+use Rattle.std.specs.Prelude.{◌≡◌, ◌+◌, ℕ, List, Option, Some, None}
+use Rattle.tree_spec.specs.Trees.{Tree, IsTree}
+use Rattle.trace_spec.specs.Modules.{Config}
+use Rattle.package_lookup.specs.declared.over.Over.{Over}
+use Rattle.package_lookup.specs.LaidTrees.{StandsBehind, IsLaid}
+use Rattle.generation.specs.declared.generated.Generated.{Generated}
+use Rattle.session_spec.specs.SessionStates.{Counts, SessionState, config_with}
+use Rattle.edit_session.specs.declared.session.Counts.{Counts as Told}
+use Rattle.edit_session.specs.declared.session.Pending.{Pending}
+use Rattle.edit_session.specs.declared.session.Session.{Session}
+
+abbrev pub counts_in : Generated → Counts
+counts_in generated =
+    record { modules = generated.modules; requests = generated.requests; mappings = generated.mappings }
+
+abbrev pub counts_told : Told → Counts
+counts_told told = record { modules = told.modules; requests = told.requests; mappings = told.mappings }
+
+abbrev pub shown_map : Session → List ℕ
+shown_map session = session.generated.map.items
+
+abbrev pub shown_counts : Session → Counts
+shown_counts session = counts_in session.generated
+
+-- own: one for each module and for each request
+abbrev pub steps_of : Generated → ℕ
+steps_of generated = generated.modules + generated.requests
+
+abbrev pub steps_in : Option Pending → ℕ
+steps_in None = 0
+steps_in (Some pending) = steps_of pending.generated
+
+abbrev pub pending_steps : Session → ℕ
+pending_steps session = steps_in session.pending
+
+-- own: its tree is the tree behind with the laid looks in their places
+pub record IsStateOf (tree : Tree) (over : Over) (config : Config) (generated : Generated)
+    (state : SessionState) : Type 0 where
+  pub laid : IsLaid tree over state.tree
+  pub is_tree : IsTree state.tree
+  pub config_is : state.config ≡ config
+  pub map_is : state.map ≡ generated.map.items
+  pub counts_are : state.counts ≡ counts_in generated
+
+-- own: each kept look is what stands in the tree
+pub record IsSessionOf (tree : Tree) (session : Session) (state : SessionState) : Type 0 where
+  pub stands : StandsBehind tree session.known
+  pub is_state : IsStateOf tree session.known.laid session.config session.generated state
+
+-- own: of the config an edit changes nothing but the entries
+pub record IsPendingOf (tree : Tree) (session : Session) (next : SessionState) : Type 0 where
+  pub pending : Pending
+  pub is_there : session.pending ≡ Some pending
+  pub is_state : IsStateOf tree pending.over (config_with session.config pending.entries) pending.generated next

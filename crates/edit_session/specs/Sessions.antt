@@ -1,0 +1,110 @@
+-- What the calls of a session do.
+--     IsOpened tree config session    a session as it is opened on a tree: nothing is laid, and its map is the tree's
+--     OpensSession config before result after         the opening of a session
+--     IfRefused P stop                of the line that is said of a refusal, this
+--     IsEditLook state edit path      the edit looks there, or the generation for what it leaves does
+--     Accepts tree state edit session the edit is accepted, and the state that it leads to is pending
+--     Prepares before old edit result after new       an edit that is prepared
+--     Commits old new                 what is pending becomes the state
+use Rattle.std.specs.Prelude.{◌≡◌, ⊤, ℕ, List, true, None, Result, Err, IfOk, IfErr, IfSome, OnOk, OnErr}
+use Rattle.std.specs.Prelude.{Contains, is_some, Ok}
+use Rattle.std.specs.FinMap.{get}
+use Rattle.tree_spec.specs.LookAskings.{footprint}
+use Rattle.tree_spec.specs.States.{FolderState, OnlyLooks}
+use Rattle.tree_spec.specs.Trees.{Tree}
+use Rattle.trace_spec.specs.Modules.{Config}
+use Rattle.trace_spec.specs.Traces.{generation}
+use Rattle.config_spec.specs.declared.Command.TheVariants.{Refresh}
+use Rattle.generator_spec.specs.Commands.{Refuses, IsRefusalOf}
+use Rattle.generator_spec.specs.Generation.{PageIsFile}
+use Rattle.generator_spec.specs.Lines.{line_of}
+use Rattle.package_lookup.specs.Looked.{kept_at, laid_at}
+use Rattle.generation.specs.declared.stop.Stop.{Stop}
+use Rattle.generation.specs.declared.stop.Stop.TheVariants as stop
+use Rattle.generation.specs.Generating as generating
+use Rattle.generation.specs.Generating.{AsksNoPathTwice, AsksFootprint}
+use Rattle.session_spec.specs.declared.Change.{Change}
+use Rattle.session_spec.specs.Edits.{Draft, edited}
+use Rattle.session_spec.specs.Replies.{IsRefused, IsAccepted, fault_line}
+use Rattle.session_spec.specs.SessionStates.{SessionState, draft_of, config_with, IsCurrent}
+use Rattle.edit_session.specs.EditLooks.{edit_looks}
+use Rattle.edit_session.specs.NewLooks.{AsksKept, LooksNew}
+use Rattle.edit_session.specs.SessionTrees.{IsSessionOf, IsPendingOf}
+use Rattle.edit_session.specs.declared.session.Session.{Session}
+use Rattle.edit_session.specs.declared.stop.EditStop.{EditStop}
+use Rattle.edit_session.specs.declared.stop.EditStop.TheVariants.{Change as NoChange, Generation, ReadFault, Memory}
+
+-- ---- the opening
+
+pub record IsOpened (tree : Tree) (config : Config) (session : Session) : Type 0 where
+  pub state : SessionState
+  pub is_state : IsSessionOf tree session state
+  pub tree_is : state.tree ≡ tree
+  pub config_is : state.config ≡ config
+  pub current : IsCurrent state
+
+-- own: what would refuse `refresh` refuses a session
+pub record OpensSession (config : Config) (before : FolderState) (result : Result Session Stop)
+    (after : FolderState) : Type 0 where
+  pub opened : IfOk result (λ session. IfSome before.holds (λ tree. IsOpened tree config session))
+  pub page : IfOk result (λ session. PageIsFile config)
+  pub nothing_laid : IfOk result (λ session. (path : List ℕ) → laid_at session.known path ≡ None)
+  pub nothing_pending : IfOk result (λ session. session.pending ≡ None)
+  pub refused :
+      IfErr result (generating.IfRefused (λ why. IfSome before.holds (λ tree. Refuses tree config Refresh why)))
+  pub kind : IfErr result (generating.IfRefused (λ why. IsRefusalOf config Refresh why))
+  pub asked : IfSome before.asked (λ old. AsksNoPathTwice old after)
+  pub footprint : IfSome before.asked (λ old. AsksFootprint config before.holds old after)
+  pub kept : IfOk result (λ session. IfSome before.asked (λ old. AsksKept old after session.known))
+  pub looks : OnlyLooks before after (result ≡ Err stop.ReadFault)
+
+-- ---- an edit
+
+abbrev pub IfRefused : (List ℕ → Type 0) → EditStop → Type 0
+IfRefused P (NoChange fault) = P (fault_line fault)
+IfRefused P (Generation why) = P (line_of why)
+IfRefused P ReadFault = ⊤
+IfRefused P Memory = ⊤
+
+pub data IsEditLook (state : SessionState) (edit : List Change) (path : List ℕ) : Type 0 where
+  of_change : Contains (edit_looks (draft_of state) edit) path → IsEditLook state edit path
+  of_generation :
+      (draft : Draft) → edited (draft_of state) edit ≡ Ok draft
+      → Contains (footprint (get draft.tree) (generation (config_with state.config draft.entries))) path
+      → IsEditLook state edit path
+
+pub record Accepts (tree : Tree) (state : SessionState) (edit : List Change) (session : Session) : Type 0 where
+  pub next : SessionState
+  pub line : List ℕ
+  pub is_pending : IsPendingOf tree session next
+  pub accepted : IsAccepted state edit next line
+
+-- own: config, laid looks, map and counts are as before, whatever comes of it
+pub record Prepares (before : FolderState) (old : Session) (edit : List Change) (result : Result (Unit {0}) EditStop)
+    (after : FolderState) (new : Session) : Type 0 where
+  pub config : new.config ≡ old.config
+  pub generated : new.generated ≡ old.generated
+  pub looks :
+      LooksNew before old.known after new.known (result ≡ Err ReadFault) (result ≡ Err Memory)
+      (λ path. IfSome before.holds
+      (λ tree. (state : SessionState) → IsSessionOf tree old state → IsEditLook state edit path))
+  pub accepted :
+      OnOk result (IfSome before.holds
+      (λ tree. (state : SessionState) → IsSessionOf tree old state → Accepts tree state edit new))
+  pub refused :
+      IfErr result (IfRefused (λ line. IfSome before.holds
+      (λ tree. (state : SessionState) → IsSessionOf tree old state
+      → IsRefused state (edited (draft_of state) edit) line)))
+  pub stays :
+      IfSome before.holds (λ tree. (state : SessionState) → IsSessionOf tree old state → IsSessionOf tree new state)
+  pub pending : OnOk result (is_some new.pending ≡ true)
+  pub nothing_pending : OnErr result (new.pending ≡ None)
+
+-- ---- a step
+
+pub record Commits (old new : Session) : Type 0 where
+  pub becomes :
+      (tree : Tree) (state next : SessionState) → IsSessionOf tree old state → IsPendingOf tree old next
+      → IsSessionOf tree new next
+  pub kept : (path : List ℕ) → kept_at new.known path ≡ kept_at old.known path
+  pub nothing_pending : new.pending ≡ None

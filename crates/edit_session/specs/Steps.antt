@@ -1,0 +1,88 @@
+-- The steps of an edit.
+--     LeadsTo tree state edit config pending  the edit leads to what is pending, for this config
+--     IsNotGenerated tree config line         there is no map, of which this line is said
+--     IsAsBefore old new                      but for what is kept, the session is as before
+--     GeneratesNext before old over entries result after new      what is pending once the changes are made
+--     MakesNext before old edit result after new                  what is pending of an edit
+--     IsStep old pending new                  what is pending becomes the state
+use Rattle.std.specs.Prelude.{◌≡◌, ℕ, List, Some, Result, Err, IfOk, IfErr, Contains}
+use Rattle.std.specs.FinMap.{get}
+use Rattle.tree_spec.specs.LookAskings.{footprint}
+use Rattle.tree_spec.specs.States.{FolderState}
+use Rattle.tree_spec.specs.Trees.{Tree}
+use Rattle.trace_spec.specs.Modules.{Config}
+use Rattle.trace_spec.specs.Traces.{generation}
+use Rattle.config_spec.specs.declared.Command.TheVariants.{Refresh}
+use Rattle.generator_spec.specs.Commands.{Refuses}
+use Rattle.generator_spec.specs.Lines.{line_of}
+use Rattle.generator_spec.specs.declared.Refusal.{Refusal}
+use Rattle.package_lookup.specs.declared.over.Over.{Over}
+use Rattle.package_lookup.specs.LaidTrees.{StandsBehind, IsLaid}
+use Rattle.package_lookup.specs.Looked.{over_at}
+use Rattle.session_spec.specs.declared.Change.{Change}
+use Rattle.session_spec.specs.Edits.{edited}
+use Rattle.session_spec.specs.Replies.{IsRefused, IsAccepted}
+use Rattle.session_spec.specs.SessionStates.{SessionState, draft_of, config_with, IsGenerated}
+use Rattle.edit_session.specs.LooksOn.{LooksOn}
+use Rattle.edit_session.specs.Sessions.{IsEditLook, IfRefused}
+use Rattle.edit_session.specs.SessionTrees.{IsSessionOf, IsStateOf, counts_in}
+use Rattle.edit_session.specs.Trying.{IfLaid}
+use Rattle.edit_session.specs.declared.session.Pending.{Pending}
+use Rattle.edit_session.specs.declared.session.Session.{Session}
+use Rattle.edit_session.specs.declared.stop.EditStop.{EditStop}
+use Rattle.edit_session.specs.declared.stop.EditStop.TheVariants.{ReadFault, Memory}
+
+pub record LeadsTo (tree : Tree) (state : SessionState) (edit : List Change) (config : Config)
+    (pending : Pending) : Type 0 where
+  pub next : SessionState
+  pub line : List ℕ
+  pub is_state : IsStateOf tree pending.over (config_with config pending.entries) pending.generated next
+  pub accepted : IsAccepted state edit next line
+
+-- own: this line is said of why there is no map
+pub record IsNotGenerated (tree : Tree) (config : Config) (line : List ℕ) : Type 0 where
+  pub why : Refusal
+  pub refuses : Refuses tree config Refresh why
+  pub said : line ≡ line_of why
+
+-- own: but for what is kept, the session is as before
+pub record IsAsBefore (old new : Session) : Type 0 where
+  pub config : new.config ≡ old.config
+  pub generated : new.generated ≡ old.generated
+  pub pending : new.pending ≡ old.pending
+
+pub record GeneratesNext (before : FolderState) (old : Session) (over : Over) (entries : List (List ℕ))
+    (result : Result Pending EditStop) (after : FolderState) (new : Session) : Type 0 where
+  pub same : IsAsBefore old new
+  pub looks :
+      LooksOn before old.known after new.known (result ≡ Err ReadFault) (result ≡ Err Memory)
+      (λ tree path. (seen : Tree) → StandsBehind tree old.known → IsLaid tree over seen
+      → Contains (footprint (get seen) (generation (config_with old.config entries))) path)
+  pub same_over : IfOk result (λ pending. (path : List ℕ) → over_at pending.over path ≡ over_at over path)
+  pub same_entries : IfOk result (λ pending. pending.entries ≡ entries)
+  pub generated :
+      IfOk result (λ pending. IfLaid before old.known over (λ seen.
+      IsGenerated seen (config_with old.config entries) pending.generated.map.items (counts_in pending.generated)))
+  pub refused :
+      IfErr result (IfRefused (λ line. IfLaid before old.known over
+      (λ seen. IsNotGenerated seen (config_with old.config entries) line)))
+
+pub record MakesNext (before : FolderState) (old : Session) (edit : List Change) (result : Result Pending EditStop)
+    (after : FolderState) (new : Session) : Type 0 where
+  pub same : IsAsBefore old new
+  pub looks :
+      LooksOn before old.known after new.known (result ≡ Err ReadFault) (result ≡ Err Memory)
+      (λ tree path. (state : SessionState) → IsSessionOf tree old state → IsEditLook state edit path)
+  pub accepted :
+      IfOk result (λ pending. (tree : Tree) (state : SessionState) → before.holds ≡ Some tree
+      → IsSessionOf tree old state → LeadsTo tree state edit old.config pending)
+  pub refused :
+      IfErr result (IfRefused (λ line. (tree : Tree) (state : SessionState) → before.holds ≡ Some tree
+      → IsSessionOf tree old state → IsRefused state (edited (draft_of state) edit) line))
+
+pub record IsStep (old : Session) (pending : Pending) (new : Session) : Type 0 where
+  pub laid : new.known.laid ≡ pending.over
+  pub kept : new.known.kept ≡ old.known.kept
+  pub config : new.config ≡ config_with old.config pending.entries
+  pub generated : new.generated ≡ pending.generated
+  pub pending_is : new.pending ≡ old.pending

@@ -1,0 +1,86 @@
+ghost use Rattle.std.specs.Prelude.{false, Ok, Err};
+ghost use Rattle.std.specs.FinMap.{get};
+ghost use Rattle.session_spec.specs.Edits.{changed, edited};
+ghost use Rattle.edit_session.specs.EditLooks.{change_looks, edit_looks};
+ghost use Rattle.edit_session.specs.Making.{work, IsAllowed, Makes};
+
+use crate::entries::Entries;
+use crate::files::{drop_file, put};
+use crate::stop::ChangeStop;
+use package_lookup::{Known, Over};
+use session_spec::{Change, EditFault};
+use std::alloc::Global;
+use tree_model::{Folder, Path};
+use tree_spec::LookFault;
+
+/// Makes changes one after another.
+pub(crate) fn make_all<F: Folder>(
+    alloc: Global,
+    known: &mut Known,
+    over: &mut Over,
+    entries: &mut Entries,
+    folder: &mut F,
+    edit: &[Change],
+) -> Result<(), ChangeStop>
+    ensures { Makes (λ draft. edited draft edit.now) (λ draft. edit_looks draft edit.now)
+        (work (F.state folder.old) known.old over.old entries.old) result
+        (work (F.state folder.new) known.new over.new entries.new) }
+{
+    let mut rest = edit;
+    while let Some((change, more)) = rest.split_first() {
+        match make(alloc, known, over, entries, folder, change) {
+            Err(stop) => return Err(stop),
+            Ok(()) => rest = more,
+        }
+    }
+    Ok(())
+}
+
+// Makes one change.
+fn make<F: Folder>(
+    alloc: Global,
+    known: &mut Known,
+    over: &mut Over,
+    entries: &mut Entries,
+    folder: &mut F,
+    change: &Change,
+) -> Result<(), ChangeStop>
+    ensures { Makes (λ draft. changed draft change.now) (λ draft. change_looks (get draft.tree) change.now)
+        (work (F.state folder.old) known.old over.old entries.old) result
+        (work (F.state folder.new) known.new over.new entries.new) }
+{
+    match change {
+        Change::Link { entry } => entries.link(alloc, entry),
+        Change::Unlink { entry } => entries.unlink(alloc, entry),
+        Change::Put { path, bytes } => {
+            let made = put(alloc, known, over, folder, path, bytes);
+            allowed(alloc, path, made)
+        }
+        Change::Drop { path } => {
+            let made = drop_file(alloc, known, over, folder, path);
+            allowed(alloc, path, made)
+        }
+    }
+}
+
+// How a change of a file is made that may be made or not.
+fn allowed(alloc: Global, path: &Path, made: Result<bool, LookFault>) -> Result<(), ChangeStop>
+    ensures { IsAllowed path.now made result }
+{
+    match made {
+        Ok(true) => Ok(()),
+        Ok(false) => Err(bad_edit(alloc, path)),
+        Err(fault) => Err(ChangeStop::of_look(fault)),
+    }
+}
+
+fn bad_edit(alloc: Global, path: &Path) -> ChangeStop
+    ensures { IsAllowed path.now (Ok false) (Err result) }
+{
+    match path.copy(alloc) {
+        Ok(path) => ChangeStop::Refused {
+            fault: EditFault::BadEdit { path },
+        },
+        Err(_) => ChangeStop::Memory,
+    }
+}

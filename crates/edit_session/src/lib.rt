@@ -1,0 +1,16 @@
+//! A session: a map that is kept current over edits of a tree and of a config's entries. Edits lie over the folder as
+//! an editor's buffers do; the folder is only looked at, and at no path whose look is kept. Each call does what
+//! `session_spec` says of it.
+#![tactic(auto)]
+
+mod changes;
+mod entries;
+mod files;
+mod session;
+mod standing;
+mod stop;
+mod trying;
+
+pub use session::{Counts, Edit, Session};
+pub use session_spec::{Change, EditFault};
+pub use stop::EditStop;

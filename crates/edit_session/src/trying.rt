@@ -1,0 +1,37 @@
+ghost use Rattle.std.specs.Prelude.{◌≡◌};
+ghost use Rattle.request_trace.specs.Tracing.{TakesSteps};
+ghost use Rattle.edit_session.specs.SessionTrees.{steps_of};
+ghost use Rattle.edit_session.specs.Trying.{TriesMap};
+
+use crate::entries::Entries;
+use generation::{Generated, Stop, generate_over};
+use package_lookup::{Known, Over};
+use primitives::Steps;
+use request_trace::Config;
+use std::alloc::Global;
+use std::sync::ledger::Ledger;
+use tree_model::Folder;
+
+/// The map for other entries, where other looks are laid; what was laid and the entries are as before then.
+pub(crate) fn try_map<F: Folder, L: Ledger>(
+    alloc: Global,
+    known: &mut Known,
+    config: &mut Config,
+    over: &mut Over,
+    entries: &mut Entries,
+    folder: &mut F,
+    steps: &mut Steps<L>,
+) -> Result<Generated, Stop>
+    ensures tries { TriesMap (F.state folder.old) known.old config.old over.old entries.old result
+        (F.state folder.new) known.new over.new }
+    ensures config { config.new ≡ config.old }
+    ensures entries { entries.new ≡ entries.old }
+    ensures steps { TakesSteps result steps_of steps.old steps.new }
+{
+    known.lay(over);
+    entries.exchange(config);
+    let made = generate_over(alloc, folder, known, config, steps);
+    entries.exchange(config);
+    known.lay(over);
+    made
+}
