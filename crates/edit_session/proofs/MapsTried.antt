@@ -34,8 +34,9 @@ generated_of tree config found is = record {
   generates = record {
     all = is.all;
     is_traced = is.is_traced;
+    few = is.is_map.few;
     layout = is.is_map.layout;
-    agreed = is.is_map.agreed;
+    is_fewest = is.is_map.is_fewest;
     text = is.is_map.map;
     within = is.is_map.within;
   };
