@@ -3,10 +3,9 @@ use Rattle.std.proofs.Common.{◌≡◌, ◌∷◌, [], ℕ, List, Bool, true, f
 use Rattle.std.specs.Prelude.{◌&&◌, codes, take, drop, bytes_eq, if◌then◌else◌}
 use Rattle.std.specs.Str.{is_utf8}
 use Rattle.url_spec.specs.PathTests.{is_path}
-use Rattle.session_spec.specs.declared.Change.TheVariants.{Link, Unlink, Put, Drop}
+use Rattle.session_spec.specs.declared.Change.TheVariants.{Link, Unlink, Drop}
 use Rattle.session_spec.specs.SessionLines.{Order, changes, begins, commits, shows_map, ends_session, Reading, malformed, Cut}
 use Rattle.session_spec.specs.SessionLines.{behind_word, cut_last, number_of, one_line, if_text, if_path, put_behind, put_number, put_line, if_word, alone, order_of}
-use Rattle.session_input.specs.Cuts.{cut_of}
 use Rattle.session_input.specs.Lines.{is_entry, word_reading, last_word_reading}
 
 -- ---- entries and paths

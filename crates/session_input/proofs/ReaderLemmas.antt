@@ -1,18 +1,18 @@
 -- What a reader took, one take after another.
-use Rattle.std.proofs.Common.{◌≡◌, ◌≤◌, ◌<◌, ◌+◌, ◌⊎◌, ◌++◌, ◌∷◌, [], ℕ, List, length, Option, Some, None, Result, Ok, Err, refl, sym, ap, ◌∙◌, subst, inl, inr, arith}
+use Rattle.std.proofs.Common.{◌≡◌, ◌<◌, ◌+◌, ◌++◌, ◌∷◌, [], ℕ, List, length, Option, Some, None, Result, Ok, Err, refl, sym, ap, ◌∙◌, subst, inl, inr, arith}
 use Rattle.std.proofs.lemmas.List.{append-nil, append_assoc, length-append}
 use Rattle.std.specs.Prelude.{IfSome}
 use Rattle.tree_spec.specs.Counts.{Rose}
 use Rattle.tree_spec.specs.States.{SourceState}
 use Rattle.session_spec.specs.SessionLines as lines
 use Rattle.session_spec.specs.SessionLines.{malformed, unfinished, read_line}
-use Rattle.session_spec.specs.TakenInput.{IsFront, Takes, IsSpent, IsLastOf, IsNeeded}
+use Rattle.session_spec.specs.TakenInput.{IsFront, Takes, IsNeeded}
 use Rattle.session_input.specs.declared.reading.InputFault.{InputFault}
 use Rattle.session_input.specs.declared.reading.InputFault.TheVariants.{ReadFault, Memory}
 use Rattle.session_input.specs.declared.reading.Reading.{Reading}
 use Rattle.session_input.specs.declared.reading.Reading.TheVariants as reading
-use Rattle.session_input.specs.Readers.{Waiting, Grows, Fails, TakesSome, TakesNothing, Brings, BringsNothing, BringsBeyond, FailsToBring}
-use Rattle.session_input.specs.Readers.{IsRead, Stays, ReadsAs, IsWithin, IsBeyond, Reads, FaultsBy, ReadsNext, GoesOn, Gains}
+use Rattle.session_input.specs.Readers.{Waiting, Grows, TakesSome, Brings, BringsNothing, BringsBeyond, FailsToBring}
+use Rattle.session_input.specs.Readers.{Stays, ReadsAs, IsWithin, IsBeyond, Reads, FaultsBy, ReadsNext, GoesOn, Gains}
 
 -- ---- takes
 
@@ -20,7 +20,7 @@ nothing_came : (left : Option (List ℕ)) → IfSome left (λ input. IsFront [] 
 nothing_came None = tt
 nothing_came (Some input) = record { rest = input; whole = refl; told = refl }
 
-takes_none : (source : SourceState) → Takes source [] source
+pub takes_none : (source : SourceState) → Takes source [] source
 takes_none source = record { came = nothing_came source.left; untold = λ e. e; later = omega arith }
 
 front_then : (left middle last : Option (List ℕ)) (some more : List ℕ) → IfSome left (λ input. IsFront some input middle) → IfSome middle (λ input. IsFront more input last)
@@ -30,7 +30,7 @@ front_then (Some input) middle last some more a b =
     let then : IsFront more a.rest last = subst (λ (m : Option (List ℕ)). IfSome m (λ input. IsFront more input last)) a.told b in
     record { rest = then.rest; whole = a.whole ∙ ap (λ (back : List ℕ). some ++ back) then.whole ∙ sym (append_assoc some more then.rest); told = then.told }
 
-takes_then : (source middle later : SourceState) (some more : List ℕ) → Takes source some middle → Takes middle more later → Takes source (some ++ more) later
+pub takes_then : (source middle later : SourceState) (some more : List ℕ) → Takes source some middle → Takes middle more later → Takes source (some ++ more) later
 takes_then source middle later some more a b = record {
   came = front_then source.left middle.left later.left some more a.came b.came;
   untold = λ e. b.untold (a.untold e);

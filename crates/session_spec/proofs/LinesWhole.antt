@@ -7,8 +7,8 @@ use Rattle.std.specs.Str.{is_utf8}
 use Rattle.url_spec.specs.PathTests.{is_path}
 use Rattle.session_spec.specs.declared.Change.{Change}
 use Rattle.session_spec.specs.declared.Change.TheVariants.{Link, Unlink, Put, Drop}
-use Rattle.session_spec.specs.Conversations.{Turn, ordered, turn, turn_at, stops}
-use Rattle.session_spec.specs.SessionLines.{Order, changes, begins, commits, shows_map, ends_session, Rest, Reading, reads, malformed, unfinished}
+use Rattle.session_spec.specs.Conversations.{turn, turn_at, stops}
+use Rattle.session_spec.specs.SessionLines.{Order, changes, begins, commits, shows_map, ends_session, Reading, reads, malformed, unfinished}
 use Rattle.session_spec.specs.SessionLines.{Cut, cut_first, cut_last, behind_word, number_of, line_ends}
 use Rattle.session_spec.specs.SessionLines.{one_line, if_text, if_path, put_behind, put_number, put_line, if_word, order_of, line_at, read_line}
 use Rattle.session_spec.proofs.Conversing.{turn_on, ordered_on}

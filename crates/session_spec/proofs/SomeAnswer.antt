@@ -181,7 +181,7 @@ line_shorter n (Some cut) is order rest e =
     let within = order_within (length cut.behind) cut.front cut.behind (omega arith) order rest e in
     omega (arith, less, within)
 
-read_shorter : (input : List ℕ) (order : Order) (rest : Rest) → read_line input ≡ reads order rest → length rest.behind < length input
+pub read_shorter : (input : List ℕ) (order : Order) (rest : Rest) → read_line input ≡ reads order rest → length rest.behind < length input
 read_shorter input order rest e = line_shorter (length input) (cut_first 10 input) (λ c is. first_shorter 10 input c is) order rest e
 
 -- ---- answers

@@ -1,18 +1,16 @@
 -- Where a session stands behind some lines, however much comes behind them.
-use Rattle.std.proofs.Common.{◌≡◌, ◌≤◌, ◌++◌, [], ℕ, List, length, Bool, Option, None, refl, sym, ap, ◌∙◌, subst, arith}
+use Rattle.std.proofs.Common.{◌≡◌, ◌≤◌, ◌++◌, ℕ, List, length, Bool, Option, None, sym, ap, ◌∙◌, subst, arith}
 use Rattle.std.proofs.lemmas.Bool.{cases_lt}
 use Rattle.std.proofs.lemmas.List.{append_assoc, take_all}
 use Rattle.std.specs.Prelude.{◌+◌, nat_lt, take}
 use Rattle.tree_spec.specs.declared.LimitName.TheVariants.{Session}
 use Rattle.tree_spec.specs.Limits.{limit_number}
-use Rattle.session_spec.specs.declared.Change.{Change}
 use Rattle.session_spec.specs.Conversations.{Turn, makes, holds, shows, turn_at, map_reply}
 use Rattle.session_spec.specs.Conversations.{Conversation}
 use Rattle.session_spec.specs.Conversations as conversation
 use Rattle.session_spec.specs.Edits.{edited}
-use Rattle.session_spec.specs.Laws.{BeginsWith, FrontReplies, TalksStayCurrent}
-use Rattle.session_spec.specs.SessionLines.{Rest}
-use Rattle.session_spec.specs.SessionStates.{SessionState, draft_of}
+use Rattle.session_spec.specs.Laws.{FrontReplies, TalksStayCurrent}
+use Rattle.session_spec.specs.SessionStates.{draft_of}
 use Rattle.session_spec.specs.Talks.{Standing, begun, behind, turn_of, Talks, still, edits, collects, shows_it}
 use Rattle.session_spec.proofs.Conversing.{at_on, one_conversation, taken_by}
 use Rattle.session_spec.proofs.LinesOn.{rest_on}

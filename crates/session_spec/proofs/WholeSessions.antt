@@ -1,5 +1,5 @@
 -- A session says one text, and some text.
-use Rattle.std.proofs.Common.{◌≡◌, ◌⊎◌, ◌++◌, [], ℕ, List, Result, Ok, Err, refl, sym, ap, ◌∙◌, subst, inl, inr}
+use Rattle.std.proofs.Common.{◌≡◌, ◌++◌, ℕ, List, Result, Ok, Err, refl, sym, ap, subst, inl, inr}
 use Rattle.std.specs.FinMap.{get}
 use Rattle.tree_spec.specs.Trees.{Tree}
 use Rattle.tree_spec.specs.declared.LimitName.TheVariants.{Map}
@@ -10,14 +10,13 @@ use Rattle.trace_spec.specs.Traces.{traced}
 use Rattle.words_spec.specs.PlainWords as plain
 use Rattle.config_spec.specs.Projects.{Configures, IsConfigOf}
 use Rattle.config_spec.specs.Words.{IsCommandOf, no_settings}
-use Rattle.config_spec.specs.declared.Command.{Command}
 use Rattle.config_spec.specs.declared.Command.TheVariants.{Refresh}
 use Rattle.config_spec.specs.declared.ConfigFault.{ConfigFault}
 use Rattle.generator_spec.specs.declared.Refusal.{Refusal}
 use Rattle.generator_spec.specs.declared.Refusal.TheVariants.{Config as Configured, Trace, Limit}
 use Rattle.generator_spec.specs.Commands as commands
 use Rattle.generator_spec.specs.Commands.{nothing, refresh}
-use Rattle.generator_spec.specs.Generation.{Generates, IsTooLarge}
+use Rattle.generator_spec.specs.Generation.{Generates}
 use Rattle.generator_spec.specs.Lines.{status_of, line_of}
 use Rattle.generator_spec.specs.Outcome.{RefusesRun}
 use Rattle.generator_spec.specs.Outcome as runs

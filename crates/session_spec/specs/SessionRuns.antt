@@ -15,7 +15,7 @@
 --                                     failed and that ended the session
 --     SessionEnds before after source later out out_after result      all that is promised of a session, whatever
 --                                     folder, source and sink do
-use Rattle.std.specs.Prelude.{◌≡◌, ◌≤◌, ◌⊎◌, ◌++◌, ◌∷◌, [], ℕ, List, codes, bytes_eq, Option, Some, IfSome}
+use Rattle.std.specs.Prelude.{◌≡◌, ◌≤◌, ◌⊎◌, ◌++◌, ◌∷◌, [], ℕ, List, codes, bytes_eq, Some, IfSome}
 use Rattle.std.specs.List.{IsDistinct}
 use Rattle.tree_spec.specs.Counts.{Rose}
 use Rattle.tree_spec.specs.States.{FolderState, SourceState, SinkState}

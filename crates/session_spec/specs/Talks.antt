@@ -5,7 +5,7 @@
 --     behind at state held rest       where it stands behind a line
 --     turn_of at                      what it does at the line that comes
 --     Talks before out after          from there on to there, this is replied
-use Rattle.std.specs.Prelude.{◌≡◌, ◌+◌, ◌++◌, ◌∷◌, [], ℕ, List, Option, Some, None}
+use Rattle.std.specs.Prelude.{◌≡◌, ◌+◌, ◌++◌, [], ℕ, List, Option, Some, None}
 use Rattle.session_spec.specs.declared.Change.{Change}
 use Rattle.session_spec.specs.Conversations.{Turn, makes, holds, shows, turn_at, map_reply}
 use Rattle.session_spec.specs.Replies.{Replies}
