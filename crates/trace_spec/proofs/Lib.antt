@@ -15,3 +15,5 @@ pub mod SpellingLemmas
 pub mod Clashes
 pub mod TextLimits
 pub mod Generations
+pub mod SparedWalks
+pub mod CopiedTraces

@@ -7,4 +7,5 @@ pub mod Questions
 pub mod Checks
 pub mod Traces
 pub mod Kinds
+pub mod Copied
 pub mod Laws

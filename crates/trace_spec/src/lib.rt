@@ -8,6 +8,9 @@ ghost use Rattle.trace_spec.specs.Laws.{RefusesInOrder, SourcesAreRead, Requests
 ghost use Rattle.trace_spec.specs.Laws.{NeedsAreRequests, LimitsOfTexts, LooksAreOfQuestions};
 ghost use Rattle.trace_spec.specs.Laws.{FewRequests, ClashesAreOfRequests};
 
+mod copies;
+
+pub use copies::{generation_spares, same_generation};
 use node_spec::{Cause, Reason};
 use primitives::Text;
 use std::alloc::AllocError;
