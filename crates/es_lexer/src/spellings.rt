@@ -1,4 +1,4 @@
-ghost use Rattle.std.specs.Prelude.{◌≡◌, ◌≢◌, ◌<◌, ◌==◌, ◌||◌, false, [], ◌∷◌, None, Some, length, drop};
+ghost use Rattle.std.specs.Prelude.{◌≡◌, ◌≢◌, ◌<◌, ◌≤◌, ◌==◌, ◌||◌, false, [], ◌∷◌, None, Some, length, drop};
 ghost use Rattle.std.specs.Prelude.{MatchOption, IfSome};
 ghost use Rattle.module_spec.specs.Spellings.{begins_with, line_rest, comment_rest, slash_rest, blank_rest};
 ghost use Rattle.module_spec.specs.Spellings.{hashbang_rest, has_base_letter, begins_sign, number_size, number_rest};
@@ -265,19 +265,6 @@ fn closed_rest(quote: u8, bytes: &[u8]) -> Option<&[u8]>
     }
 }
 
-// The same of a string with escapes, or without an end.
-#[inline(never)]
-fn any_text_rest(quote: u8, bytes: &[u8]) -> Option<&[u8]>
-    ensures { MatchOption result (text_rest quote bytes.now ≡ None)
-        (λ rest. text_rest quote bytes.now ≡ Some rest.now) }
-{
-    let mut rest = bytes;
-    while let Some(more) = text_more(quote, rest) {
-        rest = more;
-    }
-    closed_rest(quote, rest)
-}
-
 // The bytes behind one that stands for itself in a string.
 #[inline]
 fn plain_more(quote: u8, bytes: &[u8]) -> Option<&[u8]>
@@ -296,18 +283,30 @@ fn plain_more(quote: u8, bytes: &[u8]) -> Option<&[u8]>
     }
 }
 
-/// The bytes behind the closing quote of a string literal, by those behind the opening one. Few strings have escapes,
-/// so the first loop goes without them. In a caller's body both would have fewer registers.
-#[inline(never)]
-pub fn text_rest(quote: u8, bytes: &[u8]) -> Option<&[u8]>
-    ensures { MatchOption result (text_rest quote bytes.now ≡ None)
-        (λ rest. text_rest quote bytes.now ≡ Some rest.now) }
+// Behind the bytes at the front that a string takes one by one.
+fn plain_rest(quote: u8, bytes: &[u8]) -> &[u8]
+    ensures rest { text_rest quote bytes.now ≡ text_rest quote result.now }
+    ensures shorter { length result.now ≤ length bytes.now }
 {
     let mut rest = bytes;
     while let Some(more) = plain_more(quote, rest) {
         rest = more;
     }
-    any_text_rest(quote, rest)
+    rest
+}
+
+/// The bytes behind the closing quote of a string literal, by those behind the opening one. Few strings have escapes,
+/// so the bytes between them are passed over by a loop of their own. In a caller's body it would have fewer registers.
+#[inline(never)]
+pub fn text_rest(quote: u8, bytes: &[u8]) -> Option<&[u8]>
+    ensures { MatchOption result (text_rest quote bytes.now ≡ None)
+        (λ rest. text_rest quote bytes.now ≡ Some rest.now) }
+{
+    let mut rest = plain_rest(quote, bytes);
+    while let Some(more) = text_more(quote, rest) {
+        rest = plain_rest(quote, more);
+    }
+    closed_rest(quote, rest)
 }
 
 fn begins_substitution(bytes: &[u8]) -> bool
