@@ -34,7 +34,7 @@ pub(crate) fn traced_over<F: Folder, L: Ledger>(
     steps: &mut Steps<L>,
 ) -> Result<Trace, Stop>
     ensures traces { TracingOver config.now (F.state folder.old) known.old result (F.state folder.new) known.new }
-    ensures steps { TakesSteps result (λ all. length all.modules + all.requests) steps.old steps.new }
+    ensures steps { TakesSteps result (λ all. length all.modules + length all.targets) steps.old steps.new }
 {
     match trace(alloc, folder, known, config, steps) {
         Err(fault) => Err(stop_of(fault)),

@@ -247,7 +247,7 @@ abbrev pub done_line : Gathered → ParsedMap → List ℕ
 done_line all map = counts_line (length all.modules) (length all.targets) (mapping_count map)
 
 abbrev pub measured_line : ℕ → Gathered → ParsedMap → List ℕ
-measured_line number all map = measure_line number (length all.modules) all.requests (mapping_count map)
+measured_line number all map = measure_line number (length all.modules) (length all.targets) (mapping_count map)
 
 -- ---- what a check says
 
