@@ -2,7 +2,7 @@
 use Rattle.std.proofs.Common.{◌≡◌, ◌++◌, ℕ, List, Result, Ok, Err, refl, sym, ap, subst, inl, inr}
 use Rattle.std.specs.FinMap.{get}
 use Rattle.tree_spec.specs.Trees.{Tree}
-use Rattle.tree_spec.specs.declared.LimitName.TheVariants.{Map}
+use Rattle.tree_spec.specs.declared.LimitName.TheVariants.{Map, Choices}
 use Rattle.trace_spec.specs.Modules.{Config}
 use Rattle.trace_spec.specs.Checks.{Gathered}
 use Rattle.trace_spec.specs.declared.TraceFault.{TraceFault}
@@ -100,7 +100,8 @@ module _ (tree : Tree) (input : List ℕ) where
         let found = some_generation tree config all e in
         elim found.2 [
           | inl generates ↦ generated found.0 generates
-          | inr large ↦ by_tree (Limit Map) (commands.large_map Refresh tt (nothing Refresh refresh) large)
+          | inr (inl wide) ↦ by_tree (Limit Choices) (commands.many_choices Refresh tt (nothing Refresh refresh) wide)
+          | inr (inr large) ↦ by_tree (Limit Map) (commands.large_map Refresh tt (nothing Refresh refresh) large)
         ]
 
   by_outcome : (outcome : Result Config ConfigFault) → Configures refresh_words tree Refresh outcome → HasSession tree input

@@ -30,7 +30,7 @@ returns-in-Err-MapTooLarge-clause-generates g c =
 pub returns-in-Err-TooManyChoices-clause-generates : goal.returns-in-Err-TooManyChoices-clause-generates
 returns-in-Err-TooManyChoices-clause-generates g c =
     let before = g.F.Folder.state c.args.folder.now in
-    let after = g.F.Folder.state c.traced.new.folder in
-    too_wide c.args.config.now before after c.in-Ok.trace
-    (subst (λ (r : Result Gathered Stop). Tracing c.args.config.now before r after) c.in-Ok.is c.traced.ensures.traces) c.too_many_choices.result c.too_many_choices.ensures
+    let after = g.F.Folder.state c.traced_over.new.folder in
+    too_wide c.args.config.now before after c.args.known.now c.traced_over.new.known c.in-Ok.trace
+    (subst (λ (r : Result Gathered Stop). TracingOver c.args.config.now before c.args.known.now r after c.traced_over.new.known) c.in-Ok.is c.traced_over.ensures.traces) c.too_many_choices.result c.too_many_choices.ensures
     (c.map_of.ensures.many (c.in-Err-TooManyChoices.is ∙ ap Err c.in-Err-TooManyChoices.field-0-is))
