@@ -5,7 +5,8 @@
 --     IsSearched view roots path keys found      what the search comes to, with the place that it was found from
 --     AreInOrder keys                each was reached from a place before its own
 --     Traces keys goal steps         the steps lead from the page to the goal
-use Rattle.std.specs.Prelude.{◌≡◌, ◌≤◌, ◌++◌, ◌&&◌, ℕ, Bool, List, [], ◌∷◌, nat_eq, reverse, slice_get, Option, Some, None}
+use Rattle.std.specs.Prelude.{◌≡◌, ◌≤◌, ◌++◌, ◌&&◌, ℕ, Bool, List, [], ◌∷◌, nat_eq, reverse}
+use Rattle.std.specs.Prelude.{slice_get, Option, Some, None}
 use Rattle.std.specs.Ordering.{on, eq_of_both}
 use Rattle.slot_arena.specs.Slots as arena
 use Rattle.slot_arena.specs.declared.slot.Slot.{Slot}
