@@ -1,0 +1,2 @@
+pub mod Editors
+pub mod Talking
