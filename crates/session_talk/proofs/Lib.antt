@@ -1,3 +1,4 @@
+pub mod AskLemmas
 pub mod ReadLemmas
 pub mod ReplyLemmas
 pub mod TalkLemmas

@@ -10,9 +10,17 @@ use Rattle.generator_spec.specs.Lines.{end_of_line, memory_line, read_fault_line
 use Rattle.generator_spec.specs.Statuses.{memory_status, read_fault_status}
 use Rattle.session_spec.specs.declared.Change.{Change}
 use Rattle.session_spec.specs.Conversations.{map_reply}
-use Rattle.session_talk.specs.Editors.{EditorState, EditsTold, Shows}
+use Rattle.session_talk.specs.Editors.{EditorState, Seen, EditsTold, Shows}
 use Rattle.session_talk.specs.Talking.{Gave, CutOff, GivesReply, Makes, replied, fails, wants, ShowsMap, shown, lost}
 use Rattle.session_talk.proofs.TalkLemmas.{give_then, gives_then}
+
+-- ---- states
+
+pub seen_by : {Is P Q : EditorState → Type 0} → Seen Is P → ((at : EditorState) → P at → Q at) → Seen Is Q
+seen_by seen f = record { at = seen.at; is = seen.is; holds = f seen.at seen.holds }
+
+pub seen_at : {Is P : EditorState → Type 0} (at : EditorState) → Is at → P at → Seen Is P
+seen_at at is holds = record { at = at; is = is; holds = holds }
 
 -- ---- edits
 

@@ -110,7 +110,7 @@ module _ (state : SessionState) (taken text : List ℕ) (number : ℕ) (order : 
   held_turn = order_turn ∙ ap (λ (held : Option (List Change)). turn held (reads order is.rest)) (sym is.held)
 
   module _ (editor : EditorState) (out : SinkState) where
-    after_line : Option (List Change) → Now
+    abbrev after_line : Option (List Change) → Now
     after_line held = now_at editor now.waiting held now.source out
 
     pub stands_made : (edit : List Change) (line : List ℕ) → turn_of is.at ≡ makes edit is.rest → IsReplied is.at.state edit line editor.told → StandsAt state taken (text ++ line) (after_line None)
@@ -156,11 +156,11 @@ module _ (state : SessionState) (front text more : List ℕ) (now : Now) (stands
   pub talks_with : Talks (begun state (front ++ more)) text (with_more more stands.at)
   talks_with = talks_on more (begun state front) stands.at text stands.talks
 
-  same_input : (outcome : lines.Reading) → read_line (now.waiting.unread ++ more) ≡ outcome → read_line (stands.at.input ++ more) ≡ outcome
-  same_input outcome e = ap (λ (bytes : List ℕ). read_line (bytes ++ more)) (sym stands.input) ∙ e
+  same_input : (wanted : lines.Reading) → read_line (now.waiting.unread ++ more) ≡ wanted → read_line (stands.at.input ++ more) ≡ wanted
+  same_input wanted e = ap (λ (bytes : List ℕ). read_line (bytes ++ more)) (sym stands.input) ∙ e
 
-  pub turns_with : (outcome : lines.Reading) → read_line (now.waiting.unread ++ more) ≡ outcome → turn_of (with_more more stands.at) ≡ turn stands.at.held outcome
-  turns_with outcome e = ap (turn stands.at.held) (same_input outcome e)
+  pub turns_with : (wanted : lines.Reading) → read_line (now.waiting.unread ++ more) ≡ wanted → turn_of (with_more more stands.at) ≡ turn stands.at.held wanted
+  turns_with wanted e = ap (turn stands.at.held) (same_input wanted e)
 
   pub ordered_with : (order : lines.Order) (waiting : Waiting) (source : SourceState) (rest : Rest) → read_line (now.waiting.unread ++ more) ≡ reads order rest → waiting.unread ≡ rest.behind
       → waiting.number ≡ now.waiting.number + rest.lines

@@ -1,4 +1,4 @@
-ghost use Rattle.std.specs.Prelude.{◌≡◌, ◌<◌, ◌+◌, None, Some, length, IfNone};
+ghost use Rattle.std.specs.Prelude.{◌≡◌, ◌≤◌, ◌<◌, ◌+◌, None, Some, length, IfNone};
 ghost use Rattle.tree_spec.specs.Limits.{limit_number};
 ghost use Rattle.tree_spec.specs.States.{SourceState};
 ghost use Rattle.tree_spec.specs.declared.LimitName.TheVariants.{Session};
@@ -7,6 +7,8 @@ ghost use Rattle.generator_spec.specs.Lines.{limit_line};
 ghost use Rattle.generator_spec.specs.Statuses.{file_status, limit_status};
 ghost use Rattle.session_spec.specs.Conversations.{bad_line};
 ghost use Rattle.session_input.specs.Readers.{Waiting, waiting, order_of, IsFresh};
+ghost use Rattle.session_talk.specs.Editors.{EditorState, Seen};
+ghost use Rattle.session_talk.specs.EditorLooks.{AsksSome, TurnAsks};
 ghost use Rattle.session_talk.specs.Talking.{Now, now_at, GoesOn, IsOrdered, Converses, Turns};
 ghost use Rattle.session_talk.specs.Talking.{Makes, ShowsMap, TellsEnd, GivesReply};
 
@@ -21,7 +23,6 @@ use tree_model::{Sink, Source};
 
 /// Replies to the lines of an input, one after another, until one of them ends the session or something fails. Answers
 /// the exit status. A reply goes out before more is taken than what came with its line.
-#[tactic(auto, using(crate::proofs::TalkLemmas::talking))]
 pub fn converse<E: Editor, I: Source, O: Sink>(
     alloc: Global,
     editor: &mut E,
@@ -30,8 +31,11 @@ pub fn converse<E: Editor, I: Source, O: Sink>(
     out: &mut O,
 ) -> u8
     requires { IsFresh reader.old }
-    ensures { Converses (now_at (E.state editor.old) (waiting reader.old) None (I.state input.old) (O.state out.old))
-        (E.state editor.new) (I.state input.new) (O.state out.new) result }
+    ensures converses { (before : EditorState) → E.views editor.old before → Seen (E.views editor.new)
+        (λ after. Converses (now_at before (waiting reader.old) None (I.state input.old) (O.state out.old))
+        after (I.state input.new) (O.state out.new) result) }
+    ensures asks { AsksSome (E.looks editor.old) (E.looks editor.new) }
+    ensures later { (O.state out.old).faults ≤ (O.state out.new).faults }
 {
     let mut held = None;
     loop {
@@ -43,7 +47,6 @@ pub fn converse<E: Editor, I: Source, O: Sink>(
 }
 
 // Reads a line and obeys it. Answers the exit status, where that ends the session.
-#[tactic(auto, using(crate::proofs::ReadLemmas::reading_lines))]
 fn turn<E: Editor, I: Source, O: Sink>(
     alloc: Global,
     editor: &mut E,
@@ -54,9 +57,12 @@ fn turn<E: Editor, I: Source, O: Sink>(
 ) -> Option<u8>
     ensures less { IfNone result (length (waiting reader.new).unread + (waiting reader.new).room
         < length (waiting reader.old).unread + (waiting reader.old).room) }
-    ensures turns { (first : Now)
-        → GoesOn first (now_at (E.state editor.old) (waiting reader.old) held.old (I.state input.old) (O.state out.old))
-        → Turns first (E.state editor.new) (waiting reader.new) held.new (I.state input.new) (O.state out.new) result }
+    ensures turns { (first : Now) (before : EditorState) → E.views editor.old before
+        → GoesOn first (now_at before (waiting reader.old) held.old (I.state input.old) (O.state out.old))
+        → Seen (E.views editor.new) (λ after. Turns first after (waiting reader.new) held.new
+        (I.state input.new) (O.state out.new) result) }
+    ensures asks { TurnAsks result (E.looks editor.old) (E.looks editor.new) }
+    ensures later { (O.state out.old).faults ≤ (O.state out.new).faults }
 {
     let number = reader.number();
     match reader.next(alloc, input) {
@@ -78,9 +84,12 @@ fn obey<E: Editor, O: Sink>(
     number: usize,
     out: &mut O,
 ) -> Option<u8>
-    ensures { (first : Now) (left : Waiting) (source : SourceState)
-        → IsOrdered number (order_of order) first (now_at (E.state editor.old) left held.old source (O.state out.old))
-        → Turns first (E.state editor.new) left held.new source (O.state out.new) result }
+    ensures turns { (first : Now) (left : Waiting) (source : SourceState) (before : EditorState)
+        → E.views editor.old before
+        → IsOrdered number (order_of order) first (now_at before left held.old source (O.state out.old))
+        → Seen (E.views editor.new) (λ after. Turns first after left held.new source (O.state out.new) result) }
+    ensures asks { TurnAsks result (E.looks editor.old) (E.looks editor.new) }
+    ensures later { (O.state out.old).faults ≤ (O.state out.new).faults }
 {
     match held.take() {
         None => obey_alone(alloc, editor, held, order, number, out),
@@ -89,7 +98,6 @@ fn obey<E: Editor, O: Sink>(
 }
 
 // The same where no `begin` is open.
-#[tactic(auto, using(crate::proofs::TurnLemmas::turning))]
 fn obey_alone<E: Editor, O: Sink>(
     alloc: Global,
     editor: &mut E,
@@ -99,9 +107,12 @@ fn obey_alone<E: Editor, O: Sink>(
     out: &mut O,
 ) -> Option<u8>
     requires { held.old ≡ None }
-    ensures { (first : Now) (left : Waiting) (source : SourceState)
-        → IsOrdered number (order_of order) first (now_at (E.state editor.old) left None source (O.state out.old))
-        → Turns first (E.state editor.new) left held.new source (O.state out.new) result }
+    ensures turns { (first : Now) (left : Waiting) (source : SourceState) (before : EditorState)
+        → E.views editor.old before
+        → IsOrdered number (order_of order) first (now_at before left None source (O.state out.old))
+        → Seen (E.views editor.new) (λ after. Turns first after left held.new source (O.state out.new) result) }
+    ensures asks { TurnAsks result (E.looks editor.old) (E.looks editor.new) }
+    ensures later { (O.state out.old).faults ≤ (O.state out.new).faults }
 {
     match order {
         Order::Change { change } => {
@@ -122,7 +133,6 @@ fn obey_alone<E: Editor, O: Sink>(
 }
 
 // The same behind a `begin`, with the changes since.
-#[tactic(auto, using(crate::proofs::TurnLemmas::turning))]
 fn obey_within<E: Editor, O: Sink>(
     alloc: Global,
     editor: &mut E,
@@ -133,9 +143,12 @@ fn obey_within<E: Editor, O: Sink>(
     out: &mut O,
 ) -> Option<u8>
     requires { held.old ≡ None }
-    ensures { (first : Now) (left : Waiting) (source : SourceState)
-        → IsOrdered number (order_of order) first (now_at (E.state editor.old) left (Some edit) source (O.state out.old))
-        → Turns first (E.state editor.new) left held.new source (O.state out.new) result }
+    ensures turns { (first : Now) (left : Waiting) (source : SourceState) (before : EditorState)
+        → E.views editor.old before
+        → IsOrdered number (order_of order) first (now_at before left (Some edit) source (O.state out.old))
+        → Seen (E.views editor.new) (λ after. Turns first after left held.new source (O.state out.new) result) }
+    ensures asks { TurnAsks result (E.looks editor.old) (E.looks editor.new) }
+    ensures later { (O.state out.old).faults ≤ (O.state out.new).faults }
 {
     match order {
         Order::Change { change } => {
@@ -156,14 +169,16 @@ fn obey_within<E: Editor, O: Sink>(
 }
 
 // Makes an edit, and replies to it.
-#[tactic(auto, using(crate::proofs::ReplyLemmas::making))]
 fn make<E: Editor, O: Sink>(
     alloc: Global,
     editor: &mut E,
     edit: &Listed<Change>,
     out: &mut O,
 ) -> Option<u8>
-    ensures { Makes (E.state editor.old) edit.now (O.state out.old) (E.state editor.new) (O.state out.new) result }
+    ensures makes { (before : EditorState) → E.views editor.old before → Seen (E.views editor.new)
+        (λ after. Makes before edit.now (O.state out.old) after (O.state out.new) result) }
+    ensures asks { TurnAsks result (E.looks editor.old) (E.looks editor.new) }
+    ensures later { (O.state out.old).faults ≤ (O.state out.new).faults }
 {
     match editor.edit(alloc, edit) {
         Ok(line) => give(out, line.as_slice()),
@@ -173,10 +188,11 @@ fn make<E: Editor, O: Sink>(
 }
 
 // Replies with the map.
-#[tactic(auto, using(crate::proofs::ReplyLemmas::showing))]
 fn show<E: Editor, O: Sink>(alloc: Global, editor: &mut E, out: &mut O) -> Option<u8>
     ensures same { editor.new ≡ editor.old }
-    ensures shows { ShowsMap (E.state editor.old) (O.state out.old) (O.state out.new) result }
+    ensures shows { (state : EditorState) → E.views editor.old state
+        → ShowsMap state (O.state out.old) (O.state out.new) result }
+    ensures later { (O.state out.old).faults ≤ (O.state out.new).faults }
 {
     let map = editor.map();
     match map_line(alloc, map.len()) {
@@ -190,7 +206,8 @@ fn show<E: Editor, O: Sink>(alloc: Global, editor: &mut E, out: &mut O) -> Optio
 
 // Says that a line has no meaning or stands in the wrong place, or isn't whole.
 fn refuse<O: Sink>(alloc: Global, number: usize, out: &mut O) -> u8
-    ensures { TellsEnd file_status (bad_line number) (O.state out.old) (O.state out.new) result }
+    ensures tells { TellsEnd file_status (bad_line number) (O.state out.old) (O.state out.new) result }
+    ensures later { (O.state out.old).faults ≤ (O.state out.new).faults }
 {
     match bad_line(alloc, number) {
         Ok(line) => tell(out, line.as_slice(), BAD_INPUT),
@@ -200,7 +217,8 @@ fn refuse<O: Sink>(alloc: Global, number: usize, out: &mut O) -> u8
 
 // Says that more came than is read.
 fn too_long<O: Sink>(alloc: Global, out: &mut O) -> u8
-    ensures { TellsEnd limit_status (limit_line Session) (O.state out.old) (O.state out.new) result }
+    ensures tells { TellsEnd limit_status (limit_line Session) (O.state out.old) (O.state out.new) result }
+    ensures later { (O.state out.old).faults ≤ (O.state out.new).faults }
 {
     match too_long_line(alloc) {
         Ok(line) => tell(out, line.as_slice(), INPUT_LIMIT),
@@ -210,7 +228,8 @@ fn too_long<O: Sink>(alloc: Global, out: &mut O) -> u8
 
 // Gives a reply. Where that fails, the session ends with the status that is answered.
 fn give<O: Sink>(out: &mut O, reply: &[u8]) -> Option<u8>
-    ensures { GivesReply reply.now (O.state out.old) (O.state out.new) result }
+    ensures gives { GivesReply reply.now (O.state out.old) (O.state out.new) result }
+    ensures later { (O.state out.old).faults ≤ (O.state out.new).faults }
 {
     match out.give(reply) {
         Ok(()) => None,
@@ -220,7 +239,8 @@ fn give<O: Sink>(out: &mut O, reply: &[u8]) -> Option<u8>
 
 // Says a line, with which the session ends.
 fn tell<O: Sink>(out: &mut O, line: &[u8], status: u8) -> u8
-    ensures { Ends status line.now (O.state out.old) (O.state out.new) result }
+    ensures ends { Ends status line.now (O.state out.old) (O.state out.new) result }
+    ensures later { (O.state out.old).faults ≤ (O.state out.new).faults }
 {
     match out.give(line) {
         Ok(()) => status,
