@@ -50,7 +50,7 @@ gives_then first now after text line e gives = record {
       ∙ ap (λ (t : List ℕ). option_map (λ front. front ++ t) first) (sym (take-append-add text line gives.count));
 }
 
-ends_then : (first now after : SinkState) (text line : List ℕ) (status result : ℕ) → now.got ≡ option_map (λ front. front ++ text) first.got → now.faults ≡ first.faults → Ends status line now after result
+pub ends_then : (first now after : SinkState) (text line : List ℕ) (status result : ℕ) → now.got ≡ option_map (λ front. front ++ text) first.got → now.faults ≡ first.faults → Ends status line now after result
     → Ends status (text ++ line) first after result
 ends_then first now after text line status result e quiet (ending.said is got same) = ending.said is (give_then first.got now.got after.got text line e got) (same ∙ quiet)
 ends_then first now after text line status result e quiet (ending.output_fault is gives rose) =
