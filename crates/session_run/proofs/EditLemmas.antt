@@ -1,14 +1,13 @@
 -- What an edit of a session comes to, as it is told.
-use Rattle.std.proofs.Common.{◌≡◌, ◌++◌, ℕ, List, Bool, true, false, Option, Some, None, Result, Ok, Err, refl, sym, ap, ◌∙◌, subst}
+use Rattle.std.proofs.Common.{◌≡◌, ℕ, List, true, false, Option, Some, None, Result, Ok, Err, refl, sym, ap, ◌∙◌, subst}
 use Rattle.std.proofs.lemmas.List.Elements.{All-weaker}
-use Rattle.std.specs.Prelude.{All, IfSome, is_some}
+use Rattle.std.specs.Prelude.{IfSome, is_some}
 use Rattle.tree_spec.specs.Counts.{Rose}
 use Rattle.tree_spec.specs.States.{FolderState}
 use Rattle.tree_spec.specs.Trees.{Tree}
 use Rattle.tree_spec.specs.declared.Look.{Look}
 use Rattle.tree_spec.proofs.ToldStates.{if_some}
 use Rattle.generator_spec.specs.Lines.{line_of}
-use Rattle.package_lookup.specs.declared.known.Known.{Known}
 use Rattle.package_lookup.specs.Looked.{kept_at}
 use Rattle.trace_spec.specs.Modules.{Config}
 use Rattle.session_spec.specs.declared.Change.{Change}
@@ -16,7 +15,7 @@ use Rattle.session_spec.specs.Edits.{Draft, edited}
 use Rattle.session_spec.specs.declared.EditFault.{EditFault}
 use Rattle.session_spec.specs.Replies as replies
 use Rattle.session_spec.specs.Replies.{IsRefused, IsAccepted, Follows, Replies, fault_line, accepted_line}
-use Rattle.session_spec.specs.SessionStates.{SessionState, IsGenerated, draft_of, config_with, next_state}
+use Rattle.session_spec.specs.SessionStates.{SessionState, IsGenerated, draft_of, next_state}
 use Rattle.edit_session.specs.NewLooks.{AsksNew as LooksAsked, LooksNew}
 use Rattle.edit_session.specs.Sessions.{Prepares, Commits}
 use Rattle.edit_session.specs.SessionTrees.{IsSessionOf, shown_counts}
@@ -28,16 +27,20 @@ use Rattle.session_talk.specs.Editors.{EditorState, Seen, IsReplied, EditsTold, 
 use Rattle.session_talk.specs.declared.editor.EditorFault.{EditorFault}
 use Rattle.session_talk.specs.declared.editor.EditorFault.TheVariants.{ReadFault, Memory}
 use Rattle.session_talk.proofs.AskLemmas.{some_of_keeping}
-use Rattle.session_run.specs.Editing.{StandsOn, IsToldBy, IsViewOf, look_state, SaysLine, SaysStop}
+use Rattle.session_run.specs.Editing.{IsToldBy, IsViewOf, look_state, SaysLine, SaysStop}
 
 pub at_tree : {P : Tree → Type 0} (told : Option Tree) (tree : Tree) → told ≡ Some tree → IfSome told P → P tree
 at_tree {P} told tree e p = subst (λ (t : Option Tree). IfSome t P) e p
 
 -- ---- replies
 
+abbrev state_with : SessionState → Config → SessionState
+state_with state config = record { tree = state.tree; config = config; map = state.map; counts = state.counts }
+
 replies_accepted : (state next : SessionState) (edit : List Change) (line : List ℕ) → IsAccepted state edit next line → Replies state edit next line
 replies_accepted state next edit line is =
-    let same : next_state state (draft_of next) next.map next.counts ≡ next = λ i. record { tree = next.tree; config = sym is.same_project i; map = next.map; counts = next.counts } in
+    let project = sym is.same_project in
+    let same : next_state state (draft_of next) next.map next.counts ≡ next = λ i. state_with next (project i) in
     let current = subst (λ (c : Config). IsGenerated next.tree c next.map next.counts) is.same_project is.current in
     subst (λ (l : List ℕ). Replies state edit next l) (sym is.said)
     (subst (λ (s : SessionState). Replies state edit s (accepted_line next.counts)) same
@@ -58,7 +61,7 @@ module _ (before after : FolderState) (old new : Session) (edit : List Change) (
 
   -- ---- what is refused
 
-  module _ (stop : EditStop) (prepares : Prepares before old edit (Err stop) after new) where
+  module _ (fault : EditStop) (prepares : Prepares before old edit (Err fault) after new) where
     abbrev IsWhy : List ℕ → Type 0
     IsWhy line = IfSome before.holds (λ tree. (state : SessionState) → IsSessionOf tree old state → IsRefused state (edited (draft_of state) edit) line)
 
@@ -77,7 +80,7 @@ module _ (before after : FolderState) (old new : Session) (edit : List Change) (
     says_why line (Err ReadFault) why quiet says = absurd says
     says_why line (Err Memory) why quiet says = quiet ∙ sym is.faults
 
-  stopped_edits : (stop : EditStop) (result : Result (List ℕ) EditorFault) → Prepares before old edit (Err stop) after new → SaysStop stop result → Edits view edit result left_view
+  stopped_edits : (fault : EditStop) (result : Result (List ℕ) EditorFault) → Prepares before old edit (Err fault) after new → SaysStop fault result → Edits view edit result left_view
   stopped_edits (stop.Change fault) result prepares says =
       says_why (stop.Change fault) prepares (fault_line fault) result prepares.refused (prepares.looks.looks.quiet (λ e. cc)) says
   stopped_edits (stop.Generation why) result prepares says =
@@ -88,12 +91,12 @@ module _ (before after : FolderState) (old new : Session) (edit : List Change) (
   stopped_edits stop.Memory result prepares says =
       subst (λ (r : Result (List ℕ) EditorFault). Edits view edit r left_view) (sym says) (prepares.looks.looks.quiet (λ e. cc) ∙ sym is.faults)
 
-  pub stopped_seen : (stop : EditStop) (result : Result (List ℕ) EditorFault) → Prepares before old edit (Err stop) after new → SaysStop stop result
+  pub stopped_seen : (fault : EditStop) (result : Result (List ℕ) EditorFault) → Prepares before old edit (Err fault) after new → SaysStop fault result
       → Seen (IsViewOf after new) (λ last. Edits view edit result last)
-  stopped_seen stop result prepares says = record {
+  stopped_seen fault result prepares says = record {
     at = left_view;
-    is = record { told = told_still (Err stop) prepares view.told is.told; faults = refl };
-    holds = stopped_edits stop result prepares says;
+    is = record { told = told_still (Err fault) prepares view.told is.told; faults = refl };
+    holds = stopped_edits fault result prepares says;
   }
 
   -- ---- what is accepted
@@ -175,7 +178,7 @@ module _ (references : List ℕ) (before after : FolderState) (old new : Session
       keeps = λ path held. some_kept (kept_at old.known path) (kept_at new.known path) (looks.kept path) held;
     }
 
-  pub stopped_asks : (edit : List Change) (stop : EditStop) (result : Result (List ℕ) EditorFault) → Prepares before old edit (Err stop) after new → SaysStop stop result → EditAsks first_looks result then_looks
+  pub stopped_asks : (edit : List Change) (fault : EditStop) (result : Result (List ℕ) EditorFault) → Prepares before old edit (Err fault) after new → SaysStop fault result → EditAsks first_looks result then_looks
   stopped_asks edit (stop.Change fault) (Ok text) prepares says = asks_keeping _ _ _ prepares.looks (λ e. cc)
   stopped_asks edit (stop.Change fault) (Err why) prepares says = asks_some _ _ _ prepares.looks
   stopped_asks edit (stop.Generation why) (Ok text) prepares says = asks_keeping _ _ _ prepares.looks (λ e. cc)

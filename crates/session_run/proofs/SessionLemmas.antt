@@ -1,11 +1,11 @@
 -- How a session ends, by how it is opened and what is replied.
-use Rattle.std.proofs.Common.{◌≡◌, ◌≢◌, ◌≤◌, ◌⊎◌, ◌++◌, [], ℕ, List, Bool, true, false, Option, Some, None, Result, Ok, Err, refl, sym, ap, ◌∙◌, subst, inl, inr, arith}
+use Rattle.std.proofs.Common.{◌≡◌, ◌≢◌, ◌≤◌, ◌++◌, [], ℕ, List, true, false, Option, Some, None, Ok, Err, refl, sym, ap, ◌∙◌, subst, inl, inr, arith}
 use Rattle.std.proofs.lemmas.Bool.{false≢true}
 use Rattle.std.proofs.lemmas.List.{append-nil, append_assoc}
 use Rattle.std.proofs.lemmas.List.Elements.{All-weaker}
-use Rattle.std.specs.Prelude.{All, IfSome, is_some, option_map}
+use Rattle.std.specs.Prelude.{IfSome, is_some, option_map}
 use Rattle.tree_spec.specs.Counts.{Rose}
-use Rattle.tree_spec.specs.States.{FolderState, SourceState, SinkState, OnlyLooks}
+use Rattle.tree_spec.specs.States.{FolderState, SourceState, SinkState}
 use Rattle.tree_spec.specs.Trees.{Tree}
 use Rattle.tree_spec.proofs.ToldStates.{if_some, if_two, if_all}
 use Rattle.trace_spec.specs.Modules.{Config}
@@ -15,41 +15,36 @@ use Rattle.generation.specs.Generating.{AsksNoPathTwice}
 use Rattle.generation.specs.declared.stop.Stop.{Stop}
 use Rattle.generation.specs.declared.stop.Stop.TheVariants as stop
 use Rattle.generator_spec.specs.Asked.{IsConfigAt}
-use Rattle.generator_spec.specs.Commands.{Refuses}
-use Rattle.generator_spec.specs.Ending.{Ends, Gives}
 use Rattle.generator_spec.specs.Lines.{status_of, line_of, memory_line, read_fault_line}
-use Rattle.generator_spec.specs.Outcome.{by_tree}
-use Rattle.generator_spec.specs.Statuses.{memory_status, read_fault_status, write_fault_status}
-use Rattle.generator_spec.specs.declared.Refusal.{Refusal}
+use Rattle.generator_spec.specs.Outcome.{RefusesRun, by_tree}
+use Rattle.generator_spec.specs.Statuses.{memory_status, read_fault_status}
 use Rattle.package_lookup.specs.Looked.{kept_at}
 use Rattle.soundness.proofs.Sound.{sound, modules_are_known}
 use Rattle.session_input.proofs.ReaderLemmas.{takes_none}
-use Rattle.session_spec.specs.Conversations.{Answers, stops}
+use Rattle.session_spec.specs.Conversations.{Answers}
 use Rattle.session_spec.specs.Replies.{accepted_line}
 use Rattle.session_spec.specs.SessionRuns as runs
 use Rattle.session_spec.specs.SessionRuns.{refresh_words, OpensAt, opens, opening_line, SessionComesTo, RepliesTo, unopened, RepliesToAll, IsAwaited, AsksOnce, MapsServe, NoFault, SessionSays, SessionStops, SessionEnds}
 use Rattle.session_spec.specs.SessionStates.{SessionState, IsGenerated}
-use Rattle.session_spec.specs.Talks.{Standing, begun, Talks, still}
-use Rattle.session_spec.specs.TakenInput.{Takes}
+use Rattle.session_spec.specs.Talks.{begun, still}
 use Rattle.session_spec.proofs.Talking.{talks_stay_current}
 use Rattle.edit_session.specs.NewLooks.{AsksKept}
 use Rattle.edit_session.specs.Sessions.{IsOpened, OpensSession}
-use Rattle.edit_session.specs.SessionTrees.{IsSessionOf}
 use Rattle.edit_session.specs.declared.session.Session.{Session}
 use Rattle.session_talk.specs.EditorLooks.{LookState, AsksAndKeeps, AsksSome, AsksKeeping}
 use Rattle.session_talk.specs.Editors.{EditorState}
 use Rattle.session_talk.specs.Talking as talking
 use Rattle.session_talk.specs.Talking.{Now, now_at, IsAwaitedBy, RepliesFront, RepliesAll, IsQuiet, Says, Stops}
 use Rattle.session_talk.proofs.AskLemmas.{some_then}
-use Rattle.session_talk.proofs.TalkLemmas.{give_then, gives_then, ends_then}
-use Rattle.session_run.specs.Editing.{StandsOn, IsToldBy, IsViewOf, look_state}
-use Rattle.session_run.specs.Sessions.{fresh, TalksOn, RefusedEnds, opened_line, OpenedEnds, wants, cut_off, replies}
+use Rattle.session_talk.proofs.TalkLemmas.{gives_then, ends_then}
+use Rattle.session_run.specs.Editing.{IsToldBy, IsViewOf, look_state}
+use Rattle.session_run.specs.Sessions.{fresh, RefusedEnds, opened_line, OpenedEnds, wants, cut_off, replies}
 
 -- ---- maps
 
 pub maps_serve : (tree : Tree) (input : List ℕ) → MapsServe tree input
 maps_serve tree input _ out later (opens config map counts is generated) talks =
-    let state = record { tree = tree; config = config; map = map; counts = counts } in
+    let state : SessionState = record { tree = tree; config = config; map = map; counts = counts } in
     let current = talks_stay_current (begun state input) later out generated talks in
     let last = later.state in
     (current, record {
@@ -59,7 +54,7 @@ maps_serve tree input _ out later (opens config map counts is generated) talks =
 
 -- ---- what is asked
 
-no_looks : FolderState → LookState
+abbrev no_looks : FolderState → LookState
 no_looks folder = record { folder = folder; kept = λ path. false; references = [] }
 
 module _ (config : Config) (before mid : FolderState) (session : Session) (opening : OpensSession config before (Ok session) mid) where
@@ -106,8 +101,11 @@ module _ (config : Config) (before mid : FolderState) (session : Session) (openi
 
 -- ---- the beginning
 
+abbrev state_on : Tree → Config → SessionState → SessionState
+state_on tree config state = record { tree = tree; config = config; map = state.map; counts = state.counts }
+
 module _ (config : Config) (session : Session) where
-  begun_told : (holds : Option Tree) → IfSome holds (λ tree. IsOpened tree config session) → Option SessionState
+  abbrev begun_told : (holds : Option Tree) → IfSome holds (λ tree. IsOpened tree config session) → Option SessionState
   begun_told None opened = None
   begun_told (Some tree) opened = Some opened.state
 
@@ -124,7 +122,9 @@ module _ (config : Config) (session : Session) where
   begins_at : (tree : Tree) (opened : IsOpened tree config session) → IsConfigOf refresh_words tree Refresh config → Begins tree opened.state
   begins_at tree opened is =
       let state = opened.state in
-      let same : record { tree = tree; config = config; map = state.map; counts = state.counts } ≡ state = λ i. record { tree = sym opened.tree_is i; config = sym opened.config_is i; map = state.map; counts = state.counts } in
+      let tree_back = sym opened.tree_is in
+      let config_back = sym opened.config_is in
+      let same : state_on tree config state ≡ state = λ i. state_on (tree_back i) (config_back i) state in
       let generated = subst (λ (t : Tree). IsGenerated t config state.map state.counts) opened.tree_is (subst (λ (c : Config). IsGenerated state.tree c state.map state.counts) opened.config_is opened.current) in
       record {
         opens_at = subst (OpensAt tree) same (opens config state.map state.counts is generated);
@@ -147,9 +147,6 @@ module _ (config : Config) (session : Session) where
   lifted (Some state) None begun f p = absurd begun
 
   -- ---- what is said
-
-  line_then : {P : List ℕ → Type 0} (tree : Tree) (state : SessionState) (text : List ℕ) → Begins tree state → P (opening_line state ++ text) → P (opened_line session ++ text)
-  line_then {P} tree state text begins p = subst (λ (line : List ℕ). P (line ++ text)) begins.line p
 
   front_then : (taken text : List ℕ) (state : SessionState) (tree : Tree) → Begins tree state → RepliesFront state taken text → RepliesTo tree taken (opened_line session ++ text)
   front_then taken text state tree begins front =
@@ -228,7 +225,7 @@ module _ (config : Config) (before mid : FolderState) (session : Session) (openi
   abbrev told_first : Option SessionState
   told_first = begun_told config session before.holds opening.opened
 
-  view_first : EditorState
+  abbrev view_first : EditorState
   view_first = record { told = told_first; faults = mid.look_faults }
 
   is_begun : IsBegun config session told_first before.holds
@@ -240,8 +237,8 @@ module _ (config : Config) (before mid : FolderState) (session : Session) (openi
   no_fault_yet : (source : SourceState) → NoFault before mid source source
   no_fault_yet source = (quiet_opening config before mid session opening, refl)
 
-  front_line : (taken : List ℕ) → IfSome before.holds (λ tree. RepliesTo tree [] (opened_line session))
-  front_line taken =
+  front_line : IfSome before.holds (λ tree. RepliesTo tree [] (opened_line session))
+  front_line =
       subst (λ (line : List ℕ). IfSome before.holds (λ tree. RepliesTo tree [] line)) (append-nil (opened_line session))
       (lifted config session told_first before.holds is_begun (λ state tree begins all. front_then config session [] [] state tree begins (record { later = begun state []; talks = still (begun state []) })) (all_told told_first))
     where
@@ -273,7 +270,7 @@ module _ (config : Config) (before mid : FolderState) (session : Session) (openi
     opened_ends after later (cut_off same taken is_status gives rose) =
         subst (λ (s : SourceState). SessionEnds before after source s out gone result) (sym taken)
         (subst (λ (f : FolderState). SessionEnds before f source source out gone result) (sym same)
-        (at_once (runs.cut_off (opened_line session) (no_fault_yet source) (front_line []) is_status gives rose)))
+        (at_once (runs.cut_off (opened_line session) (no_fault_yet source) front_line is_status gives rose)))
     opened_ends after later (replies middle closed got quiet talks asks) =
         let seen = talks view_first view_is in
         let done = seen.holds in
@@ -311,7 +308,7 @@ module _ (config : Config) (before mid : FolderState) (source : SourceState) (ou
     where
       stopped : (why : Stop) → OpensSession config before (Err why) mid → RefusedEnds why out gone result → SessionStops before mid source source [] out gone result
       stopped (stop.Refused why) opening (inl is) =
-          let refused = if_two before.holds (λ tree configured refuses. by_tree Refresh config why configured refuses) is_config.told opening.refused in
+          let refused : IfSome before.holds (λ tree. RefusesRun refresh_words tree why) = if_two before.holds (λ tree configured refuses. by_tree Refresh config why configured refuses) is_config.told opening.refused in
           runs.said (status_of why) (line_of why)
           (runs.outcome (opening.looks.quiet (λ e. cc), refl) (if_some before.holds (λ tree because. runs.refused why because) refused)
           (if_some before.holds (λ tree because. if_all source.left (λ input. runs.refused why because)) refused)) is
