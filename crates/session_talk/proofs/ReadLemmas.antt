@@ -1,7 +1,7 @@
 -- What a line that is read comes to, and an input that gives none.
 use Rattle.std.proofs.Common.{◌≡◌, ◌≤◌, ◌<◌, ◌++◌, ◌∷◌, [], ℕ, List, length, Option, Some, None, Ok, Err, sym, ap, ◌∙◌, subst, inl, inr, arith}
 use Rattle.std.proofs.lemmas.List.{append-nil, append_assoc, length-append}
-use Rattle.std.specs.Prelude.{◌+◌, IfSome}
+use Rattle.std.specs.Prelude.{◌+◌, IfSome, IfNone}
 use Rattle.tree_spec.specs.Counts.{Rose}
 use Rattle.tree_spec.specs.Limits.{limit_number}
 use Rattle.tree_spec.specs.States.{SourceState, SinkState}
@@ -194,5 +194,9 @@ turn_less before after source later order next =
     let same = ap length next.reads.unread in
     let room = next.reads.room in
     omega (arith, shorter, long, same, room)
+
+pub less_if : {P : Type 0} (result : Option ℕ) → P → IfNone result P
+less_if None p = p
+less_if (Some status) p = tt
 
 pub ruleset reading_lines = (turn_ordered, turn_malformed, turn_ended, turn_long, turn_fault, turn_memory, turn_less)

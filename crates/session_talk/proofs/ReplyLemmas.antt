@@ -22,6 +22,9 @@ seen_by seen f = record { at = seen.at; is = seen.is; holds = f seen.at seen.hol
 pub seen_at : {Is P : EditorState → Type 0} (at : EditorState) → Is at → P at → Seen Is P
 seen_at at is holds = record { at = at; is = is; holds = holds }
 
+pub said_line : {status result : ℕ} {out gone : SinkState} {said line : List ℕ} → said ≡ line → Ends status said out gone result → Ends status line out gone result
+said_line {status} {result} {out} {gone} e is = subst (λ (l : List ℕ). Ends status l out gone result) e is
+
 -- ---- edits
 
 module _ (before : EditorState) (edit : List Change) (out : SinkState) (after : EditorState) (out_after : SinkState) where

@@ -189,4 +189,10 @@ module _ (first : Now) (number : ℕ) (editor : EditorState) (waiting : Waiting)
       → Converses first editor source after status
   memory_ordered held order after status goes is = memory_turns first (now_at editor waiting held source out) number order goes after status is
 
+-- ---- as the code has it
+
+pub none_held : (first : Now) (editor : EditorState) (waiting : Waiting) (held : Option (List Change)) (source : SourceState) (out : SinkState) (result : Option ℕ) → held ≡ None
+    → Turns first editor waiting None source out result → Turns first editor waiting held source out result
+none_held first editor waiting held source out result e turns = subst (λ (h : Option (List Change)). Turns first editor waiting h source out result) (sym e) turns
+
 pub ruleset turning = (alone_change, alone_begin, alone_commit, alone_map, alone_end, within_change, within_commit, within_begin, within_map, within_end, memory_ordered)
