@@ -2,7 +2,7 @@ use Rattle.std.proofs.Common.{◌≡◌, ◌++◌, ◌∷◌, [], ℕ, List, Opt
 use Rattle.session_spec.specs.declared.Change.{Change}
 use Rattle.session_input.specs.Readers.{order_of}
 use Rattle.session_input.specs.declared.reading.Order.{Order}
-use Rattle.session_talk.specs.Talking.{now_at, IsOrdered, Makes, Turns}
+use Rattle.session_talk.specs.Talking.{now_at, GoesOn, IsOrdered, Makes}
 use Rattle.session_talk.specs.EditorLooks.{TurnAsks}
 use Rattle.session_talk.proofs.AskLemmas.{keeps_same, turn_same}
 use Rattle.session_talk.proofs.ReplyLemmas.{seen_at, seen_by, said_line}
@@ -24,7 +24,7 @@ pub returns-in-Ok-clause-turns : goal.returns-in-Ok-clause-turns
 returns-in-Ok-clause-turns g c first left source before is goes =
     let out = g.O.Sink.state c.args.out.now in
     let gone = g.O.Sink.state c.make.new.out in
-    let one : c.push.new.self ≡ c.in-Change.change ∷ [] = c.push.ensures ∙ ap (λ (front : List Change). front ++ c.in-Change.change ∷ []) c.new-edit.ensures in
+    let one : c.push.new.self ≡ c.in-Change.change ∷ [] = c.in-Ok.ensures ∙ ap (λ (front : List Change). front ++ c.in-Change.change ∷ []) c.new-edit.ensures in
     seen_by (c.make.ensures.makes before is) (λ later made. none_held first later left c.args.held.now source gone c.make.result c.requires
     (alone_change first c.args.number before left source out c.in-Change.change later gone c.make.result (subst (λ (o : Order). IsOrdered c.args.number (order_of o) first (now_at before left None source out)) c.in-Change.is goes)
     (subst (λ (edit : List Change). Makes before edit out later gone c.make.result) one made)))
@@ -33,7 +33,8 @@ pub returns-in-Begin-clause-turns : goal.returns-in-Begin-clause-turns
 returns-in-Begin-clause-turns g c first left source before is goes =
     let out = g.O.Sink.state c.args.out.now in
     seen_at before is
-    (alone_begin first c.args.number before left source out (subst (λ (o : Order). IsOrdered c.args.number (order_of o) first (now_at before left None source out)) c.in-Begin.is goes))
+    (subst (λ (held : List Change). GoesOn first (now_at before left (Some held) source out)) (sym c.new.ensures)
+    (alone_begin first c.args.number before left source out (subst (λ (o : Order). IsOrdered c.args.number (order_of o) first (now_at before left None source out)) c.in-Begin.is goes)))
 
 pub returns-in-Begin-clause-asks : goal.returns-in-Begin-clause-asks
 returns-in-Begin-clause-asks g c =

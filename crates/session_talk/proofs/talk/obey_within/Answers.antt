@@ -2,7 +2,7 @@ use Rattle.std.proofs.Common.{◌≡◌, ◌++◌, ◌∷◌, [], ℕ, List, Opt
 use Rattle.session_spec.specs.declared.Change.{Change}
 use Rattle.session_input.specs.Readers.{order_of}
 use Rattle.session_input.specs.declared.reading.Order.{Order}
-use Rattle.session_talk.specs.Talking.{now_at, IsOrdered, Makes, Turns}
+use Rattle.session_talk.specs.Talking.{now_at, GoesOn, IsOrdered, Makes}
 use Rattle.session_talk.specs.EditorLooks.{TurnAsks}
 use Rattle.session_talk.proofs.AskLemmas.{keeps_same, turn_same}
 use Rattle.session_talk.proofs.ReplyLemmas.{seen_at, seen_by, said_line}
@@ -24,7 +24,8 @@ pub returns-in-Ok-clause-turns : goal.returns-in-Ok-clause-turns
 returns-in-Ok-clause-turns g c first left source before is goes =
     let out = g.O.Sink.state c.args.out.now in
     seen_at before is
-    (within_change first c.args.number before left source out c.args.edit c.in-Change.change (subst (λ (o : Order). IsOrdered c.args.number (order_of o) first (now_at before left (Some c.args.edit) source out)) c.in-Change.is goes))
+    (subst (λ (held : List Change). GoesOn first (now_at before left (Some held) source out)) (sym c.in-Ok.ensures)
+    (within_change first c.args.number before left source out c.args.edit c.in-Change.change (subst (λ (o : Order). IsOrdered c.args.number (order_of o) first (now_at before left (Some c.args.edit) source out)) c.in-Change.is goes)))
 
 pub returns-in-Ok-clause-asks : goal.returns-in-Ok-clause-asks
 returns-in-Ok-clause-asks g c =
