@@ -8,7 +8,6 @@ as the first of them.
 """
 
 import os
-import resource
 import subprocess
 import sys
 import tempfile
@@ -82,7 +81,8 @@ def made(folder):
                 file.write(part)
             times.append(best(path)[0])
         memory = peak(path) / len(text)
-        say(times[1] <= GROWTH * max(times[0], measure.NOISE), f"{name}: {times[0]:.2f} s, twice that {times[1]:.2f} s")
+        say(times[1] <= GROWTH * max(times[0], measure.NOISE),
+            f"{name}: {len(text) / max(times[1], 0.001) / 1e6:.1f} MB/s, half of it {times[0]:.2f} s, all {times[1]:.2f} s")
         say(memory <= MEMORY, f"{name}: {memory:.1f} bytes of memory for a byte")
 
 
