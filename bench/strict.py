@@ -1,5 +1,5 @@
-"""Measures how fast the statement grammar reads a module text, by processor time, and how much memory it takes, and says
-PASS or FAIL to each target.
+"""Measures how fast the statement grammar reads a module text, by processor time, and how much memory it takes, and
+says PASS or FAIL to each target.
 
 It runs crates/strict_count/out/strict_count, which `rt run` in its folder leaves there. The times hold all that this
 program does: it starts, reads the file, reads the text's outline, and then reads it by the grammar. The files are those
@@ -81,8 +81,9 @@ def made(folder):
                 file.write(part)
             times.append(best(path)[0])
         memory = peak(path) / len(text)
-        say(times[1] <= GROWTH * max(times[0], measure.NOISE),
-            f"{name}: {len(text) / max(times[1], 0.001) / 1e6:.1f} MB/s, half of it {times[0]:.2f} s, all {times[1]:.2f} s")
+        pace = len(text) / max(times[1], 0.001) / 1e6
+        growth = f"half of it {times[0]:.2f} s, all {times[1]:.2f} s"
+        say(times[1] <= GROWTH * max(times[0], measure.NOISE), f"{name}: {pace:.1f} MB/s, {growth}")
         say(memory <= MEMORY, f"{name}: {memory:.1f} bytes of memory for a byte")
 
 
