@@ -29,24 +29,15 @@ GROWTH = 3
 MEMORY = 40
 
 
-def hostile(size):
-    """Texts that are deep, or of many small tokens, or whose choices are found late."""
-    deep = "(" * 450 + "a" + ")" * 450 + ";\n"
-    lists = "[" * 450 + "]" * 450 + ";\n"
-    arrows = "((a)=>" * 120 + "a" + ")" * 120 + ";\n"
-    units = "!" * 900 + "a;\n"
-    branches = "if(a);else " * 400 + ";\n"
-    templates = "`${" * 200 + "a" + "}`" * 200 + ";\n"
-    for name, part in (
-        ("round brackets", deep),
-        ("square brackets", lists),
-        ("arrows", arrows),
-        ("units", units),
-        ("branches", branches),
-        ("templates", templates),
-        ("semicolons", ";" * 64),
-    ):
-        yield name, part * (size // len(part))
+def hostile():
+    """Parts of texts that are deep, or of many small tokens, or whose choices are found late."""
+    yield "round brackets", "(" * 450 + "a" + ")" * 450 + ";\n"
+    yield "square brackets", "[" * 450 + "]" * 450 + ";\n"
+    yield "arrows", "((a)=>" * 120 + "a" + ")" * 120 + ";\n"
+    yield "units", "!" * 900 + "a;\n"
+    yield "branches", "if(a);else " * 400 + ";\n"
+    yield "templates", "`${" * 200 + "a" + "}`" * 200 + ";\n"
+    yield "semicolons", ";" * 64
 
 
 def best(path):
@@ -73,13 +64,17 @@ def real(folder):
 
 
 def made(folder):
-    for name, text in hostile(2 * MIB):
+    for name, part in hostile():
         path = os.path.join(folder, "text.mjs")
         times = []
-        for part in (text[: len(text) // 2], text):
+        for size in (MIB, 2 * MIB):
+            text = part * (size // len(part))
             with open(path, "w", encoding="utf-8") as file:
-                file.write(part)
-            times.append(best(path)[0])
+                file.write(text)
+            seconds, line = best(path)
+            times.append(seconds)
+            if not line.startswith("agrees"):
+                say(False, f"{name}: {line}")
         memory = peak(path) / len(text)
         pace = len(text) / max(times[1], 0.001) / 1e6
         growth = f"half of it {times[0]:.2f} s, all {times[1]:.2f} s"
