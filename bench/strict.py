@@ -3,8 +3,7 @@ says PASS or FAIL to each target.
 
 It runs crates/strict_count/out/strict_count, which `rt run` in its folder leaves there. The times hold all that this
 program does: it starts, reads the file, reads the text's outline, and then reads it by the grammar. The files are those
-of Debian's libjs-three, node-lodash and node-acorn, where they are installed, one after another until they are as long
-as the first of them.
+of Debian's libjs-three, node-lodash and node-acorn, where they are installed.
 """
 
 import os
@@ -52,7 +51,7 @@ def peak(path):
     return int(done.stdout) * 1024
 
 
-def real(folder):
+def real():
     for path in FILES:
         if not os.path.exists(path):
             print(f"      {path} isn't installed")
@@ -84,8 +83,8 @@ def made(folder):
 
 def main():
     measure.need(STRICT)
+    real()
     with tempfile.TemporaryDirectory() as folder:
-        real(folder)
         made(folder)
     measure.finish()
 
