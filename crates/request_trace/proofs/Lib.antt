@@ -1,3 +1,4 @@
 mod FootprintPaths
 pub mod AnswerLemmas
 mod NamedModules
+mod JoinedTables
