@@ -65,7 +65,7 @@ impl Trace {
             targets,
         } = tables;
         let Joined { vertices, names } = joined(alloc, modules, sources)?;
-        let graph = TraceGraph::of(alloc, vertices, targets.as_slice(), entries)?;
+        let graph = TraceGraph::of(alloc, vertices, &targets, entries)?;
         Ok(Trace {
             base,
             graph,

@@ -48,4 +48,4 @@ of-requires-clause-whole g c = c.in_ok-tables.ensures.tables.whole
 pub of-requires-clause-counted : goal.of-requires-clause-counted
 of-requires-clause-counted g c =
     c.in_ok-tables.ensures.tables.counted
-    ∙ ap (λ n. n + module_requests (before_of c.in_ok-tables.tables).sources) (sym (c.len.ensures ∙ ap length c.entries.ensures.entries))
+    ∙ ap (λ n. n + module_requests (before_of c.in_ok-tables.tables).sources) (sym (ap length c.entries.ensures.entries))
