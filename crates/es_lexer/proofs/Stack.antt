@@ -11,7 +11,7 @@ use Rattle.module_spec.specs.declared.token.Sort.TheVariants.{Name, Private, Num
 use Rattle.module_spec.specs.declared.token.Word.{Word}
 use Rattle.module_spec.specs.declared.token.Word.TheVariants.{Condition, For, Await, Of, Value, Statement, Other}
 use Rattle.module_spec.specs.declared.token.LexKind.TheVariants.{TooDeep}
-use Rattle.module_spec.specs.Sorts.{opens, closes, sort_before_value}
+use Rattle.module_spec.specs.Sorts.{opens, closes, is_dot, sort_before_value}
 use Rattle.module_spec.specs.Tokens.{Lexeme, Balanced, Innermost, depth, opener, plain_word, name_word, refusal, slash_after, slash_after_mark, slash_after_word, in_for, closed_round, closed_curly, most_brackets}
 use Rattle.module_spec.specs.Tokens.Balanced.{same, neither, closed}
 use Rattle.module_spec.specs.Tokens.Outside.{first, later}
@@ -238,10 +238,10 @@ state_after t before last next stack s l r f =
     record {
       state = record {
         word = words;
-        property = f.property;
+        property = ap (λ sort. is_dot sort) f.sort;
         for_head = f.for_head ∙ rw (words, s.word) refl;
-        value = f.value ∙ ap (λ w. sort_before_value t.sort w) words;
-        slash = token inner.inner (f.slash ∙ (slash_kept t.sort next.word inner.kept may ∙ ap (λ w. slash_after t.sort w inner.at) words));
+        value = ap (λ sort. sort_before_value sort next.word) f.sort ∙ ap (λ w. sort_before_value t.sort w) words;
+        slash = token inner.inner (ap (λ sort. slash_behind sort next.word next.top) f.sort ∙ (ap (λ o. slash_behind t.sort next.word o) f.top ∙ (slash_kept t.sort next.word inner.kept may ∙ ap (λ w. slash_after t.sort w inner.at) words)));
         brackets = here.brackets;
         deep = here.deep;
       };

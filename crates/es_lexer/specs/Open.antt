@@ -10,7 +10,7 @@ use Rattle.module_spec.specs.declared.token.Bracket as brackets
 use Rattle.module_spec.specs.declared.token.Bracket.TheVariants as bracket
 use Rattle.module_spec.specs.declared.token.Word.{Word}
 use Rattle.module_spec.specs.declared.token.Word.TheVariants.{Condition, For, Await, Of, Value, Statement, Other}
-use Rattle.module_spec.specs.Sorts.{is_condition}
+use Rattle.module_spec.specs.Sorts.{is_condition, is_dot, sort_before_value}
 use Rattle.es_lexer.specs.declared.state.Open.{Open}
 use Rattle.es_lexer.specs.declared.state.Open.TheVariants.{Round, Square, Curly, Template}
 use Rattle.es_lexer.specs.declared.state.Last.{Last}
@@ -30,11 +30,19 @@ abbrev pub top_bracket : Option Open → Option brackets.Bracket
 top_bracket None = None
 top_bracket (Some x) = Some (bracket_of x)
 
+-- ECMA-262, 13.3: a name that comes next is the name of a property
+abbrev pub names_property : Last → Bool
+names_property last = is_dot last.sort
+
+-- a `{` that comes next belongs to an expression
+abbrev pub brace_is_value : Last → Bool
+brace_is_value last = sort_before_value last.sort last.word
+
 -- what a new bracket keeps of what stands before it
 abbrev pub opened : brackets.Bracket → Last → Open
 opened bracket.Round last = Round (is_condition last.word || last.for_head) last.for_head
 opened bracket.Square last = Square
-opened bracket.Curly last = Curly last.before_value
+opened bracket.Curly last = Curly (brace_is_value last)
 opened bracket.Template last = Template
 
 abbrev pub changed : Option brackets.Bracket → Option brackets.Bracket → Last → List Open → List Open
@@ -97,3 +105,7 @@ slash_behind TemplateMiddle w top = true
 slash_behind TemplateTail w top = false
 slash_behind Regex w top = false
 slash_behind (Punctuator mark) w top = slash_behind_mark mark top
+
+-- a `/` that comes next begins a regular expression
+abbrev pub slash_is_regex : Last → Bool
+slash_is_regex last = slash_behind last.sort last.word last.top

@@ -2,6 +2,7 @@ ghost use Rattle.std.specs.Prelude.{◌≡◌, ◌≢◌, ◌<◌, ◌≤◌, �
 ghost use Rattle.module_spec.specs.Sorts.{opens, closes};
 ghost use Rattle.es_lexer.specs.Open.{bracket_of, top_of, opened, changed, is_control, is_block};
 ghost use Rattle.es_lexer.specs.Open.{is_for_head, slash_behind_word, slash_behind_mark, slash_behind};
+ghost use Rattle.es_lexer.specs.Open.{names_property, brace_is_value, slash_is_regex};
 ghost use Rattle.es_lexer.specs.State.{Follows, no_last};
 
 use crate::sorts::{
@@ -9,19 +10,17 @@ use crate::sorts::{
 };
 use module_spec::{Bracket, Mark, Sort, Word};
 
-/// What the tokens so far say of the next one.
+/// What is kept of the last tokens. What few tokens ask of them is found when one asks.
 #[derive(Clone, Copy)]
 pub struct Last {
+    /// The last token, or where none stands before, a `;`, behind which all may stand that may begin a text.
+    pub sort: Sort,
     /// The last token as a word.
     pub word: Word,
-    /// A name that comes next is the name of a property.
-    pub property: bool,
     /// `for` or `for await` stands last.
     pub for_head: bool,
-    /// A `{` that comes next belongs to an expression.
-    pub before_value: bool,
-    /// A `/` that comes next begins a regular expression.
-    pub slash: bool,
+    /// The innermost bracket that was open before the last token.
+    pub top: Option<Open>,
 }
 
 /// An open bracket, and what stands before it.
@@ -36,34 +35,53 @@ pub enum Open {
 }
 
 impl Last {
-    /// What is said where no token stands before.
+    /// What is kept where no token stands before.
     pub fn none() -> Last
         ensures { result ≡ no_last }
     {
         Last {
+            sort: Sort::Punctuator(Mark::Stop),
             word: Word::Other,
-            property: false,
             for_head: false,
-            before_value: false,
-            slash: true,
+            top: None,
         }
+    }
+
+    /// Whether a name that comes next is the name of a property.
+    pub fn names_property(self) -> bool
+        ensures { result ≡ names_property self }
+    {
+        is_dot(self.sort)
+    }
+
+    /// Whether a `{` that comes next belongs to an expression.
+    pub fn brace_is_value(self) -> bool
+        ensures { result ≡ brace_is_value self }
+    {
+        sort_before_value(self.sort, self.word)
+    }
+
+    /// Whether a `/` that comes next begins a regular expression.
+    pub fn slash_is_regex(self) -> bool
+        ensures { result ≡ slash_is_regex self }
+    {
+        slash_behind(self.sort, self.word, self.top)
     }
 
     /// The same behind one more token. `top` is the innermost bracket that is open before it.
     pub fn follow(self, top: Option<Open>, sort: Sort, text: &[u8]) -> Last
         ensures { Follows self result top sort text.now }
     {
-        let word = if self.property {
+        let word = if self.names_property() {
             Word::Other
         } else {
             name_word(sort, text)
         };
         Last {
+            sort,
             word,
-            property: is_dot(sort),
             for_head: is_for(word) || is_await(word) && is_for(self.word),
-            before_value: sort_before_value(sort, word),
-            slash: slash_behind(sort, word, top),
+            top,
         }
     }
 }
@@ -76,7 +94,7 @@ impl Open {
         match bracket {
             Bracket::Round => Open::Round(is_condition(last.word) || last.for_head, last.for_head),
             Bracket::Square => Open::Square,
-            Bracket::Curly => Open::Curly(last.before_value),
+            Bracket::Curly => Open::Curly(last.brace_is_value()),
             Bracket::Template => Open::Template,
         }
     }
