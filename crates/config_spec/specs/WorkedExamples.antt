@@ -18,7 +18,7 @@ use Rattle.config_spec.specs.declared.Command.TheVariants.{Link}
 use Rattle.config_spec.specs.declared.ProjectFault.TheVariants.{Absent, TooLarge, NotProject}
 use Rattle.config_spec.specs.declared.ConfigFault.TheVariants.{BadBase, BadPath, BadConditions, Project}
 use Rattle.config_spec.specs.declared.ConfigFault.TheVariants.{NoBase, NotLinked, TooManyEntries}
-use Rattle.config_spec.specs.Words.{Settings, Sets, no_settings, RefusesOptions, Measures, RefusesWords}
+use Rattle.config_spec.specs.Words.{Settings, Sets, no_settings, RefusesOptions, IsSession, Measures, RefusesWords}
 use Rattle.config_spec.specs.Projects.{project_path, config_by, IsConfigOf, RefusesConfig}
 
 -- ---- options

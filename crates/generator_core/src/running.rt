@@ -2,15 +2,15 @@ ghost use Rattle.std.specs.Prelude.{◌≡◌, ◌≤◌, List, ℕ, map, string
 ghost use Rattle.words_spec.specs.PlainWords.{most_packages};
 ghost use Rattle.config_spec.specs.declared.Command.{Command as Commanded};
 ghost use Rattle.config_spec.specs.declared.Command.TheVariants.{Inject, Check, List as ListModules};
-ghost use Rattle.config_spec.specs.Words.{IsCommandOf, IsSession};
+ghost use Rattle.config_spec.specs.Words.{IsSession};
 ghost use Rattle.generator_spec.specs.Commands.{IsGenerating};
 ghost use Rattle.generator_spec.specs.Ending.{Ends, EndsAs, TellsRefusal};
 ghost use Rattle.generator_spec.specs.Asked.{AsksInOrder};
-ghost use Rattle.generator_spec.specs.Steps.{RunSpends};
 ghost use Rattle.session_spec.specs.SessionRuns.{SessionEnds};
 ghost use Rattle.command_words.specs.Orders.{IsOrder, command_ordered};
 ghost use Rattle.generator_core.specs.Preparing.{KeepsProject, shown_file};
 ghost use Rattle.generator_core.specs.Measuring.{RunsMeasure, TellsMeasure};
+ghost use Rattle.generator_core.specs.RunEnds.{IsIdle, RunEnds};
 ghost use Rattle.generator_core.specs.Running.{RunsCommand};
 ghost use Rattle.generator_core.specs.Spending.{CommandSpends};
 ghost use Rattle.generator_core.specs.Writing.{TellsStop, TellsWords, EndsWriting, WritesFiles};
@@ -45,17 +45,10 @@ pub fn run<F: Folder, I: Source, O: Sink, L: Ledger>(
     out: &mut O,
     steps: &mut Steps<L>,
 ) -> u8
-    ensures end { (IsSession (map string_bytes words.now) → ⊥) → EndsAs (map string_bytes words.now)
-        (F.state folder.old) (F.state folder.new) (O.state out.old) (O.state out.new) result }
-    ensures idle { (IsSession (map string_bytes words.now) → ⊥) → ((command : Commanded) → IsCommandOf (map string_bytes words.now) command → ⊥)
-        → folder.new ≡ folder.old }
+    ensures ends { RunEnds (map string_bytes words.now) (F.state folder.old) (F.state folder.new) (I.state input.old)
+        (I.state input.new) (O.state out.old) (O.state out.new) result steps.old steps.new }
+    ensures idle { IsIdle (map string_bytes words.now) → folder.new ≡ folder.old }
     ensures input { (IsSession (map string_bytes words.now) → ⊥) → input.new ≡ input.old }
-    ensures asked { (IsSession (map string_bytes words.now) → ⊥) → IfSome (F.state folder.old).asked
-        (λ old. AsksInOrder (map string_bytes words.now) (F.state folder.old) old (F.state folder.new)) }
-    ensures steps { (IsSession (map string_bytes words.now) → ⊥) → RunSpends (map string_bytes words.now)
-        (O.state out.old) (O.state out.new) result steps.old steps.new }
-    ensures session { IsSession (map string_bytes words.now) → SessionEnds (F.state folder.old) (F.state folder.new)
-        (I.state input.old) (I.state input.new) (O.state out.old) (O.state out.new) result }
 {
     match order_of(alloc, words) {
         Ok(Wanted::Order(order)) => ordered(alloc, folder, order, out, steps),
