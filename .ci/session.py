@@ -66,7 +66,7 @@ def ended(folder):
 
 
 def kept(folder):
-    """the keeper of the example"""
+    """the keeper of the example, while a file is changed, and a file and a folder are renamed and get their names back"""
     keeper = subprocess.Popen([sys.executable, '-B', str(ROOT / 'examples/session/keep.py'), PROGRAM, '0.05'], cwd=folder,
                               stdout=subprocess.PIPE)
     said = [keeper.stdout.readline()]
@@ -74,13 +74,17 @@ def kept(folder):
     with open(folder / 'app.mjs', 'ab') as file:
         file.write(b'import "hello/quiet";\n')
     said.append(keeper.stdout.readline())
-    os.rename(folder / 'node_modules/hello/quiet.js', folder / 'node_modules/hello/silent.js')
-    said.append(keeper.stdout.readline())
+    quiet, silent = folder / 'node_modules/hello/quiet.js', folder / 'node_modules/hello/silent.js'
+    for old, new in ((quiet, silent), (silent, quiet), (folder / 'node_modules/hello', folder / 'node_modules/hi'),
+                     (folder / 'node_modules/hi', folder / 'node_modules/hello')):
+        os.rename(old, new)
+        said.append(keeper.stdout.readline())
     keeper.terminate()
     keeper.wait(10)
     same('what the keeper says', [it.decode().rstrip('\n') for it in said],
          ['ok: 3 modules, 4 requests, 2 mappings', 'ok: 4 modules, 5 requests, 3 mappings',
-          'refused: NotFound from "/app.mjs" for "hello/quiet"'])
+          'refused: NotFound from "/app.mjs" for "hello/quiet"', 'ok: 4 modules, 5 requests, 3 mappings',
+          'refused: NotFound from "/index.html" for "hello/loud"', 'ok: 4 modules, 5 requests, 3 mappings'])
     same("the keeper's map", (folder / 'importmap.json').read_bytes(), (WANTED / 'refreshed.json').read_bytes())
 
 
