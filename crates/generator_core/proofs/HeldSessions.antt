@@ -21,13 +21,14 @@ use Rattle.generation.specs.declared.stop.Stop.{Stop}
 use Rattle.generator_spec.specs.Asked.{AsksOwn}
 use Rattle.generator_spec.specs.declared.Refusal.{Refusal}
 use Rattle.generator_spec.specs.declared.Refusal.TheVariants.{Config as Configured}
-use Rattle.generator_spec.specs.Ending.{Ends, TellsRefusal}
+use Rattle.generator_spec.specs.Ending.{CanRefuse, CanRefuse as can_refuse, Ends, TellsRefusal}
 use Rattle.generator_spec.specs.Lines.{status_of, line_of, memory_line, read_fault_line}
 use Rattle.generator_spec.specs.Outcome.{RefusesRun, RefusesRun as refuses_run}
 use Rattle.generator_spec.specs.Statuses.{memory_status, read_fault_status}
 use Rattle.session_input.proofs.ReaderLemmas.{takes_none}
 use Rattle.session_run.proofs.SessionLemmas.{maps_serve}
 use Rattle.session_spec.specs.SessionRuns as runs
+use Rattle.session_spec.specs.SessionRuns.{IsSessionShaped as shaped, RepliesTo as replies_to}
 use Rattle.session_spec.specs.SessionRuns.{refresh_words, AsksOnce, NoFault, RepliesTo, SessionSays, SessionStops, SessionEnds}
 use Rattle.generator_core.specs.Configuring.{StopsConfig, StopsConfig as stops_config}
 use Rattle.generator_core.specs.Writing.{TellsStop, TellsWords}
@@ -52,7 +53,7 @@ module _ (before middle after : FolderState) (same_tree : middle.holds ≡ befor
   no_fault none = (none.0 ∙ quiet, none.1)
 
   says_before : (status : ℕ) (text : List ℕ) → SessionSays middle after source later taken status text → SessionSays before after source later taken status text
-  says_before status text (runs.outcome none here whole) = runs.outcome (no_fault none) (of_before here) (of_before whole)
+  says_before status text (runs.outcome shaped none here whole) = runs.outcome shaped (no_fault none) (of_before here) (of_before whole)
   says_before status text (runs.memory front none told is_status is_text) = runs.memory front (no_fault none) (of_before told) is_status is_text
   says_before status text (runs.look_fault front rose same told is_status is_text) =
       runs.look_fault front (subst (λ (n : ℕ). Rose n after.look_faults) quiet rose) same (of_before told) is_status is_text
@@ -96,7 +97,7 @@ module _ (before after : FolderState) (source : SourceState) (out gone : SinkSta
   StopsAtOnce = SessionStops before after source source [] out gone result
 
   nothing_said : IfSome before.holds (λ tree. RepliesTo tree [] [])
-  nothing_said = if_all before.holds (λ tree. runs.unopened)
+  nothing_said = if_all before.holds (λ tree. replies_to.unopened)
 
   unopened_ends : {P : Type 0} → OnlyLooks before after P → out.faults ≤ gone.faults → IfSome before.asked (λ old. AsksOwn (project_path ∷ []) old after) → StopsAtOnce → SessionEnds before after source source out gone result
   unopened_ends looks output_later own stops = record {
@@ -115,12 +116,12 @@ module _ (before after : FolderState) (source : SourceState) (out gone : SinkSta
   memory_at_once : after.look_faults ≡ before.look_faults → Ends memory_status memory_line out gone result → StopsAtOnce
   memory_at_once quiet told = runs.said memory_status memory_line (runs.memory [] (quiet, refl) nothing_said refl refl) told
 
-  refused_at_once : (why : Refusal) → after.look_faults ≡ before.look_faults → IfSome before.holds (λ tree. RefusesRun refresh_words tree why) → TellsRefusal why out gone result → StopsAtOnce
-  refused_at_once why quiet refuses (inl told) =
+  refused_at_once : (why : Refusal) → CanRefuse refresh_words why → after.look_faults ≡ before.look_faults → IfSome before.holds (λ tree. RefusesRun refresh_words tree why) → TellsRefusal why out gone result → StopsAtOnce
+  refused_at_once why can quiet refuses (inl told) =
       runs.said (status_of why) (line_of why)
-      (runs.outcome (quiet, refl) (if_some before.holds (λ tree because. runs.refused why because) refuses)
+      (runs.outcome (shaped.unopened why can refl refl) (quiet, refl) (if_some before.holds (λ tree because. runs.refused why because) refuses)
       (if_some before.holds (λ tree because. if_all source.left (λ input. runs.refused why because)) refuses)) told
-  refused_at_once why quiet refuses (inr told) = memory_at_once quiet told
+  refused_at_once why can quiet refuses (inr told) = memory_at_once quiet told
 
   abbrev IsOwn : Type 0
   IsOwn = IfSome before.asked (λ old. AsksOwn (project_path ∷ []) old after)
@@ -128,7 +129,7 @@ module _ (before after : FolderState) (source : SourceState) (out gone : SinkSta
   pub stopped_ends : (stop : Stop) → StopsConfig refresh_words before after stop → IsOwn → TellsStop stop out gone result → out.faults ≤ gone.faults → SessionEnds before after source source out gone result
   stopped_ends stop (stops_config.refused fault same refuses can looks) own told later =
       unopened_ends looks later own
-      (refused_at_once (Configured fault) (looks.quiet (λ e. e)) (if_some before.holds (λ tree because. refuses_run.by_project fault because) refuses) (subst (λ (s : Stop). TellsStop s out gone result) same told))
+      (refused_at_once (Configured fault) (can_refuse.by_project fault can) (looks.quiet (λ e. e)) (if_some before.holds (λ tree because. refuses_run.by_project fault because) refuses) (subst (λ (s : Stop). TellsStop s out gone result) same told))
   stopped_ends stop (stops_config.read_fault same looks) own told later =
       unopened_ends looks later own
       (runs.said read_fault_status read_fault_line (runs.look_fault [] (looks.cause same) refl nothing_said refl refl) (subst (λ (s : Stop). TellsStop s out gone result) same told))

@@ -12,7 +12,6 @@ use Rattle.generator_core.proofs.Measurings.{few_packages}
 use Rattle.generator_core.proofs.Runs.{command_is, words_not_done, asks_nothing_in_order}
 use Rattle.generator_core.proofs.running.run.Goals as goal
 
-
 pub returns-in-Ok-Order-clause-ends : goal.returns-in-Ok-Order-clause-ends
 returns-in-Ok-Order-clause-ends g c =
     let words = map string_bytes c.args.words.now in
