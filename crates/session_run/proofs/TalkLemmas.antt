@@ -1,7 +1,9 @@
 -- Replies to the lines of an input, from the first on.
 use Rattle.std.proofs.Common.{◌≡◌, ◌++◌, [], ◌∷◌, ℕ, List, None, Ok, Err, refl, ap, ◌∙◌, subst, inl}
 use Rattle.std.specs.Prelude.{option_map, take}
+use Rattle.tree_spec.specs.Limits.{limit_number}
 use Rattle.tree_spec.specs.States.{FolderState, SourceState, SinkState, IsGiven}
+use Rattle.tree_spec.specs.declared.LimitName.TheVariants.{Session as Limited}
 use Rattle.tree_spec.proofs.ToldStates.{if_some, if_all}
 use Rattle.generator_spec.specs.Ending.{Ends}
 use Rattle.generator_spec.specs.Lines.{memory_line}
@@ -55,7 +57,7 @@ module _ (references : List ℕ) (before folder folder_last : FolderState) (old 
 -- ---- nothing is taken
 
 abbrev pub begun_alone : SessionState → Standing
-begun_alone state = begun state []
+begun_alone state = begun state (take (limit_number Limited) [])
 
 pub wants_reader : (before : EditorState) (source : SourceState) (out gone : SinkState) (result : ℕ) → Ends memory_status memory_line out gone result → TalksOn before source out before source gone result
 wants_reader before source out gone result is = record {
