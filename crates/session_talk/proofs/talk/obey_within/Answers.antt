@@ -34,9 +34,9 @@ returns-in-Ok-clause-asks g c =
 pub returns-in-Commit-clause-turns : goal.returns-in-Commit-clause-turns
 returns-in-Commit-clause-turns g c first left source before is goes =
     let out = g.O.Sink.state c.args.out.now in
-    let gone = g.O.Sink.state c.make-in-Commit.new.out in
-    seen_by (c.make-in-Commit.ensures.makes before is) (λ later made. none_held first later left c.args.held.now source gone c.make-in-Commit.result c.requires
-    (within_commit first c.args.number before left source out c.args.edit later gone c.make-in-Commit.result (subst (λ (o : Order). IsOrdered c.args.number (order_of o) first (now_at before left (Some c.args.edit) source out)) c.in-Commit.is goes) made))
+    let gone = g.O.Sink.state c.make.new.out in
+    seen_by (c.make.ensures.makes before is) (λ later made. none_held first later left c.args.held.now source gone c.make.result c.requires
+    (within_commit first c.args.number before left source out c.args.edit later gone c.make.result (subst (λ (o : Order). IsOrdered c.args.number (order_of o) first (now_at before left (Some c.args.edit) source out)) c.in-Commit.is goes) made))
 
 pub returns-in-Begin-clause-turns : goal.returns-in-Begin-clause-turns
 returns-in-Begin-clause-turns g c first left source before is goes =
