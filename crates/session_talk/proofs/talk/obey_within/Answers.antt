@@ -1,9 +1,8 @@
-use Rattle.std.proofs.Common.{◌≡◌, ◌++◌, ◌∷◌, [], ℕ, List, Option, Some, None, refl, sym, ap, ◌∙◌, subst}
+use Rattle.std.proofs.Common.{List, Some, sym, subst}
 use Rattle.session_spec.specs.declared.Change.{Change}
 use Rattle.session_input.specs.Readers.{order_of}
 use Rattle.session_input.specs.declared.reading.Order.{Order}
-use Rattle.session_talk.specs.Talking.{now_at, GoesOn, IsOrdered, Makes}
-use Rattle.session_talk.specs.EditorLooks.{TurnAsks}
+use Rattle.session_talk.specs.Talking.{now_at, GoesOn, IsOrdered}
 use Rattle.session_talk.proofs.AskLemmas.{keeps_same, turn_same}
 use Rattle.session_talk.proofs.ReplyLemmas.{seen_at, seen_by, said_line}
 use Rattle.session_talk.proofs.TurnLemmas.{within_change, within_commit, within_begin, within_map, within_end, memory_ordered, none_held}
