@@ -26,7 +26,7 @@ use Rattle.generator_spec.specs.Lines.{status_of, line_of, memory_line, read_fau
 use Rattle.generator_spec.specs.Outcome.{RefusesRun, RefusesRun as refuses_run}
 use Rattle.generator_spec.specs.Statuses.{memory_status, read_fault_status}
 use Rattle.session_input.proofs.ReaderLemmas.{takes_none}
-use Rattle.session_run.proofs.SessionLemmas.{maps_serve}
+use Rattle.soundness.proofs.SessionMaps.{session_maps_serve}
 use Rattle.session_spec.specs.SessionRuns as runs
 use Rattle.session_spec.specs.SessionRuns.{IsSessionShaped as shaped, RepliesTo as replies_to}
 use Rattle.session_spec.specs.SessionRuns.{refresh_words, AsksOnce, NoFault, RepliesTo, SessionSays, SessionStops, SessionEnds}
@@ -110,7 +110,7 @@ module _ (before after : FolderState) (source : SourceState) (out gone : SinkSta
     awaited = if_all before.holds (λ tree. inl refl);
     asked = if_some before.asked (λ old is. record { first = is.first; is_first = is.is_own; more = []; asked = is.asked ∙ ap (λ (new : List (List ℕ)). Some (old ++ new)) (sym (append-nil is.first)); once = tt }) own;
     stops = stops;
-    serves = if_all before.holds (λ tree. maps_serve tree []);
+    serves = if_all before.holds (λ tree. session_maps_serve tree []);
   }
 
   memory_at_once : after.look_faults ≡ before.look_faults → Ends memory_status memory_line out gone result → StopsAtOnce
