@@ -155,6 +155,7 @@ check "the sentences that edits break" .ci/edits.sh
 check "rows of runs" rows run_rows
 check "rows of layers" rows layer_rows
 check "rows on disk" .ci/rows.sh
+check "a session through pipes" python3 -B .ci/session.py
 check "a program that must not compile" .ci/must_not_compile.sh
 check "values that are dropped once" .ci/drops.sh
 check "the smallest maps of random needs" python3 -B .ci/fewest.py --program build/salimgub

@@ -54,4 +54,5 @@ same_asked order asked other same is = subst (IsOrderOf order) (sym same) is
 pub of_words : (texts : List (List ℕ)) (asked : Asked) (result : Result Wanted WordsFault) → Asks texts asked → MatchResult result (λ wanted. IsWantedOf wanted asked) (RefusesAs (RefusesOrder asked)) → MatchResult result (IsWanted texts) (Explains texts)
 of_words texts asked (Ok (wanted.Order order)) asks is = record { asked = asked; asks = asks; is_order = is }
 of_words texts asked (Ok (wanted.Measure number)) asks is = subst (Asks texts) is asks
+of_words texts asked (Ok wanted.Session) asks is = subst (Asks texts) is asks
 of_words texts asked (Err fault) asks refuses = words_refused texts asked fault asks refuses

@@ -6,11 +6,11 @@ use Rattle.config_spec.specs.declared.ConfigFault.TheVariants as config
 use Rattle.config_spec.specs.declared.Command.TheVariants.{Link}
 use Rattle.config_spec.specs.Words.{RefusesOptions, RefusesWords, SetsBase, SetsPage}
 use Rattle.config_spec.specs.Words.RefusesOptions.{bad_base, bad_path, bad_conditions}
-use Rattle.config_spec.specs.Words.RefusesWords.{not_built as words_not_built, bad_option as words_bad_option}
-use Rattle.words_spec.specs.PlainWords.{Asked, Asks, LinkOptions, linking, editing}
+use Rattle.config_spec.specs.Words.RefusesWords.{bad_option as words_bad_option}
+use Rattle.words_spec.specs.PlainWords.{Asked, Asks, LinkOptions, linking}
 use Rattle.command_words.specs.declared.fault.WordsFault.{WordsFault}
 use Rattle.command_words.specs.declared.fault.WordsFault.TheVariants.{Told, NotPlain, Refused, Memory}
-use Rattle.command_words.specs.Faults.{RefusesAs, IsBadBase, IsBadPath, IsBadConditions, RefusesOrder, not_built, bad_option, Explains}
+use Rattle.command_words.specs.Faults.{RefusesAs, IsBadBase, IsBadPath, IsBadConditions, RefusesOrder, bad_option, Explains}
 
 -- ---- the options, in their order
 
@@ -40,16 +40,9 @@ link_refused given entries NotPlain refuses = refuses
 link_refused given entries (Refused fault) refuses = bad_option Link fault refl refuses
 link_refused given entries Memory refuses = tt
 
-pub not_built_refused : (asked : Asked) (fault : WordsFault) → asked ≡ editing → RefusesAs (λ f. f ≡ config.NotBuilt) fault → RefusesAs (RefusesOrder asked) fault
-not_built_refused asked (Told told) none refuses = refuses
-not_built_refused asked NotPlain none refuses = refuses
-not_built_refused asked (Refused fault) none refuses = subst (RefusesOrder asked) (sym refuses) (not_built none)
-not_built_refused asked Memory none refuses = tt
-
 -- ---- words
 
 of_asked : (texts : List (List ℕ)) (asked : Asked) (fault : ConfigFault) → Asks texts asked → RefusesOrder asked fault → RefusesWords texts fault
-of_asked texts asked fault asks (not_built same) = words_not_built (subst (Asks texts) same asks)
 of_asked texts asked fault asks (bad_option command other is refuses) = words_bad_option asked command other asks is refuses
 
 pub words_refused : (texts : List (List ℕ)) (asked : Asked) (fault : WordsFault) → Asks texts asked → RefusesAs (RefusesOrder asked) fault → Explains texts fault

@@ -11,7 +11,7 @@ use Rattle.config_spec.specs.declared.ConfigFault.{ConfigFault}
 use Rattle.config_spec.specs.declared.ConfigFault.TheVariants as config
 use Rattle.project_spec.specs.ProjectFiles.{IsPagePath}
 use Rattle.config_spec.specs.Words.{IsPlain, RefusesOptions, RefusesWords, command_of, options_of}
-use Rattle.words_spec.specs.PlainWords.{Asked, editing}
+use Rattle.words_spec.specs.PlainWords.{Asked}
 use Rattle.command_words.specs.declared.fault.WordsFault.{WordsFault}
 use Rattle.command_words.specs.declared.fault.WordsFault.TheVariants.{Told, NotPlain, Refused, Memory}
 
@@ -40,9 +40,8 @@ pub record IsBadConditions (given : Option (List ℕ)) (fault : ConfigFault) : T
   pub bad : AreConditions (names_in text) → ⊥
   pub is : fault ≡ config.BadConditions text
 
--- own: a session, which isn't built, or an option whose text is refused
+-- own: an option whose text is refused
 pub data RefusesOrder (asked : Asked) : ConfigFault → Type 0 where
-  not_built : asked ≡ editing → RefusesOrder asked config.NotBuilt
   bad_option :
       (command : Command) (fault : ConfigFault) → command_of asked ≡ Some command
       → RefusesOptions (options_of asked) fault → RefusesOrder asked fault

@@ -2,14 +2,14 @@
 --     command_ordered order, settings_ordered order      its command, and what its options set
 --     IsOrderOf order asked      the order is what is asked for
 --     IsOrder words order        it is what these words ask for
---     IsWantedOf wanted asked    what is wanted is what is asked for: an order, or a measure
+--     IsWantedOf wanted asked    what is wanted is what is asked for: an order, a measure or a session
 --     IsWanted words wanted      it is what these words ask for
 use Rattle.std.specs.Prelude.{◌≡◌, ℕ, List, Some, map, string_bytes}
 use Rattle.config_spec.specs.declared.Command.{Command}
 use Rattle.config_spec.specs.declared.Command.TheVariants as command
-use Rattle.config_spec.specs.Words.{Settings, Sets, no_settings, command_of, options_of, Measures}
+use Rattle.config_spec.specs.Words.{Settings, Sets, no_settings, command_of, options_of, Measures, IsSession}
 use Rattle.words_spec.specs.PlainWords.{Asked, Asks, LinkOptions, linking, unlinking, refreshing, checking, listing}
-use Rattle.words_spec.specs.PlainWords.{injecting, measuring}
+use Rattle.words_spec.specs.PlainWords.{injecting, editing, measuring}
 use Rattle.command_words.specs.declared.order.Order.{Order}
 use Rattle.command_words.specs.declared.order.Order.TheVariants.{Link, Unlink, Refresh, Check, Inject}
 use Rattle.command_words.specs.declared.order.Order.TheVariants as order
@@ -55,7 +55,9 @@ pub record IsOrder (words : List (List ℕ)) (order : Order) : Type 0 where
 abbrev pub IsWantedOf : Wanted → Asked → Type 0
 IsWantedOf (wanted.Order order) asked = IsOrderOf order asked
 IsWantedOf (wanted.Measure number) asked = asked ≡ measuring number
+IsWantedOf wanted.Session asked = asked ≡ editing
 
 abbrev pub IsWanted : List (List ℕ) → Wanted → Type 0
 IsWanted words (wanted.Order order) = IsOrder words order
 IsWanted words (wanted.Measure number) = Measures words number
+IsWanted words wanted.Session = IsSession words

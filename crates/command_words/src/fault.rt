@@ -8,7 +8,7 @@ pub enum WordsFault {
     Told(String),
     /// They aren't plain, and no more is to be said of them.
     NotPlain,
-    /// They ask for a command that isn't built, or a text of their options is refused.
+    /// A text of their options is refused.
     Refused { fault: ConfigFault },
     /// Want of memory.
     Memory,

@@ -6,7 +6,7 @@ ghost use Rattle.command_words.specs.Orders.{IsOrderOf, IsWanted, IsWantedOf, co
 
 use crate::fault::WordsFault;
 use crate::settings::{Settings, settings_of};
-use config_spec::{Command, ConfigFault};
+use config_spec::Command;
 use std::alloc::Global;
 use words_parse::{Command as Parsed, LinkValues, WordsFault as ParseFault, parse};
 
@@ -55,6 +55,8 @@ pub enum Wanted<'a> {
     Order(Order<'a>),
     /// The map of a stated tree of so many packages.
     Measure { number: u64 },
+    /// A session on the project of a folder.
+    Session,
 }
 
 /// What the words ask for, or why they are refused.
@@ -80,7 +82,7 @@ fn order_parsed<'a>(alloc: Global, parsed: Parsed<'a>) -> Result<Wanted<'a>, Wor
         Parsed::Check => Ok(Wanted::Order(Order::Check)),
         Parsed::Inject => Ok(Wanted::Order(Order::Inject)),
         Parsed::List => Ok(Wanted::Order(Order::List)),
-        Parsed::Session => Err(not_built()),
+        Parsed::Session => Ok(Wanted::Session),
         Parsed::Measure(number) => Ok(Wanted::Measure { number }),
     }
 }
@@ -97,13 +99,5 @@ fn link_order<'a>(
     match settings_of(alloc, values) {
         Ok(settings) => Ok(Wanted::Order(Order::Link { settings, entries })),
         Err(fault) => Err(fault),
-    }
-}
-
-fn not_built() -> WordsFault
-    ensures { RefusesAs (λ fault. fault ≡ ConfigFault.NotBuilt) result }
-{
-    WordsFault::Refused {
-        fault: ConfigFault::NotBuilt,
     }
 }

@@ -6,7 +6,7 @@ use Rattle.words_spec.specs.PlainWords.{LinkOptions}
 use Rattle.config_spec.specs.declared.Command.{Command}
 use Rattle.config_spec.specs.declared.ConfigFault.{ConfigFault}
 use Rattle.config_spec.specs.declared.ProjectFault.{ProjectFault}
-use Rattle.config_spec.specs.Words.{Settings, Sets, RefusesOptions, IsPlain, IsCommandOf, Measures, RefusesWords}
+use Rattle.config_spec.specs.Words.{Settings, Sets, RefusesOptions, IsPlain, IsCommandOf, Measures, IsSession, RefusesWords}
 use Rattle.config_spec.specs.Projects.{HoldsProject, Configures, IsConfigOf, IsConfigFor, CanRefuseConfig}
 
 -- ---- words
@@ -22,8 +22,8 @@ pub record OptionsDecide (options : LinkOptions) : Type 0 where
 abbrev pub OptionsAreJudged : Type 0
 OptionsAreJudged = (options : LinkOptions) → OptionsDecide options
 
--- own: words have one command, one fault or one number of packages at most, and never two of these; plain words have one
--- of them, and others none
+-- own: words have one command, one fault or one number of packages at most, or ask for a session, and never two of these;
+-- plain words have one of them, and others none
 pub record WordsDecide (words : List (List ℕ)) : Type 0 where
   pub one_command : (some other : Command) → IsCommandOf words some → IsCommandOf words other → some ≡ other
   pub one_fault : (some other : ConfigFault) → RefusesWords words some → RefusesWords words other → some ≡ other
@@ -31,12 +31,17 @@ pub record WordsDecide (words : List (List ℕ)) : Type 0 where
   pub one_measure : (some other : ℕ) → Measures words some → Measures words other → some ≡ other
   pub no_command : (number : ℕ) (command : Command) → Measures words number → IsCommandOf words command → ⊥
   pub no_fault : (number : ℕ) (fault : ConfigFault) → Measures words number → RefusesWords words fault → ⊥
+  pub session_or_command : (command : Command) → IsSession words → IsCommandOf words command → ⊥
+  pub session_or_fault : (fault : ConfigFault) → IsSession words → RefusesWords words fault → ⊥
+  pub session_or_measure : (number : ℕ) → IsSession words → Measures words number → ⊥
   pub some :
       (IsPlain words → ⊥)
       ⊎ (((command : Command) × IsCommandOf words command)
-      ⊎ (((fault : ConfigFault) × RefusesWords words fault) ⊎ ((number : ℕ) × Measures words number)))
+      ⊎ (((fault : ConfigFault) × RefusesWords words fault)
+      ⊎ (((number : ℕ) × Measures words number) ⊎ IsSession words)))
 
--- own law: whatever the words are, they have no meaning, or one command, or one fault, or one number of packages
+-- own law: whatever the words are, they have no meaning, or one command, or one fault, or one number of packages, or ask
+-- for a session
 abbrev pub WordsAreJudged : Type 0
 WordsAreJudged = (words : List (List ℕ)) → WordsDecide words
 

@@ -7,7 +7,8 @@
 --     IsPlain words                     the words have a meaning
 --     IsCommandOf words command         they ask for this command, and none of their texts is refused
 --     Measures words number             they ask for the map of a stated tree of so many packages
---     RefusesWords words fault          plain words that ask for what isn't built, or have such a text
+--     IsSession words                   they ask for a session on a project
+--     RefusesWords words fault          plain words that ask for a command and have such a text
 use Rattle.std.specs.Prelude.{◌≡◌, ℕ, List, Option, Some, None}
 use Rattle.url_spec.specs.Bases.{base_of}
 use Rattle.node_spec.specs.Conditions.{AreConditions, names_in}
@@ -18,9 +19,9 @@ use Rattle.config_spec.specs.declared.Command.{Command}
 use Rattle.config_spec.specs.declared.Command.TheVariants.{Link, Unlink, Refresh, Inject, Check}
 use Rattle.config_spec.specs.declared.Command.TheVariants.{List as Lists}
 use Rattle.config_spec.specs.declared.ConfigFault.{ConfigFault}
-use Rattle.config_spec.specs.declared.ConfigFault.TheVariants.{NotBuilt, BadBase, BadPath, BadConditions}
+use Rattle.config_spec.specs.declared.ConfigFault.TheVariants.{BadBase, BadPath, BadConditions}
 
--- own: `session` isn't built yet, and a measure needs no project
+-- own: a session is no command that ends by itself, and a measure needs no project
 abbrev pub command_of : Asked → Option Command
 command_of (linking options entries) = Some Link
 command_of (unlinking entries) = Some Unlink
@@ -100,8 +101,10 @@ pub record IsCommandOf (words : List (List ℕ)) (command : Command) : Type 0 wh
 abbrev pub Measures : List (List ℕ) → ℕ → Type 0
 Measures words number = Asks words (measuring number)
 
+abbrev pub IsSession : List (List ℕ) → Type 0
+IsSession words = Asks words editing
+
 pub data RefusesWords (words : List (List ℕ)) : ConfigFault → Type 0 where
-  not_built : Asks words editing → RefusesWords words NotBuilt
   bad_option :
       (asked : Asked) (command : Command) (fault : ConfigFault) → Asks words asked → command_of asked ≡ Some command
       → RefusesOptions (options_of asked) fault → RefusesWords words fault

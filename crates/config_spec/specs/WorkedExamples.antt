@@ -16,9 +16,9 @@ use Rattle.words_spec.specs.PlainWords.{LinkOptions, no_options, linking, unlink
 use Rattle.words_spec.specs.PlainWords.{listing, injecting}
 use Rattle.config_spec.specs.declared.Command.TheVariants.{Link}
 use Rattle.config_spec.specs.declared.ProjectFault.TheVariants.{Absent, TooLarge, NotProject}
-use Rattle.config_spec.specs.declared.ConfigFault.TheVariants.{NotBuilt, BadBase, BadPath, BadConditions, Project}
+use Rattle.config_spec.specs.declared.ConfigFault.TheVariants.{BadBase, BadPath, BadConditions, Project}
 use Rattle.config_spec.specs.declared.ConfigFault.TheVariants.{NoBase, NotLinked, TooManyEntries}
-use Rattle.config_spec.specs.Words.{Settings, Sets, no_settings, RefusesOptions, Measures, RefusesWords}
+use Rattle.config_spec.specs.Words.{Settings, Sets, no_settings, RefusesOptions, IsSession, Measures, RefusesWords}
 use Rattle.config_spec.specs.Projects.{project_path, config_by, IsConfigOf, RefusesConfig}
 
 -- ---- options
@@ -158,7 +158,7 @@ pub record EntryExamples : Type 0 where
 -- ---- whole words
 
 pub record WordExamples : Type 0 where
-  pub not_built : RefusesWords (codes "session" ∷ []) NotBuilt
+  pub session : IsSession (codes "session" ∷ [])
   pub measured : Measures (codes "measure" ∷ codes "200" ∷ []) 200
   pub no_base : RefusesConfig (codes "link" ∷ codes "./app.mjs" ∷ []) bare_tree NoBase
   pub refresh_nothing : RefusesConfig (codes "refresh" ∷ []) bare_tree (Project Absent)

@@ -43,8 +43,6 @@ pub enum ProjectFault {
 /// Why there is no config, with what is shown of it.
 #[derive(Debug, Drop)]
 pub enum ConfigFault {
-    /// Words that aren't built.
-    NotBuilt,
     /// A text that gives no base.
     BadBase { text: Text },
     /// A text that is no page's path.

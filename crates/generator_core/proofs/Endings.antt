@@ -103,7 +103,6 @@ project_is_not_zero (project.NotProject at) = λ e. omega arith
 project_is_not_zero (project.Above which) = λ e. omega arith
 
 config_is_not_zero : (why : ConfigFault) → config_status why ≢ 0
-config_is_not_zero config.NotBuilt = λ e. omega arith
 config_is_not_zero (config.BadBase text) = λ e. omega arith
 config_is_not_zero (config.BadPath text) = λ e. omega arith
 config_is_not_zero (config.BadConditions text) = λ e. omega arith

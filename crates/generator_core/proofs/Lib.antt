@@ -6,3 +6,4 @@ pub mod Configurings
 pub mod Runs
 pub mod Listings
 pub mod Measurings
+pub mod HeldSessions

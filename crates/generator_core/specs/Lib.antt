@@ -6,3 +6,4 @@ pub mod Configuring
 pub mod Spending
 pub mod Running
 pub mod Measuring
+pub mod RunEnds

@@ -2,14 +2,15 @@ ghost use Rattle.std.specs.Prelude.{◌≡◌, ◌≤◌, List, ℕ, map, string
 ghost use Rattle.words_spec.specs.PlainWords.{most_packages};
 ghost use Rattle.config_spec.specs.declared.Command.{Command as Commanded};
 ghost use Rattle.config_spec.specs.declared.Command.TheVariants.{Inject, Check, List as ListModules};
-ghost use Rattle.config_spec.specs.Words.{IsCommandOf};
+ghost use Rattle.config_spec.specs.Words.{IsSession};
 ghost use Rattle.generator_spec.specs.Commands.{IsGenerating};
 ghost use Rattle.generator_spec.specs.Ending.{Ends, EndsAs, TellsRefusal};
 ghost use Rattle.generator_spec.specs.Asked.{AsksInOrder};
-ghost use Rattle.generator_spec.specs.Steps.{RunSpends};
+ghost use Rattle.session_spec.specs.SessionRuns.{SessionEnds};
 ghost use Rattle.command_words.specs.Orders.{IsOrder, command_ordered};
 ghost use Rattle.generator_core.specs.Preparing.{KeepsProject, shown_file};
 ghost use Rattle.generator_core.specs.Measuring.{RunsMeasure, TellsMeasure};
+ghost use Rattle.generator_core.specs.RunEnds.{IsIdle, RunEnds};
 ghost use Rattle.generator_core.specs.Running.{RunsCommand};
 ghost use Rattle.generator_core.specs.Spending.{CommandSpends};
 ghost use Rattle.generator_core.specs.Writing.{TellsStop, TellsWords, EndsWriting, WritesFiles};
@@ -28,33 +29,31 @@ use run_texts::{
     BAD_WORDS, DONE, MEMORY, READ_FAULT, WRITE_FAULT, done_line, line_of, measure_line,
     memory_line, not_plain_line, read_fault_line, status_of, write_fault_line,
 };
+use session_run::session;
 use std::alloc::Global;
 use std::sync::ledger::Ledger;
 use tree_model::{Folder, Sink, Source};
 
 /// Does all that the program does: reads the words and the project, generates from the folder, writes the map and the
-/// project or the page, or checks the map that is there, and says how it ended. Answers the exit status.
+/// project or the page, or checks the map that is there, and says how it ended; or holds a session, whose lines come from
+/// the input. Answers the exit status.
 pub fn run<F: Folder, I: Source, O: Sink, L: Ledger>(
     alloc: Global,
     words: &[String],
     folder: &mut F,
-    _input: &mut I,
+    input: &mut I,
     out: &mut O,
     steps: &mut Steps<L>,
 ) -> u8
-    ensures end { EndsAs (map string_bytes words.now) (F.state folder.old) (F.state folder.new) (O.state out.old)
-        (O.state out.new) result }
-    ensures idle { ((command : Commanded) → IsCommandOf (map string_bytes words.now) command → ⊥)
-        → folder.new ≡ folder.old }
-    ensures input { _input.new ≡ _input.old }
-    ensures asked { IfSome (F.state folder.old).asked
-        (λ old. AsksInOrder (map string_bytes words.now) (F.state folder.old) old (F.state folder.new)) }
-    ensures steps { RunSpends (map string_bytes words.now) (O.state out.old) (O.state out.new) result steps.old
-        steps.new }
+    ensures ends { RunEnds (map string_bytes words.now) (F.state folder.old) (F.state folder.new) (I.state input.old)
+        (I.state input.new) (O.state out.old) (O.state out.new) result steps.old steps.new }
+    ensures idle { IsIdle (map string_bytes words.now) → folder.new ≡ folder.old }
+    ensures input { (IsSession (map string_bytes words.now) → ⊥) → input.new ≡ input.old }
 {
     match order_of(alloc, words) {
         Ok(Wanted::Order(order)) => ordered(alloc, folder, order, out, steps),
         Ok(Wanted::Measure { number }) => measure(alloc, number, out, steps),
+        Ok(Wanted::Session) => hold(alloc, folder, input, out, steps),
         Err(fault) => misworded(alloc, fault, out),
     }
 }
@@ -69,6 +68,23 @@ fn misworded<O: Sink>(alloc: Global, fault: WordsFault, out: &mut O) -> u8
         WordsFault::NotPlain => tell(out, not_plain_line(), BAD_WORDS),
         WordsFault::Refused { fault } => refuse(alloc, &Refusal::Config { fault }, out),
         WordsFault::Memory => tell(out, memory_line(), MEMORY),
+    }
+}
+
+// `session`: looks for the project, and opens a session on it.
+fn hold<F: Folder, I: Source, O: Sink, L: Ledger>(
+    alloc: Global,
+    folder: &mut F,
+    input: &mut I,
+    out: &mut O,
+    steps: &mut Steps<L>,
+) -> u8
+    ensures { SessionEnds (F.state folder.old) (F.state folder.new) (I.state input.old) (I.state input.new)
+        (O.state out.old) (O.state out.new) result }
+{
+    match configured(alloc, folder, Order::Refresh) {
+        Ok(config) => session(alloc, config, folder, input, out, steps),
+        Err(stop) => close(alloc, stop, out),
     }
 }
 

@@ -6,8 +6,8 @@ use Rattle.trace_spec.specs.Modules.{Config}
 use Rattle.config_spec.specs.declared.Command.{Command}
 use Rattle.config_spec.specs.declared.ConfigFault.{ConfigFault}
 use Rattle.words_spec.specs.PlainWords.{editing, measuring}
-use Rattle.config_spec.specs.Words.{IsCommandOf, IsPlain, Measures, RefusesWords}
-use Rattle.config_spec.specs.Words.RefusesWords.{not_built, bad_option}
+use Rattle.config_spec.specs.Words.{IsCommandOf, IsPlain, IsSession, Measures, RefusesWords}
+use Rattle.config_spec.specs.Words.RefusesWords.{bad_option}
 use Rattle.config_spec.specs.Projects.{Configures, IsConfigOf, IsConfigFor, RefusesConfig}
 use Rattle.config_spec.proofs.Configs.{configs_are_judged}
 use Rattle.config_spec.proofs.ConfigsFit.{as_outcome, configs_are_projects}
@@ -33,7 +33,6 @@ pub command_is_plain : (words : List (List ℕ)) (command : Command) → IsComma
 command_is_plain words command is = record { asked = is.asked; asks = is.asks }
 
 pub refused_is_plain : (words : List (List ℕ)) (fault : ConfigFault) → RefusesWords words fault → IsPlain words
-refused_is_plain words fault (not_built asks) = record { asked = editing; asks = asks }
 refused_is_plain words fault (bad_option asked command why asks is refuses) = record { asked = asked; asks = asks }
 
 pub measured_is_plain : (words : List (List ℕ)) (number : ℕ) → Measures words number → IsPlain words
@@ -83,6 +82,7 @@ pub data Judged (words : List (List ℕ)) (tree : Tree) : Type 0 where
   config_refused : (fault : ConfigFault) → RefusesConfig words tree fault → Judged words tree
   configured : (command : Command) (config : Config) → IsConfigOf words tree command config → Judged words tree
   measured : (number : ℕ) → Measures words number → Judged words tree
+  session : IsSession words → Judged words tree
 
 by_outcome : (words : List (List ℕ)) (tree : Tree) (command : Command) (outcome : Result Config ConfigFault) → Configures words tree command outcome → Judged words tree
 by_outcome words tree command (Ok config) is = configured command config is
@@ -96,7 +96,10 @@ judged words tree =
         | inl command ↦ let found = (configs_are_judged words tree).some command.0 command.1 in by_outcome words tree command.0 found.0 found.1
         | inr more ↦ elim more [
           | inl refused ↦ words_refused refused.0 refused.1
-          | inr number ↦ measured number.0 number.1
+          | inr last ↦ elim last [
+            | inl number ↦ measured number.0 number.1
+            | inr asks ↦ session asks
+          ]
         ]
       ]
     ]
@@ -109,7 +112,10 @@ plain_or_not words =
         | inl command ↦ inl (command_is_plain words command.0 command.1)
         | inr more ↦ elim more [
           | inl refused ↦ inl (refused_is_plain words refused.0 refused.1)
-          | inr number ↦ inl (measured_is_plain words number.0 number.1)
+          | inr last ↦ elim last [
+            | inl number ↦ inl (measured_is_plain words number.0 number.1)
+            | inr asks ↦ inl (record { asked = editing; asks = asks })
+          ]
         ]
       ]
     ]

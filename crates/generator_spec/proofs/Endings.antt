@@ -18,7 +18,7 @@ use Rattle.config_spec.proofs.WordsJudged.{words_are_judged}
 use Rattle.config_spec.specs.declared.ConfigFault.{ConfigFault}
 use Rattle.config_spec.specs.Words.{IsPlain, options_of, RefusesOptions, RefusesWords}
 use Rattle.config_spec.specs.Words.RefusesOptions.{bad_base, bad_path, bad_conditions}
-use Rattle.config_spec.specs.Words.RefusesWords.{not_built, bad_option}
+use Rattle.config_spec.specs.Words.RefusesWords.{bad_option}
 use Rattle.config_spec.specs.Projects.{RefusesAsked, measure_config}
 use Rattle.config_spec.specs.Projects.IsReadFault.{too_large, not_project, above}
 use Rattle.config_spec.specs.Projects.RefusesAsked.{bad_project, no_project, no_base, too_many_entries, not_linked}
@@ -47,7 +47,6 @@ data IsRefusing (status : ℕ) : Type 0 where
   three : status ≡ 3 → IsRefusing status
   six : status ≡ 6 → IsRefusing status
   seven : status ≡ 7 → IsRefusing status
-  nine : status ≡ 9 → IsRefusing status
 
 options_refusing : (options : LinkOptions) (fault : ConfigFault) → RefusesOptions options fault → IsRefusing (config_status fault)
 options_refusing options fault (bad_base text given none) = two refl
@@ -55,7 +54,6 @@ options_refusing options fault (bad_path base text sets given none) = two refl
 options_refusing options fault (bad_conditions base page text sets sets_page given none) = two refl
 
 words_refusing : (words : List (List ℕ)) (fault : ConfigFault) → RefusesWords words fault → IsRefusing (config_status fault)
-words_refusing words fault (not_built asks) = nine refl
 words_refusing words fault (bad_option asked command why asks is refuses) = options_refusing (options_of asked) fault refuses
 
 asked_refusing : (asked : Asked) (fault : ConfigFault) → RefusesAsked asked fault → IsRefusing (config_status fault)
@@ -125,7 +123,6 @@ refusal_status status (two e) = inr (inl e)
 refusal_status status (three e) = inr (inr (inl e))
 refusal_status status (six e) = inr (inr (inr (inr (inl e))))
 refusal_status status (seven e) = inr (inr (inr (inr (inr (inl e)))))
-refusal_status status (nine e) = inr (inr (inr (inr (inr (inr (inr e))))))
 
 no_refusing : (status : ℕ) → IsRefusing status → (status ≢ 0) × (status ≢ 4) × (status ≢ 5)
 no_refusing status (one e) = (λ f. omega arith, λ f. omega arith, λ f. omega arith)
@@ -133,7 +130,6 @@ no_refusing status (two e) = (λ f. omega arith, λ f. omega arith, λ f. omega 
 no_refusing status (three e) = (λ f. omega arith, λ f. omega arith, λ f. omega arith)
 no_refusing status (six e) = (λ f. omega arith, λ f. omega arith, λ f. omega arith)
 no_refusing status (seven e) = (λ f. omega arith, λ f. omega arith, λ f. omega arith)
-no_refusing status (nine e) = (λ f. omega arith, λ f. omega arith, λ f. omega arith)
 
 check_not_two : (differing : List (List ℕ)) → check_status differing ≢ 2
 check_not_two [] e = omega (arith, e)
@@ -191,7 +187,7 @@ one_line_text line = append-nil line
 module _ (words : List (List ℕ)) (before after : FolderState) (status : ℕ) (lines : List (List ℕ)) where
   said_status : Says words before after status lines → IsStatus status
   said_status (says.outcome shape o l w) = shaped_is_status status (shaped_status words status lines shape)
-  said_status (says.memory s t k l w) = inr (inr (inr (inr (inr (inr (inr (inr (inl s))))))))
+  said_status (says.memory s t k l w) = inr (inr (inr (inr (inr (inr (inr (inr s)))))))
   said_status (says.read_fault command is_command s t k rose w) = inr (inr (inr (inr (inr (inl s)))))
   said_status (says.write_fault line counted stops s t l rose) = inr (inl s)
 

@@ -28,7 +28,7 @@ use Rattle.generator_spec.specs.Commands.{IsGenerating, map_path, HoldsMap, Open
 use Rattle.generator_spec.specs.Commands.{NewFile, new_file, map_and_project, Writes, Writes as writes}
 use Rattle.generator_spec.specs.Generation.{Generates, IsTooWide, IsTooLarge}
 use Rattle.project_spec.specs.ProjectFiles.{project_text}
-use Rattle.config_spec.specs.Words.{IsPlain, Measures, RefusesWords}
+use Rattle.config_spec.specs.Words.{IsPlain, IsSession, Measures, RefusesWords}
 use Rattle.config_spec.specs.declared.ConfigFault.{ConfigFault}
 use Rattle.workload_spec.specs.Packages.{tree_of}
 use Rattle.config_spec.specs.Projects.{IsConfigOf, RefusesConfig, measure_config, project_path}
@@ -547,12 +547,13 @@ module _ (words : List (List ℕ)) (tree : Tree) (is_tree : IsTree tree) where
         let found = some_generation (tree_of number) measure_config all e in
         by_measured found.0 found.2
 
-  by_judgement : Judged words tree → HasOutcome words tree
-  by_judgement (judgement.measured number asks) = by_measure number asks (traced (get (tree_of number)) measure_config) refl
-  by_judgement (judgement.not_plain none) = no_meaning none
-  by_judgement (judgement.words_refused fault is) = by_why (Configured fault) (runs.by_words fault is)
-  by_judgement (judgement.config_refused fault is) = by_why (Configured fault) (runs.by_project fault is)
-  by_judgement (judgement.configured command config is) = by_opening command config is (opened_or_refused tree config command)
+  by_judgement : (IsSession words → ⊥) → Judged words tree → HasOutcome words tree
+  by_judgement other (judgement.session asks) = absurd (other asks)
+  by_judgement other (judgement.measured number asks) = by_measure number asks (traced (get (tree_of number)) measure_config) refl
+  by_judgement other (judgement.not_plain none) = no_meaning none
+  by_judgement other (judgement.words_refused fault is) = by_why (Configured fault) (runs.by_words fault is)
+  by_judgement other (judgement.config_refused fault is) = by_why (Configured fault) (runs.by_project fault is)
+  by_judgement other (judgement.configured command config is) = by_opening command config is (opened_or_refused tree config command)
 
 pub some_outcome : SomeOutcome
-some_outcome words tree is_tree = by_judgement words tree is_tree (judged words tree)
+some_outcome words tree other is_tree = by_judgement words tree is_tree other (judged words tree)

@@ -79,7 +79,6 @@ project_is_another (project.NotProject at) = other_line 98 (project_line (projec
 project_is_another (project.Above which) = other_line 108 (project_line (project.Above which)) refl (λ e. omega arith)
 
 config_is_another : (why : ConfigFault) → IsAnother (config_line why)
-config_is_another config.NotBuilt = other_line 110 (config_line config.NotBuilt) refl (λ e. omega arith)
 config_is_another (config.BadBase text) = other_line 119 (config_line (config.BadBase text)) refl (λ e. omega arith)
 config_is_another (config.BadPath text) = other_line 119 (config_line (config.BadPath text)) refl (λ e. omega arith)
 config_is_another (config.BadConditions text) = other_line 119 (config_line (config.BadConditions text)) refl (λ e. omega arith)

@@ -10,7 +10,7 @@ use Rattle.trace_spec.specs.declared.TraceFault.{TraceFault}
 use Rattle.trace_spec.specs.Modules.{Config}
 use Rattle.trace_spec.specs.Checks.{Gathered}
 use Rattle.trace_spec.specs.Traces.{traced}
-use Rattle.config_spec.specs.Words.{IsPlain}
+use Rattle.config_spec.specs.Words.{IsPlain, IsSession}
 use Rattle.generator_spec.specs.Digests.{with_digests}
 use Rattle.generator_spec.specs.Generation.{Generates, IsTooWide, IsTooLarge, map_base}
 use Rattle.generator_spec.specs.Outcome.{Outcome}
@@ -68,9 +68,10 @@ pub record HasOutcome (words : List (List ℕ)) (tree : Tree) : Type 0 where
   pub after : Tree
   pub outcome : Outcome words tree status lines after
 
--- words over a tree have an outcome
+-- words over a tree have an outcome, unless they ask for a session
 abbrev pub SomeOutcome : Type 0
-SomeOutcome = (words : List (List ℕ)) (tree : Tree) → IsTree tree → HasOutcome words tree
+SomeOutcome =
+    (words : List (List ℕ)) (tree : Tree) → (IsSession words → ⊥) → IsTree tree → HasOutcome words tree
 
 -- ---- ends
 

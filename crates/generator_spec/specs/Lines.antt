@@ -44,7 +44,7 @@ use Rattle.trace_spec.specs.Checks.{Gathered}
 use Rattle.generator_spec.specs.declared.MapFileFault.{MapFileFault}
 use Rattle.generator_spec.specs.declared.MapFileFault.TheVariants as map_file
 use Rattle.config_spec.specs.declared.ConfigFault.{ConfigFault}
-use Rattle.config_spec.specs.declared.ConfigFault.TheVariants.{NotBuilt, BadBase, BadPath, BadConditions, Project}
+use Rattle.config_spec.specs.declared.ConfigFault.TheVariants.{BadBase, BadPath, BadConditions, Project}
 use Rattle.config_spec.specs.declared.ConfigFault.TheVariants.{NoBase, NotLinked, TooManyEntries}
 use Rattle.config_spec.specs.declared.ProjectFault.{ProjectFault}
 use Rattle.config_spec.specs.declared.ProjectFault.TheVariants as project
@@ -56,7 +56,7 @@ use Rattle.generator_spec.specs.declared.Refusal.TheVariants.{Config as Configur
 use Rattle.generator_spec.specs.declared.Refusal.TheVariants as refusal
 use Rattle.generator_spec.specs.Commands.{map_file_limit}
 use Rattle.generator_spec.specs.Statuses.{refused_status, words_status, limit_status, read_fault_status, file_status}
-use Rattle.generator_spec.specs.Statuses.{memory_status, not_built_status}
+use Rattle.generator_spec.specs.Statuses.{memory_status}
 
 -- own: the exit statuses
 abbrev pub trace_status : TraceFault → ℕ
@@ -93,7 +93,6 @@ project_status (project.NotProject at) = file_status
 project_status (project.Above which) = limit_status
 
 abbrev pub config_status : ConfigFault → ℕ
-config_status NotBuilt = not_built_status
 config_status (BadBase text) = words_status
 config_status (BadPath text) = words_status
 config_status (BadConditions text) = words_status
@@ -215,7 +214,6 @@ abbrev pub text_line : List ℕ → List ℕ → List ℕ
 text_line front text = front ++ (quoted text ++ end_of_line)
 
 abbrev pub config_line : ConfigFault → List ℕ
-config_line NotBuilt = codes "not built: words" ++ end_of_line
 config_line (BadBase text) = text_line (codes "words: BadBase ") text
 config_line (BadPath text) = text_line (codes "words: BadPath ") text
 config_line (BadConditions text) = text_line (codes "words: BadConditions ") text

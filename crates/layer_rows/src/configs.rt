@@ -46,7 +46,6 @@ fn told_of(alloc: Global, name: &str, value: &str) -> io::Result<String> {
 
 fn fault_text(alloc: Global, fault: &ConfigFault) -> io::Result<String> {
     match fault {
-        ConfigFault::NotBuilt => owned(alloc, "not built"),
         ConfigFault::BadBase { text } => told_of(alloc, "bad base ", text.as_str()),
         ConfigFault::BadPath { text } => told_of(alloc, "bad path ", text.as_str()),
         ConfigFault::BadConditions { text } => told_of(alloc, "bad conditions ", text.as_str()),
@@ -71,6 +70,7 @@ fn outcome_of(
         Ok(Wanted::Measure { number }) => {
             return Ok((format!(in alloc; "measure {number}")?, None));
         }
+        Ok(Wanted::Session) => return Ok((owned(alloc, "session")?, None)),
         Err(WordsFault::Refused { fault }) => return Ok((fault_text(alloc, &fault)?, None)),
         Err(WordsFault::Told(_)) => return Ok((owned(alloc, "told")?, None)),
         Err(WordsFault::NotPlain) => return Ok((owned(alloc, "not plain")?, None)),

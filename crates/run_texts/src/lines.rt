@@ -159,7 +159,6 @@ fn config_line(alloc: Global, fault: &ConfigFault) -> Result<Vec<u8>, Memory>
     ensures { IfOk result (λ line. line.items ≡ spec.config_line fault.now) }
 {
     match fault {
-        ConfigFault::NotBuilt => Vec::from_slice(alloc, b"not built: words\n".as_slice()),
         ConfigFault::BadBase { text } => text_line(alloc, "words: BadBase ", text.as_str()),
         ConfigFault::BadPath { text } => text_line(alloc, "words: BadPath ", text.as_str()),
         ConfigFault::BadConditions { text } => {

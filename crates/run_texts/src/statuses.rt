@@ -25,8 +25,6 @@ const REFUSED: u8 = 1;
 const LIMIT: u8 = 3;
 /// A file that the command needs isn't there, or isn't of its form.
 const BAD_FILE: u8 = 7;
-/// What is asked for isn't built.
-const NOT_BUILT: u8 = 9;
 
 /// The exit status of a refusal.
 pub fn status_of(refusal: &Refusal) -> u8
@@ -45,7 +43,6 @@ fn config_status(fault: &ConfigFault) -> u8
     ensures { result ≡ spec.config_status fault.now }
 {
     match fault {
-        ConfigFault::NotBuilt => NOT_BUILT,
         ConfigFault::BadBase { text: _ } => BAD_WORDS,
         ConfigFault::BadPath { text: _ } => BAD_WORDS,
         ConfigFault::BadConditions { text: _ } => BAD_WORDS,

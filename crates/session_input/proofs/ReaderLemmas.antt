@@ -1,5 +1,5 @@
 -- What a reader took, one take after another.
-use Rattle.std.proofs.Common.{◌≡◌, ◌<◌, ◌+◌, ◌++◌, ◌∷◌, [], ℕ, List, length, Option, Some, None, Result, Ok, Err, refl, sym, ap, ◌∙◌, subst, inl, inr, arith}
+use Rattle.std.proofs.Common.{◌≡◌, ◌<◌, ◌≤◌, ◌+◌, ◌++◌, ◌∷◌, [], ℕ, List, length, Option, Some, None, Result, Ok, Err, refl, sym, ap, ◌∙◌, subst, inl, inr, arith}
 use Rattle.std.proofs.lemmas.List.{append-nil, append_assoc, length-append}
 use Rattle.std.specs.Prelude.{IfSome}
 use Rattle.tree_spec.specs.Counts.{Rose}
@@ -11,7 +11,7 @@ use Rattle.session_input.specs.declared.reading.InputFault.{InputFault}
 use Rattle.session_input.specs.declared.reading.InputFault.TheVariants.{ReadFault, Memory}
 use Rattle.session_input.specs.declared.reading.Reading.{Reading}
 use Rattle.session_input.specs.declared.reading.Reading.TheVariants as reading
-use Rattle.session_input.specs.Readers.{Waiting, Grows, TakesSome, Brings, BringsNothing, BringsBeyond, FailsToBring}
+use Rattle.session_input.specs.Readers.{Waiting, Grows, IsPiece, Brings, BringsNothing, BringsBeyond, FailsToBring, LosesPiece}
 use Rattle.session_input.specs.Readers.{Stays, ReadsAs, IsWithin, IsBeyond, Reads, FaultsBy, ReadsNext, GoesOn, Gains}
 
 -- ---- takes
@@ -59,14 +59,21 @@ pub gains_more : (before middle after : Waiting) (source between later : SourceS
 gains_more before middle after source between later gains goes = record {
   taken = gains.taken ++ goes.brings.more;
   takes = takes_then source between later gains.taken goes.brings.more gains.takes goes.brings.takes.takes;
-  needed = inr (record { front = gains.taken; last = goes.brings.more; whole = refl; needed = ap read_line (sym gains.grows.unread) ∙ goes.waits });
+  needed = inr (record {
+    front = gains.taken;
+    last = goes.brings.more;
+    whole = refl;
+    some = goes.brings.piece.some;
+    short = goes.brings.piece.short;
+    needed = ap read_line (sym gains.grows.unread) ∙ goes.waits;
+  });
   grows = grows_then before middle after gains.taken goes.brings.more gains.grows goes.brings.grows;
   quiet = goes.brings.takes.quiet ∙ gains.quiet;
 }
 
 pub less_room : (before after : Waiting) (source later : SourceState) → GoesOn before after source later → after.room < before.room
 less_room before after source later goes =
-    let some = goes.brings.some in
+    let some = goes.brings.piece.some in
     let room = goes.brings.grows.room in
     omega (arith, some, room)
 
@@ -94,8 +101,16 @@ needed_further before middle front more grows needed (inr last) =
       front = front ++ last.front;
       last = last.last;
       whole = ap (λ (m : List ℕ). front ++ m) last.whole ∙ sym (append_assoc front last.front last.last);
+      some = last.some;
+      short = last.short;
       needed = read_further before middle front last.front grows unfinished last.needed;
     })
+
+few_further : (before middle : Waiting) (front more : List ℕ) → Grows before front middle → length more ≤ middle.room + 1 → length (front ++ more) ≤ before.room + 1
+few_further before middle front more grows few =
+    let room = grows.room in
+    let long = length-append front more in
+    omega (arith, few, room, long)
 
 beyond_further : (before middle : Waiting) (front more : List ℕ) → Grows before front middle → IsBeyond middle more → IsBeyond before (front ++ more)
 beyond_further before middle front more grows is = record {
@@ -132,6 +147,7 @@ reads_further before middle after source between later result gains next = recor
   taken = gains.taken ++ next.taken;
   takes = takes_then source between later gains.taken next.taken gains.takes next.takes;
   needed = needed_further before middle gains.taken next.taken gains.grows gains.needed next.needed;
+  few = few_further before middle gains.taken next.taken gains.grows next.few;
   reads = reads_after before middle after gains.taken next.taken later result gains.grows next.reads;
   faults = faults_after source between later result gains.quiet next.faults;
 }
@@ -151,13 +167,14 @@ module _ (before : Waiting) where
 
   pub reads_at_hand : (after : Waiting) (source : SourceState) (read : Reading) → ReadsAs (read_line before.unread) before after (Some read) → ReadsNext before after source source (Ok read)
   reads_at_hand after source read is =
-      record { taken = []; takes = takes_none source; needed = inl refl; reads = hand_reads after source read is; faults = refl }
+      record { taken = []; takes = takes_none source; needed = inl refl; few = omega arith; reads = hand_reads after source read is; faults = refl }
 
   pub no_memory_at_hand : (after : Waiting) (source : SourceState) → ReadsNext before after source source (Err Memory)
-  no_memory_at_hand after source = record { taken = []; takes = takes_none source; needed = inl refl; reads = tt; faults = refl }
+  no_memory_at_hand after source = record { taken = []; takes = takes_none source; needed = inl refl; few = omega arith; reads = tt; faults = refl }
 
-  first_needed : (more : List ℕ) → read_line before.unread ≡ unfinished → IsNeeded before.unread more
-  first_needed more waits = inr (record { front = []; last = more; whole = refl; needed = no_more ∙ waits })
+  first_needed : (more : List ℕ) → IsPiece more → read_line before.unread ≡ unfinished → IsNeeded before.unread more
+  first_needed more piece waits =
+      inr (record { front = []; last = more; whole = refl; some = piece.some; short = piece.short; needed = no_more ∙ waits })
 
   module _ (middle after : Waiting) (source later : SourceState) (stays : Stays (read_line before.unread) unfinished before middle) where
     within_none : IsWithin before [] unfinished
@@ -168,23 +185,30 @@ module _ (before : Waiting) where
 
     pub ends_here : BringsNothing middle after source later → ReadsNext before after source later (Ok reading.Ended)
     ends_here brings =
-        record { taken = []; takes = brings.takes.takes; needed = inl refl; reads = (within_none, brings.takes.spent); faults = brings.takes.quiet }
+        record { taken = []; takes = brings.takes.takes; needed = inl refl; few = omega arith; reads = (within_none, brings.takes.spent); faults = brings.takes.quiet }
 
     pub is_too_long : BringsBeyond middle after source later → ReadsNext before after source later (Ok reading.TooLong)
     is_too_long brings = record {
       taken = brings.byte ∷ [];
       takes = brings.takes.takes;
-      needed = first_needed (brings.byte ∷ []) stays.is;
+      needed = first_needed (brings.byte ∷ []) (record { some = omega arith; short = omega arith }) stays.is;
+      few = omega arith;
       reads = record { front = []; byte = brings.byte; whole = refl; full = sym (ap (λ (w : Waiting). w.room) (sym stays.same) ∙ brings.full); is = no_more ∙ stays.is };
       faults = brings.takes.quiet;
     }
 
     pub take_fails : FailsToBring middle after source later → ReadsNext before after source later (Err ReadFault)
-    take_fails fails = record { taken = []; takes = fails.fails.takes; needed = inl refl; reads = within_none; faults = fails.fails.rose }
+    take_fails fails = record { taken = []; takes = fails.fails.takes; needed = inl refl; few = omega arith; reads = within_none; faults = fails.fails.rose }
 
-    pub no_memory_for_more : (more : List ℕ) → TakesSome source more later → ReadsNext before after source later (Err Memory)
-    no_memory_for_more more takes =
-        record { taken = more; takes = takes.takes; needed = first_needed more stays.is; reads = tt; faults = takes.quiet }
+    pub no_memory_for_more : LosesPiece middle source later → ReadsNext before after source later (Err Memory)
+    no_memory_for_more loses = record {
+      taken = loses.more;
+      takes = loses.takes.takes;
+      needed = first_needed loses.more loses.piece stays.is;
+      few = let few = loses.few in let same = ap (λ (w : Waiting). w.room) stays.same in omega (arith, few, same);
+      reads = tt;
+      faults = loses.takes.quiet;
+    }
 
 pub ruleset nexts = (gains_none, gains_more, less_room, reads_further)
 

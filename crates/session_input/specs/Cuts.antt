@@ -4,6 +4,8 @@
 --     next_number front digit     a number with one digit more, where it is one and isn't too large
 use Rattle.std.specs.Prelude.{◌&&◌, ◌+◌, ◌-◌, ◌*◌, not, nat_lt, ℕ, List, take, drop, Option, Some, None, if◌then◌else◌}
 use Rattle.std.specs.Borrow.{Bor}
+use Rattle.tree_spec.specs.Limits.{limit_number}
+use Rattle.tree_spec.specs.declared.LimitName.TheVariants.{File}
 use Rattle.session_spec.specs.SessionLines.{Cut, is_digit}
 
 abbrev pub cut_of : Bor (List ℕ) × Bor (List ℕ) → Cut
@@ -14,6 +16,6 @@ cut_at at text = record { front = take at text; behind = drop (at + 1) text }
 
 abbrev pub next_number : ℕ → ℕ → Option ℕ
 next_number front digit =
-    if is_digit digit && not (nat_lt 16777216 (front * 10 + (digit - 48)))
+    if is_digit digit && not (nat_lt (limit_number File) (front * 10 + (digit - 48)))
     then Some (front * 10 + (digit - 48))
     else None

@@ -6,6 +6,7 @@
 --     Grows before more after         more bytes wait, and as many fewer may be taken
 --     Fills before most filled result after     a take into the front of a slice
 --     ComesBeyond before after result           a take of one byte
+--     IsPiece more                    these bytes were taken at once
 --     Comes before after source later result    what a take brings to what waits
 --     FindsEnd unread result          where the first line ends
 --     order_of order                  an order as the lines' definition has it
@@ -28,7 +29,7 @@ use Rattle.tree_spec.specs.declared.LimitName.TheVariants.{Session}
 use Rattle.session_spec.specs.SessionLines as lines
 use Rattle.session_spec.specs.SessionLines.{Rest, changes, begins, commits, shows_map, ends_session}
 use Rattle.session_spec.specs.SessionLines.{reads, malformed, unfinished, read_line, cut_first}
-use Rattle.session_spec.specs.TakenInput.{Takes, IsSpent, IsNeeded}
+use Rattle.session_spec.specs.TakenInput.{Takes, IsSpent, IsNeeded, taken_at_once}
 use Rattle.session_input.specs.Cuts.{cut_at}
 use Rattle.session_input.specs.declared.reader.SessionInput.{SessionInput}
 use Rattle.session_input.specs.declared.takes.Came.{Came}
@@ -93,9 +94,14 @@ ComesBeyond before after (Ok came.Beyond) = (byte : ℕ) × TakesSome before (by
 ComesBeyond before after (Err ReadFault) = Fails before after
 ComesBeyond before after (Err Memory) = ⊥
 
+-- some bytes, no more than are taken at once
+pub record IsPiece (more : List ℕ) : Type 0 where
+  pub some : 0 < length more
+  pub short : length more ≤ taken_at_once
+
 pub record Brings (before after : Waiting) (source later : SourceState) : Type 0 where
   pub more : List ℕ
-  pub some : 0 < length more
+  pub piece : IsPiece more
   pub grows : Grows before more after
   pub takes : TakesSome source more later
 
@@ -114,12 +120,19 @@ pub record FailsToBring (before after : Waiting) (source later : SourceState) : 
   pub same : after ≡ before
   pub fails : Fails source later
 
+-- they came, and aren't kept
+pub record LosesPiece (before : Waiting) (source later : SourceState) : Type 0 where
+  pub more : List ℕ
+  pub piece : IsPiece more
+  pub few : length more ≤ before.room
+  pub takes : TakesSome source more later
+
 abbrev pub Comes : Waiting → Waiting → SourceState → SourceState → Result Came InputFault → Type 0
 Comes before after source later (Ok came.Bytes) = Brings before after source later
 Comes before after source later (Ok came.Nothing) = BringsNothing before after source later
 Comes before after source later (Ok came.Beyond) = BringsBeyond before after source later
 Comes before after source later (Err ReadFault) = FailsToBring before after source later
-Comes before after source later (Err Memory) = (more : List ℕ) × TakesSome source more later
+Comes before after source later (Err Memory) = LosesPiece before source later
 
 -- ---- a line
 
@@ -193,6 +206,7 @@ pub record ReadsNext (before after : Waiting) (source later : SourceState)
   pub taken : List ℕ
   pub takes : Takes source taken later
   pub needed : IsNeeded before.unread taken
+  pub few : length taken ≤ before.room + 1
   pub reads : Reads before after taken later result
   pub faults : FaultsBy source later result
 

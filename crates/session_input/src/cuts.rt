@@ -1,4 +1,6 @@
 ghost use Rattle.std.specs.Prelude.{◌≡◌, ◌<◌, ◌≤◌, None, Some, length, option_map, MatchOption};
+ghost use Rattle.tree_spec.specs.Limits.{limit_number};
+ghost use Rattle.tree_spec.specs.declared.LimitName.TheVariants.{File};
 ghost use Rattle.session_spec.specs.SessionLines as lines;
 ghost use Rattle.session_input.specs.Cuts.{cut_of, cut_at, next_number};
 
@@ -72,7 +74,7 @@ pub(crate) fn number_of(text: &[u8]) -> Option<usize>
 }
 
 fn number_on(front: usize, text: &[u8]) -> Option<usize>
-    requires { front ≤ 16777216 }
+    requires { front ≤ limit_number File }
     ensures { result ≡ lines.number_on front text.now }
 {
     match text.split_first() {
@@ -86,7 +88,7 @@ fn number_on(front: usize, text: &[u8]) -> Option<usize>
 
 // The number with one digit more, where that is a digit and the number isn't too large.
 fn next_number(front: usize, digit: u8) -> Option<usize>
-    requires { front ≤ 16777216 }
+    requires { front ≤ limit_number File }
     ensures { result ≡ next_number front digit }
 {
     if digit < b'0' || b'9' < digit {

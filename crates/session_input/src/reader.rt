@@ -1,21 +1,21 @@
 ghost use Rattle.std.specs.Prelude.{◌≡◌, ◌≤◌, ◌<◌, ◌+◌, ◌-◌, None, length, take, drop, IfOk};
+ghost use Rattle.tree_spec.specs.Limits.{limit_number};
+ghost use Rattle.tree_spec.specs.declared.LimitName.TheVariants.{Session};
 ghost use Rattle.session_spec.specs.SessionLines.{cut_first};
+ghost use Rattle.session_spec.specs.TakenInput.{taken_at_once};
 
 use crate::cuts::{line_end, line_ends};
 use crate::line::{Line, line_of};
 use crate::reading::{InputFault, Order, Reading};
 use crate::takes::{Came, beyond, fill};
 use primitives::{Bytes, Memory};
-use session_spec::Change;
+use session_spec::{Change, MOST_TAKEN_AT_ONCE};
 use std::alloc::Global;
 use tree_model::{Path, Source};
 use tree_spec::MOST_SESSION_BYTES;
 
 /// The most bytes of an input that are read.
 const MOST_INPUT: usize = MOST_SESSION_BYTES as usize;
-
-/// How many bytes are taken at once, at most.
-const PIECE: usize = 65_536;
 
 /// A reader of a session's lines: bytes that were taken and not read wait in it.
 #[derive(Drop)]
@@ -29,8 +29,9 @@ pub struct SessionInput {
     piece: Vec<u8>,
     ghost begun: { start + searched ≤ length held.items },
     ghost seen: { cut_first 10 (take searched (drop start held.items)) ≡ None },
-    ghost counted: { number + (length held.items - start + room) ≤ 268435457 },
+    ghost counted: { number + (length held.items - start + room) ≤ limit_number Session + 1 },
     ghost some: { 0 < length piece.items },
+    ghost few: { length piece.items ≤ taken_at_once },
 }
 
 impl SessionInput {
@@ -43,7 +44,7 @@ impl SessionInput {
     pub fn new(alloc: Global) -> Result<SessionInput, Memory>
         ensures { IfOk result IsFresh }
     {
-        let piece = Vec::from_elem(alloc, 0, PIECE)?;
+        let piece = Vec::from_elem(alloc, 0, MOST_TAKEN_AT_ONCE)?;
         Ok(SessionInput {
             held: Vec::new(alloc),
             start: 0,
@@ -57,7 +58,7 @@ impl SessionInput {
     /// The number of the first unread line, from 1. The lines of a file's bytes count too.
     pub fn number(&self) -> usize
         ensures number { result ≡ (waiting self.now).number }
-        ensures most { result ≤ 268435457 }
+        ensures most { result ≤ limit_number Session + 1 }
     {
         self.number
     }

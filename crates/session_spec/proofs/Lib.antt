@@ -9,3 +9,5 @@ pub mod Talking
 pub mod WholeSessions
 pub mod LinesWhole
 pub mod Standings
+pub mod ShapedSessions
+pub mod FaultsOfEdits

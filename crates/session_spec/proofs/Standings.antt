@@ -117,11 +117,16 @@ module _ (tree : Tree) where
 
     -- ---- what was replied until then
 
-    pub replies_front : RepliesTo tree taken text
-    replies_front = subst (RepliesTo tree taken) (sym stands.said) (session.opened stands.state stands.out at stands.opens stands.talks)
+    allowed_talks : length taken ≤ limit_number Session → Talks (begun stands.state (take (limit_number Session) taken)) stands.out at
+    allowed_talks few =
+        subst (λ (bytes : List ℕ). Talks (begun stands.state bytes) stands.out at) (sym (take_all (limit_number Session) taken few)) stands.talks
 
-    pub replies_all : turn_of at ≡ stops → RepliesToAll tree taken text
-    replies_all is = subst (RepliesToAll tree taken) (sym stands.said) (session.opened stands.state stands.out at stands.opens stands.talks is)
+    pub replies_front : length taken ≤ limit_number Session → RepliesTo tree taken text
+    replies_front few = subst (RepliesTo tree taken) (sym stands.said) (session.opened stands.state stands.out at stands.opens (allowed_talks few))
+
+    pub replies_all : length taken ≤ limit_number Session → turn_of at ≡ stops → RepliesToAll tree taken text
+    replies_all few is =
+        subst (RepliesToAll tree taken) (sym stands.said) (session.opened stands.state stands.out at stands.opens (allowed_talks few) is)
 
     -- ---- ends
 

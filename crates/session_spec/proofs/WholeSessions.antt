@@ -108,7 +108,7 @@ module _ (tree : Tree) (input : List ℕ) where
   by_outcome (Ok config) is = by_trace config is (traced (get tree) config) refl
   by_outcome (Err fault) is = refuses (Configured fault) (runs.by_project fault (record { command = Refresh; configures = is }))
 
-asks_anew : IsCommandOf refresh_words Refresh
+pub asks_anew : IsCommandOf refresh_words Refresh
 asks_anew = record { asked = plain.refreshing; asks = plain.refresh; is = refl; settings = no_settings; sets = no_settings_set }
 
 pub some_session : SomeSession

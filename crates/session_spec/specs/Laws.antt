@@ -1,6 +1,6 @@
 -- The laws of sessions. Each is the contract of a function of this crate.
 use Rattle.std.specs.FinMap.{get}
-use Rattle.std.specs.Prelude.{◌≡◌, ◌≤◌, ◌⊎◌, ◌++◌, ◌∷◌, ⊤, ℕ, true, List, length, flat_map, Ok, All}
+use Rattle.std.specs.Prelude.{◌≡◌, ◌≤◌, ◌⊎◌, ◌++◌, ◌∷◌, ⊤, ℕ, true, List, length, flat_map, Ok, Err, All}
 use Rattle.tree_spec.specs.Limits.{limit_number}
 use Rattle.tree_spec.specs.Paths.{IsPath}
 use Rattle.tree_spec.specs.Trees.{Tree, IsTree, Places}
@@ -10,10 +10,12 @@ use Rattle.generator_spec.specs.Lines.{limit_line}
 use Rattle.generator_spec.specs.Statuses.{done_status, file_status, limit_status}
 use Rattle.session_spec.specs.declared.Change.{Change}
 use Rattle.session_spec.specs.declared.Change.TheVariants.{Link, Unlink, Put, Drop}
+use Rattle.session_spec.specs.declared.EditFault.{EditFault}
 use Rattle.session_spec.specs.Conversations.{Answers, ends, refuses, stops, end_reply, bad_line}
+use Rattle.session_spec.specs.EditFaults.{CanRefuseEdit}
 use Rattle.session_spec.specs.Edits.{Draft, can_put, put_file, edited, then_edited}
 use Rattle.session_spec.specs.Replies.{IsRefused, Replies, IsAccepted, Leads, AllAccepted}
-use Rattle.session_spec.specs.SessionRuns.{SessionComesTo, IsStanding}
+use Rattle.session_spec.specs.SessionRuns.{SessionComesTo, IsStanding, IsSessionShaped}
 use Rattle.session_spec.specs.SessionStates.{SessionState, draft_of, config_with, IsCurrent}
 use Rattle.session_spec.specs.Talks.{Standing, begun, turn_of, Talks}
 
@@ -81,6 +83,11 @@ abbrev pub EditsKeepTree : Type 0
 EditsKeepTree =
     (draft after : Draft) (edit : List Change) → All NamesPath edit → IsTree draft.tree → edited draft edit ≡ Ok after
     → IsTree after.tree
+
+-- whatever the draft, an edit is refused for what one of its changes does
+abbrev pub FaultsAreOfEdits : Type 0
+FaultsAreOfEdits =
+    (draft : Draft) (edit : List Change) (fault : EditFault) → edited draft edit ≡ Err fault → CanRefuseEdit edit fault
 
 -- changes one after another come to the same as the first of them and then the others
 abbrev pub EditsJoin : Type 0
@@ -163,6 +170,13 @@ pub record HasSession (tree : Tree) (input : List ℕ) : Type 0 where
 -- it says something to each input
 abbrev pub SomeSession : Type 0
 SomeSession = (tree : Tree) (input : List ℕ) → HasSession tree input
+
+-- whatever the tree and the input, what it says is the line of the opening, replies and one of its ends, with the status
+-- of this end; or a refusal of `refresh`
+abbrev pub SessionsAreShaped : Type 0
+SessionsAreShaped =
+    (tree : Tree) (input text : List ℕ) (status : ℕ) → SessionComesTo tree input status text
+    → IsSessionShaped status text
 
 -- own: what a session says in the end that stands there: behind `end`, behind a line that has no meaning or stands in
 -- the wrong place, where the input ends within a line, and where the limit does

@@ -1,4 +1,5 @@
 pub mod Edits
+pub mod EditFaults
 pub mod SessionStates
 pub mod Replies
 pub mod SessionLines

@@ -3,37 +3,42 @@
 --     OpensAt tree state              a session is opened with this state
 --     opening_line state              what is said of it then
 --     SessionComesTo tree input status text     what a session on this tree says to this input, and its exit status
---     RepliesTo tree taken text       the line of the opening and replies to lines of these bytes, or nothing yet
+--     RepliesTo tree taken text       the line of the opening and replies to lines of these bytes, or nothing yet; of those
+--                                     bytes that the limit allows
 --     RepliesToAll tree taken text    so, to each line that stands whole in them
 --     IsStanding tree taken text at   where a session stands that took these bytes and said this
---     IsAwaited tree taken            the last of these bytes were taken where what came before them didn't end the
---                                     session
+--     IsAwaited tree taken            the last of these bytes were taken, all at once, where what came before them didn't
+--                                     end the session
 --     AsksOnce old after              the folder was asked for the project's path, and then for none twice
 --     MapsServe tree input            each map that such a session can show serves the tree and config of its state
+--     IsSessionShaped status text     status and text belong together, whatever the folder tells
 --     SessionSays before after source later status text      why a session ends with this status and this text
 --     SessionStops before after source later taken out out_after result      all of the text went out, or the sink
 --                                     failed and that ended the session
 --     SessionEnds before after source later out out_after result      all that is promised of a session, whatever
 --                                     folder, source and sink do
-use Rattle.std.specs.Prelude.{◌≡◌, ◌≤◌, ◌⊎◌, ◌++◌, ◌∷◌, [], ℕ, List, codes, bytes_eq, Some, IfSome}
+use Rattle.std.specs.Prelude.{◌≡◌, ◌≤◌, ◌⊎◌, ◌++◌, ◌∷◌, [], ℕ, List, length, take, codes, bytes_eq, Some, IfSome}
 use Rattle.std.specs.List.{IsDistinct}
 use Rattle.tree_spec.specs.Counts.{Rose}
+use Rattle.tree_spec.specs.Limits.{limit_number}
 use Rattle.tree_spec.specs.States.{FolderState, SourceState, SinkState}
 use Rattle.tree_spec.specs.Trees.{Tree}
+use Rattle.tree_spec.specs.declared.LimitName.TheVariants.{Session}
 use Rattle.trace_spec.specs.Modules.{Config}
 use Rattle.config_spec.specs.Projects.{project_path, IsConfigOf}
 use Rattle.config_spec.specs.declared.Command.TheVariants.{Refresh}
-use Rattle.generator_spec.specs.Ending.{Ends, Gives}
-use Rattle.generator_spec.specs.Lines.{status_of, line_of, memory_line, read_fault_line}
+use Rattle.generator_spec.specs.Ending.{CanRefuse, Ends, Gives}
+use Rattle.generator_spec.specs.Lines.{status_of, line_of, limit_line, memory_line, read_fault_line}
 use Rattle.generator_spec.specs.Outcome.{RefusesRun}
-use Rattle.generator_spec.specs.Serves.{Serves, KnowsModules}
-use Rattle.generator_spec.specs.Statuses.{memory_status, read_fault_status, write_fault_status}
+use Rattle.generator_spec.specs.Serves.{Serves, KnowsModules, IsSmallest}
+use Rattle.generator_spec.specs.Statuses.{done_status, file_status, limit_status, memory_status, read_fault_status}
+use Rattle.generator_spec.specs.Statuses.{write_fault_status}
 use Rattle.generator_spec.specs.declared.Refusal.{Refusal}
-use Rattle.session_spec.specs.Conversations.{Answers, stops}
+use Rattle.session_spec.specs.Conversations.{Answers, stops, end_reply, bad_line}
 use Rattle.session_spec.specs.Replies.{accepted_line}
 use Rattle.session_spec.specs.SessionStates.{Counts, SessionState, IsGenerated}
 use Rattle.session_spec.specs.Talks.{Standing, begun, turn_of, Talks}
-use Rattle.session_spec.specs.TakenInput.{Takes}
+use Rattle.session_spec.specs.TakenInput.{Takes, taken_at_once}
 
 -- ---- what is said
 
@@ -59,16 +64,17 @@ pub data SessionComesTo (tree : Tree) (input : List ℕ) : ℕ → List ℕ → 
       (state : SessionState) (status : ℕ) (out : List ℕ) → OpensAt tree state → Answers state input out status
       → SessionComesTo tree input status (opening_line state ++ out)
 
+-- own: at most 268,435,456 bytes of the input are read
 pub data RepliesTo (tree : Tree) (taken : List ℕ) : List ℕ → Type 0 where
   unopened : RepliesTo tree taken []
   opened :
       (state : SessionState) (out : List ℕ) (later : Standing) → OpensAt tree state
-      → Talks (begun state taken) out later → RepliesTo tree taken (opening_line state ++ out)
+      → Talks (begun state (take (limit_number Session) taken)) out later → RepliesTo tree taken (opening_line state ++ out)
 
 pub data RepliesToAll (tree : Tree) (taken : List ℕ) : List ℕ → Type 0 where
   opened :
       (state : SessionState) (out : List ℕ) (later : Standing) → OpensAt tree state
-      → Talks (begun state taken) out later → turn_of later ≡ stops
+      → Talks (begun state (take (limit_number Session) taken)) out later → turn_of later ≡ stops
       → RepliesToAll tree taken (opening_line state ++ out)
 
 -- own: of these bytes all but its input are read, and this text is replied
@@ -85,6 +91,8 @@ pub record StandsBeforeLast (tree : Tree) (taken : List ℕ) : Type 0 where
   pub front : List ℕ
   pub last : List ℕ
   pub whole : taken ≡ front ++ last
+  pub few : length front ≤ limit_number Session
+  pub short : length last ≤ taken_at_once
   pub text : List ℕ
   pub replied : RepliesToAll tree front text
 
@@ -101,8 +109,10 @@ pub record AsksOnce (old : List (List ℕ)) (after : FolderState) : Type 0 where
 pub record MapServes (state : SessionState) : Type 0 where
   pub serves : Serves state.tree state.config state.map
   pub knows : KnowsModules state.tree state.config state.map
+  pub smallest : IsSmallest state.tree state.config state.map
 
--- own: wherever the session stands, its map is generated for its tree and config, and leads each request to its file
+-- own: wherever the session stands, its map is generated for its tree and config and leads each request to its file,
+-- with the digest of each module's file; no map that does so without keys that end in `/` has fewer mappings
 abbrev pub MapsServe : Tree → List ℕ → Type 0
 MapsServe tree input =
     (state : SessionState) (out : List ℕ) (later : Standing) → OpensAt tree state → Talks (begun state input) out later
@@ -114,13 +124,36 @@ abbrev pub NoFault : FolderState → FolderState → SourceState → SourceState
 NoFault before after source later =
     (after.look_faults ≡ before.look_faults) × (later.faults ≡ source.faults)
 
+-- own: an opening's line, and then any replies
+pub record IsOpenedText (text : List ℕ) : Type 0 where
+  pub counts : Counts
+  pub replies : List ℕ
+  pub says : text ≡ accepted_line counts ++ replies
+
+-- own: behind the line of the opening and replies stands the reply to `end`, the line of a line that has no meaning or
+-- stands in the wrong place, or that of the limit; or nothing was opened, and all is a refusal that `refresh` can have
+pub data IsSessionShaped (status : ℕ) (text : List ℕ) : Type 0 where
+  ended :
+      (front : List ℕ) → IsOpenedText front → status ≡ done_status → text ≡ front ++ end_reply
+      → IsSessionShaped status text
+  refused_line :
+      (front : List ℕ) (number : ℕ) → IsOpenedText front → status ≡ file_status → text ≡ front ++ bad_line number
+      → IsSessionShaped status text
+  too_long :
+      (front : List ℕ) → IsOpenedText front → status ≡ limit_status → text ≡ front ++ limit_line Session
+      → IsSessionShaped status text
+  unopened :
+      (why : Refusal) → CanRefuse refresh_words why → status ≡ status_of why → text ≡ line_of why
+      → IsSessionShaped status text
+
 -- own: the session says what is defined, and no fault was counted; or there is want of memory, or a fault that was
 -- counted, behind the line of the opening and whole replies, or behind nothing. Where a take fails, each line that stands
 -- whole in the bytes that were taken was answered
 pub data SessionSays (before after : FolderState) (source later : SourceState) (taken : List ℕ) (status : ℕ)
     (text : List ℕ) : Type 0 where
   outcome :
-      NoFault before after source later → IfSome before.holds (λ tree. SessionComesTo tree taken status text)
+      IsSessionShaped status text → NoFault before after source later
+      → IfSome before.holds (λ tree. SessionComesTo tree taken status text)
       → IfSome before.holds (λ tree. IfSome source.left (λ input. SessionComesTo tree input status text))
       → SessionSays before after source later taken status text
   memory :

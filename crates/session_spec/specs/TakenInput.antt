@@ -2,9 +2,10 @@
 --     IsFront bytes input left        the input is these bytes and then what is left
 --     Takes before bytes after        these bytes were taken from the source, one after another
 --     IsSpent state                   nothing is left
---     IsNeeded unread taken           the last of the taken bytes were asked for where what was at hand held no whole
---                                     line
-use Rattle.std.specs.Prelude.{◌≡◌, ◌≤◌, ◌⊎◌, ◌++◌, [], ℕ, List, Option, Some, None, IfSome}
+--     taken_at_once                   how many bytes are taken at once, at most
+--     IsNeeded unread taken           the last of the taken bytes were asked for, all at once, where what was at hand held
+--                                     no whole line
+use Rattle.std.specs.Prelude.{◌≡◌, ◌≤◌, ◌<◌, ◌⊎◌, ◌++◌, [], ℕ, List, length, Option, Some, None, IfSome}
 use Rattle.tree_spec.specs.States.{SourceState}
 use Rattle.session_spec.specs.SessionLines.{unfinished, read_line}
 
@@ -22,10 +23,16 @@ pub record Takes (before : SourceState) (bytes : List ℕ) (after : SourceState)
 abbrev pub IsSpent : SourceState → Type 0
 IsSpent state = IfSome state.left (λ left. left ≡ [])
 
+-- own: a take asks for at most so many bytes
+abbrev pub taken_at_once : ℕ
+taken_at_once = 65536
+
 pub record IsLastOf (unread taken : List ℕ) : Type 0 where
   pub front : List ℕ
   pub last : List ℕ
   pub whole : taken ≡ front ++ last
+  pub some : 0 < length last
+  pub short : length last ≤ taken_at_once
   pub needed : read_line (unread ++ front) ≡ unfinished
 
 abbrev pub IsNeeded : List ℕ → List ℕ → Type 0

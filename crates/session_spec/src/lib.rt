@@ -2,15 +2,28 @@
 //! an input. Definitions, and their laws as the contracts of functions that do nothing.
 #![tactic(auto)]
 
+ghost use Rattle.std.specs.Prelude.{◌≡◌};
 ghost use Rattle.session_spec.specs.Laws.{OneReply, SomeReply, RefusedLeaves, AcceptedOrLeft, AlwaysCurrent};
-ghost use Rattle.session_spec.specs.Laws.{PutPlaces, EditsKeepTree, EditsJoin, AcceptedJoin};
+ghost use Rattle.session_spec.specs.Laws.{PutPlaces, EditsKeepTree, FaultsAreOfEdits, EditsJoin, AcceptedJoin};
 ghost use Rattle.session_spec.specs.Laws.{OneAnswer, SomeAnswer, NothingBehindEnd};
 ghost use Rattle.session_spec.specs.Laws.{FrontReplies, TalksStayCurrent, OneSession, SomeSession, SessionsEnd};
+ghost use Rattle.session_spec.specs.Laws.{SessionsAreShaped};
+ghost use Rattle.session_spec.specs.TakenInput.{taken_at_once};
 ghost use Rattle.session_spec.specs.WorkedExamples.{LineExamples, TurnExamples, EntryExamples};
 ghost use Rattle.session_spec.specs.WorkedExamples.{EditExamples, AnswerExamples};
 
 use primitives::{Bytes, Text};
 use tree_model::Path;
+
+/// Bytes of a session's input that are taken at once.
+pub const MOST_TAKEN_AT_ONCE: usize = 65_536;
+
+/// How many bytes of a session's input are taken at once, at most.
+pub fn most_taken_at_once() -> usize
+    ensures { result ≡ taken_at_once }
+{
+    MOST_TAKEN_AT_ONCE
+}
 
 /// One change of what a session works on.
 #[derive(Drop)]
@@ -71,6 +84,11 @@ pub fn edits_keep_tree()
     ensures { EditsKeepTree }
 {}
 
+/// Whatever the draft, an edit is refused for what one of its changes does.
+pub fn faults_are_of_edits()
+    ensures { FaultsAreOfEdits }
+{}
+
 /// Behind an edit stands what its changes leave, one after another.
 pub fn edits_join()
     ensures { EditsJoin }
@@ -114,6 +132,11 @@ pub fn one_session()
 /// It says something to each input.
 pub fn some_session()
     ensures { SomeSession }
+{}
+
+/// Whatever the tree and the input, what a session says and its status are of one of four shapes.
+pub fn sessions_are_shaped()
+    ensures { SessionsAreShaped }
 {}
 
 /// How a session ends, where it stands.

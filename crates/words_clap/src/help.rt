@@ -31,8 +31,7 @@ Status:
   5  writing failed
   6  differences were found
   7  a file isn't of its form: the project, the map, the page or a line of a session
-  8  there is no memory left
-  9  not built yet";
+  8  there is no memory left";
 
 pub(crate) const LINK: &str =
     "Add entries to the project, and write the map and the project's file";
@@ -49,7 +48,7 @@ pub(crate) const CHECK: &str =
 pub(crate) const LIST: &str = "Print the modules, each with the number of its requests";
 
 pub(crate) const SESSION: &str =
-    "Read edits from the standard input and answer each (not built yet)";
+    "Keep the map current: read edits from the standard input, and reply to each";
 
 pub(crate) const MEASURE: &str =
     "Generate over a stated tree of N packages in memory, and print counts";

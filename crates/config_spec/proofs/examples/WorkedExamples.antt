@@ -31,7 +31,6 @@ use Rattle.config_spec.specs.Projects.HoldsProject.{absent, folder, too_large}
 use Rattle.project_spec.specs.ProjectFiles.{IsPagePath}
 use Rattle.config_spec.specs.Words.{command_of, no_settings, options_of, Sets}
 use Rattle.config_spec.specs.Words.RefusesOptions.{bad_base, bad_conditions, bad_path}
-use Rattle.config_spec.specs.Words.RefusesWords.{not_built}
 use Rattle.config_spec.specs.Words.SetsBase.{none as no_base, given as some_base}
 use Rattle.config_spec.specs.Words.SetsConditions.{none as no_names, given as some_names}
 use Rattle.config_spec.specs.Words.SetsPage.{none as no_page}
@@ -180,7 +179,7 @@ refused_by words tree asked command found fault read is none holds comes = recor
 
 word_examples : WordExamples
 word_examples = record {
-  not_built = not_built (read_is_plain (codes "session" ∷ []) _ refl);
+  session = read_is_plain (codes "session" ∷ []) _ refl;
   measured = read_is_plain (codes "measure" ∷ codes "200" ∷ []) _ refl;
   no_base =
       refused_by (codes "link" ∷ codes "./app.mjs" ∷ []) bare_tree (linking no_options (codes "./app.mjs" ∷ [])) Link

@@ -2,7 +2,6 @@ use Rattle.std.proofs.Common.{ap, refl}
 use Rattle.words_read.specs.Shown.{shown}
 use Rattle.command_words.proofs.Orders.{same_asked}
 use Rattle.config_spec.proofs.Options.{no_settings_set}
-use Rattle.command_words.proofs.Refusals.{not_built_refused}
 use Rattle.command_words.proofs.order.order_parsed.Goals as goal
 
 pub returns-in-Unlink : goal.returns-in-Unlink
@@ -26,8 +25,7 @@ returns-in-List c =
     same_asked _ _ _ (ap shown c.in-List.is) (record { same = refl; is = refl; sets = no_settings_set })
 
 pub returns-in-Session : goal.returns-in-Session
-returns-in-Session c =
-    not_built_refused (shown c.args.parsed) c.not_built.result (ap shown c.in-Session.is) c.not_built.ensures
+returns-in-Session c = ap shown c.in-Session.is
 
 pub returns-in-Measure : goal.returns-in-Measure
 returns-in-Measure c = ap shown c.in-Measure.is

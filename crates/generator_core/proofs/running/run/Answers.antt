@@ -2,78 +2,94 @@ use Rattle.std.proofs.Common.{rules, refl, subst}
 use Rattle.std.specs.Prelude.{map, string_bytes}
 use Rattle.tree_spec.proofs.ToldStates.{if_some}
 use Rattle.config_spec.proofs.WordsJudged.{words_are_judged}
-use Rattle.config_spec.specs.Words.{Measures}
+use Rattle.config_spec.specs.Words.{IsSession, Measures}
 use Rattle.command_words.specs.Orders.{IsOrder, IsWanted, command_ordered}
 use Rattle.generator_spec.specs.Commands.{IsGenerating}
 use Rattle.generator_spec.specs.Steps.{MeasureSpends}
 use Rattle.generator_core.proofs.Endings.{words_end}
+use Rattle.generator_core.proofs.HeldSessions.{unread_ends}
 use Rattle.generator_core.proofs.Measurings.{few_packages}
 use Rattle.generator_core.proofs.Runs.{command_is, words_not_done, asks_nothing_in_order}
 use Rattle.generator_core.proofs.running.run.Goals as goal
 
-pub returns-in-Ok-Order-clause-end : goal.returns-in-Ok-Order-clause-end
-returns-in-Ok-Order-clause-end g c =
+pub returns-in-Ok-Order-clause-ends : goal.returns-in-Ok-Order-clause-ends
+returns-in-Ok-Order-clause-ends g c =
     let words = map string_bytes c.args.words.now in
-    c.ordered.ensures.end words (subst (IsWanted words) c.in-Ok-Order.field-0-is c.in-Ok-Order.ensures)
+    let is : IsOrder words c.in-Ok-Order.order = subst (IsWanted words) c.in-Ok-Order.field-0-is c.in-Ok-Order.ensures in
+    let commanded = command_is words c.in-Ok-Order.order is in
+    record {
+      command = λ none. record {
+        end = c.ordered.ensures.end words is;
+        asked = if_some (g.F.Folder.state c.args.folder.now).asked (λ old each. each words is) c.ordered.ensures.asked;
+        steps = record {
+          told = λ command is_too generating zero. c.ordered.ensures.steps.told (subst IsGenerating ((words_are_judged words).one_command command (command_ordered c.in-Ok-Order.order) is_too commanded) generating) zero;
+          measured = λ number asks zero. absurd ((words_are_judged words).no_command number (command_ordered c.in-Ok-Order.order) asks commanded);
+          bounded = c.ordered.ensures.steps.bounded;
+          unspent = λ none no_measure. absurd (none _ commanded);
+        };
+      };
+      session = λ asks. absurd ((words_are_judged words).session_or_command (command_ordered c.in-Ok-Order.order) asks commanded);
+    }
 
 pub returns-in-Ok-Order-clause-idle : goal.returns-in-Ok-Order-clause-idle
 returns-in-Ok-Order-clause-idle g c =
     let words = map string_bytes c.args.words.now in
     let is : IsOrder words c.in-Ok-Order.order = subst (IsWanted words) c.in-Ok-Order.field-0-is c.in-Ok-Order.ensures in
-    λ none. absurd (none _ (command_is words c.in-Ok-Order.order is))
-
-pub returns-in-Ok-Order-clause-asked : goal.returns-in-Ok-Order-clause-asked
-returns-in-Ok-Order-clause-asked g c =
-    let words = map string_bytes c.args.words.now in
-    if_some (g.F.Folder.state c.args.folder.now).asked
-    (λ old each. each words (subst (IsWanted words) c.in-Ok-Order.field-0-is c.in-Ok-Order.ensures)) c.ordered.ensures.asked
-
-pub returns-in-Ok-Order-clause-steps : goal.returns-in-Ok-Order-clause-steps
-returns-in-Ok-Order-clause-steps g c =
-    let words = map string_bytes c.args.words.now in
-    let is : IsOrder words c.in-Ok-Order.order = subst (IsWanted words) c.in-Ok-Order.field-0-is c.in-Ok-Order.ensures in
-    let commanded = command_is words c.in-Ok-Order.order is in
-    record {
-      told = λ command is_too generating zero. c.ordered.ensures.steps.told (subst IsGenerating ((words_are_judged words).one_command command (command_ordered c.in-Ok-Order.order) is_too commanded) generating) zero;
-      measured = λ number asks zero. absurd ((words_are_judged words).no_command number (command_ordered c.in-Ok-Order.order) asks commanded);
-      bounded = c.ordered.ensures.steps.bounded;
-      unspent = λ none no_measure. absurd (none _ commanded);
-    }
+    λ idle. absurd (idle.no_command _ (command_is words c.in-Ok-Order.order is))
 
 pub measure-requires : goal.measure-requires
 measure-requires g c =
     let words = map string_bytes c.args.words.now in
     few_packages words c.in-Ok-Measure.number (subst (IsWanted words) c.in-Ok-Measure.field-0-is c.in-Ok-Measure.ensures)
 
-pub returns-in-Ok-Measure-clause-end : goal.returns-in-Ok-Measure-clause-end
-returns-in-Ok-Measure-clause-end g c =
-    let words = map string_bytes c.args.words.now in
-    c.measure.ensures.end words (g.F.Folder.state c.args.folder.now) (subst (IsWanted words) c.in-Ok-Measure.field-0-is c.in-Ok-Measure.ensures)
-
-pub returns-in-Ok-Measure-clause-asked : goal.returns-in-Ok-Measure-clause-asked
-returns-in-Ok-Measure-clause-asked g c = asks_nothing_in_order (map string_bytes c.args.words.now) (g.F.Folder.state c.args.folder.now)
-
-pub returns-in-Ok-Measure-clause-steps : goal.returns-in-Ok-Measure-clause-steps
-returns-in-Ok-Measure-clause-steps g c =
+pub returns-in-Ok-Measure-clause-ends : goal.returns-in-Ok-Measure-clause-ends
+returns-in-Ok-Measure-clause-ends g c =
     let words = map string_bytes c.args.words.now in
     let asks : Measures words c.in-Ok-Measure.number = subst (IsWanted words) c.in-Ok-Measure.field-0-is c.in-Ok-Measure.ensures in
     record {
-      told = λ command is generating zero. absurd ((words_are_judged words).no_command c.in-Ok-Measure.number command asks is);
-      measured = λ number asks_too zero. subst (λ n. MeasureSpends n (g.O.Sink.state c.args.out.now) (g.O.Sink.state c.measure.new.out) c.args.steps.now c.measure.new.steps) ((words_are_judged words).one_measure c.in-Ok-Measure.number number asks asks_too) (c.measure.ensures.told zero);
-      bounded = c.measure.ensures.bounded;
-      unspent = λ none no_measure. absurd (no_measure c.in-Ok-Measure.number asks);
+      command = λ none. record {
+        end = c.measure.ensures.end words (g.F.Folder.state c.args.folder.now) asks;
+        asked = asks_nothing_in_order words (g.F.Folder.state c.args.folder.now);
+        steps = record {
+          told = λ command is generating zero. absurd ((words_are_judged words).no_command c.in-Ok-Measure.number command asks is);
+          measured = λ number asks_too zero. subst (λ n. MeasureSpends n (g.O.Sink.state c.args.out.now) (g.O.Sink.state c.measure.new.out) c.args.steps.now c.measure.new.steps) ((words_are_judged words).one_measure c.in-Ok-Measure.number number asks asks_too) (c.measure.ensures.told zero);
+          bounded = c.measure.ensures.bounded;
+          unspent = λ none no_measure. absurd (no_measure c.in-Ok-Measure.number asks);
+        };
+      };
+      session = λ asks_too. absurd ((words_are_judged words).session_or_measure c.in-Ok-Measure.number asks_too asks);
     }
 
-pub returns-in-Err-clause-end : goal.returns-in-Err-clause-end
-returns-in-Err-clause-end g c = words_end (map string_bytes c.args.words.now) (g.F.Folder.state c.args.folder.now) _ _ _ c.in-Err.fault c.in-Err.ensures c.misworded.ensures.tells c.misworded.ensures.later
+pub returns-in-Ok-Session-clause-ends : goal.returns-in-Ok-Session-clause-ends
+returns-in-Ok-Session-clause-ends g c =
+    let words = map string_bytes c.args.words.now in
+    let asks : IsSession words = subst (IsWanted words) c.in-Ok-Session.field-0-is c.in-Ok-Session.ensures in
+    record { command = λ none. absurd (none asks); session = λ is. c.hold.ensures }
 
-pub returns-in-Err-clause-asked : goal.returns-in-Err-clause-asked
-returns-in-Err-clause-asked g c = asks_nothing_in_order (map string_bytes c.args.words.now) (g.F.Folder.state c.args.folder.now)
+pub returns-in-Ok-Session-clause-idle : goal.returns-in-Ok-Session-clause-idle
+returns-in-Ok-Session-clause-idle g c =
+    let words = map string_bytes c.args.words.now in
+    λ idle. absurd (idle.no_session (subst (IsWanted words) c.in-Ok-Session.field-0-is c.in-Ok-Session.ensures))
 
-pub returns-in-Err-clause-steps : goal.returns-in-Err-clause-steps
-returns-in-Err-clause-steps g c = record {
-  told = λ command is generating zero. absurd (words_not_done c.in-Err.fault _ _ _ c.misworded.ensures.tells zero);
-  measured = λ number asks zero. absurd (words_not_done c.in-Err.fault _ _ _ c.misworded.ensures.tells zero);
-  bounded = search rules;
-  unspent = λ none no_measure. refl;
-}
+pub returns-in-Ok-Session-clause-input : goal.returns-in-Ok-Session-clause-input
+returns-in-Ok-Session-clause-input g c =
+    let words = map string_bytes c.args.words.now in
+    λ none. absurd (none (subst (IsWanted words) c.in-Ok-Session.field-0-is c.in-Ok-Session.ensures))
+
+pub returns-in-Err-clause-ends : goal.returns-in-Err-clause-ends
+returns-in-Err-clause-ends g c =
+    let words = map string_bytes c.args.words.now in
+    let folder = g.F.Folder.state c.args.folder.now in
+    record {
+      command = λ none. record {
+        end = words_end words folder _ _ _ c.in-Err.fault c.in-Err.ensures c.misworded.ensures.tells c.misworded.ensures.later;
+        asked = asks_nothing_in_order words folder;
+        steps = record {
+          told = λ command is generating zero. absurd (words_not_done c.in-Err.fault _ _ _ c.misworded.ensures.tells zero);
+          measured = λ number asks zero. absurd (words_not_done c.in-Err.fault _ _ _ c.misworded.ensures.tells zero);
+          bounded = search rules;
+          unspent = λ none no_measure. refl;
+        };
+      };
+      session = unread_ends words folder (g.I.Source.state c.args.input.now) _ _ _ c.in-Err.fault c.in-Err.ensures c.misworded.ensures.tells c.misworded.ensures.later;
+    }

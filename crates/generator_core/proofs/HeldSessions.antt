@@ -1,0 +1,152 @@
+-- How a session ends that is held on the project of a folder.
+use Rattle.std.proofs.Common.{◌≡◌, ◌≤◌, ◌++◌, [], ◌∷◌, ℕ, List, Option, Some, None, IfSome, refl, sym, ap, ◌∙◌, subst, inl, inr, arith}
+use Rattle.std.proofs.lemmas.List.{append-nil, append_assoc}
+use Rattle.tree_spec.specs.Counts.{Rose}
+use Rattle.tree_spec.specs.States.{FolderState, SourceState, SinkState, OnlyLooks}
+use Rattle.tree_spec.specs.Trees.{Tree}
+use Rattle.tree_spec.proofs.ToldStates.{if_some, if_all}
+use Rattle.words_spec.proofs.ReadIsPlain.{read_is_plain}
+use Rattle.words_spec.specs.PlainWords.{editing, refreshing}
+use Rattle.config_spec.proofs.Options.{no_settings_set}
+use Rattle.config_spec.proofs.WordsJudged.{words_are_judged}
+use Rattle.config_spec.specs.Projects.{project_path}
+use Rattle.config_spec.specs.Words.{IsSession}
+use Rattle.command_words.specs.declared.fault.WordsFault.{WordsFault}
+use Rattle.command_words.specs.declared.fault.WordsFault.TheVariants as words_fault
+use Rattle.command_words.specs.declared.order.Order.TheVariants as order
+use Rattle.command_words.specs.Faults.{Explains}
+use Rattle.command_words.specs.Orders.{IsOrder}
+use Rattle.generation.specs.Generating.{AsksNoPathTwice}
+use Rattle.generation.specs.declared.stop.Stop.{Stop}
+use Rattle.generator_spec.specs.Asked.{AsksOwn}
+use Rattle.generator_spec.specs.declared.Refusal.{Refusal}
+use Rattle.generator_spec.specs.declared.Refusal.TheVariants.{Config as Configured}
+use Rattle.generator_spec.specs.Ending.{CanRefuse, CanRefuse as can_refuse, Ends, TellsRefusal}
+use Rattle.generator_spec.specs.Lines.{status_of, line_of, memory_line, read_fault_line}
+use Rattle.generator_spec.specs.Outcome.{RefusesRun, RefusesRun as refuses_run}
+use Rattle.generator_spec.specs.Statuses.{memory_status, read_fault_status}
+use Rattle.session_input.proofs.ReaderLemmas.{takes_none}
+use Rattle.soundness.proofs.SessionMaps.{session_maps_serve}
+use Rattle.session_spec.specs.SessionRuns as runs
+use Rattle.session_spec.specs.SessionRuns.{IsSessionShaped as shaped, RepliesTo as replies_to}
+use Rattle.session_spec.specs.SessionRuns.{refresh_words, AsksOnce, NoFault, RepliesTo, SessionSays, SessionStops, SessionEnds}
+use Rattle.generator_core.specs.Configuring.{StopsConfig, StopsConfig as stops_config}
+use Rattle.generator_core.specs.Writing.{TellsStop, TellsWords}
+use Rattle.generator_core.proofs.Endings.{some_same, still}
+
+-- ---- the project of a session is that of `refresh`
+
+pub refreshes : IsOrder refresh_words order.Refresh
+refreshes = record {
+  asked = refreshing;
+  asks = read_is_plain refresh_words refreshing refl;
+  is_order = record { same = refl; is = refl; sets = no_settings_set };
+}
+
+-- ---- a session behind the look at the project
+
+module _ (before middle after : FolderState) (same_tree : middle.holds ≡ before.holds) (quiet : middle.look_faults ≡ before.look_faults) (source later : SourceState) (taken : List ℕ) where
+  of_before : {P : Tree → Type 0} → IfSome middle.holds P → IfSome before.holds P
+  of_before {P} told = subst (λ (held : Option Tree). IfSome held P) same_tree told
+
+  no_fault : NoFault middle after source later → NoFault before after source later
+  no_fault none = (none.0 ∙ quiet, none.1)
+
+  says_before : (status : ℕ) (text : List ℕ) → SessionSays middle after source later taken status text → SessionSays before after source later taken status text
+  says_before status text (runs.outcome shaped none here whole) = runs.outcome shaped (no_fault none) (of_before here) (of_before whole)
+  says_before status text (runs.memory front none told is_status is_text) = runs.memory front (no_fault none) (of_before told) is_status is_text
+  says_before status text (runs.look_fault front rose same told is_status is_text) =
+      runs.look_fault front (subst (λ (n : ℕ). Rose n after.look_faults) quiet rose) same (of_before told) is_status is_text
+  says_before status text (runs.take_fault front same rose told is_status is_text) = runs.take_fault front (same ∙ quiet) rose (of_before told) is_status is_text
+
+  stops_before : (out gone : SinkState) (result : ℕ) → SessionStops middle after source later taken out gone result → SessionStops before after source later taken out gone result
+  stops_before out gone result (runs.said status text says ends) = runs.said status text (says_before status text says) ends
+  stops_before out gone result (runs.cut_off text none told is_status gives rose) = runs.cut_off text (no_fault none) (of_before told) is_status gives rose
+
+asks_both :
+    (middle after : FolderState) (told : Option (List (List ℕ))) → IfSome told (λ old. AsksOwn (project_path ∷ []) old middle) → IfSome middle.asked (λ old. AsksNoPathTwice old after)
+    → IfSome told (λ old. AsksOnce old after)
+asks_both middle after None own more = tt
+asks_both middle after (Some old) own more =
+    let new : AsksNoPathTwice (old ++ own.first) after = subst (λ (asked : Option (List (List ℕ))). IfSome asked (λ old. AsksNoPathTwice old after)) own.asked more in
+    record { first = own.first; is_first = own.is_own; more = new.more; asked = new.asked ∙ ap Some (append_assoc old own.first new.more); once = new.once }
+
+pub ends_before :
+    (before middle after : FolderState) (source later : SourceState) (out gone : SinkState) (result : ℕ) → OnlyLooks before middle ⊥ → IfSome before.asked (λ old. AsksOwn (project_path ∷ []) old middle)
+    → IfSome middle.asked (λ old. AsksNoPathTwice old after) → SessionEnds middle after source later out gone result → SessionEnds before after source later out gone result
+ends_before before middle after source later out gone result looked own more is =
+    let quiet = looked.quiet (λ e. e) in
+    let looks_later = is.looks_later in
+    record {
+      tree = is.tree ∙ looked.tree;
+      writes = is.writes ∙ looked.writes;
+      looks_later = omega (arith, looks_later, quiet);
+      output_later = is.output_later;
+      taken = is.taken;
+      takes = is.takes;
+      awaited = of_before before middle after looked.tree quiet source later is.taken is.awaited;
+      asked = asks_both middle after before.asked own more;
+      stops = stops_before before middle after looked.tree quiet source later is.taken out gone result is.stops;
+      serves = of_before before middle after looked.tree quiet source later is.taken is.serves;
+    }
+
+-- ---- a session that isn't opened
+
+module _ (before after : FolderState) (source : SourceState) (out gone : SinkState) (result : ℕ) where
+  abbrev StopsAtOnce : Type 0
+  StopsAtOnce = SessionStops before after source source [] out gone result
+
+  nothing_said : IfSome before.holds (λ tree. RepliesTo tree [] [])
+  nothing_said = if_all before.holds (λ tree. replies_to.unopened)
+
+  unopened_ends : {P : Type 0} → OnlyLooks before after P → out.faults ≤ gone.faults → IfSome before.asked (λ old. AsksOwn (project_path ∷ []) old after) → StopsAtOnce → SessionEnds before after source source out gone result
+  unopened_ends looks output_later own stops = record {
+    tree = looks.tree;
+    writes = looks.writes;
+    looks_later = looks.later;
+    output_later = output_later;
+    taken = [];
+    takes = takes_none source;
+    awaited = if_all before.holds (λ tree. inl refl);
+    asked = if_some before.asked (λ old is. record { first = is.first; is_first = is.is_own; more = []; asked = is.asked ∙ ap (λ (new : List (List ℕ)). Some (old ++ new)) (sym (append-nil is.first)); once = tt }) own;
+    stops = stops;
+    serves = if_all before.holds (λ tree. session_maps_serve tree []);
+  }
+
+  memory_at_once : after.look_faults ≡ before.look_faults → Ends memory_status memory_line out gone result → StopsAtOnce
+  memory_at_once quiet told = runs.said memory_status memory_line (runs.memory [] (quiet, refl) nothing_said refl refl) told
+
+  refused_at_once : (why : Refusal) → CanRefuse refresh_words why → after.look_faults ≡ before.look_faults → IfSome before.holds (λ tree. RefusesRun refresh_words tree why) → TellsRefusal why out gone result → StopsAtOnce
+  refused_at_once why can quiet refuses (inl told) =
+      runs.said (status_of why) (line_of why)
+      (runs.outcome (shaped.unopened why can refl refl) (quiet, refl) (if_some before.holds (λ tree because. runs.refused why because) refuses)
+      (if_some before.holds (λ tree because. if_all source.left (λ input. runs.refused why because)) refuses)) told
+  refused_at_once why can quiet refuses (inr told) = memory_at_once quiet told
+
+  abbrev IsOwn : Type 0
+  IsOwn = IfSome before.asked (λ old. AsksOwn (project_path ∷ []) old after)
+
+  pub stopped_ends : (stop : Stop) → StopsConfig refresh_words before after stop → IsOwn → TellsStop stop out gone result → out.faults ≤ gone.faults → SessionEnds before after source source out gone result
+  stopped_ends stop (stops_config.refused fault same refuses can looks) own told later =
+      unopened_ends looks later own
+      (refused_at_once (Configured fault) (can_refuse.by_project fault can) (looks.quiet (λ e. e)) (if_some before.holds (λ tree because. refuses_run.by_project fault because) refuses) (subst (λ (s : Stop). TellsStop s out gone result) same told))
+  stopped_ends stop (stops_config.read_fault same looks) own told later =
+      unopened_ends looks later own
+      (runs.said read_fault_status read_fault_line (runs.look_fault [] (looks.cause same) refl nothing_said refl refl) (subst (λ (s : Stop). TellsStop s out gone result) same told))
+  stopped_ends stop (stops_config.memory same looks) own told later =
+      unopened_ends looks later own (memory_at_once (looks.quiet (λ e. e)) (subst (λ (s : Stop). TellsStop s out gone result) same told))
+
+-- ---- words that couldn't be read
+
+own_of_nothing : (state : FolderState) → IfSome state.asked (λ old. AsksOwn (project_path ∷ []) old state)
+own_of_nothing state = some_same state.asked _ (λ old is. record { first = []; is_own = inl refl; asked = is ∙ ap Some (sym (append-nil old)) })
+
+-- words that ask for a session are refused for want of memory alone
+pub unread_ends :
+    (words : List (List ℕ)) (state : FolderState) (source : SourceState) (out gone : SinkState) (result : ℕ) (fault : WordsFault) → Explains words fault → TellsWords fault out gone result → out.faults ≤ gone.faults → IsSession words
+    → SessionEnds state state source source out gone result
+unread_ends words state source out gone result (words_fault.Told text) why told later asks = absurd (why (record { asked = editing; asks = asks }))
+unread_ends words state source out gone result words_fault.NotPlain why told later asks = absurd (why (record { asked = editing; asks = asks }))
+unread_ends words state source out gone result (words_fault.Refused fault) why told later asks = absurd ((words_are_judged words).session_or_fault fault asks why)
+unread_ends words state source out gone result words_fault.Memory why told later asks =
+    unopened_ends state state source out gone result (still state) later (own_of_nothing state) (memory_at_once state state source out gone result refl told)

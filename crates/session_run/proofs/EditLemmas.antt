@@ -1,0 +1,219 @@
+-- What an edit of a session comes to, as it is told.
+use Rattle.std.proofs.Common.{◌≡◌, ℕ, List, true, false, Option, Some, None, Result, Ok, Err, refl, sym, ap, ◌∙◌, subst}
+use Rattle.std.proofs.lemmas.List.Elements.{All-weaker}
+use Rattle.std.specs.Prelude.{IfSome, is_some}
+use Rattle.tree_spec.specs.Counts.{Rose}
+use Rattle.tree_spec.specs.States.{FolderState}
+use Rattle.tree_spec.specs.Trees.{Tree}
+use Rattle.tree_spec.specs.declared.Look.{Look}
+use Rattle.tree_spec.proofs.ToldStates.{if_some}
+use Rattle.generator_spec.specs.Lines.{line_of}
+use Rattle.package_lookup.specs.Looked.{kept_at}
+use Rattle.trace_spec.specs.Modules.{Config}
+use Rattle.session_spec.specs.declared.Change.{Change}
+use Rattle.session_spec.specs.Edits.{Draft, edited}
+use Rattle.session_spec.specs.declared.EditFault.{EditFault}
+use Rattle.session_spec.specs.Replies as replies
+use Rattle.session_spec.specs.Replies.{IsRefused, IsAccepted, Follows, Replies, fault_line, accepted_line}
+use Rattle.session_spec.specs.SessionStates.{SessionState, IsGenerated, draft_of, next_state}
+use Rattle.edit_session.specs.NewLooks.{AsksNew as LooksAsked, LooksNew}
+use Rattle.edit_session.specs.Sessions.{Prepares, Commits}
+use Rattle.edit_session.specs.SessionTrees.{IsSessionOf, shown_map, shown_counts}
+use Rattle.edit_session.specs.declared.session.Session.{Session}
+use Rattle.edit_session.specs.declared.stop.EditStop.{EditStop}
+use Rattle.edit_session.specs.declared.stop.EditStop.TheVariants as stop
+use Rattle.session_talk.specs.EditorLooks.{LookState, AsksNew, AsksAndKeeps, AsksSome, AsksKeeping, EditAsks}
+use Rattle.session_talk.specs.Editors.{EditorState, Seen, IsReplied, EditsTold, Edits, Shows}
+use Rattle.session_talk.specs.declared.editor.EditorFault.{EditorFault}
+use Rattle.session_talk.specs.declared.editor.EditorFault.TheVariants.{ReadFault, Memory}
+use Rattle.session_talk.proofs.AskLemmas.{some_of_keeping}
+use Rattle.session_run.specs.Editing.{IsToldBy, IsViewOf, look_state, SaysLine, SaysStop}
+
+pub at_tree : {P : Tree → Type 0} (told : Option Tree) (tree : Tree) → told ≡ Some tree → IfSome told P → P tree
+at_tree {P} told tree e p = subst (λ (t : Option Tree). IfSome t P) e p
+
+-- ---- replies
+
+abbrev state_with : SessionState → Config → SessionState
+state_with state config = record { tree = state.tree; config = config; map = state.map; counts = state.counts }
+
+replies_accepted : (state next : SessionState) (edit : List Change) (line : List ℕ) → IsAccepted state edit next line → Replies state edit next line
+replies_accepted state next edit line is =
+    let project = sym is.same_project in
+    let same : next_state state (draft_of next) next.map next.counts ≡ next = λ i. state_with next (project i) in
+    let current = subst (λ (c : Config). IsGenerated next.tree c next.map next.counts) is.same_project is.current in
+    subst (λ (l : List ℕ). Replies state edit next l) (sym is.said)
+    (subst (λ (s : SessionState). Replies state edit s (accepted_line next.counts)) same
+    (subst (λ (made : Result Draft EditFault). Follows state made (next_state state (draft_of next) next.map next.counts) (accepted_line next.counts)) (sym is.made)
+    (replies.accepted (draft_of next) next.map next.counts current)))
+
+module _ (before after : FolderState) (old new : Session) (edit : List Change) (view : EditorState) (is : IsViewOf before old view) where
+  abbrev left_view : EditorState
+  left_view = record { told = view.told; faults = after.look_faults }
+
+  told_still : (result : Result (Unit {0}) EditStop) → Prepares before old edit result after new → (told : Option SessionState) → IsToldBy before old told → IsToldBy after new told
+  told_still result prepares None none = prepares.looks.looks.tree ∙ none
+  told_still result prepares (Some state) stands = record {
+    tree = stands.tree;
+    holds = prepares.looks.looks.tree ∙ stands.holds;
+    is_state = at_tree before.holds stands.tree stands.holds prepares.stays state stands.is_state;
+  }
+
+  -- ---- what is refused
+
+  module _ (fault : EditStop) (prepares : Prepares before old edit (Err fault) after new) where
+    abbrev IsWhy : List ℕ → Type 0
+    IsWhy line = IfSome before.holds (λ tree. (state : SessionState) → IsSessionOf tree old state → IsRefused state (edited (draft_of state) edit) line)
+
+    refused_replied : (line : List ℕ) → IsWhy line → (told : Option SessionState) → IsToldBy before old told → IfSome told (λ state. IsReplied state edit line told)
+    refused_replied line why None none = tt
+    refused_replied line why (Some state) stands = record {
+      next = state;
+      replies = replies.refused (edited (draft_of state) edit) line (at_tree before.holds stands.tree stands.holds why state stands.is_state);
+      is_told = refl;
+    }
+
+    says_why : (line : List ℕ) (result : Result (List ℕ) EditorFault) → IsWhy line → after.look_faults ≡ before.look_faults → SaysLine line result → Edits view edit result left_view
+    says_why line (Ok text) why quiet says =
+        subst (λ (l : List ℕ). EditsTold view edit l left_view) (sym says)
+        (record { replied = refused_replied line why view.told is.told; untold = λ e. e; quiet = quiet ∙ sym is.faults })
+    says_why line (Err ReadFault) why quiet says = absurd says
+    says_why line (Err Memory) why quiet says = quiet ∙ sym is.faults
+
+  stopped_edits : (fault : EditStop) (result : Result (List ℕ) EditorFault) → Prepares before old edit (Err fault) after new → SaysStop fault result → Edits view edit result left_view
+  stopped_edits (stop.Change fault) result prepares says =
+      says_why (stop.Change fault) prepares (fault_line fault) result prepares.refused (prepares.looks.looks.quiet (λ e. cc)) says
+  stopped_edits (stop.Generation why) result prepares says =
+      says_why (stop.Generation why) prepares (line_of why) result prepares.refused (prepares.looks.looks.quiet (λ e. cc)) says
+  stopped_edits stop.ReadFault result prepares says =
+      subst (λ (r : Result (List ℕ) EditorFault). Edits view edit r left_view) (sym says)
+      (subst (λ (n : ℕ). Rose n after.look_faults) (sym is.faults) (prepares.looks.looks.cause refl))
+  stopped_edits stop.Memory result prepares says =
+      subst (λ (r : Result (List ℕ) EditorFault). Edits view edit r left_view) (sym says) (prepares.looks.looks.quiet (λ e. cc) ∙ sym is.faults)
+
+  pub stopped_seen : (fault : EditStop) (result : Result (List ℕ) EditorFault) → Prepares before old edit (Err fault) after new → SaysStop fault result
+      → Seen (IsViewOf after new) (λ last. Edits view edit result last)
+  stopped_seen fault result prepares says = record {
+    at = left_view;
+    is = record { told = told_still (Err fault) prepares view.told is.told; faults = refl };
+    holds = stopped_edits fault result prepares says;
+  }
+
+  -- ---- what is accepted
+
+  module _ (closed : Session) (prepares : Prepares before old edit (Ok tt) after new) (commits : Commits new closed) where
+    record NextTold (told : Option SessionState) : Type 0 where
+      pub later : Option SessionState
+      pub is_told : IsToldBy after closed later
+      pub replied : IfSome told (λ state. IsReplied state edit (accepted_line (shown_counts closed)) later)
+      pub untold : told ≡ None → later ≡ None
+
+    next_told : (told : Option SessionState) → IsToldBy before old told → NextTold told
+    next_told None none = record { later = None; is_told = prepares.looks.looks.tree ∙ none; replied = tt; untold = λ e. refl }
+    next_told (Some state) stands =
+        let tree = stands.tree in
+        let accepts = at_tree before.holds tree stands.holds prepares.accepted state stands.is_state in
+        let stays = at_tree before.holds tree stands.holds prepares.stays state stands.is_state in
+        let stands_now = commits.becomes tree state accepts.next stays accepts.is_pending in
+        let line = accepts.accepted.said ∙ ap accepted_line stands_now.is_state.counts_are in
+        record {
+          later = Some accepts.next;
+          is_told = record { tree = tree; holds = prepares.looks.looks.tree ∙ stands.holds; is_state = stands_now };
+          replied = record {
+            next = accepts.next;
+            replies = subst (λ (l : List ℕ). Replies state edit accepts.next l) line (replies_accepted state accepts.next edit accepts.line accepts.accepted);
+            is_told = refl;
+          };
+          untold = λ e. absurd (cc);
+        }
+
+    pub accepted_seen : (result : Result (List ℕ) EditorFault) → SaysLine (accepted_line (shown_counts closed)) result → Seen (IsViewOf after closed) (λ last. Edits view edit result last)
+    accepted_seen result says =
+        let next = next_told view.told is.told in
+        let quiet : after.look_faults ≡ view.faults = prepares.looks.looks.quiet (λ e. cc) ∙ sym is.faults in
+        record { at = record { told = next.later; faults = after.look_faults }; is = record { told = next.is_told; faults = refl }; holds = edits result says next quiet }
+      where
+        edits : (result : Result (List ℕ) EditorFault) → SaysLine (accepted_line (shown_counts closed)) result → (next : NextTold view.told) → after.look_faults ≡ view.faults
+            → Edits view edit result (record { told = next.later; faults = after.look_faults })
+        edits (Ok text) says next quiet =
+            subst (λ (l : List ℕ). EditsTold view edit l (record { told = next.later; faults = after.look_faults })) (sym says)
+            (record { replied = next.replied; untold = next.untold; quiet = quiet })
+        edits (Err ReadFault) says next quiet = absurd says
+        edits (Err Memory) says next quiet = quiet
+
+-- ---- what it asks
+
+some_kept : (some other : Option Look) → ((look : Look) → some ≡ Some look → other ≡ Some look) → is_some some ≡ true → is_some other ≡ true
+some_kept None other keeps e = absurd (cc)
+some_kept (Some look) other keeps e = ap is_some (keeps look refl)
+
+module _ (references : List ℕ) (before after : FolderState) (old new : Session) where
+  abbrev first_looks : LookState
+  first_looks = look_state references before old
+
+  abbrev then_looks : LookState
+  then_looks = look_state references after new
+
+  module _ (failed unfinished : Type 0) (Among : List ℕ → Type 0) (looks : LooksNew before old.known after new.known failed unfinished Among) where
+    abbrev asks_by : (list : List (List ℕ)) → LooksAsked list old.known after new.known unfinished Among → AsksNew list first_looks then_looks
+    asks_by list asks = record {
+      more = asks.more;
+      asked = asks.asked;
+      once = asks.once;
+      new = All-weaker (λ path. kept_at old.known path ≡ None) (λ path. is_some (kept_at old.known path) ≡ false) (λ path none. ap is_some none) asks.more asks.new;
+    }
+
+    asks_some : AsksSome first_looks then_looks
+    asks_some = record { references = refl; tree = looks.looks.tree; writes = looks.looks.writes; later = looks.looks.later; asked = if_some before.asked asks_by looks.asked }
+
+    asks_keeping : (unfinished → ⊥) → AsksKeeping first_looks then_looks
+    asks_keeping done = record {
+      asks = record {
+        references = refl;
+        tree = looks.looks.tree;
+        writes = looks.looks.writes;
+        later = looks.looks.later;
+        asked = if_some before.asked (λ list asks. record { asks = asks_by list asks; held = asks.held done }) looks.asked;
+      };
+      keeps = λ path held. some_kept (kept_at old.known path) (kept_at new.known path) (looks.kept path) held;
+    }
+
+  pub stopped_asks : (edit : List Change) (fault : EditStop) (result : Result (List ℕ) EditorFault) → Prepares before old edit (Err fault) after new → SaysStop fault result → EditAsks first_looks result then_looks
+  stopped_asks edit (stop.Change fault) (Ok text) prepares says = asks_keeping _ _ _ prepares.looks (λ e. cc)
+  stopped_asks edit (stop.Change fault) (Err why) prepares says = asks_some _ _ _ prepares.looks
+  stopped_asks edit (stop.Generation why) (Ok text) prepares says = asks_keeping _ _ _ prepares.looks (λ e. cc)
+  stopped_asks edit (stop.Generation why) (Err fault) prepares says = asks_some _ _ _ prepares.looks
+  stopped_asks edit stop.ReadFault result prepares says = subst (λ (r : Result (List ℕ) EditorFault). EditAsks first_looks r then_looks) (sym says) (asks_some _ _ _ prepares.looks)
+  stopped_asks edit stop.Memory result prepares says = subst (λ (r : Result (List ℕ) EditorFault). EditAsks first_looks r then_looks) (sym says) (asks_some _ _ _ prepares.looks)
+
+  module _ (closed : Session) (kept : (path : List ℕ) → kept_at closed.known path ≡ kept_at new.known path) where
+    abbrev last_looks : LookState
+    last_looks = look_state references after closed
+
+    abbrev asks_closed : (list : List (List ℕ)) → AsksAndKeeps list first_looks then_looks → AsksAndKeeps list first_looks last_looks
+    asks_closed list both = record {
+      asks = record { more = both.asks.more; asked = both.asks.asked; once = both.asks.once; new = both.asks.new };
+      held = All-weaker (λ path. is_some (kept_at new.known path) ≡ true) (λ path. is_some (kept_at closed.known path) ≡ true) (λ path held. ap is_some (kept path) ∙ held) both.asks.more both.held;
+    }
+
+    keeping_closed : AsksKeeping first_looks then_looks → AsksKeeping first_looks last_looks
+    keeping_closed is = record {
+      asks = record { references = refl; tree = is.asks.tree; writes = is.asks.writes; later = is.asks.later; asked = if_some before.asked asks_closed is.asks.asked };
+      keeps = λ path held. ap is_some (kept path) ∙ is.keeps path held;
+    }
+
+    accepted_keeping : (edit : List Change) → Prepares before old edit (Ok tt) after new → AsksKeeping first_looks last_looks
+    accepted_keeping edit prepares = keeping_closed (asks_keeping _ _ _ prepares.looks (λ e. cc))
+
+    pub accepted_asks : (edit : List Change) (result : Result (List ℕ) EditorFault) → Prepares before old edit (Ok tt) after new → EditAsks first_looks result last_looks
+    accepted_asks edit (Ok text) prepares = accepted_keeping edit prepares
+    accepted_asks edit (Err fault) prepares = some_of_keeping first_looks last_looks (accepted_keeping edit prepares)
+
+-- ---- the map
+
+shows_told : (folder : FolderState) (session : Session) (map : List ℕ) → map ≡ shown_map session → (told : Option SessionState) → IsToldBy folder session told → IfSome told (λ state. map ≡ state.map)
+shows_told folder session map same None none = tt
+shows_told folder session map same (Some state) stands = same ∙ sym stands.is_state.is_state.map_is
+
+pub shows_view : (folder : FolderState) (session : Session) (map : List ℕ) (view : EditorState) → map ≡ shown_map session → IsViewOf folder session view → Shows view map
+shows_view folder session map view same is = shows_told folder session map same view.told is.told

@@ -1,0 +1,351 @@
+-- How a session ends, by how it is opened and what is replied.
+use Rattle.std.proofs.Common.{◌≡◌, ◌≢◌, ◌≤◌, ◌++◌, [], ℕ, List, length, true, false, Option, Some, None, Ok, Err, refl, sym, ap, ◌∙◌, subst, inl, inr, arith}
+use Rattle.std.proofs.lemmas.Bool.{false≢true}
+use Rattle.std.proofs.lemmas.List.{append-nil, append_assoc, take_all}
+use Rattle.std.proofs.lemmas.List.Elements.{All-weaker}
+use Rattle.std.specs.Prelude.{IfSome, is_some, option_map, take}
+use Rattle.tree_spec.specs.Counts.{Rose}
+use Rattle.tree_spec.specs.Limits.{limit_number}
+use Rattle.tree_spec.specs.States.{FolderState, SourceState, SinkState}
+use Rattle.tree_spec.specs.Trees.{Tree}
+use Rattle.tree_spec.specs.declared.LimitName.TheVariants.{Session as Limited}
+use Rattle.tree_spec.proofs.ToldStates.{if_some, if_two, if_all}
+use Rattle.trace_spec.specs.Modules.{Config}
+use Rattle.config_spec.specs.Projects.{IsConfigOf}
+use Rattle.config_spec.specs.declared.Command.TheVariants.{Refresh}
+use Rattle.generation.specs.Generating.{AsksNoPathTwice}
+use Rattle.generation.specs.declared.stop.Stop.{Stop}
+use Rattle.generation.specs.declared.stop.Stop.TheVariants as stop
+use Rattle.generator_spec.specs.Asked.{IsConfigAt}
+use Rattle.generator_spec.specs.Ending.{CanRefuse, CanRefuse as can}
+use Rattle.generator_spec.specs.Lines.{status_of, line_of, limit_line, memory_line, read_fault_line}
+use Rattle.generator_spec.specs.Outcome.{RefusesRun, by_tree}
+use Rattle.generator_spec.specs.Statuses.{memory_status, read_fault_status}
+use Rattle.package_lookup.specs.Looked.{kept_at}
+use Rattle.soundness.proofs.Smallest.{generated_is_smallest}
+use Rattle.soundness.proofs.Sound.{sound, modules_are_known}
+use Rattle.session_input.proofs.ReaderLemmas.{takes_none}
+use Rattle.session_spec.specs.Conversations.{Answers, end_reply, bad_line}
+use Rattle.session_spec.specs.Replies.{accepted_line}
+use Rattle.session_spec.specs.SessionRuns as runs
+use Rattle.session_spec.specs.SessionRuns.{refresh_words, OpensAt, opens, opening_line, SessionComesTo, RepliesTo, unopened, RepliesToAll, IsAwaited, AsksOnce, MapsServe, NoFault, IsOpenedText, IsSessionShaped, SessionSays, SessionStops, SessionEnds}
+use Rattle.session_spec.specs.SessionStates.{SessionState, IsGenerated}
+use Rattle.session_spec.specs.Talks.{Standing, begun, Talks, still}
+use Rattle.session_spec.proofs.Talking.{talks_stay_current}
+use Rattle.edit_session.specs.NewLooks.{AsksKept}
+use Rattle.edit_session.specs.Sessions.{IsOpened, OpensSession}
+use Rattle.edit_session.specs.SessionTrees.{shown_counts}
+use Rattle.edit_session.specs.declared.session.Session.{Session}
+use Rattle.session_talk.specs.EditorLooks.{LookState, AsksAndKeeps, AsksSome, AsksKeeping}
+use Rattle.session_talk.specs.Editors.{EditorState}
+use Rattle.session_talk.specs.Talking as talking
+use Rattle.session_talk.specs.Talking.{Now, now_at, IsAwaitedBy, RepliesFront, RepliesAll, IsShaped, IsLastLine, IsQuiet, Says, Stops}
+use Rattle.session_talk.proofs.AskLemmas.{some_then}
+use Rattle.session_talk.proofs.TalkLemmas.{gives_then, ends_then}
+use Rattle.session_run.specs.Editing.{IsToldBy, IsViewOf, look_state}
+use Rattle.session_run.specs.Sessions.{fresh, RefusedEnds, opened_line, OpenedEnds, wants, cut_off, replies}
+use Rattle.session_run.proofs.TalkLemmas.{begun_alone}
+
+-- ---- maps
+
+pub maps_serve : (tree : Tree) (input : List ℕ) → MapsServe tree input
+maps_serve tree input _ out later (opens config map counts is generated) talks =
+    let state : SessionState = record { tree = tree; config = config; map = map; counts = counts } in
+    let current = talks_stay_current (begun state input) later out generated talks in
+    let last = later.state in (
+      current,
+      record {
+        serves = sound last.tree last.config last.map current.generates;
+        knows = modules_are_known last.tree last.config last.map current.generates;
+        smallest = generated_is_smallest last.tree last.config last.map current.generates;
+      },
+    )
+
+-- ---- what is asked
+
+abbrev no_looks : FolderState → LookState
+no_looks folder = record { folder = folder; kept = λ path. false; references = [] }
+
+module _ (config : Config) (before mid : FolderState) (session : Session) (opening : OpensSession config before (Ok session) mid) where
+  quiet_opening : mid.look_faults ≡ before.look_faults
+  quiet_opening = opening.looks.quiet (λ e. cc)
+
+  opening_keeps : AsksKeeping (no_looks before) (look_state [] mid session)
+  opening_keeps = record {
+    asks = record {
+      references = refl;
+      tree = opening.looks.tree;
+      writes = opening.looks.writes;
+      later = opening.looks.later;
+      asked = kept_at_opening before.asked opening.asked opening.kept;
+    };
+    keeps = λ path held. absurd (false≢true held);
+  }
+    where
+      kept_at_opening : (told : Option (List (List ℕ))) → IfSome told (λ old. AsksNoPathTwice old mid) → IfSome told (λ old. AsksKept old mid session.known)
+          → IfSome told (λ old. AsksAndKeeps old (no_looks before) (look_state [] mid session))
+      kept_at_opening None asked kept = tt
+      kept_at_opening (Some old) asked kept =
+          let held = kept asked.more asked.asked in
+          record {
+            asks = record {
+              more = asked.more;
+              asked = asked.asked;
+              once = asked.once;
+              new = All-weaker (λ path. is_some (kept_at session.known path) ≡ true) (λ path. false ≡ false) (λ path is. refl) asked.more held;
+            };
+            held = held;
+          }
+
+  pub asked_with : (after : FolderState) (closed : Session) → AsksSome (look_state [] mid session) (look_state [] after closed) → IfSome before.asked (λ old. AsksNoPathTwice old after)
+  asked_with after closed asks =
+      let all = some_then (no_looks before) (look_state [] mid session) (look_state [] after closed) opening_keeps asks in
+      if_some before.asked (λ old new. record { more = new.more; asked = new.asked; once = new.once }) all.asked
+
+  pub asked_in : (after : FolderState) (source later : SourceState) (out gone : SinkState) (result : ℕ) → OpenedEnds session mid after source later out gone result
+      → IfSome before.asked (λ old. AsksNoPathTwice old after)
+  asked_in after source later out gone result (wants same taken is) = subst (λ (state : FolderState). IfSome before.asked (λ old. AsksNoPathTwice old state)) (sym same) opening.asked
+  asked_in after source later out gone result (cut_off same taken is gives rose) = subst (λ (state : FolderState). IfSome before.asked (λ old. AsksNoPathTwice old state)) (sym same) opening.asked
+  asked_in after source later out gone result (replies middle closed got quiet talks asks) = asked_with after closed asks
+
+-- ---- the beginning
+
+abbrev state_on : Tree → Config → SessionState → SessionState
+state_on tree config state = record { tree = tree; config = config; map = state.map; counts = state.counts }
+
+module _ (config : Config) (session : Session) where
+  abbrev begun_told : (holds : Option Tree) → IfSome holds (λ tree. IsOpened tree config session) → Option SessionState
+  begun_told None opened = None
+  begun_told (Some tree) opened = Some opened.state
+
+  record Begins (tree : Tree) (state : SessionState) : Type 0 where
+    pub opens_at : OpensAt tree state
+    pub line : opening_line state ≡ opened_line session
+
+  abbrev IsBegun : Option SessionState → Option Tree → Type 0
+  IsBegun None None = Unit {0}
+  IsBegun (Some state) (Some tree) = Begins tree state
+  IsBegun None (Some tree) = ⊥
+  IsBegun (Some state) None = ⊥
+
+  begins_at : (tree : Tree) (opened : IsOpened tree config session) → IsConfigOf refresh_words tree Refresh config → Begins tree opened.state
+  begins_at tree opened is =
+      let state = opened.state in
+      let tree_back = sym opened.tree_is in
+      let config_back = sym opened.config_is in
+      let same : state_on tree config state ≡ state = λ i. state_on (tree_back i) (config_back i) state in
+      let generated = subst (λ (t : Tree). IsGenerated t config state.map state.counts) opened.tree_is (subst (λ (c : Config). IsGenerated state.tree c state.map state.counts) opened.config_is opened.current) in
+      record {
+        opens_at = subst (OpensAt tree) same (opens config state.map state.counts is generated);
+        line = ap accepted_line opened.is_state.is_state.counts_are;
+      }
+
+  begun_is : (holds : Option Tree) (opened : IfSome holds (λ tree. IsOpened tree config session)) → IfSome holds (λ tree. IsConfigOf refresh_words tree Refresh config) → IsBegun (begun_told holds opened) holds
+  begun_is None opened is = tt
+  begun_is (Some tree) opened is = begins_at tree opened is
+
+  begun_stands : (mid : FolderState) (holds : Option Tree) (opened : IfSome holds (λ tree. IsOpened tree config session)) → mid.holds ≡ holds → IsToldBy mid session (begun_told holds opened)
+  begun_stands mid None opened same = same
+  begun_stands mid (Some tree) opened same = record { tree = tree; holds = same; is_state = opened.is_state }
+
+  lifted : {P : SessionState → Type 0} {Q : Tree → Type 0} (told : Option SessionState) (holds : Option Tree) → IsBegun told holds → ((state : SessionState) (tree : Tree) → Begins tree state → P state → Q tree)
+      → IfSome told P → IfSome holds Q
+  lifted None None begun f p = tt
+  lifted (Some state) (Some tree) begun f p = f state tree begun p
+  lifted None (Some tree) begun f p = absurd begun
+  lifted (Some state) None begun f p = absurd begun
+
+  -- ---- what is said
+
+  opened_text : (front : List ℕ) → IsOpenedText (opened_line session ++ front)
+  opened_text front = record { counts = shown_counts session; replies = front; says = refl }
+
+  last_then : (front : List ℕ) (status : ℕ) (last : List ℕ) → IsLastLine status last → IsSessionShaped status (opened_line session ++ (front ++ last))
+  last_then front _ _ talking.at_end =
+      runs.ended (opened_line session ++ front) (opened_text front) refl (sym (append_assoc (opened_line session) front end_reply))
+  last_then front _ _ (talking.at_line number) =
+      runs.refused_line (opened_line session ++ front) number (opened_text front) refl (sym (append_assoc (opened_line session) front (bad_line number)))
+  last_then front _ _ talking.at_limit =
+      runs.too_long (opened_line session ++ front) (opened_text front) refl (sym (append_assoc (opened_line session) front (limit_line Limited)))
+
+  shape_then : (status : ℕ) (text : List ℕ) → IsShaped status text → IsSessionShaped status (opened_line session ++ text)
+  shape_then status text shaped =
+      subst (λ (t : List ℕ). IsSessionShaped status (opened_line session ++ t)) (sym shaped.whole) (last_then shaped.front status shaped.last shaped.is_last)
+
+  front_then : (taken text : List ℕ) (state : SessionState) (tree : Tree) → Begins tree state → RepliesFront state taken text → RepliesTo tree taken (opened_line session ++ text)
+  front_then taken text state tree begins front =
+      subst (λ (line : List ℕ). RepliesTo tree taken (line ++ text)) begins.line (runs.opened state text front.later begins.opens_at front.talks)
+
+  all_then : (taken text : List ℕ) (state : SessionState) (tree : Tree) → Begins tree state → RepliesAll state taken text → RepliesToAll tree taken (opened_line session ++ text)
+  all_then taken text state tree begins all =
+      subst (λ (line : List ℕ). RepliesToAll tree taken (line ++ text)) begins.line (runs.opened state text all.later begins.opens_at all.talks all.waits)
+
+  comes_then : (input text : List ℕ) (status : ℕ) (state : SessionState) (tree : Tree) → Begins tree state → Answers state input text status → SessionComesTo tree input status (opened_line session ++ text)
+  comes_then input text status state tree begins answers =
+      subst (λ (line : List ℕ). SessionComesTo tree input status (line ++ text)) begins.line (runs.replied state status text begins.opens_at answers)
+
+  allowed_talks : (state : SessionState) (front out : List ℕ) (later : Standing) → length front ≤ limit_number Limited → Talks (begun state front) out later
+      → Talks (begun state (take (limit_number Limited) front)) out later
+  allowed_talks state front out later few talks =
+      subst (λ (bytes : List ℕ). Talks (begun state bytes) out later) (sym (take_all (limit_number Limited) front few)) talks
+
+  awaited_then : (taken : List ℕ) (state : SessionState) (tree : Tree) → Begins tree state → IsAwaitedBy state taken → IsAwaited tree taken
+  awaited_then taken state tree begins (inl none) = inl none
+  awaited_then taken state tree begins (inr last) =
+      inr (record {
+        front = last.front;
+        last = last.last;
+        whole = last.whole;
+        few = last.few;
+        short = last.short;
+        text = opened_line session ++ last.out;
+        replied = all_then last.front last.out state tree begins (record { later = last.later; talks = allowed_talks state last.front last.out last.later last.few last.talks; waits = last.waits });
+      })
+
+  module _ (holds : Option Tree) (told : Option SessionState) (begun : IsBegun told holds) (before mid after : FolderState) (same_tree : before.holds ≡ holds) (quiet_before : mid.look_faults ≡ before.look_faults)
+      (view last : EditorState) (view_told : view.told ≡ told) (view_faults : view.faults ≡ mid.look_faults) (last_faults : last.faults ≡ after.look_faults) (source later : SourceState) (middle : SinkState) (taken : List ℕ) where
+    abbrev first : Now
+    first = now_at view fresh None source middle
+
+    up : {P : SessionState → Type 0} {Q : Tree → Type 0} → ((state : SessionState) (tree : Tree) → Begins tree state → P state → Q tree) → IfSome view.told P → IfSome before.holds Q
+    up {P} {Q} f p = subst (λ (h : Option Tree). IfSome h Q) (sym same_tree) (lifted told holds begun f (subst (λ (t : Option SessionState). IfSome t P) view_told p))
+
+    no_fault : IsQuiet first last later → NoFault before after source later
+    no_fault quiet = (sym last_faults ∙ quiet.editor_is ∙ view_faults ∙ quiet_before, quiet.source_is)
+
+    same_faults : last.faults ≡ view.faults → after.look_faults ≡ before.look_faults
+    same_faults same = sym last_faults ∙ same ∙ view_faults ∙ quiet_before
+
+    rose_then : Rose view.faults last.faults → Rose before.look_faults after.look_faults
+    rose_then rose = subst (λ (n : ℕ). Rose before.look_faults n) last_faults (subst (λ (n : ℕ). Rose n last.faults) (view_faults ∙ quiet_before) rose)
+
+    with_line : (text front line : List ℕ) → text ≡ front ++ line → opened_line session ++ text ≡ (opened_line session ++ front) ++ line
+    with_line text front line is = ap (λ (t : List ℕ). opened_line session ++ t) is ∙ sym (append_assoc (opened_line session) front line)
+
+    says_then : (status : ℕ) (text : List ℕ) → Says first last later taken status text → SessionSays before after source later taken status (opened_line session ++ text)
+    says_then status text (talking.outcome shaped quiet here whole) =
+        runs.outcome (shape_then status text shaped) (no_fault quiet) (up (comes_then taken text status) here)
+        (up (λ state tree begins answers. if_some source.left (λ input is. comes_then input text status state tree begins is) answers) whole)
+    says_then status text (talking.memory front quiet told is_status is_text) =
+        runs.memory (opened_line session ++ front) (no_fault quiet) (up (front_then taken front) told) is_status (with_line text front memory_line is_text)
+    says_then status text (talking.look_fault front rose quiet told is_status is_text) =
+        runs.look_fault (opened_line session ++ front) (rose_then rose) quiet (up (front_then taken front) told) is_status (with_line text front read_fault_line is_text)
+    says_then status text (talking.take_fault front quiet rose told is_status is_text) =
+        runs.take_fault (opened_line session ++ front) (same_faults quiet) rose (up (all_then taken front) told) is_status (with_line text front read_fault_line is_text)
+
+    module _ (out gone : SinkState) (result : ℕ) (got : middle.got ≡ option_map (λ front. front ++ opened_line session) out.got) (quiet_out : middle.faults ≡ out.faults) where
+      pub stops_then : Stops first last later gone taken result → SessionStops before after source later taken out gone result
+      stops_then (talking.said status text says is) =
+          runs.said status (opened_line session ++ text) (says_then status text says) (ends_then out middle gone (opened_line session) text status result got quiet_out is)
+      stops_then (talking.cut_off text quiet told is_status gives rose) =
+          runs.cut_off (opened_line session ++ text) (no_fault quiet) (up (front_then taken text) told) is_status (gives_then out.got middle.got gone.got (opened_line session) text got gives)
+          (subst (λ (n : ℕ). Rose n gone.faults) quiet_out rose)
+
+    pub awaited_with : IfSome view.told (λ state. IsAwaitedBy state taken) → IfSome before.holds (λ tree. IsAwaited tree taken)
+    awaited_with awaited = up (awaited_then taken) awaited
+
+-- ---- a session that is opened
+
+once_of : (told : Option (List (List ℕ))) (after : FolderState) → IfSome told (λ old. AsksNoPathTwice old after) → IfSome told (λ old. AsksOnce old after)
+once_of told after asked = if_some told (λ old new. record { first = []; is_first = inl refl; more = new.more; asked = new.asked; once = new.once }) asked
+
+none_awaited : (told : Option Tree) → IfSome told (λ tree. IsAwaited tree [])
+none_awaited told = if_all told (λ tree. inl refl)
+
+module _ (config : Config) (before mid : FolderState) (session : Session) (opening : OpensSession config before (Ok session) mid) (is_config : IsConfigAt refresh_words Refresh config before) where
+  abbrev told_first : Option SessionState
+  told_first = begun_told config session before.holds opening.opened
+
+  abbrev view_first : EditorState
+  view_first = record { told = told_first; faults = mid.look_faults }
+
+  is_begun : IsBegun config session told_first before.holds
+  is_begun = begun_is config session before.holds opening.opened is_config.told
+
+  view_is : IsViewOf mid session view_first
+  view_is = record { told = begun_stands config session mid before.holds opening.opened opening.looks.tree; faults = refl }
+
+  no_fault_yet : (source : SourceState) → NoFault before mid source source
+  no_fault_yet source = (quiet_opening config before mid session opening, refl)
+
+  front_line : IfSome before.holds (λ tree. RepliesTo tree [] (opened_line session))
+  front_line =
+      subst (λ (line : List ℕ). IfSome before.holds (λ tree. RepliesTo tree [] line)) (append-nil (opened_line session))
+      (lifted config session told_first before.holds is_begun (λ state tree begins all. front_then config session [] [] state tree begins (record { later = begun_alone state; talks = still (begun_alone state) })) (all_told told_first))
+    where
+      all_told : (told : Option SessionState) → IfSome told (λ state. Unit {0})
+      all_told None = tt
+      all_told (Some state) = tt
+
+  module _ (source : SourceState) (out gone : SinkState) (result : ℕ) (output_later : out.faults ≤ gone.faults) where
+    -- own: nothing was taken, and nothing more was looked at
+    at_once : SessionStops before mid source source [] out gone result → SessionEnds before mid source source out gone result
+    at_once stops = record {
+      tree = opening.looks.tree;
+      writes = opening.looks.writes;
+      looks_later = opening.looks.later;
+      output_later = output_later;
+      taken = [];
+      takes = takes_none source;
+      awaited = none_awaited before.holds;
+      asked = once_of before.asked mid opening.asked;
+      stops = stops;
+      serves = if_all before.holds (λ tree. maps_serve tree []);
+    }
+
+    pub opened_ends : (after : FolderState) (later : SourceState) → OpenedEnds session mid after source later out gone result → SessionEnds before after source later out gone result
+    opened_ends after later (wants same taken is) =
+        subst (λ (s : SourceState). SessionEnds before after source s out gone result) (sym taken)
+        (subst (λ (f : FolderState). SessionEnds before f source source out gone result) (sym same)
+        (at_once (runs.said memory_status memory_line (runs.memory [] (no_fault_yet source) (if_all before.holds (λ tree. unopened)) refl refl) is)))
+    opened_ends after later (cut_off same taken is_status gives rose) =
+        subst (λ (s : SourceState). SessionEnds before after source s out gone result) (sym taken)
+        (subst (λ (f : FolderState). SessionEnds before f source source out gone result) (sym same)
+        (at_once (runs.cut_off (opened_line session) (no_fault_yet source) front_line is_status gives rose)))
+    opened_ends after later (replies middle closed got quiet talks asks) =
+        let seen = talks view_first view_is in
+        let done = seen.holds in
+        let looks_later = asks.later in
+        let first_later = opening.looks.later in
+        record {
+          tree = asks.tree ∙ opening.looks.tree;
+          writes = asks.writes ∙ opening.looks.writes;
+          looks_later = omega (arith, looks_later, first_later);
+          output_later = output_later;
+          taken = done.taken;
+          takes = done.takes;
+          awaited = awaited_with config session before.holds told_first is_begun before mid after refl (quiet_opening config before mid session opening) view_first seen.at refl refl seen.is.faults source later middle done.taken done.awaited;
+          asked = once_of before.asked after (asked_with config before mid session opening after closed asks);
+          stops = stops_then config session before.holds told_first is_begun before mid after refl (quiet_opening config before mid session opening) view_first seen.at refl refl seen.is.faults source later middle done.taken out gone result got quiet done.stops;
+          serves = if_all before.holds (λ tree. maps_serve tree done.taken);
+        }
+
+-- ---- a session that isn't opened
+
+module _ (config : Config) (before mid : FolderState) (source : SourceState) (out gone : SinkState) (result : ℕ) (output_later : out.faults ≤ gone.faults) (is_config : IsConfigAt refresh_words Refresh config before) where
+  pub refused_ends : (why : Stop) → OpensSession config before (Err why) mid → RefusedEnds why out gone result → SessionEnds before mid source source out gone result
+  refused_ends why opening is = record {
+    tree = opening.looks.tree;
+    writes = opening.looks.writes;
+    looks_later = opening.looks.later;
+    output_later = output_later;
+    taken = [];
+    takes = takes_none source;
+    awaited = none_awaited before.holds;
+    asked = once_of before.asked mid opening.asked;
+    stops = stopped why opening is;
+    serves = if_all before.holds (λ tree. maps_serve tree []);
+  }
+    where
+      stopped : (why : Stop) → OpensSession config before (Err why) mid → RefusedEnds why out gone result → SessionStops before mid source source [] out gone result
+      stopped (stop.Refused why) opening (inl is) =
+          let refused : IfSome before.holds (λ tree. RefusesRun refresh_words tree why) = if_two before.holds (λ tree configured refuses. by_tree Refresh config why configured refuses) is_config.told opening.refused in
+          runs.said (status_of why) (line_of why)
+          (runs.outcome (runs.unopened why (can.by_tree Refresh config why is_config.can opening.kind) refl refl) (opening.looks.quiet (λ e. cc), refl) (if_some before.holds (λ tree because. runs.refused why because) refused)
+          (if_some before.holds (λ tree because. if_all source.left (λ input. runs.refused why because)) refused)) is
+      stopped (stop.Refused why) opening (inr is) =
+          runs.said memory_status memory_line (runs.memory [] (opening.looks.quiet (λ e. cc), refl) (if_all before.holds (λ tree. unopened)) refl refl) is
+      stopped stop.ReadFault opening is =
+          runs.said read_fault_status read_fault_line (runs.look_fault [] (opening.looks.cause refl) refl (if_all before.holds (λ tree. unopened)) refl refl) is
+      stopped stop.Memory opening is =
+          runs.said memory_status memory_line (runs.memory [] (opening.looks.quiet (λ e. cc), refl) (if_all before.holds (λ tree. unopened)) refl refl) is

@@ -1,0 +1,51 @@
+-- A session as one that makes edits.
+--     IsToldBy folder session told    a tree that the folder tells stands behind the session, and this is its state
+--     IsViewOf folder session view    the same, with the looks that failed
+--     look_state references folder session    what the folder tells, and what the session keeps of it
+--     SaysLine line result            the line is said, or memory is wanting
+--     SaysStop stop result            the same of why an edit isn't made; or it is a fault
+use Rattle.std.specs.Prelude.{◌≡◌, ℕ, List, Option, Some, None, Result, Ok, Err, is_some}
+use Rattle.tree_spec.specs.States.{FolderState}
+use Rattle.tree_spec.specs.Trees.{Tree}
+use Rattle.generator_spec.specs.Lines.{line_of}
+use Rattle.package_lookup.specs.Looked.{kept_at}
+use Rattle.session_spec.specs.Replies.{fault_line}
+use Rattle.session_spec.specs.SessionStates.{SessionState}
+use Rattle.edit_session.specs.SessionTrees.{IsSessionOf}
+use Rattle.edit_session.specs.declared.session.Session.{Session}
+use Rattle.edit_session.specs.declared.stop.EditStop.{EditStop}
+use Rattle.edit_session.specs.declared.stop.EditStop.TheVariants as stop
+use Rattle.session_talk.specs.EditorLooks.{LookState}
+use Rattle.session_talk.specs.Editors.{EditorState}
+use Rattle.session_talk.specs.declared.editor.EditorFault.{EditorFault}
+use Rattle.session_talk.specs.declared.editor.EditorFault.TheVariants.{ReadFault, Memory}
+
+pub record StandsOn (folder : FolderState) (session : Session) (state : SessionState) : Type 0 where
+  pub tree : Tree
+  pub holds : folder.holds ≡ Some tree
+  pub is_state : IsSessionOf tree session state
+
+abbrev pub IsToldBy : FolderState → Session → Option SessionState → Type 0
+IsToldBy folder session None = folder.holds ≡ None
+IsToldBy folder session (Some state) = StandsOn folder session state
+
+pub record IsViewOf (folder : FolderState) (session : Session) (view : EditorState) : Type 0 where
+  pub told : IsToldBy folder session view.told
+  pub faults : view.faults ≡ folder.look_faults
+
+abbrev pub look_state : List ℕ → FolderState → Session → LookState
+look_state references folder session =
+    record { folder = folder; kept = λ path. is_some (kept_at session.known path); references = references }
+
+-- ---- what is said
+
+abbrev pub SaysLine : List ℕ → Result (List ℕ) EditorFault → Type 0
+SaysLine line (Ok text) = text ≡ line
+SaysLine line (Err ReadFault) = ⊥
+SaysLine line (Err Memory) = Unit {0}
+
+abbrev pub SaysStop : EditStop → Result (List ℕ) EditorFault → Type 0
+SaysStop (stop.Change fault) result = SaysLine (fault_line fault) result
+SaysStop (stop.Generation why) result = SaysLine (line_of why) result
+SaysStop stop.ReadFault result = result ≡ Err ReadFault
+SaysStop stop.Memory result = result ≡ Err Memory

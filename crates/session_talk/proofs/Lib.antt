@@ -1,0 +1,5 @@
+pub mod AskLemmas
+pub mod ReadLemmas
+pub mod ReplyLemmas
+pub mod TalkLemmas
+pub mod TurnLemmas

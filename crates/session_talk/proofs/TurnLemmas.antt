@@ -1,0 +1,201 @@
+-- What a turn comes to.
+use Rattle.std.proofs.Common.{◌∷◌, [], ◌≡◌, ◌≤◌, ◌++◌, ℕ, List, length, Option, Some, None, refl, sym, ◌∙◌, subst, inl, inr, arith}
+use Rattle.std.specs.Prelude.{◌+◌, IfSome}
+use Rattle.tree_spec.specs.Counts.{Rose}
+use Rattle.tree_spec.specs.Limits.{limit_number}
+use Rattle.tree_spec.specs.States.{SourceState, SinkState}
+use Rattle.tree_spec.specs.declared.LimitName.TheVariants.{Session}
+use Rattle.generator_spec.specs.Ending.{Ends}
+use Rattle.generator_spec.specs.Lines.{memory_line}
+use Rattle.generator_spec.specs.Statuses.{done_status, file_status, memory_status}
+use Rattle.session_spec.specs.declared.Change.{Change}
+use Rattle.session_spec.specs.Conversations.{Answers, makes, holds, shows, ends, refuses, map_reply, end_reply, bad_line}
+use Rattle.session_spec.specs.SessionLines as lines
+use Rattle.session_spec.specs.SessionLines.{changes, begins, commits, shows_map, ends_session}
+use Rattle.session_input.specs.Readers.{Waiting}
+use Rattle.session_spec.specs.SessionStates.{SessionState}
+use Rattle.session_spec.specs.Talks.{turn_of}
+use Rattle.session_spec.proofs.Standings.{answers_ended, answers_refused}
+use Rattle.session_talk.specs.Editors.{EditorState, IsReplied}
+use Rattle.session_talk.specs.Talking.{Now, now_at, StandsAt, OrderedAt, GoesOn, IsOrdered}
+use Rattle.session_talk.specs.Talking.{RepliesFront, IsLastLine, at_end, at_line, IsQuiet, Converses, GivesReply, TellsEnd, Makes, replied, fails, wants, ShowsMap, shown, lost, Turns}
+use Rattle.session_talk.proofs.TalkLemmas.{if_told, give_then, replies_front, ends_memory, ends_look_fault, ends_outcome, ends_cut_off, answers_input, answers_taken, stands_made, stands_shown, stands_collected, held_turn}
+
+module _ (first now : Now) (number : ℕ) (order : lines.Order) (goes : IsOrdered number order first now) where
+  abbrev Ordering : SessionState → Type 0
+  Ordering state = OrderedAt number order state goes.taken goes.text now
+
+  few : length goes.taken ≤ limit_number Session
+  few = let room = goes.room in let limit = goes.limit in omega (arith, room, limit)
+
+  few_taken : length goes.taken ≤ limit_number Session + 1
+  few_taken = let fewer = few in omega (arith, fewer)
+
+  quiet : IsQuiet first now.editor now.source
+  quiet = record { editor_is = goes.quiet_editor; source_is = goes.quiet_source }
+
+  front_told : IfSome first.editor.told (λ state. RepliesFront state goes.taken goes.text)
+  front_told = if_told first.editor.told Ordering (λ state. RepliesFront state goes.taken goes.text) (λ state is. replies_front state goes.text is.at goes.taken few is.talks) goes.stands
+
+  pub memory_turns : (after : SinkState) (status : ℕ) → Ends memory_status memory_line now.out after status → Converses first now.editor now.source after status
+  memory_turns after status is = ends_memory first now.editor now.source goes.taken goes.takes goes.awaited few_taken now.out after goes.text goes.said goes.quiet_out status quiet front_told is
+
+  -- a line that ends the session, whatever comes behind it
+  ended_by : (line : List ℕ) (status result : ℕ) (after : SinkState) → IsLastLine status line → ((state : SessionState) → Ordering state → (more : List ℕ) → Answers state (goes.taken ++ more) (goes.text ++ line) status)
+      → Ends status line now.out after result → Converses first now.editor now.source after result
+  ended_by line status result after last answers is =
+      ends_outcome first now.editor now.source goes.taken goes.takes goes.awaited few_taken now.out after goes.text goes.said goes.quiet_out line status result last quiet
+      (if_told first.editor.told Ordering (λ state. Answers state goes.taken (goes.text ++ line) status) (λ state at. answers_taken goes.taken (goes.text ++ line) status state (answers state at)) goes.stands)
+      (if_told first.editor.told Ordering (λ state. IfSome first.source.left (λ input. Answers state input (goes.text ++ line) status))
+      (λ state at. answers_input first.source.left now.source.left goes.taken (goes.text ++ line) status state (answers state at) goes.takes.came) goes.stands)
+      is
+
+  pub refuse_turns : ((state : SessionState) (is : Ordering state) → turn_of is.at ≡ refuses) → (after : SinkState) (status : ℕ) → TellsEnd file_status (bad_line number) now.out after status
+      → Converses first now.editor now.source after status
+  refuse_turns does after status (inl is) =
+      ended_by (bad_line number) file_status status after (at_line number)
+      (λ state at more. subst (λ (n : ℕ). Answers state (goes.taken ++ more) (goes.text ++ bad_line n) file_status) (sym at.line) (answers_refused state goes.taken goes.text at.at at.talks more few (does state at)))
+      is
+  refuse_turns does after status (inr is) = memory_turns after status is
+
+  pub end_turns : ((state : SessionState) (is : Ordering state) → turn_of is.at ≡ ends) → (after : SinkState) (status : ℕ) → Ends done_status end_reply now.out after status
+      → Converses first now.editor now.source after status
+  end_turns does after status is =
+      ended_by end_reply done_status status after at_end (λ state at more. answers_ended state goes.taken goes.text at.at at.talks more few (does state at)) is
+
+  pub collect_turns : (held : List Change) → ((state : SessionState) (is : Ordering state) → turn_of is.at ≡ holds held is.rest) → GoesOn first (now_at now.editor now.waiting (Some held) now.source now.out)
+  collect_turns held does = record {
+    taken = goes.taken;
+    takes = goes.takes;
+    limit = goes.limit;
+    room = goes.room;
+    awaited = goes.awaited;
+    text = goes.text;
+    said = goes.said;
+    stands = if_told first.editor.told Ordering (λ state. StandsAt state goes.taken goes.text (now_at now.editor now.waiting (Some held) now.source now.out))
+        (λ state at. stands_collected state goes.taken goes.text number order now at now.editor now.out held (does state at) refl) goes.stands;
+    untold = goes.untold;
+    quiet_editor = goes.quiet_editor;
+    quiet_source = goes.quiet_source;
+    quiet_out = goes.quiet_out;
+  }
+
+  -- ---- a reply, and then it goes on
+
+  module _ (editor : EditorState) (out : SinkState) (line : List ℕ) (told : first.editor.told ≡ None → editor.told ≡ None) (calm : editor.faults ≡ now.editor.faults)
+      (standing : (state : SessionState) → Ordering state → StandsAt state goes.taken (goes.text ++ line) (now_at editor now.waiting None now.source out)) where
+    replied_turns : (result : Option ℕ) → GivesReply line now.out out result → Turns first editor now.waiting None now.source out result
+    replied_turns None gave = record {
+      taken = goes.taken;
+      takes = goes.takes;
+      limit = goes.limit;
+      room = goes.room;
+      awaited = goes.awaited;
+      text = goes.text ++ line;
+      said = give_then first.out.got now.out.got out.got goes.text line goes.said gave.got;
+      stands = if_told first.editor.told Ordering (λ state. StandsAt state goes.taken (goes.text ++ line) (now_at editor now.waiting None now.source out)) standing goes.stands;
+      untold = told;
+      quiet_editor = calm ∙ goes.quiet_editor;
+      quiet_source = goes.quiet_source;
+      quiet_out = gave.quiet ∙ goes.quiet_out;
+    }
+    replied_turns (Some status) cut =
+        ends_cut_off first editor now.source goes.taken goes.takes goes.awaited few_taken now.out out goes.text goes.said goes.quiet_out line status
+        (record { editor_is = calm ∙ goes.quiet_editor; source_is = goes.quiet_source })
+        (if_told first.editor.told Ordering (λ state. RepliesFront state goes.taken (goes.text ++ line))
+        (λ state at. let then = standing state at in replies_front state (goes.text ++ line) then.at goes.taken few then.talks) goes.stands)
+        cut
+
+  pub make_turns : (edit : List Change) → ((state : SessionState) (is : Ordering state) → turn_of is.at ≡ makes edit is.rest) → (editor : EditorState) (out : SinkState) (result : Option ℕ)
+      → Makes now.editor edit now.out editor out result → Turns first editor now.waiting None now.source out result
+  make_turns edit does editor out result (replied line edits gives) =
+      replied_turns editor out line (λ e. edits.untold (goes.untold e)) edits.quiet
+      (λ state at. stands_made state goes.taken goes.text number order now at editor out edit line (does state at)
+      (subst (λ (t : Option SessionState). IfSome t (λ s. IsReplied s edit line editor.told)) at.told edits.replied))
+      result gives
+  make_turns edit does editor out result (fails status e rose is) =
+      subst (λ (r : Option ℕ). Turns first editor now.waiting None now.source out r) (sym e)
+      (ends_look_fault first editor now.source goes.taken goes.takes goes.awaited few_taken now.out out goes.text goes.said goes.quiet_out status
+      (subst (λ (n : ℕ). Rose n editor.faults) goes.quiet_editor rose) goes.quiet_source front_told is)
+  make_turns edit does editor out result (wants status e calm is) =
+      subst (λ (r : Option ℕ). Turns first editor now.waiting None now.source out r) (sym e)
+      (ends_memory first editor now.source goes.taken goes.takes goes.awaited few_taken now.out out goes.text goes.said goes.quiet_out status
+      (record { editor_is = calm ∙ goes.quiet_editor; source_is = goes.quiet_source }) front_told is)
+
+  pub show_turns : ((state : SessionState) (is : Ordering state) → turn_of is.at ≡ shows is.rest) → (out : SinkState) (result : Option ℕ) → ShowsMap now.editor now.out out result
+      → Turns first now.editor now.waiting None now.source out result
+  show_turns does out result (shown map is gives) =
+      replied_turns now.editor out (map_reply map) goes.untold refl
+      (λ state at. stands_shown state goes.taken goes.text number order now at now.editor out map (does state at)
+      (subst (λ (t : Option SessionState). IfSome t (λ s. map ≡ s.map)) at.told is) refl)
+      result gives
+  show_turns does out result (lost status e is) =
+      subst (λ (r : Option ℕ). Turns first now.editor now.waiting None now.source out r) (sym e) (memory_turns out status is)
+
+-- ---- each order at its place
+
+module _ (first : Now) (number : ℕ) (editor : EditorState) (waiting : Waiting) (source : SourceState) (out : SinkState) where
+  pub alone_change : (change : Change) (later : EditorState) (after : SinkState) (result : Option ℕ) → IsOrdered number (changes change) first (now_at editor waiting None source out) → Makes editor (change ∷ []) out later after result
+      → Turns first later waiting None source after result
+  alone_change change later after result goes made =
+      make_turns first (now_at editor waiting None source out) number (changes change) goes (change ∷ [])
+      (λ state is. held_turn state goes.taken goes.text number (changes change) (now_at editor waiting None source out) is) later after result made
+
+  pub alone_begin : IsOrdered number begins first (now_at editor waiting None source out) → GoesOn first (now_at editor waiting (Some []) source out)
+  alone_begin goes =
+      collect_turns first (now_at editor waiting None source out) number begins goes []
+      (λ state is. held_turn state goes.taken goes.text number begins (now_at editor waiting None source out) is)
+
+  pub alone_commit : (after : SinkState) (status : ℕ) → IsOrdered number commits first (now_at editor waiting None source out) → TellsEnd file_status (bad_line number) out after status → Converses first editor source after status
+  alone_commit after status goes is =
+      refuse_turns first (now_at editor waiting None source out) number commits goes
+      (λ state at. held_turn state goes.taken goes.text number commits (now_at editor waiting None source out) at) after status is
+
+  pub alone_map : (after : SinkState) (result : Option ℕ) → IsOrdered number shows_map first (now_at editor waiting None source out) → ShowsMap editor out after result → Turns first editor waiting None source after result
+  alone_map after result goes is =
+      show_turns first (now_at editor waiting None source out) number shows_map goes
+      (λ state at. held_turn state goes.taken goes.text number shows_map (now_at editor waiting None source out) at) after result is
+
+  pub alone_end : (after : SinkState) (status : ℕ) → IsOrdered number ends_session first (now_at editor waiting None source out) → Ends done_status end_reply out after status → Converses first editor source after status
+  alone_end after status goes is =
+      end_turns first (now_at editor waiting None source out) number ends_session goes
+      (λ state at. held_turn state goes.taken goes.text number ends_session (now_at editor waiting None source out) at) after status is
+
+  module _ (held : List Change) where
+    pub within_change : (change : Change) → IsOrdered number (changes change) first (now_at editor waiting (Some held) source out) → GoesOn first (now_at editor waiting (Some (held ++ change ∷ [])) source out)
+    within_change change goes =
+        collect_turns first (now_at editor waiting (Some held) source out) number (changes change) goes (held ++ change ∷ [])
+        (λ state is. held_turn state goes.taken goes.text number (changes change) (now_at editor waiting (Some held) source out) is)
+
+    pub within_commit : (later : EditorState) (after : SinkState) (result : Option ℕ) → IsOrdered number commits first (now_at editor waiting (Some held) source out) → Makes editor held out later after result
+        → Turns first later waiting None source after result
+    within_commit later after result goes made =
+        make_turns first (now_at editor waiting (Some held) source out) number commits goes held
+        (λ state is. held_turn state goes.taken goes.text number commits (now_at editor waiting (Some held) source out) is) later after result made
+
+    pub within_begin : (after : SinkState) (status : ℕ) → IsOrdered number begins first (now_at editor waiting (Some held) source out) → TellsEnd file_status (bad_line number) out after status → Converses first editor source after status
+    within_begin after status goes is =
+        refuse_turns first (now_at editor waiting (Some held) source out) number begins goes
+        (λ state at. held_turn state goes.taken goes.text number begins (now_at editor waiting (Some held) source out) at) after status is
+
+    pub within_map : (after : SinkState) (status : ℕ) → IsOrdered number shows_map first (now_at editor waiting (Some held) source out) → TellsEnd file_status (bad_line number) out after status → Converses first editor source after status
+    within_map after status goes is =
+        refuse_turns first (now_at editor waiting (Some held) source out) number shows_map goes
+        (λ state at. held_turn state goes.taken goes.text number shows_map (now_at editor waiting (Some held) source out) at) after status is
+
+    pub within_end : (after : SinkState) (status : ℕ) → IsOrdered number ends_session first (now_at editor waiting (Some held) source out) → TellsEnd file_status (bad_line number) out after status → Converses first editor source after status
+    within_end after status goes is =
+        refuse_turns first (now_at editor waiting (Some held) source out) number ends_session goes
+        (λ state at. held_turn state goes.taken goes.text number ends_session (now_at editor waiting (Some held) source out) at) after status is
+
+  pub memory_ordered : (held : Option (List Change)) (order : lines.Order) (after : SinkState) (status : ℕ) → IsOrdered number order first (now_at editor waiting held source out) → Ends memory_status memory_line out after status
+      → Converses first editor source after status
+  memory_ordered held order after status goes is = memory_turns first (now_at editor waiting held source out) number order goes after status is
+
+-- ---- as the code has it
+
+pub none_held : (first : Now) (editor : EditorState) (waiting : Waiting) (held : Option (List Change)) (source : SourceState) (out : SinkState) (result : Option ℕ) → held ≡ None
+    → Turns first editor waiting None source out result → Turns first editor waiting held source out result
+none_held first editor waiting held source out result e turns = subst (λ (h : Option (List Change)). Turns first editor waiting h source out result) (sym e) turns
+
+pub ruleset turning = (alone_change, alone_begin, alone_commit, alone_map, alone_end, within_change, within_commit, within_begin, within_map, within_end, memory_ordered)

@@ -1,0 +1,3 @@
+pub mod Editors
+pub mod EditorLooks
+pub mod Talking

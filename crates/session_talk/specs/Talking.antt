@@ -1,0 +1,213 @@
+-- Where the replies of a session stand, and how they end.
+--     Now                             all that a turn changes: who edits, what waits, the changes since a `begin`, the
+--                                     source and the sink
+--     StandsAt state taken text now   of these bytes all that doesn't wait is read, and this text is replied
+--     IsAwaitedBy state taken         the last of these bytes were taken, all at once, where what came before them didn't
+--                                     end the session
+--     Goes Stands first now           so far nothing failed, and it stands so
+--     OrderedAt number order state taken text now      so, but the last line that is read isn't obeyed yet
+--     GoesOn first now, IsOrdered number order first now      so far nothing failed, and it stands in one of both ways
+--     RepliesFront state taken text   the text is replies to lines of these bytes, as far as the limit allows
+--     RepliesAll state taken text     so, to each line that stands whole in them
+--     IsLastLine status line          a line with which a session ends, and its exit status
+--     IsShaped status text            a text that ends with such a line
+--     Says first editor source taken status text     why replies end with this status and text
+--     Stops first editor source out taken result     all of the text went out, or the sink failed
+--     Converses first editor source out result       what is promised of replies to an input
+--     GivesReply reply out after result              a reply went out, or the sink failed
+--     TellsEnd status line out after result          the last line is told, or that memory is wanting
+--     Makes before edit out after out_after result   an edit is made and replied to, or something failed
+--     ShowsMap editor out after result               the map is the reply
+--     Turns first editor waiting held source out result      behind a turn it goes on, or the session ends
+use Rattle.std.specs.Prelude.{◌≡◌, ◌≤◌, ◌⊎◌, ◌+◌, ◌++◌, [], ℕ, List, length, take}
+use Rattle.std.specs.Prelude.{Option, Some, None, IfSome, option_map}
+use Rattle.tree_spec.specs.Counts.{Rose}
+use Rattle.tree_spec.specs.Limits.{limit_number}
+use Rattle.tree_spec.specs.States.{SourceState, SinkState}
+use Rattle.tree_spec.specs.declared.LimitName.TheVariants.{Session}
+use Rattle.generator_spec.specs.Ending.{Ends, Gives}
+use Rattle.generator_spec.specs.Lines.{memory_line, read_fault_line, limit_line}
+use Rattle.generator_spec.specs.Statuses.{done_status, file_status, limit_status}
+use Rattle.generator_spec.specs.Statuses.{memory_status, read_fault_status, write_fault_status}
+use Rattle.session_spec.specs.declared.Change.{Change}
+use Rattle.session_spec.specs.Conversations.{Answers, stops, map_reply, end_reply, bad_line}
+use Rattle.session_spec.specs.SessionLines.{Order, Rest, reads, read_line}
+use Rattle.session_spec.specs.SessionStates.{SessionState}
+use Rattle.session_spec.specs.TakenInput.{Takes, taken_at_once}
+use Rattle.session_spec.specs.Talks.{Standing, begun, turn_of, Talks}
+use Rattle.session_input.specs.Readers.{Waiting}
+use Rattle.session_talk.specs.Editors.{EditorState, EditsTold, Shows}
+
+pub record Now : Type 0 where
+  pub editor : EditorState
+  pub waiting : Waiting
+  pub held : Option (List Change)
+  pub source : SourceState
+  pub out : SinkState
+
+abbrev pub now_at : EditorState → Waiting → Option (List Change) → SourceState → SinkState → Now
+now_at editor waiting held source out =
+    record { editor = editor; waiting = waiting; held = held; source = source; out = out }
+
+-- ---- standing
+
+pub record StandsAt (state : SessionState) (taken text : List ℕ) (now : Now) : Type 0 where
+  pub at : Standing
+  pub talks : Talks (begun state taken) text at
+  pub told : now.editor.told ≡ Some at.state
+  pub number : now.waiting.number ≡ at.number
+  pub held : now.held ≡ at.held
+  pub input : now.waiting.unread ≡ at.input
+
+pub record OrderedAt (number : ℕ) (order : Order) (state : SessionState) (taken text : List ℕ) (now : Now) : Type 0 where
+  pub at : Standing
+  pub talks : Talks (begun state taken) text at
+  pub told : now.editor.told ≡ Some at.state
+  pub line : number ≡ at.number
+  pub held : now.held ≡ at.held
+  pub rest : Rest
+  pub order_is : read_line at.input ≡ reads order rest
+  pub number_is : now.waiting.number ≡ at.number + rest.lines
+  pub input : now.waiting.unread ≡ rest.behind
+
+pub record StandsBeforeLastOf (state : SessionState) (taken : List ℕ) : Type 0 where
+  pub front : List ℕ
+  pub last : List ℕ
+  pub whole : taken ≡ front ++ last
+  pub few : length front ≤ limit_number Session
+  pub short : length last ≤ taken_at_once
+  pub out : List ℕ
+  pub later : Standing
+  pub talks : Talks (begun state front) out later
+  pub waits : turn_of later ≡ stops
+
+abbrev pub IsAwaitedBy : SessionState → List ℕ → Type 0
+IsAwaitedBy state taken = (taken ≡ []) ⊎ StandsBeforeLastOf state taken
+
+pub record Goes (Stands : SessionState → List ℕ → List ℕ → Type 0) (first now : Now) : Type 0 where
+  pub taken : List ℕ
+  pub takes : Takes first.source taken now.source
+  pub limit : first.waiting.room ≡ limit_number Session
+  pub room : first.waiting.room ≡ length taken + now.waiting.room
+  pub awaited : IfSome first.editor.told (λ state. IsAwaitedBy state taken)
+  pub text : List ℕ
+  pub said : now.out.got ≡ option_map (λ front. front ++ text) first.out.got
+  pub stands : IfSome first.editor.told (λ state. Stands state taken text)
+  pub untold : first.editor.told ≡ None → now.editor.told ≡ None
+  pub quiet_editor : now.editor.faults ≡ first.editor.faults
+  pub quiet_source : now.source.faults ≡ first.source.faults
+  pub quiet_out : now.out.faults ≡ first.out.faults
+
+abbrev pub GoesOn : Now → Now → Type 0
+GoesOn first now = Goes (λ state taken text. StandsAt state taken text now) first now
+
+abbrev pub IsOrdered : ℕ → Order → Now → Now → Type 0
+IsOrdered number order first now = Goes (λ state taken text. OrderedAt number order state taken text now) first now
+
+-- ---- ends
+
+pub record RepliesFront (state : SessionState) (taken text : List ℕ) : Type 0 where
+  pub later : Standing
+  pub talks : Talks (begun state (take (limit_number Session) taken)) text later
+
+pub record RepliesAll (state : SessionState) (taken text : List ℕ) : Type 0 where
+  pub later : Standing
+  pub talks : Talks (begun state (take (limit_number Session) taken)) text later
+  pub waits : turn_of later ≡ stops
+
+pub record IsQuiet (first : Now) (editor : EditorState) (source : SourceState) : Type 0 where
+  pub editor_is : editor.faults ≡ first.editor.faults
+  pub source_is : source.faults ≡ first.source.faults
+
+pub data IsLastLine : ℕ → List ℕ → Type 0 where
+  at_end : IsLastLine done_status end_reply
+  at_line : (number : ℕ) → IsLastLine file_status (bad_line number)
+  at_limit : IsLastLine limit_status (limit_line Session)
+
+-- own: status and text belong together, whatever is told
+pub record IsShaped (status : ℕ) (text : List ℕ) : Type 0 where
+  pub front : List ℕ
+  pub last : List ℕ
+  pub whole : text ≡ front ++ last
+  pub is_last : IsLastLine status last
+
+pub data Says (first : Now) (editor : EditorState) (source : SourceState) (taken : List ℕ) (status : ℕ)
+    (text : List ℕ) : Type 0 where
+  outcome :
+      IsShaped status text → IsQuiet first editor source
+      → IfSome first.editor.told (λ state. Answers state taken text status)
+      → IfSome first.editor.told (λ state. IfSome first.source.left (λ input. Answers state input text status))
+      → Says first editor source taken status text
+  memory :
+      (front : List ℕ) → IsQuiet first editor source
+      → IfSome first.editor.told (λ state. RepliesFront state taken front)
+      → status ≡ memory_status → text ≡ front ++ memory_line → Says first editor source taken status text
+  look_fault :
+      (front : List ℕ) → Rose first.editor.faults editor.faults → source.faults ≡ first.source.faults
+      → IfSome first.editor.told (λ state. RepliesFront state taken front)
+      → status ≡ read_fault_status → text ≡ front ++ read_fault_line → Says first editor source taken status text
+  take_fault :
+      (front : List ℕ) → editor.faults ≡ first.editor.faults → Rose first.source.faults source.faults
+      → IfSome first.editor.told (λ state. RepliesAll state taken front)
+      → status ≡ read_fault_status → text ≡ front ++ read_fault_line → Says first editor source taken status text
+
+pub data Stops (first : Now) (editor : EditorState) (source : SourceState) (out : SinkState) (taken : List ℕ)
+    (result : ℕ) : Type 0 where
+  said :
+      (status : ℕ) (text : List ℕ) → Says first editor source taken status text
+      → Ends status text first.out out result → Stops first editor source out taken result
+  cut_off :
+      (text : List ℕ) → IsQuiet first editor source
+      → IfSome first.editor.told (λ state. RepliesFront state taken text)
+      → result ≡ write_fault_status → Gives first.out.got out.got text → Rose first.out.faults out.faults
+      → Stops first editor source out taken result
+
+pub record Converses (first : Now) (editor : EditorState) (source : SourceState) (out : SinkState)
+    (result : ℕ) : Type 0 where
+  pub taken : List ℕ
+  pub takes : Takes first.source taken source
+  pub few : length taken ≤ limit_number Session + 1
+  pub awaited : IfSome first.editor.told (λ state. IsAwaitedBy state taken)
+  pub stops : Stops first editor source out taken result
+
+-- ---- what a turn gives out
+
+pub record Gave (reply : List ℕ) (out after : SinkState) : Type 0 where
+  pub got : after.got ≡ option_map (λ front. front ++ reply) out.got
+  pub quiet : after.faults ≡ out.faults
+
+pub record CutOff (reply : List ℕ) (out after : SinkState) (status : ℕ) : Type 0 where
+  pub is_status : status ≡ write_fault_status
+  pub gives : Gives out.got after.got reply
+  pub rose : Rose out.faults after.faults
+
+abbrev pub GivesReply : List ℕ → SinkState → SinkState → Option ℕ → Type 0
+GivesReply reply out after None = Gave reply out after
+GivesReply reply out after (Some status) = CutOff reply out after status
+
+abbrev pub TellsEnd : ℕ → List ℕ → SinkState → SinkState → ℕ → Type 0
+TellsEnd status line out after result = Ends status line out after result ⊎ Ends memory_status memory_line out after result
+
+pub data Makes (before : EditorState) (edit : List Change) (out : SinkState) (after : EditorState)
+    (out_after : SinkState) (result : Option ℕ) : Type 0 where
+  replied :
+      (line : List ℕ) → EditsTold before edit line after → GivesReply line out out_after result
+      → Makes before edit out after out_after result
+  fails :
+      (status : ℕ) → result ≡ Some status → Rose before.faults after.faults
+      → Ends read_fault_status read_fault_line out out_after status → Makes before edit out after out_after result
+  wants :
+      (status : ℕ) → result ≡ Some status → after.faults ≡ before.faults
+      → Ends memory_status memory_line out out_after status → Makes before edit out after out_after result
+
+pub data ShowsMap (editor : EditorState) (out after : SinkState) (result : Option ℕ) : Type 0 where
+  shown :
+      (map : List ℕ) → Shows editor map → GivesReply (map_reply map) out after result
+      → ShowsMap editor out after result
+  lost :
+      (status : ℕ) → result ≡ Some status → Ends memory_status memory_line out after status
+      → ShowsMap editor out after result
+
+abbrev pub Turns : Now → EditorState → Waiting → Option (List Change) → SourceState → SinkState → Option ℕ → Type 0
+Turns first editor waiting held source out None = GoesOn first (now_at editor waiting held source out)
+Turns first editor waiting held source out (Some status) = Converses first editor source out status
