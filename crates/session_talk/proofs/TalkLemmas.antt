@@ -1,6 +1,6 @@
 -- Where replies stand behind a line, and how they end.
 use Rattle.std.proofs.Common.{◌≡◌, ◌≤◌, ◌++◌, [], ℕ, List, length, Option, Some, None, refl, sym, ap, ◌∙◌, subst, inl, inr, arith}
-use Rattle.std.proofs.lemmas.List.{append-nil, append_assoc, take_all}
+use Rattle.std.proofs.lemmas.List.{append-nil, append_assoc, take_all, length-append}
 use Rattle.std.proofs.Math.Seq.{take-append-add}
 use Rattle.std.specs.Prelude.{◌+◌, take, option_map, IfSome}
 use Rattle.tree_spec.specs.Counts.{Rose}
@@ -58,11 +58,11 @@ ends_then first now after text line status result e quiet (ending.output_fault i
 
 -- ---- ends
 
-module _ (first : Now) (editor : EditorState) (source : SourceState) (taken : List ℕ) (takes : Takes first.source taken source) (awaited : IfSome first.editor.told (λ state. IsAwaitedBy state taken)) where
+module _ (first : Now) (editor : EditorState) (source : SourceState) (taken : List ℕ) (takes : Takes first.source taken source) (awaited : IfSome first.editor.told (λ state. IsAwaitedBy state taken)) (few : length taken ≤ limit_number Session + 1) where
   module _ (out after : SinkState) (text : List ℕ) (got : out.got ≡ option_map (λ front. front ++ text) first.out.got) (quiet_out : out.faults ≡ first.out.faults) where
     ends_as : (line : List ℕ) (status result : ℕ) → Says first editor source taken status (text ++ line) → Ends status line out after result → Converses first editor source after result
     ends_as line status result says is =
-        record { taken = taken; takes = takes; awaited = awaited; stops = said status (text ++ line) says (ends_then first.out out after text line status result got quiet_out is) }
+        record { taken = taken; takes = takes; few = few; awaited = awaited; stops = said status (text ++ line) says (ends_then first.out out after text line status result got quiet_out is) }
 
     pub ends_memory : (result : ℕ) → IsQuiet first editor source → IfSome first.editor.told (λ state. RepliesFront state taken text) → Ends memory_status memory_line out after result
         → Converses first editor source after result
@@ -86,6 +86,7 @@ module _ (first : Now) (editor : EditorState) (source : SourceState) (taken : Li
     ends_cut_off reply result quiet front cut = record {
       taken = taken;
       takes = takes;
+      few = few;
       awaited = awaited;
       stops = cut_off (text ++ reply) quiet front cut.is_status (gives_then first.out.got out.got after.got text reply got cut.gives) (subst (λ (n : ℕ). Rose n after.faults) quiet_out cut.rose);
     }
@@ -204,14 +205,20 @@ module _ (state : SessionState) (front text more : List ℕ) (now : Now) (stands
     input = unread;
   }
 
-pub awaited_with : (state : SessionState) (front text more : List ℕ) (now : Now) → StandsAt state front text now → IsNeeded now.waiting.unread more → IsAwaitedBy state front → IsAwaitedBy state (front ++ more)
-awaited_with state front text more now stands (inl none) awaited =
+pub awaited_with : (state : SessionState) (front text more : List ℕ) (now : Now) → StandsAt state front text now → length front + length more ≤ limit_number Session + 1 → IsNeeded now.waiting.unread more
+    → IsAwaitedBy state front → IsAwaitedBy state (front ++ more)
+awaited_with state front text more now stands most (inl none) awaited =
     subst (λ (bytes : List ℕ). IsAwaitedBy state bytes) (sym (ap (λ (m : List ℕ). front ++ m) none ∙ append-nil front)) awaited
-awaited_with state front text more now stands (inr last) awaited =
+awaited_with state front text more now stands most (inr last) awaited =
+    let long = ap length last.whole ∙ length-append last.front last.last in
+    let longer = length-append front last.front in
+    let some = last.some in
     inr (record {
       front = front ++ last.front;
       last = last.last;
       whole = ap (λ (m : List ℕ). front ++ m) last.whole ∙ sym (append_assoc front last.front last.last);
+      few = omega (arith, most, long, longer, some);
+      short = last.short;
       out = text;
       later = with_more last.front stands.at;
       talks = talks_with state front text last.front now stands;

@@ -2,8 +2,8 @@
 --     Now                             all that a turn changes: who edits, what waits, the changes since a `begin`, the
 --                                     source and the sink
 --     StandsAt state taken text now   of these bytes all that doesn't wait is read, and this text is replied
---     IsAwaitedBy state taken         the last of these bytes were taken where what came before them didn't end the
---                                     session
+--     IsAwaitedBy state taken         the last of these bytes were taken, all at once, where what came before them didn't
+--                                     end the session
 --     Goes Stands first now           so far nothing failed, and it stands so
 --     OrderedAt number order state taken text now      so, but the last line that is read isn't obeyed yet
 --     GoesOn first now, IsOrdered number order first now      so far nothing failed, and it stands in one of both ways
@@ -19,7 +19,8 @@
 --     Makes before edit out after out_after result   an edit is made and replied to, or something failed
 --     ShowsMap editor out after result               the map is the reply
 --     Turns first editor waiting held source out result      behind a turn it goes on, or the session ends
-use Rattle.std.specs.Prelude.{◌≡◌, ◌⊎◌, ◌+◌, ◌++◌, [], ℕ, List, length, take, Option, Some, None, IfSome, option_map}
+use Rattle.std.specs.Prelude.{◌≡◌, ◌≤◌, ◌⊎◌, ◌+◌, ◌++◌, [], ℕ, List, length, take}
+use Rattle.std.specs.Prelude.{Option, Some, None, IfSome, option_map}
 use Rattle.tree_spec.specs.Counts.{Rose}
 use Rattle.tree_spec.specs.Limits.{limit_number}
 use Rattle.tree_spec.specs.States.{SourceState, SinkState}
@@ -32,7 +33,7 @@ use Rattle.session_spec.specs.declared.Change.{Change}
 use Rattle.session_spec.specs.Conversations.{Answers, stops, map_reply, end_reply, bad_line}
 use Rattle.session_spec.specs.SessionLines.{Order, Rest, reads, read_line}
 use Rattle.session_spec.specs.SessionStates.{SessionState}
-use Rattle.session_spec.specs.TakenInput.{Takes}
+use Rattle.session_spec.specs.TakenInput.{Takes, taken_at_once}
 use Rattle.session_spec.specs.Talks.{Standing, begun, turn_of, Talks}
 use Rattle.session_input.specs.Readers.{Waiting}
 use Rattle.session_talk.specs.Editors.{EditorState, EditsTold, Shows}
@@ -73,6 +74,8 @@ pub record StandsBeforeLastOf (state : SessionState) (taken : List ℕ) : Type 0
   pub front : List ℕ
   pub last : List ℕ
   pub whole : taken ≡ front ++ last
+  pub few : length front ≤ limit_number Session
+  pub short : length last ≤ taken_at_once
   pub out : List ℕ
   pub later : Standing
   pub talks : Talks (begun state front) out later
@@ -163,6 +166,7 @@ pub record Converses (first : Now) (editor : EditorState) (source : SourceState)
     (result : ℕ) : Type 0 where
   pub taken : List ℕ
   pub takes : Takes first.source taken source
+  pub few : length taken ≤ limit_number Session + 1
   pub awaited : IfSome first.editor.told (λ state. IsAwaitedBy state taken)
   pub stops : Stops first editor source out taken result
 
