@@ -234,14 +234,14 @@ module _ (config : Config) (session : Session) where
         runs.take_fault (opened_line session ++ front) (same_faults quiet) rose (up (all_then taken front) told) is_status (with_line text front read_fault_line is_text)
 
     module _ (out gone : SinkState) (result : ℕ) (got : middle.got ≡ option_map (λ front. front ++ opened_line session) out.got) (quiet_out : middle.faults ≡ out.faults) where
-      pub stops_then : Stops first last later gone taken result → SessionStops before after source later taken out gone result
+      stops_then : Stops first last later gone taken result → SessionStops before after source later taken out gone result
       stops_then (talking.said status text says is) =
           runs.said status (opened_line session ++ text) (says_then status text says) (ends_then out middle gone (opened_line session) text status result got quiet_out is)
       stops_then (talking.cut_off text quiet told is_status gives rose) =
           runs.cut_off (opened_line session ++ text) (no_fault quiet) (up (front_then taken text) told) is_status (gives_then out.got middle.got gone.got (opened_line session) text got gives)
           (subst (λ (n : ℕ). Rose n gone.faults) quiet_out rose)
 
-    pub awaited_with : IfSome view.told (λ state. IsAwaitedBy state taken) → IfSome before.holds (λ tree. IsAwaited tree taken)
+    awaited_with : IfSome view.told (λ state. IsAwaitedBy state taken) → IfSome before.holds (λ tree. IsAwaited tree taken)
     awaited_with awaited = up (awaited_then taken) awaited
 
 -- ---- a session that is opened

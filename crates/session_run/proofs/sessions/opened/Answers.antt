@@ -1,23 +1,16 @@
-use Rattle.std.proofs.Common.{[], refl, ap, subst, ◌∙◌}
-use Rattle.generator_spec.specs.Ending.{Ends}
+use Rattle.std.proofs.Common.{[], ap, ◌∙◌}
 use Rattle.session_spec.specs.Replies.{accepted_line}
-use Rattle.session_run.specs.Sessions.{wants}
 use Rattle.session_run.proofs.TalkLemmas.{opened_cut, opened_replies}
 use Rattle.session_run.proofs.sessions.opened.Goals as goal
-
-pub returns-in-Err-clause-ends : goal.returns-in-Err-clause-ends
-returns-in-Err-clause-ends g c =
-    wants refl refl
-    (subst (λ line. Ends 8 line (g.O.Sink.state c.args.out.now) (g.O.Sink.state c.tell.new.out) c.tell.result) c.memory_line.ensures c.tell.ensures.ends)
 
 pub returns-in-Err-give-clause-ends : goal.returns-in-Err-give-clause-ends
 returns-in-Err-give-clause-ends g c =
     opened_cut c.args.session (g.F.Folder.state c.args.folder.now) (g.I.Source.state c.args.input.now) (g.O.Sink.state c.args.out.now)
     c.as_slice.result.now (c.as_slice.ensures.value ∙ c.in-Ok.ensures ∙ ap accepted_line c.counts-counts.ensures)
-    _ (g.O.Sink.state c.give.new.self) c.in-Err-give.ensures.given
+    c.in-Err-give.field-0 (g.O.Sink.state c.give.new.self) c.in-Err-give.ensures.given
 
-pub returns-in-Ok-give-clause-ends : goal.returns-in-Ok-give-clause-ends
-returns-in-Ok-give-clause-ends g c =
+pub returns-clause-ends : goal.returns-clause-ends
+returns-clause-ends g c =
     opened_replies c.args.session (g.F.Folder.state c.args.folder.now) (g.I.Source.state c.args.input.now) (g.O.Sink.state c.args.out.now)
     c.as_slice.result.now (c.as_slice.ensures.value ∙ c.in-Ok.ensures ∙ ap accepted_line c.counts-counts.ensures)
     (g.O.Sink.state c.give.new.self) (g.O.Sink.state c.talk.new.out) (g.F.Folder.state c.talk.new.folder) c.talk.new.session

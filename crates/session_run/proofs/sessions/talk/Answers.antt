@@ -22,7 +22,7 @@ returns-in-Ok-clause-asks g c references =
     let folder_named : c.converse.new.editor.folder.ghost_name ≡ _ = second_name names in
     asks_from references (g.F.Folder.state c.args.folder.now) (g.F.Folder.state c.converse.new.editor.folder.now) _
     c.args.session.now c.converse.new.editor.session.now _
-    _ (ap g.F.Folder.state (search rules)) (search rules) c.converse.ensures.asks
+    _ _ (ap g.F.Folder.state (search rules)) (search rules) c.converse.ensures.asks
 
 pub returns-in-Err-clause-talks : goal.returns-in-Err-clause-talks
 returns-in-Err-clause-talks g c before is = record {
