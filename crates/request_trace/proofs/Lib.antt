@@ -1,3 +1,5 @@
 mod FootprintPaths
 pub mod AnswerLemmas
 mod NamedModules
+mod Lending
+mod JoinedTables

@@ -26,7 +26,8 @@ pub fn trace<F: Folder, L: Ledger>(
 {
     let base = config.base().copy(alloc)?;
     let tables = tables_of(alloc, folder, known, config, steps)?;
-    Ok(Trace::of(base, tables))
+    let trace = Trace::of(alloc, base, tables, config.entries().len())?;
+    Ok(trace)
 }
 
 // The tables of the trace.

@@ -8,5 +8,5 @@ use Rattle.request_trace.proofs.traces.Trace.len.Goals as goal
 pub returns : goal.returns
 returns c =
     counted c.args.self.now c.len.result
-    (c.len.ensures.len ∙ (sym (length-map _ _) ∙ ap (λ (all : Gathered). length all.modules) c.self.view_is))
+    (c.len.ensures ∙ (sym (length-map _ _) ∙ ap (λ (all : Gathered). length all.modules) c.self.view_is))
     (subst IsWhole c.self.view_is c.self.invariant.whole)
