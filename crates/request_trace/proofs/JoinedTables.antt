@@ -33,7 +33,7 @@ use Rattle.trace_walk.specs.Shown as walked
 use Rattle.trace_walk.specs.Shown.{before_of}
 use Rattle.trace_walk.specs.Walking.{module_requests}
 use Rattle.trace_walk.specs.declared.tables.Tables.{Tables}
-use Rattle.request_trace.specs.Showing.{gathered}
+use Rattle.request_trace.specs.Showing.{gathered_in}
 use Rattle.request_trace.specs.Tracing.{IsOfFootprint, Traces, known_of}
 
 -- ---- lists
@@ -87,7 +87,7 @@ module _ (tables : Tables) (modules : List vertex.Module) (l : Links)
     (shown : map module_of modules ≡ keys_of tables.modules.entries)
     (read : map source_of modules ≡ map walk.source_of tables.sources.items)
     (is : IsGraphOf modules tables.targets.items l) where
-  pub tables_are : gathered l tables.needs tables.spellings.items ≡ before_of tables
+  pub tables_are : gathered_in l tables.needs tables.spellings.items ≡ before_of tables
   tables_are = λ i. record {
     modules = (is.modules_are ∙ shown) i;
     sources = (is.sources_are ∙ read) i;

@@ -3,3 +3,4 @@ pub mod AnswerLemmas
 mod NamedModules
 mod Lending
 mod JoinedTables
+mod Showings

@@ -1,10 +1,13 @@
--- A trace, as its graph shows it.
---     gathered l needs spellings              the tables of this graph, of the needs, and of how each is first spelled
---     Shows tables l                          the modules of the tables, their sources, and where each request leads, are
---                                             those of the graph
---     IsTraceAt base names requests tables    the tables are whole, these are the names of the modules at this base, and
---                                             that is the number of requests
-use Rattle.std.specs.Prelude.{◌≡◌, ℕ, List, length, map, Some}
+-- A trace, as a contract sees it.
+--     Traced                                  what was gathered, and the graph of its modules
+--     gathered_in l needs spellings           what is gathered in this graph, with these needs and spellings
+--     traced_in l needs spellings             the trace of these
+--     gathered_of result                      what was gathered, or why it wasn't
+--     Shows trace                             the modules that were gathered, their sources, and where each request
+--                                             leads, are those of the graph
+--     IsTraceAt base names requests all       what was gathered is whole, these are the names of the modules at this
+--                                             base, and that is the number of requests
+use Rattle.std.specs.Prelude.{◌≡◌, ℕ, List, length, map, Some, Result, Ok, Err}
 use Rattle.layout_spec.specs.declared.Need.{Need}
 use Rattle.trace_graph.specs.Links.{Links, modules_of, sources_of, targets_of}
 use Rattle.trace_spec.specs.Checks.{Gathered, Spelling}
@@ -12,8 +15,12 @@ use Rattle.trace_spec.specs.Modules.{Module}
 use Rattle.trace_walk.specs.Walking.{IsWhole}
 use Rattle.url_spec.specs.WebNames.{web}
 
-abbrev pub gathered : Links → List Need → List Spelling → Gathered
-gathered l needs spellings =
+pub record Traced : Type 0 where
+  pub gathered : Gathered
+  pub links : Links
+
+abbrev pub gathered_in : Links → List Need → List Spelling → Gathered
+gathered_in l needs spellings =
     record {
       modules = modules_of l;
       sources = sources_of l;
@@ -22,12 +29,19 @@ gathered l needs spellings =
       targets = targets_of l;
     }
 
-pub record Shows (tables : Gathered) (l : Links) : Type 0 where
-  pub modules_are : modules_of l ≡ tables.modules
-  pub sources_are : sources_of l ≡ tables.sources
-  pub targets_are : targets_of l ≡ tables.targets
+abbrev pub traced_in : Links → List Need → List Spelling → Traced
+traced_in l needs spellings = record { gathered = gathered_in l needs spellings; links = l }
 
-pub record IsTraceAt (base : List ℕ) (names : List (List ℕ)) (requests : ℕ) (tables : Gathered) : Type 0 where
-  pub whole : IsWhole tables
-  pub named : map (λ (m : Module). web base m.path m.suffix) tables.modules ≡ map Some names
-  pub counted : requests ≡ length tables.targets
+abbrev pub gathered_of : {E : Type 0} → Result Traced E → Result Gathered E
+gathered_of (Ok trace) = Ok trace.gathered
+gathered_of (Err fault) = Err fault
+
+pub record Shows (trace : Traced) : Type 0 where
+  pub modules_are : modules_of trace.links ≡ trace.gathered.modules
+  pub sources_are : sources_of trace.links ≡ trace.gathered.sources
+  pub targets_are : targets_of trace.links ≡ trace.gathered.targets
+
+pub record IsTraceAt (base : List ℕ) (names : List (List ℕ)) (requests : ℕ) (all : Gathered) : Type 0 where
+  pub whole : IsWhole all
+  pub named : map (λ (m : Module). web base m.path m.suffix) all.modules ≡ map Some names
+  pub counted : requests ≡ length all.targets

@@ -1,11 +1,11 @@
-ghost use Rattle.std.specs.Prelude.{◌≡◌, ◌+◌, ◌≤◌, IfOk, length, slice_get, option_map, option_and_then, option_copied};
+ghost use Rattle.std.specs.Prelude.{◌≡◌, ◌↔◌, ◌+◌, ◌≤◌, IfOk, IfSome, None, length, slice_get, option_map, option_and_then, option_copied};
 ghost use Rattle.tree_spec.specs.declared.LimitName.TheVariants.{Requests};
 ghost use Rattle.tree_spec.specs.Limits.{limit_number};
 ghost use Rattle.layout_spec.specs.Needs.{NoClash};
 ghost use Rattle.url_spec.specs.WebNames.{web};
 ghost use Rattle.trace_walk.specs.Shown.{before_of};
 ghost use Rattle.trace_walk.specs.Walking.{AreBeside, AreOfUrls, IsWhole, module_requests};
-ghost use Rattle.trace_graph.specs.Links.{module_of, source_of};
+ghost use Rattle.trace_graph.specs.Links.{IsLinked, IsLive, module_of, source_of};
 ghost use Rattle.request_trace.specs.Naming.{AllNamedAt};
 ghost use Rattle.request_trace.specs.Showing.{Shows};
 ghost use Rattle.request_trace.specs.Tracing.{CountsModules};
@@ -15,7 +15,7 @@ use need_table::Needs;
 use primitives::{Memory, Text};
 use std::alloc::{AllocError, Global};
 use std::marker::Model;
-use trace_graph::{ModuleView, TraceGraph};
+use trace_graph::{ModuleView, Slot, TraceGraph, View};
 use trace_walk::{Spelling, Tables};
 use tree_model::Path;
 use web_url::{Base, WebFault, web_of};
@@ -33,14 +33,14 @@ pub struct Trace {
 }
 
 impl Model for Trace {
-    ghost use Rattle.trace_spec.specs.Checks.{Gathered};
-    ghost use Rattle.request_trace.specs.Showing.{gathered, IsTraceAt};
+    ghost use Rattle.request_trace.specs.Showing.{Traced, traced_in, gathered_in, IsTraceAt};
 
-    ghost Value = { Gathered };
+    ghost Value = { Traced };
 
-    ghost view = { λ t. gathered t.graph t.needs t.spellings.items };
+    ghost view = { λ t. traced_in t.graph t.needs t.spellings.items };
 
-    ghost invariant = { λ t. IsTraceAt t.base t.names.items t.requests (gathered t.graph t.needs t.spellings.items) };
+    ghost invariant = { λ t. IsTraceAt t.base t.names.items t.requests
+        (gathered_in t.graph t.needs t.spellings.items) };
 }
 
 impl Trace {
@@ -55,7 +55,8 @@ impl Trace {
         requires named { AllNamedAt base tables.modules.entries }
         requires beside { AreBeside tables }
         requires counted { length tables.targets.items ≡ entries + module_requests (before_of tables).sources }
-        ensures { IfOk result (λ trace. trace ≡ before_of tables) }
+        ensures gathered { IfOk result (λ trace. trace.gathered ≡ before_of tables) }
+        ensures entries { IfOk result (λ trace. length trace.links.roots ≡ entries) }
     {
         let Tables {
             modules,
@@ -76,48 +77,69 @@ impl Trace {
         })
     }
 
-    /// The modules as a graph: to each request the slot of the module to which it leads.
-    pub fn graph(&self) -> &TraceGraph
-        ensures { Shows self.now result.now }
+    /// The modules as a graph: each has one slot, and each of their requests has the slot of the module to which it
+    /// leads.
+    pub fn view(&self) -> View<'_>
+        ensures graph { result ≡ self.now.links.graph }
+        ensures shows { Shows self.now }
+        ensures linked { IsLinked self.now.links }
     {
-        &self.graph
+        self.graph.view()
+    }
+
+    /// The slot of the module at a place.
+    pub fn slot(&self, place: usize) -> Option<Slot>
+        ensures slot { result ≡ slice_get self.now.links.slots place }
+        ensures none { (result ≡ None) ↔ (length self.now.gathered.modules ≤ place) }
+        ensures live { IfSome result (IsLive self.now.links.graph) }
+    {
+        self.graph.slot(place)
+    }
+
+    /// The slot of the module to which the entry with this number leads, counted from 0.
+    pub fn root(&self, entry: usize) -> Option<Slot>
+        ensures slot { result ≡ slice_get self.now.links.roots entry }
+        ensures none { (result ≡ None) ↔ (length self.now.links.roots ≤ entry) }
+        ensures live { IfSome result (IsLive self.now.links.graph) }
+    {
+        self.graph.root(entry)
     }
 
     /// The needs, each at its first place. The referrer of each parses to itself.
     pub fn needs(&self) -> &Needs
-        ensures needs { result.now ≡ self.now.needs }
-        ensures clear { NoClash self.now.needs }
-        ensures urls { AreOfUrls self.now.needs }
+        ensures needs { result.now ≡ self.now.gathered.needs }
+        ensures clear { NoClash self.now.gathered.needs }
+        ensures urls { AreOfUrls self.now.gathered.needs }
     {
         &self.needs
     }
 
     /// How the need with this number, counted from 0, is first spelled.
     pub fn spelling(&self, number: usize) -> Option<&Spelling>
-        ensures { option_copied result ≡ slice_get self.now.spellings number }
+        ensures { option_copied result ≡ slice_get self.now.gathered.spellings number }
     {
         self.spellings.get(number)
     }
 
     /// The number of modules.
     pub fn len(&self) -> usize
-        ensures { CountsModules self.now result }
+        ensures { CountsModules self.now.gathered result }
     {
         self.graph.len()
     }
 
     /// How many requests were followed: those of the page, and all those of the modules.
     pub fn request_count(&self) -> usize
-        ensures requests { result ≡ length self.now.targets }
+        ensures requests { result ≡ length self.now.gathered.targets }
         ensures few { result ≤ limit_number Requests }
-        ensures of_modules { module_requests self.now.sources ≤ result }
+        ensures of_modules { module_requests self.now.gathered.sources ≤ result }
     {
         self.requests
     }
 
     /// The path of the module at a place.
     pub fn path(&self, place: usize) -> Option<&Path>
-        ensures { option_copied result ≡ option_map (λ m. m.path) (slice_get self.now.modules place) }
+        ensures { option_copied result ≡ option_map (λ m. m.path) (slice_get self.now.gathered.modules place) }
     {
         match self.module(place) {
             None => None,
@@ -127,7 +149,7 @@ impl Trace {
 
     /// The suffix of the module at a place.
     pub fn suffix(&self, place: usize) -> Option<&str>
-        ensures { option_copied result ≡ option_map (λ m. m.suffix) (slice_get self.now.modules place) }
+        ensures { option_copied result ≡ option_map (λ m. m.suffix) (slice_get self.now.gathered.modules place) }
     {
         match self.module(place) {
             None => None,
@@ -139,7 +161,7 @@ impl Trace {
     /// shares the memory of the module's name.
     pub fn url(&self, alloc: Global, base: &Base, place: usize) -> Result<Option<Text>, Memory>
         ensures { IfOk result (λ found. found
-            ≡ option_and_then (λ m. web base.now m.path m.suffix) (slice_get self.now.modules place)) }
+            ≡ option_and_then (λ m. web base.now m.path m.suffix) (slice_get self.now.gathered.modules place)) }
     {
         if base.as_str() == self.base.as_str() {
             return name_at(alloc, &self.names, place);
@@ -152,7 +174,7 @@ impl Trace {
 
     /// The bytes of the module at a place. Each module has its source, as `len` says.
     pub fn bytes(&self, place: usize) -> Option<&[u8]>
-        ensures { option_copied result ≡ option_map (λ source. source.bytes) (slice_get self.now.sources place) }
+        ensures { option_copied result ≡ option_map (λ source. source.bytes) (slice_get self.now.gathered.sources place) }
     {
         match self.module(place) {
             None => None,
@@ -162,7 +184,7 @@ impl Trace {
 
     /// How many requests the module at a place has.
     pub fn requests(&self, place: usize) -> Option<usize>
-        ensures { result ≡ option_map (λ source. length source.specifiers) (slice_get self.now.sources place) }
+        ensures { result ≡ option_map (λ source. length source.specifiers) (slice_get self.now.gathered.sources place) }
     {
         match self.module(place) {
             None => None,
@@ -173,7 +195,7 @@ impl Trace {
     /// What the module at a place asks for in its request with this number, counted from 0.
     pub fn request(&self, place: usize, number: usize) -> Option<&str>
         ensures { option_copied result ≡ option_and_then (λ source. slice_get source.specifiers number)
-            (slice_get self.now.sources place) }
+            (slice_get self.now.gathered.sources place) }
     {
         match self.module(place) {
             None => None,
@@ -183,8 +205,8 @@ impl Trace {
 
     // The module at a place.
     fn module(&self, place: usize) -> Option<ModuleView<'_>>
-        ensures module { slice_get self.now.modules place ≡ option_map module_of result }
-        ensures source { slice_get self.now.sources place ≡ option_map source_of result }
+        ensures module { slice_get self.now.gathered.modules place ≡ option_map module_of result }
+        ensures source { slice_get self.now.gathered.sources place ≡ option_map source_of result }
     {
         self.graph.module(place)
     }

@@ -1,2 +1,2 @@
 mod Linking
-mod Showing
+pub mod Showing

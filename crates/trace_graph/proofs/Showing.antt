@@ -2,6 +2,7 @@
 --     is_graph_of, is_linked      the graph that was built, and what it keeps
 --     live_some                   a slot of a list is live
 --     seen_some, seen_none        what stands at a place
+--     as_many_specifiers          a module has as many specifiers as requests
 --     parts_whole, all_reversed   the parts of a list, and its items the other way round
 use Rattle.std.proofs.Common.{◌≡◌, ◌≤◌, ◌+◌, ◌<◌, ◌++◌, ℕ, zero, suc, List, [], ◌∷◌, length, map, reverse, take, drop, option_map, Option, Some, None, IfSome, refl, sym, ap, ◌∙◌, subst, arith}
 use Rattle.std.specs.Prelude.{All, flat_map, slice_get, slice_set}
@@ -10,6 +11,7 @@ use Rattle.std.proofs.lemmas.List.Elements.{All-nil, All-cons, All-head, All-tai
 use Rattle.std.proofs.lemmas.Option.{slice_get-map, slice_get_within, get_or_from_slice_get}
 use Rattle.slot_arena.specs.Slots.{Place, value_at}
 use Rattle.slot_arena.specs.declared.slot.Slot.{Slot}
+use Rattle.module_spec.specs.declared.request.Request.{Request}
 use Rattle.module_graph.specs.declared.module.Module as vertex
 use Rattle.module_graph.specs.Modules.{IsModule, with_target}
 use Rattle.module_graph.specs.Many.{dealt, with_targets, requests_in, slot_in}
@@ -146,6 +148,9 @@ module _ (graph : Places) (slots roots : List Slot) (modules : List Vertex) (fir
   }
 
 -- ---- what is lent of it
+
+pub as_many_specifiers : (v : Vertex) → length v.requests.value ≡ length (source_of v).specifiers
+as_many_specifiers v = sym (length-map v.requests.value (λ (r : Request). r.text))
 
 live_at : (graph : Places) (slots : List Slot) (place : ℕ) (s : Slot) → slice_get slots place ≡ Some s
     → All (IsLive graph) slots → IsLive graph s

@@ -44,7 +44,8 @@ impl TraceGraph {
         requires few { vec_len modules ≤ limit_number Modules }
         requires each { length leads.now ≡ entries + requests_in (reverse modules.items) }
         requires within { All (λ lead. lead < vec_len modules) leads.now }
-        ensures { IfOk result (IsGraphOf (reverse modules.items) leads.now) }
+        ensures graph { IfOk result (IsGraphOf (reverse modules.items) leads.now) }
+        ensures entries { IfOk result (λ links. length links.roots ≡ entries) }
     {
         let (firsts, others) = leads.split_at(entries);
         let (graph, slots) = linked(alloc, modules, others)?;

@@ -49,7 +49,7 @@ of-requires-clause-within c =
 pub invariant_of-result : goal.invariant_of-result
 invariant_of-result c =
     let joined = c.in_ok-vertices.ensures in
-    let shows = subst (λ (leads : List ℕ). IsGraphOf (reverse c.in_ok-vertices.vertices.items) leads c.in_ok-graph.graph) c.deref.ensures.value c.in_ok-graph.ensures in
+    let shows = subst (λ (leads : List ℕ). IsGraphOf (reverse c.in_ok-vertices.vertices.items) leads c.in_ok-graph.graph) c.deref.ensures.value c.in_ok-graph.ensures.graph in
     subst (IsTraceAt c.args.base c.in_ok-vertices.names.items _)
     (sym (tables_are c.args.tables (reverse c.in_ok-vertices.vertices.items) c.in_ok-graph.graph joined.modules_are joined.sources_are shows))
     (record {
@@ -58,7 +58,10 @@ invariant_of-result c =
       counted = (let n = c.len.ensures in let kept = c.args.tables.targets.ok.0 in let same = length-map c.args.tables.targets.items (module_at (keys_of c.args.tables.modules.entries)) in omega (arith, n, kept, same));
     })
 
-pub returns : goal.returns
-returns c =
-    let shows = subst (λ (leads : List ℕ). IsGraphOf (reverse c.in_ok-vertices.vertices.items) leads c.in_ok-graph.graph) c.deref.ensures.value c.in_ok-graph.ensures in
+pub returns-clause-gathered : goal.returns-clause-gathered
+returns-clause-gathered c =
+    let shows = subst (λ (leads : List ℕ). IsGraphOf (reverse c.in_ok-vertices.vertices.items) leads c.in_ok-graph.graph) c.deref.ensures.value c.in_ok-graph.ensures.graph in
     tables_are c.args.tables (reverse c.in_ok-vertices.vertices.items) c.in_ok-graph.graph c.in_ok-vertices.ensures.modules_are c.in_ok-vertices.ensures.sources_are shows
+
+pub returns-clause-entries : goal.returns-clause-entries
+returns-clause-entries c = c.in_ok-graph.ensures.entries

@@ -1,6 +1,6 @@
 use Rattle.std.proofs.Common.{◌≡◌, ◌<◌, ◌++◌, length, map, reverse, take, drop, sym, ap, ◌∙◌, subst, arith}
 use Rattle.std.specs.Prelude.{All, vec_len}
-use Rattle.std.proofs.lemmas.List.{length-reverse}
+use Rattle.std.proofs.lemmas.List.{length-map, length-reverse}
 use Rattle.std.proofs.lemmas.List.Elements.{All-take, All-drop}
 use Rattle.module_graph.specs.Modules.{IsModule}
 use Rattle.module_graph.specs.Many.{slot_in}
@@ -25,8 +25,8 @@ invariant_of-result c =
     (subst (All (λ lead. lead < length slots)) (sym c.split_at.ensures.back) (All-drop (λ lead. lead < length slots) c.args.entries c.args.leads.now within))
     (c.in_ok-roots.ensures ∙ ap (λ ss. map (slot_in ss) firsts) c.deref.ensures.value)
 
-pub returns : goal.returns
-returns c =
+pub returns-clause-graph : goal.returns-clause-graph
+returns-clause-graph c =
     let slots = c.in_ok-graph.slots.items in
     let firsts = c.split_at.result.0.now in
     let others = c.split_at.result.1.now in
@@ -43,3 +43,8 @@ returns c =
     (subst (All (λ lead. lead < length slots)) (sym c.split_at.ensures.back) (All-drop (λ lead. lead < length slots) c.args.entries c.args.leads.now within))
     (c.in_ok-roots.ensures ∙ ap (λ ss. map (slot_in ss) firsts) c.deref.ensures.value) c.args.leads.now
     (parts_whole c.args.entries c.args.leads.now firsts others c.split_at.ensures.front c.split_at.ensures.back) within
+
+pub returns-clause-entries : goal.returns-clause-entries
+returns-clause-entries c =
+    let front = c.split_at.ensures.front_len in
+    ap length c.in_ok-roots.ensures ∙ length-map c.split_at.result.0.now (slot_in _) ∙ omega (arith, front)
