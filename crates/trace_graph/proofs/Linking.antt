@@ -3,7 +3,7 @@
 --     same_count                   as many slots as modules
 --     linked_by                    what the calls leave
 --     no_places                    a list without items
-use Rattle.std.proofs.Common.{◌≡◌, ◌≤◌, ◌+◌, ◌-◌, ◌*◌, ◌/◌, ◌%◌, ◌<◌, ◌++◌, ℕ, List, [], ◌∷◌, length, map, Some, refl, sym, ap, ◌∙◌, subst, arith}
+use Rattle.std.proofs.Common.{◌≡◌, ◌≤◌, ◌+◌, ◌-◌, ◌%◌, ◌<◌, ℕ, List, [], ◌∷◌, length, map, Some, refl, sym, ap, ◌∙◌, arith}
 use Rattle.std.proofs.lemmas.List.{length-map}
 use native.Mathlib.Nat.{div-add-mod', mod-lt}
 use Rattle.slot_arena.specs.Slots.{Place, value_at, with_places}

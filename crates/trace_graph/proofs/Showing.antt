@@ -4,7 +4,7 @@
 --     seen_some, seen_none        what stands at a place
 --     as_many_specifiers          a module has as many specifiers as requests
 --     parts_whole, all_reversed   the parts of a list, and its items the other way round
-use Rattle.std.proofs.Common.{◌≡◌, ◌≤◌, ◌+◌, ◌<◌, ◌++◌, ℕ, zero, suc, List, [], ◌∷◌, length, map, reverse, take, drop, option_map, Option, Some, None, IfSome, refl, sym, ap, ◌∙◌, subst, arith}
+use Rattle.std.proofs.Common.{◌≡◌, ◌+◌, ◌<◌, ◌++◌, ℕ, zero, suc, List, [], ◌∷◌, length, map, reverse, take, drop, option_map, Option, Some, None, IfSome, refl, sym, ap, ◌∙◌, subst}
 use Rattle.std.specs.Prelude.{All, flat_map, slice_get, slice_set}
 use Rattle.std.proofs.lemmas.List.{map-append, length-map, get_or-map, reverse-append}
 use Rattle.std.proofs.lemmas.List.Elements.{All-nil, All-cons, All-head, All-tail, All-push, All-map, All-weaker, All-get_or}
@@ -17,7 +17,7 @@ use Rattle.module_graph.specs.Modules.{IsModule, with_target}
 use Rattle.module_graph.specs.Many.{dealt, with_targets, requests_in, slot_in}
 use Rattle.module_graph.proofs.Dealing.{deals_in_order}
 use Rattle.trace_spec.specs.Laws.{no_module}
-use Rattle.trace_graph.specs.Links.{Links, IsLinked, IsLive, IsSet, module_of, source_of, module_in, source_in, targets_in, led_to, modules_of, all_targets}
+use Rattle.trace_graph.specs.Links.{Links, IsLinked, IsLive, IsSet, module_of, source_of, module_in, source_in, targets_in, led_to}
 use Rattle.trace_graph.specs.Building.{AreLinked, IsGraphOf, place_of}
 
 abbrev Vertex : Type 0
