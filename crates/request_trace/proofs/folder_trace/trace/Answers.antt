@@ -52,3 +52,6 @@ pub of-requires-clause-counted : goal.of-requires-clause-counted
 of-requires-clause-counted g c =
     c.in_ok-tables.ensures.tables.counted
     ∙ ap (λ n. n + module_requests (before_of c.in_ok-tables.tables).sources) (sym (ap length c.entries.ensures.entries))
+
+pub of-requires-clause-beside : goal.of-requires-clause-beside
+of-requires-clause-beside g c = c.in_ok-tables.ensures.tables.beside
