@@ -1,4 +1,4 @@
-use Rattle.std.proofs.Common.{◌+◌, Result, Ok, length, sym, ap, ◌∙◌, subst}
+use Rattle.std.proofs.Common.{◌+◌, Result, length, sym, ap, ◌∙◌, subst}
 use Rattle.trace_spec.specs.declared.TraceFault.{TraceFault}
 use Rattle.trace_spec.specs.declared.TraceFault.TheVariants.{Memory}
 use Rattle.trace_walk.proofs.FaultKinds.{handed}
