@@ -1,5 +1,5 @@
 -- How a session ends, by how it is opened and what is replied.
-use Rattle.std.proofs.Common.{◌≡◌, ◌≢◌, ◌≤◌, ◌++◌, [], ℕ, List, length, true, false, Option, Some, None, Ok, Err, refl, sym, ap, ◌∙◌, subst, inl, inr, arith}
+use Rattle.std.proofs.Common.{◌≡◌, ◌≤◌, ◌++◌, [], ℕ, List, length, true, false, Option, Some, None, Ok, Err, refl, sym, ap, ◌∙◌, subst, inl, inr, arith}
 use Rattle.std.proofs.lemmas.Bool.{false≢true}
 use Rattle.std.proofs.lemmas.List.{append-nil, append_assoc, take_all}
 use Rattle.std.proofs.lemmas.List.Elements.{All-weaker}
@@ -17,7 +17,7 @@ use Rattle.generation.specs.Generating.{AsksNoPathTwice}
 use Rattle.generation.specs.declared.stop.Stop.{Stop}
 use Rattle.generation.specs.declared.stop.Stop.TheVariants as stop
 use Rattle.generator_spec.specs.Asked.{IsConfigAt}
-use Rattle.generator_spec.specs.Ending.{CanRefuse, CanRefuse as can}
+use Rattle.generator_spec.specs.Ending.{CanRefuse as can}
 use Rattle.generator_spec.specs.Lines.{status_of, line_of, limit_line, memory_line, read_fault_line}
 use Rattle.generator_spec.specs.Outcome.{RefusesRun, by_tree}
 use Rattle.generator_spec.specs.Statuses.{memory_status, read_fault_status}
