@@ -28,7 +28,8 @@ abbrev pub fresh : Waiting
 fresh = record { unread = []; number = 1; room = limit_number Session }
 
 abbrev pub TalksOn : EditorState → SourceState → SinkState → EditorState → SourceState → SinkState → ℕ → Type 0
-TalksOn before source out after later gone result = Converses (now_at before fresh None source out) after later gone result
+TalksOn before source out after later gone result =
+    Converses (now_at before fresh None source out) after later gone result
 
 abbrev pub RefusedEnds : Stop → SinkState → SinkState → ℕ → Type 0
 RefusedEnds (stop.Refused why) out gone result = TellsRefusal why out gone result

@@ -94,8 +94,8 @@ fn talk<F: Folder, I: Source, O: Sink, L: Ledger>(
     steps: &mut Steps<L>,
 ) -> u8
     ensures talks { (before : EditorState) → IsViewOf (F.state folder.old) session.old before
-        → Seen (IsViewOf (F.state folder.new) session.new)
-        (λ after. TalksOn before (I.state input.old) (O.state out.old) after (I.state input.new) (O.state out.new) result) }
+        → Seen (IsViewOf (F.state folder.new) session.new) (λ after. TalksOn before (I.state input.old)
+        (O.state out.old) after (I.state input.new) (O.state out.new) result) }
     ensures asks { (references : List ℕ) → AsksSome (look_state references (F.state folder.old) session.old)
         (look_state references (F.state folder.new) session.new) }
     ensures later { (O.state out.old).faults ≤ (O.state out.new).faults }
