@@ -18,7 +18,7 @@ use Rattle.session_talk.specs.EditorLooks.{AsksSome}
 use Rattle.session_talk.specs.Editors.{EditorState, Seen}
 use Rattle.session_talk.specs.Talking as talking
 use Rattle.session_talk.specs.Talking.{now_at, Converses}
-use Rattle.session_run.specs.Editing.{IsViewOf, look_state}
+use Rattle.session_run.specs.Editing.{IsViewOf, look_state, LooksSome}
 use Rattle.session_run.specs.Sessions.{fresh, TalksOn, opened_line, OpenedEnds, cut_off, replies}
 
 pub first_name : {a b c x y z : ℕ} → (a ∷ b ∷ c ∷ []) ≡ (x ∷ y ∷ z ∷ []) → a ≡ x
@@ -45,11 +45,11 @@ module _ (before : EditorState) (source later : SourceState) (out gone : SinkSta
 -- the references aside
 module _ (references : List ℕ) (before folder folder_last : FolderState) (old session session_last : Session) where
   pub asks_from : (names names_last : List ℕ) → folder ≡ folder_last → session ≡ session_last → AsksSome (look_state names before old) (look_state names_last folder session)
-      → AsksSome (look_state references before old) (look_state references folder_last session_last)
+      → LooksSome references before old folder_last session_last
   asks_from names names_last same_folder same_session asks =
-      subst (λ (s : Session). AsksSome (look_state references before old) (look_state references folder_last s)) same_session
-      (subst (λ (f : FolderState). AsksSome (look_state references before old) (look_state references f session)) same_folder
-      renamed)
+      subst (λ (s : Session). LooksSome references before old folder_last s) same_session
+      (subst (λ (f : FolderState). LooksSome references before old f session) same_folder
+      (record { asks = renamed }))
     where
       renamed : AsksSome (look_state references before old) (look_state references folder session)
       renamed = record { references = refl; tree = asks.tree; writes = asks.writes; later = asks.later; asked = if_some before.asked (λ list new. record { more = new.more; asked = new.asked; once = new.once; new = new.new }) asks.asked }

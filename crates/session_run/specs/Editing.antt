@@ -2,6 +2,7 @@
 --     IsToldBy folder session told    a tree that the folder tells stands behind the session, and this is its state
 --     IsViewOf folder session view    the same, with the looks that failed
 --     look_state references folder session    what the folder tells, and what the session keeps of it
+--     LooksSome references before old after new       what calls ask that may have ended with a fault
 --     SaysLine line result            the line is said, or memory is wanting
 --     SaysStop stop result            the same of why an edit isn't made; or it is a fault
 use Rattle.std.specs.Prelude.{◌≡◌, ℕ, List, Option, Some, None, Result, Ok, Err, is_some}
@@ -15,7 +16,7 @@ use Rattle.edit_session.specs.SessionTrees.{IsSessionOf}
 use Rattle.edit_session.specs.declared.session.Session.{Session}
 use Rattle.edit_session.specs.declared.stop.EditStop.{EditStop}
 use Rattle.edit_session.specs.declared.stop.EditStop.TheVariants as stop
-use Rattle.session_talk.specs.EditorLooks.{LookState}
+use Rattle.session_talk.specs.EditorLooks.{LookState, AsksSome}
 use Rattle.session_talk.specs.Editors.{EditorState}
 use Rattle.session_talk.specs.declared.editor.EditorFault.{EditorFault}
 use Rattle.session_talk.specs.declared.editor.EditorFault.TheVariants.{ReadFault, Memory}
@@ -36,6 +37,10 @@ pub record IsViewOf (folder : FolderState) (session : Session) (view : EditorSta
 abbrev pub look_state : List ℕ → FolderState → Session → LookState
 look_state references folder session =
     record { folder = folder; kept = λ path. is_some (kept_at session.known path); references = references }
+
+pub record LooksSome (references : List ℕ) (before : FolderState) (old : Session) (after : FolderState)
+    (new : Session) : Type 0 where
+  pub asks : AsksSome (look_state references before old) (look_state references after new)
 
 -- ---- what is said
 

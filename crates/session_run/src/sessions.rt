@@ -4,9 +4,8 @@ ghost use Rattle.generation.specs.Generating.{AsksNoPathTwice};
 ghost use Rattle.generator_spec.specs.Asked.{IsConfigAt};
 ghost use Rattle.generator_spec.specs.Ending.{Ends};
 ghost use Rattle.session_spec.specs.SessionRuns.{SessionEnds, refresh_words};
-ghost use Rattle.session_talk.specs.EditorLooks.{AsksSome};
 ghost use Rattle.session_talk.specs.Editors.{EditorState, Seen};
-ghost use Rattle.session_run.specs.Editing.{IsViewOf, look_state};
+ghost use Rattle.session_run.specs.Editing.{IsViewOf, LooksSome};
 ghost use Rattle.session_run.specs.Sessions.{OpenedEnds, RefusedEnds, TalksOn};
 
 use crate::session_editor::SessionEditor;
@@ -96,8 +95,8 @@ fn talk<F: Folder, I: Source, O: Sink, L: Ledger>(
     ensures talks { (before : EditorState) → IsViewOf (F.state folder.old) session.old before
         → Seen (IsViewOf (F.state folder.new) session.new) (λ after. TalksOn before (I.state input.old)
         (O.state out.old) after (I.state input.new) (O.state out.new) result) }
-    ensures asks { (references : List ℕ) → AsksSome (look_state references (F.state folder.old) session.old)
-        (look_state references (F.state folder.new) session.new) }
+    ensures asks { (references : List ℕ) → LooksSome references (F.state folder.old) session.old
+        (F.state folder.new) session.new }
     ensures later { (O.state out.old).faults ≤ (O.state out.new).faults }
 {
     match SessionInput::new(alloc) {

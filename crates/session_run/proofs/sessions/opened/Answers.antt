@@ -15,4 +15,4 @@ returns-clause-ends g c =
     c.as_slice.result.now (c.as_slice.ensures.value ∙ c.in-Ok.ensures ∙ ap accepted_line c.counts-counts.ensures)
     (g.O.Sink.state c.give.new.self) (g.O.Sink.state c.talk.new.out) (g.F.Folder.state c.talk.new.folder) c.talk.new.session
     (g.I.Source.state c.talk.new.input) c.talk.result c.in-Ok-give.ensures.given
-    c.talk.ensures.talks (c.talk.ensures.asks [])
+    c.talk.ensures.talks (c.talk.ensures.asks []).asks

@@ -35,4 +35,4 @@ returns-in-Err-clause-talks g c before is = record {
 pub returns-in-Err-clause-asks : goal.returns-in-Err-clause-asks
 returns-in-Err-clause-asks g c references =
     let here = look_state references (g.F.Folder.state c.args.folder.now) c.args.session.now in
-    some_of_keeping here here (keeps_same here)
+    record { asks = some_of_keeping here here (keeps_same here) }
