@@ -1,6 +1,6 @@
-//! The whole program as one call: the words of the command line, a folder and an output are handed to `run`, which
-//! does what the words say, tells of it, and answers the exit status. A project's file is read and printed by the calls
-//! that are handed on.
+//! The whole program as one call: the words of the command line, a folder, an input and an output are handed to `run`,
+//! which does what the words say, tells of it, and answers the exit status. A project's file is read and printed by the
+//! calls that are handed on.
 #![tactic(auto)]
 
 mod checking;

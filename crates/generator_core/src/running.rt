@@ -35,8 +35,8 @@ use std::sync::ledger::Ledger;
 use tree_model::{Folder, Sink, Source};
 
 /// Does all that the program does: reads the words and the project, generates from the folder, writes the map and the
-/// project or the page, or checks the map that is there, and says how it ended; or holds a session, whose lines come from
-/// the input. Answers the exit status.
+/// project or the page, or checks the map that is there, and says how it ended; or holds a session, whose lines come
+/// from the input. Answers the exit status.
 pub fn run<F: Folder, I: Source, O: Sink, L: Ledger>(
     alloc: Global,
     words: &[String],
