@@ -200,7 +200,7 @@ fn between(text: &str, opening: char, closing: char) -> Option<(&str, &str)> {
 }
 
 /// The bytes of a text with escapes. `\#` stands for the number of the turn in a repeat, and for `turn` outside of one.
-pub(crate) fn unescaped(alloc: Global, text: &str, turn: Option<u64>) -> Result<Vec<u8>, RowFault> {
+pub fn unescaped(alloc: Global, text: &str, turn: Option<u64>) -> Result<Vec<u8>, RowFault> {
     let mut got = Unescaping {
         bytes: Vec::new(alloc),
         repeat: None,
@@ -225,11 +225,7 @@ pub(crate) fn unescaped(alloc: Global, text: &str, turn: Option<u64>) -> Result<
 }
 
 /// The same where it must be a text.
-pub(crate) fn unescaped_text(
-    alloc: Global,
-    text: &str,
-    turn: Option<u64>,
-) -> Result<String, RowFault> {
+pub fn unescaped_text(alloc: Global, text: &str, turn: Option<u64>) -> Result<String, RowFault> {
     let bytes = unescaped(alloc, text, turn)?;
     match std::str::from_utf8(bytes.as_slice()) {
         Ok(text) => Ok(String::from_str(alloc, text)?),

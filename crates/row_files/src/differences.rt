@@ -1,4 +1,4 @@
-//! What came of the rows.
+//! Where a run differs from its row.
 
 use primitives::Memory;
 use std::alloc::Global;
@@ -10,13 +10,6 @@ const MOST_SHOWN: usize = 4_000;
 #[derive(Drop)]
 pub struct Differences {
     text: String,
-}
-
-/// How many runs were tried, and how many ended as their rows say.
-#[derive(Drop)]
-pub struct Report {
-    tried: u64,
-    passed: u64,
 }
 
 impl Differences {
@@ -87,37 +80,4 @@ fn shown(alloc: Global, bytes: &[u8]) -> Result<String, Memory> {
         }
     }
     Ok(text)
-}
-
-impl Report {
-    pub fn new() -> Report {
-        Report {
-            tried: 0,
-            passed: 0,
-        }
-    }
-
-    /// Counts a run.
-    pub fn count(&mut self, has_passed: bool) {
-        self.tried = self.tried.saturating_add(1);
-        if has_passed {
-            self.passed = self.passed.saturating_add(1);
-        }
-    }
-
-    /// Whether a run ended otherwise.
-    pub fn has_failed(&self) -> bool {
-        self.passed != self.tried
-    }
-
-    /// How many runs ended as they must, as a line with a name at its front.
-    pub fn line(&self, alloc: Global, name: &str) -> Result<String, Memory> {
-        format!(in alloc; "{name}: {} of {} rows pass\n", self.passed, self.tried)
-    }
-
-    /// Counts the runs of another report.
-    pub fn add(&mut self, other: &Report) {
-        self.tried = self.tried.saturating_add(other.tried);
-        self.passed = self.passed.saturating_add(other.passed);
-    }
 }

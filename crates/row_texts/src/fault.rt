@@ -14,6 +14,16 @@ pub enum RowFault {
     Memory,
 }
 
+impl RowFault {
+    /// Why, in words.
+    pub fn text(&self) -> &'static str {
+        match self {
+            RowFault::Malformed { why } => why,
+            RowFault::Memory => "without memory",
+        }
+    }
+}
+
 impl fmt::Display for RowFault {
     fn fmt<W: fmt::Write>(&self, f: &mut fmt::Formatter<W>) -> fmt::Result {
         match self {
@@ -49,6 +59,6 @@ impl From<PathFault> for RowFault {
 }
 
 /// The fault of a line that isn't of the form.
-pub(crate) fn malformed(why: &'static str) -> RowFault {
+pub fn malformed(why: &'static str) -> RowFault {
     RowFault::Malformed { why }
 }
