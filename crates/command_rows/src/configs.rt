@@ -78,20 +78,13 @@ fn after_order(
     }
 }
 
-// The order of words; None where they are none, and then it is said what they are.
-fn order_in<'a>(alloc: Global, words: &'a [String], said: &mut Said) -> Option<Order<'a>> {
-    match order_of(alloc, words) {
-        Ok(Wanted::Order(order)) => return Some(order),
-        Ok(Wanted::Measure { number }) => {
-            said.push("measure ");
-            said.push_number(number);
-        }
-        Err(WordsFault::Refused { fault }) => push_fault(&fault, said),
-        Err(WordsFault::Told(_)) => said.push("told"),
-        Err(WordsFault::NotPlain) => said.push("not plain"),
-        Err(WordsFault::Memory) => said.push("memory"),
+fn push_words_fault(fault: &WordsFault, said: &mut Said) {
+    match fault {
+        WordsFault::Refused { fault } => push_fault(fault, said),
+        WordsFault::Told(_) => said.push("told"),
+        WordsFault::NotPlain => said.push("not plain"),
+        WordsFault::Memory => said.push("memory"),
     }
-    None
 }
 
 // What a command comes to over a project, and the project behind it.
@@ -100,8 +93,18 @@ fn after(alloc: Global, row: &str, found: Option<Config>, said: &mut Said) -> Op
         said.push("no words");
         return None;
     };
-    let order = order_in(alloc, words.as_slice(), said)?;
-    after_order(alloc, order, found, said)
+    match order_of(alloc, words.as_slice()) {
+        Ok(Wanted::Order(order)) => after_order(alloc, order, found, said),
+        Ok(Wanted::Measure { number }) => {
+            said.push("measure ");
+            said.push_number(number);
+            None
+        }
+        Err(fault) => {
+            push_words_fault(&fault, said);
+            None
+        }
+    }
 }
 
 /// What the last of some commands comes to, between each two of which stands ` then `.
