@@ -153,7 +153,9 @@ check "the example with a map written by hand" checked
 check "a site from link to unlink" cycle
 check "the sentences that edits break" .ci/edits.sh
 check "rows of runs" rows run_rows
-check "rows of layers" rows layer_rows
+check "rows of texts" rows text_rows
+check "rows of packages" rows package_rows
+check "rows of commands" rows command_rows
 check "rows on disk" .ci/rows.sh
 check "a session through pipes" python3 -B .ci/session.py
 check "a program that must not compile" .ci/must_not_compile.sh

@@ -1,43 +1,11 @@
 //! Files and folders, as lines tell them.
 
-use crate::escapes::{unescaped, unescaped_text};
-use crate::fault::{RowFault, malformed};
 use crate::item::Item;
 use crate::names::Names;
 use crate::row::Change;
 use crate::tree::Stands;
+use row_texts::{RowFault, Written, malformed, unescaped, unescaped_text, written_of};
 use std::alloc::Global;
-
-/// The path and the text of a line, as they are written.
-#[derive(Clone, Copy)]
-enum Written<'a> {
-    /// `PATH: TEXT`
-    Text(&'a str, &'a str),
-    /// `PATH:`, with a block below or without one.
-    Block(&'a str),
-    /// `PATH = NAME`
-    Named(&'a str, &'a str),
-    /// `PATH ...`
-    Untold(&'a str),
-    /// `PATH/`
-    Folder(&'a str),
-}
-
-fn line_of(line: &str) -> Result<Written<'_>, RowFault> {
-    if let Some((path, text)) = line.split_once(": ") {
-        Ok(Written::Text(path, text))
-    } else if let Some(path) = line.strip_suffix(':') {
-        Ok(Written::Block(path))
-    } else if let Some((path, name)) = line.split_once(" = ") {
-        Ok(Written::Named(path, name))
-    } else if let Some(path) = line.strip_suffix(" ...") {
-        Ok(Written::Untold(path))
-    } else if let Some(path) = line.strip_suffix('/') {
-        Ok(Written::Folder(path))
-    } else {
-        Err(malformed("a line is no file and no folder"))
-    }
-}
 
 fn block_of(alloc: Global, item: &Item) -> Result<Vec<u8>, RowFault> {
     match &item.block {
@@ -54,7 +22,7 @@ pub(crate) fn entry_of(
     line: &str,
     turn: Option<u64>,
 ) -> Result<Stands, RowFault> {
-    let (path, bytes) = match line_of(line)? {
+    let (path, bytes) = match written_of(line)? {
         Written::Text(path, text) => {
             item.without_block()?;
             (path, Some(unescaped(alloc, text, turn)?))
@@ -83,7 +51,7 @@ pub(crate) fn change_of(
     item: &Item,
     line: &str,
 ) -> Result<Change, RowFault> {
-    if let Written::Untold(path) = line_of(line)? {
+    if let Written::Untold(path) = written_of(line)? {
         item.without_block()?;
         return Ok(Change {
             path: unescaped_text(alloc, path, None)?,

@@ -1,5 +1,7 @@
 //! What a line is, by what it begins with.
 
+use row_texts::is_nothing;
+
 /// A line, without what it begins with.
 #[derive(Clone, Copy)]
 pub(crate) enum Head<'a> {
@@ -30,7 +32,7 @@ pub(crate) enum Head<'a> {
 
 /// Reads what a line begins with.
 pub(crate) fn head_of(line: &str) -> Head<'_> {
-    if crate::item::is_nothing(line) {
+    if is_nothing(line) {
         Head::Nothing
     } else if line.starts_with('/') {
         Head::Entry(line)

@@ -1,7 +1,6 @@
 //! A line with the block below it.
 
-use crate::escapes::unescaped;
-use crate::fault::{RowFault, malformed};
+use row_texts::{RowFault, is_nothing, malformed, unescaped};
 use std::alloc::Global;
 
 /// A line, and the lines of its block.
@@ -46,11 +45,6 @@ impl Item {
             Some(_) => Err(malformed("this line has no block")),
         }
     }
-}
-
-/// Whether a line says nothing: it is empty or a comment.
-pub(crate) fn is_nothing(line: &str) -> bool {
-    line.is_empty() || line == "--" || line.starts_with("-- ")
 }
 
 fn block_text(text: &str) -> Option<&str> {

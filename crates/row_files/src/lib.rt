@@ -2,21 +2,18 @@
 //! describes the form.
 #![tactic(auto)]
 
+mod differences;
 mod entry;
-mod escapes;
-mod fault;
 mod heads;
 mod item;
 mod names;
-mod numbers;
 mod reader;
-mod report;
 mod row;
 mod tree;
 mod words;
 
-pub use fault::RowFault;
+pub use differences::Differences;
 pub use reader::Reader;
-pub use report::{Differences, Report};
 pub use row::{Call, Change, Cut, Fails, Row, Run, Turns, Wanted};
+pub use row_texts::{Report, RowFault};
 pub use tree::Tree;

@@ -1,7 +1,7 @@
 //! Texts and trees with names.
 
-use crate::fault::{RowFault, malformed};
 use crate::tree::Tree;
+use row_texts::{RowFault, malformed};
 use std::alloc::Global;
 
 /// What rows may cite, by names.

@@ -1,15 +1,13 @@
 //! Reads row files line by line.
 
 use crate::entry::{change_of, entry_of};
-use crate::escapes::{unescaped, unescaped_text};
-use crate::fault::{RowFault, malformed};
 use crate::heads::{Head, head_of};
 use crate::item::Item;
 use crate::names::Names;
-use crate::numbers::{number_of, range_of};
 use crate::row::{Call, Change, Cut, Row, Run, Turns, Wanted};
 use crate::tree::Tree;
 use crate::words::{copied, words_of};
+use row_texts::{RowFault, malformed, number_of, range_of, unescaped, unescaped_text};
 use std::alloc::Global;
 use std::mem;
 

@@ -1,7 +1,7 @@
 //! What a row file says.
 
-use crate::fault::{RowFault, malformed};
 use crate::tree::Tree;
+use row_texts::{RowFault, malformed};
 use std::alloc::Global;
 
 /// A tree, and the runs over it.

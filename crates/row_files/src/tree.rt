@@ -1,7 +1,7 @@
 //! The tree over which a run goes.
 
-use crate::fault::{RowFault, malformed};
 use crate::row::Change;
+use row_texts::{RowFault, malformed};
 use std::alloc::Global;
 use tree_model::{MemFolder, Path};
 

@@ -1,7 +1,6 @@
 //! Words, as a shell splits them.
 
-use crate::escapes::unescaped_text;
-use crate::fault::{RowFault, malformed};
+use row_texts::{RowFault, malformed, unescaped_text};
 use std::alloc::Global;
 
 /// What has been read of the words.

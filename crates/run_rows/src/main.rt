@@ -1,6 +1,6 @@
 //! Tries the rows of the files that its words name: runs over folders in memory, each with what must come of it. Each
 //! run that ends otherwise is told, with what came, and behind all of them how many runs of each file ended as they
-//! must. docs/architecture.md describes the form of the files.
+//! must, and how one over a folder without an end does. docs/architecture.md describes the form of the files.
 //!
 //! Where the input begins with a number, the program makes so many allocations first, tries each run once, and says
 //! in a word how it ended. So the allocation that fails by its number can be any of the run: `.ci/memory.sh` does this.
@@ -8,12 +8,14 @@
 
 mod comparing;
 mod ending;
+mod endless;
 mod expected;
 mod outcome;
 mod trying;
 mod watched;
 
 use crate::ending::endings;
+use crate::endless::endless_line;
 use crate::trying::{Tried, try_lines};
 use primitives::Memory;
 use row_files::{Reader, Report};
@@ -77,6 +79,7 @@ fn try_all<R: Runtime + AllocGlobal>(rt: &R) -> io::Result<()> {
     }
     let line = totals.report.line(rt.alloc(), "all files")?;
     rt.print(totals.lines.as_str())?;
+    rt.print(endless_line(rt.alloc())?.as_str())?;
     rt.print(line.as_str())?;
     if totals.report.has_failed() {
         return Err(io::Error::other("rows differ"));

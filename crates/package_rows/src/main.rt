@@ -1,0 +1,37 @@
+//! Tries rows over the layers that read packages, each typed by hand from Node's documentation or the rules that its layer
+//! follows. Its words are the files of the rows. For each it writes the rows that come to something else, and how many
+//! there are. Behind them it writes how many looks one trail takes until one passes a limit.
+#![tactic(auto)]
+
+ghost use Rattle.std.specs.Prelude.{◌≡◌, ◌<◌};
+
+mod answers;
+mod laid;
+mod limits;
+mod packages;
+mod site;
+mod targets;
+
+use crate::laid::tell_laid;
+use crate::limits::{tell_looks_at_files, tell_looks_at_nothing};
+use crate::packages::Packages;
+use row_texts::{Said, try_files};
+use std::alloc::Global;
+use std::io;
+use std::marker::Brand;
+use std::sync::ledger::Blank;
+
+// What is said beside the rows.
+fn beside(alloc: Global) -> Said {
+    let mut said = Said::new(alloc);
+    tell_laid(alloc, &mut said);
+    tell_looks_at_nothing(alloc, &mut said);
+    tell_looks_at_files(alloc, &mut said);
+    said
+}
+
+fn main(rt: HostRuntime) -> io::Result<()> {
+    let mut packages = Packages::<Brand>::start(rt.alloc(), Blank::new(1))?;
+    try_files(&rt, &mut packages)?;
+    rt.print(beside(rt.alloc()).whole()?)
+}
