@@ -22,7 +22,7 @@ use Rattle.grammar_spec.specs.Verdicts.{Verdict, matches, syntax_at, nested_too_
 use Rattle.grammar_spec.specs.Verdicts.{request_of, and_request, requests_at, or_nothing}
 use Rattle.grammar_spec.specs.Verdicts.ReadsGrammar.{reads}
 use Rattle.grammar_tokens.specs.declared.spot.Spot.{Spot}
-use Rattle.grammar_tokens.specs.Spots.{sight_of, IsSpot}
+use Rattle.grammar_tokens.specs.Spots.{sight_of, IsSpot, arrows_behind, AreTokens}
 use Rattle.grammar_spots.specs.Texts.{SpotsOf}
 use Rattle.es_grammar.specs.declared.reader.End.{End}
 use Rattle.es_grammar.specs.declared.reader.End.TheVariants as end
@@ -205,17 +205,21 @@ pub kept_at : {text bytes : List ℕ} {spots slice : List Spot} → SpotsOf text
 kept_at {text} {bytes} {spots} of b e =
     subst (λ z. All (IsSpot bytes) z) (sym e) (subst (λ z. All (IsSpot z) spots) (sym b) of.are.kept)
 
+pub tokens_kept : {text bytes : List ℕ} {spots slice : List Spot} {arrows told : List Bool} → SpotsOf text spots → bytes ≡ text
+    → slice ≡ spots → arrows ≡ reverse (arrows_behind (map (sight_of bytes) slice)) → told ≡ arrows → AreTokens bytes slice told
+tokens_kept of b e f g = record { within = kept_at of b e; told = g ∙ f }
+
 pub kept_slice : {text : List ℕ} {spots slice : List Spot} → SpotsOf text spots → slice ≡ spots → AreKept text slice
 kept_slice {text} of e = subst (λ z. AreKept text z) (sym e) (record { within = of.are.kept; cut = of.are.cut })
 
-pub says_all : {E : Type 0} (text bytes : List ℕ) (spots slice later : List Spot) (outline : Outline)
+pub says_all : {E : Type 0} (text bytes : List ℕ) (spots slice : List Spot) (outline : Outline)
     (asked items : List ℕ) (told : End) (tokens : List Sight) (r : Result Strict E) → SpotsOf text spots → bytes ≡ text → slice ≡ spots
-    → later ≡ spots → tokens ≡ map (sight_of bytes) slice → TellsOf tokens told items → asked ≡ items
-    → IfOk r (λ a. AnswersTo text later outline asked told a) → IfOk r (λ a. SaysOf text outline a)
-says_all text bytes spots slice later outline asked items told tokens r of b s l e t q h =
+    → tokens ≡ map (sight_of bytes) slice → TellsOf tokens told items → asked ≡ items
+    → IfOk r (λ a. AnswersTo text slice outline asked told a) → IfOk r (λ a. SaysOf text outline a)
+says_all text bytes spots slice outline asked items told tokens r of b s e t q h =
     says_on text spots outline items told r tokens
     (e ∙ (ap (λ z. map (sight_of z) slice) b ∙ ap (map (sight_of text)) s)) of t
-    (subst (λ z. IfOk r (λ a. AnswersTo text z outline items told a)) l
-    (subst (λ z. IfOk r (λ a. AnswersTo text later outline z told a)) q h))
+    (subst (λ z. IfOk r (λ a. AnswersTo text z outline items told a)) s
+    (subst (λ z. IfOk r (λ a. AnswersTo text slice outline z told a)) q h))
 
-pub ruleset saying = (says_all, kept_at, kept_slice)
+pub ruleset saying = (says_all, kept_at, tokens_kept, kept_slice)

@@ -13,7 +13,7 @@ use es_lexer::TokensFault;
 use es_module_parser::Outline;
 use grammar_spec::Strict;
 use grammar_spots::spots_of;
-use grammar_tokens::{Spot, Tokens};
+use grammar_tokens::{Spot, Tokens, arrows_of};
 use module_spec::Request;
 use primitives::{Listed, Memory};
 use std::alloc::{AllocError, Global};
@@ -36,7 +36,7 @@ fn place_of(text: &str, spots: &[Spot], at: usize) -> usize
 {
     match spots.get(at) {
         None => text.len(),
-        Some(spot) => spot.from,
+        Some(spot) => spot.from as usize,
     }
 }
 
@@ -87,15 +87,11 @@ pub fn strict(alloc: Global, text: &str, outline: &Outline) -> Result<Strict, Me
     requires { ReadsOutline text.now (Ok (as_outline outline.now)) }
     ensures { IfOk result (λ answer. SaysOf text.now (as_outline outline.now) answer) }
 {
-    let spots = tokens_of(alloc, text)?;
-    let tokens = Tokens::of(text.as_bytes(), spots.as_slice());
+    let kept = tokens_of(alloc, text)?;
+    let spots = kept.as_slice();
+    let bytes = text.as_bytes();
+    let arrows = arrows_of(alloc, bytes, spots)?;
+    let tokens = Tokens::of(bytes, spots, arrows.as_slice());
     let (told, asked) = read(alloc, &tokens)?;
-    answer(
-        alloc,
-        text,
-        spots.as_slice(),
-        told,
-        asked.as_slice(),
-        outline,
-    )
+    answer(alloc, text, spots, told, asked.as_slice(), outline)
 }

@@ -2,9 +2,11 @@
 //! [`Tokens::passes`] and [`Tokens::holds`] answer as the grammar's tests and guards do.
 #![tactic(auto)]
 
+mod arrows;
 mod guards;
 mod spot;
 mod tokens;
 
+pub use arrows::arrows_of;
 pub use spot::Spot;
 pub use tokens::Tokens;

@@ -7,6 +7,7 @@ use crate::maps::{map_text, through_text};
 use crate::outlines::outline_text;
 use crate::pages::{attribute_text, inject_text, pieces_text};
 use crate::projects::project_text;
+use crate::strict::strict_text;
 use crate::targets::{conditions_text, target_text};
 use crate::tokens::tokens_text;
 use crate::urls::url_text;
@@ -30,6 +31,7 @@ pub enum Layer {
     Pieces,
     Project,
     Resolve,
+    Strict,
     Target,
     Through,
     Tokens,
@@ -51,6 +53,7 @@ pub fn layer_of(name: &str) -> io::Result<Layer> {
         "pieces" => Ok(Layer::Pieces),
         "project" => Ok(Layer::Project),
         "resolve" => Ok(Layer::Resolve),
+        "strict" => Ok(Layer::Strict),
         "target" => Ok(Layer::Target),
         "through" => Ok(Layer::Through),
         "tokens" => Ok(Layer::Tokens),
@@ -102,6 +105,7 @@ fn answer_text<L: Ledger>(
         Layer::Config => configs_text(alloc, text),
         Layer::Outline => outline_text(alloc, text, steps),
         Layer::Pieces => pieces_text(alloc, text),
+        Layer::Strict => strict_text(alloc, text, steps),
         Layer::Target => target_text(alloc, question.rest, text),
         Layer::Through => through_text(alloc, question.given, question.rest, text),
         Layer::Tokens => tokens_text(alloc, text),

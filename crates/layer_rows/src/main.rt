@@ -20,6 +20,7 @@ mod pages;
 mod projects;
 mod report;
 mod site;
+mod strict;
 mod tables;
 mod targets;
 mod texts;
