@@ -22,7 +22,7 @@ use Rattle.grammar_spec.specs.Verdicts.{Verdict, matches, syntax_at, nested_too_
 use Rattle.grammar_spec.specs.Verdicts.{request_of, and_request, requests_at, or_nothing}
 use Rattle.grammar_spec.specs.Verdicts.ReadsGrammar.{reads}
 use Rattle.grammar_tokens.specs.declared.spot.Spot.{Spot}
-use Rattle.grammar_tokens.specs.Spots.{sight_of, IsSpot, arrows_behind, AreTokens}
+use Rattle.grammar_tokens.specs.Spots.{sight_of, IsSpot}
 use Rattle.grammar_spots.specs.Texts.{SpotsOf}
 use Rattle.es_grammar.specs.declared.reader.End.{End}
 use Rattle.es_grammar.specs.declared.reader.End.TheVariants as end
@@ -205,10 +205,6 @@ pub kept_at : {text bytes : List ℕ} {spots slice : List Spot} → SpotsOf text
 kept_at {text} {bytes} {spots} of b e =
     subst (λ z. All (IsSpot bytes) z) (sym e) (subst (λ z. All (IsSpot z) spots) (sym b) of.are.kept)
 
-pub tokens_kept : {text bytes : List ℕ} {spots slice : List Spot} {arrows told : List Bool} → SpotsOf text spots → bytes ≡ text
-    → slice ≡ spots → arrows ≡ reverse (arrows_behind (map (sight_of bytes) slice)) → told ≡ arrows → AreTokens bytes slice told
-tokens_kept of b e f g = record { within = kept_at of b e; told = g ∙ f }
-
 pub kept_slice : {text : List ℕ} {spots slice : List Spot} → SpotsOf text spots → slice ≡ spots → AreKept text slice
 kept_slice {text} of e = subst (λ z. AreKept text z) (sym e) (record { within = of.are.kept; cut = of.are.cut })
 
@@ -222,4 +218,4 @@ says_all text bytes spots slice outline asked items told tokens r of b s e t q h
     (subst (λ z. IfOk r (λ a. AnswersTo text z outline items told a)) s
     (subst (λ z. IfOk r (λ a. AnswersTo text slice outline z told a)) q h))
 
-pub ruleset saying = (says_all, kept_at, tokens_kept, kept_slice)
+pub ruleset saying = (says_all, kept_at, kept_slice)

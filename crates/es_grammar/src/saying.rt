@@ -13,7 +13,7 @@ use es_lexer::TokensFault;
 use es_module_parser::Outline;
 use grammar_spec::Strict;
 use grammar_spots::spots_of;
-use grammar_tokens::{Spot, Tokens, arrows_of};
+use grammar_tokens::{Spot, Tokens};
 use module_spec::Request;
 use primitives::{Listed, Memory};
 use std::alloc::{AllocError, Global};
@@ -89,9 +89,7 @@ pub fn strict(alloc: Global, text: &str, outline: &Outline) -> Result<Strict, Me
 {
     let kept = tokens_of(alloc, text)?;
     let spots = kept.as_slice();
-    let bytes = text.as_bytes();
-    let arrows = arrows_of(alloc, bytes, spots)?;
-    let tokens = Tokens::of(bytes, spots, arrows.as_slice());
+    let tokens = Tokens::of(alloc, text.as_bytes(), spots)?;
     let (told, asked) = read(alloc, &tokens)?;
     answer(alloc, text, spots, told, asked.as_slice(), outline)
 }

@@ -1,9 +1,9 @@
-ghost use Rattle.std.specs.Prelude.{◌≡◌, ◌≤◌, ◌==◌, ◌&&◌, ◌||◌, not, length, IfOk};
+ghost use Rattle.std.specs.Prelude.{◌≡◌, ◌≤◌, ◌==◌, ◌^◌, ◌&&◌, ◌||◌, not, length, MatchResult};
 ghost use Rattle.module_spec.specs.declared.token.Kind.TheVariants as kinds;
 ghost use Rattle.grammar_spec.specs.Sights.{code_of, reserved, assignment_operators, operators};
 ghost use Rattle.grammar_tokens.specs.Spots.{key_ends, short_ends};
 ghost use Rattle.grammar_spots.specs.Words.{closing, is_one_of};
-ghost use Rattle.grammar_spots.specs.Making.{IsSpotOf};
+ghost use Rattle.grammar_spots.specs.Making.{IsSpotOf, HasNoRoom};
 
 use crate::words::{is_assignment, is_closing, is_key_end, is_operator, is_reserved, is_short_end};
 use grammar_tokens::Spot;
@@ -89,7 +89,7 @@ fn is_word(kind: Kind) -> bool
 
 // A place, where four bytes have room for it.
 fn short_place(place: usize) -> Result<u32, Memory>
-    ensures { IfOk result (λ short. short ≡ place) }
+    ensures { MatchResult result (λ short. short ≡ place) (λ _. 2 ^ 32 ≤ place) }
 {
     if place > u32::MAX as usize {
         return Err(AllocError);
@@ -97,9 +97,9 @@ fn short_place(place: usize) -> Result<u32, Memory>
     Ok(place as u32)
 }
 
-// A depth, where two bytes have room for it; the lexer's brackets are fewer.
+// A depth, where two bytes have room for it.
 fn short_depth(depth: usize) -> Result<u16, Memory>
-    ensures { IfOk result (λ short. short ≡ depth) }
+    ensures { MatchResult result (λ short. short ≡ depth) (λ _. 2 ^ 16 ≤ depth) }
 {
     if depth > u16::MAX as usize {
         return Err(AllocError);
@@ -108,8 +108,8 @@ fn short_depth(depth: usize) -> Result<u16, Memory>
 }
 
 /// What is kept of a token of the text: whether a line end stands before it, and how many brackets are open before it
-/// and behind it. There is no room for a token that ends above 4 GiB.
-#[tactic(auto, using(crate::proofs::Agreeing::ident_is, crate::proofs::Agreeing::any_word))]
+/// and behind it. A text whose file may be read is shorter, and has fewer brackets open, than a spot has room for.
+#[tactic(auto, using(crate::proofs::Agreeing::agreeing))]
 pub fn spot_of(
     text: &[u8],
     token: Token,
@@ -119,7 +119,8 @@ pub fn spot_of(
 ) -> Result<Spot, Memory>
     requires begins { token.from ≤ token.to }
     requires ends { token.to ≤ length text.now }
-    ensures { IfOk result (λ spot. IsSpotOf text.now token line depth behind spot) }
+    ensures { MatchResult result (λ spot. IsSpotOf text.now token line depth behind spot)
+        (λ _. HasNoRoom token depth behind) }
 {
     let spelled = &text[token.from..token.to];
     let word = is_word(token.kind);

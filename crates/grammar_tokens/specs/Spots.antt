@@ -3,6 +3,7 @@
 --     Agrees spot t           what is kept of it says what the grammar says
 --     IsSpot text spot        it stands in the text, and agrees
 --     arrows_behind tokens    for each token, whether an arrow stands behind what it opens
+--     AreUnset count signs      there are so many, and none of them is set
 --     AreTokens text spots arrows      the spots stand in the text, and these are their arrows, the last one first
 use Rattle.std.specs.Prelude.{◌≡◌, ◌≤◌, ℕ, Bool, false, List, [], ◌∷◌, All, codes, length, map, reverse, slice_range}
 use Rattle.std.specs.Prelude.{slice_index_or}
@@ -58,3 +59,7 @@ arrow_at tokens at = slice_index_or (arrows_behind tokens) at false
 pub record AreTokens (text : List ℕ) (spots : List Spot) (arrows : List Bool) : Type 0 where
   pub within : All (IsSpot text) spots
   pub told : arrows ≡ reverse (arrows_behind (map (sight_of text) spots))
+
+pub record AreUnset (count : ℕ) (signs : List Bool) : Type 0 where
+  pub size : length signs ≡ count
+  pub unset : (at : ℕ) → slice_index_or signs at false ≡ false

@@ -1,6 +1,6 @@
 ghost use Rattle.std.specs.Prelude.{◌≡◌, All, IfOk, map, reverse};
 ghost use Rattle.grammar_spec.specs.Sights.{is_word, is_arrow_sign};
-ghost use Rattle.grammar_tokens.specs.Spots.{IsSpot, sight_of, arrows_behind};
+ghost use Rattle.grammar_tokens.specs.Spots.{IsSpot, AreUnset, sight_of, arrows_behind};
 
 use crate::spot::Spot;
 use crate::tokens::code_of;
@@ -27,13 +27,22 @@ fn is_sign(text: &[u8], spot: Spot) -> bool
     is_word(text, spot, b"=>") && !spot.line
 }
 
+// So many signs, none of which is set.
+#[tactic(auto, using(crate::proofs::Passing::unset))]
+fn no_signs(alloc: Global, count: usize) -> Result<Vec<bool>, Memory>
+    ensures { IfOk result (λ signs. AreUnset count signs.items) }
+{
+    vec![in alloc; false; count]
+}
+
 /// For each token, the last one first, whether `=>` stands behind the next token that leaves as many brackets open as are
 /// open before it, and on its line. One pass from the last token to the first finds all.
-pub fn arrows_of(alloc: Global, text: &[u8], spots: &[Spot]) -> Result<Vec<bool>, Memory>
+#[tactic(auto, using(crate::proofs::Passing::passing))]
+pub(crate) fn arrows_of(alloc: Global, text: &[u8], spots: &[Spot]) -> Result<Vec<bool>, Memory>
     requires { All (IsSpot text.now) spots.now }
     ensures { IfOk result (λ arrows. arrows.items ≡ reverse (arrows_behind (map (sight_of text.now) spots.now))) }
 {
-    let mut signs = vec![in alloc; false; DEPTHS]?;
+    let mut signs = no_signs(alloc, DEPTHS)?;
     let mut arrows = Vec::with_capacity(alloc, spots.len())?;
     let mut sign = false;
     let mut rest = spots;

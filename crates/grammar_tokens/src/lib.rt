@@ -7,6 +7,5 @@ mod guards;
 mod spot;
 mod tokens;
 
-pub use arrows::arrows_of;
 pub use spot::Spot;
 pub use tokens::Tokens;

@@ -1,13 +1,15 @@
-ghost use Rattle.std.specs.Prelude.{◌≡◌, ◌<◌, ◌≤◌, ◌+◌, ◌^◌, MatchOption, length, map, not, suc, true};
+ghost use Rattle.std.specs.Prelude.{◌≡◌, ◌<◌, ◌≤◌, ◌+◌, ◌^◌, All, IfOk, MatchOption, length, map, not, suc, true};
 ghost use Rattle.std.specs.Bool.{OnTrue};
 ghost use Rattle.module_spec.specs.declared.token.Kind.TheVariants as kind;
 ghost use Rattle.grammar_spec.specs.Sights.{is_quoted, at_place, is_kind, depth_at, code_of, is_ident};
 ghost use Rattle.grammar_spec.specs.Sights.{is_any_of, assignment_operators, is_closing, operators, outside};
-ghost use Rattle.grammar_tokens.specs.Spots.{AreTokens, arrow_at, sight_of, key_ends, short_ends};
+ghost use Rattle.grammar_tokens.specs.Spots.{IsSpot, arrow_at, sight_of, key_ends, short_ends};
 
-use crate::arrows::is_word;
+use crate::arrows::{arrows_of, is_word};
 use crate::spot::Spot;
 use module_spec::Kind;
+use primitives::Memory;
+use std::alloc::Global;
 use std::marker::Model;
 
 /// The tokens of a text. A contract sees them as the grammar does.
@@ -15,20 +17,19 @@ use std::marker::Model;
 pub struct Tokens<'t> {
     text: &'t [u8],
     spots: &'t [Spot],
-    arrows: &'t [bool],
+    arrows: Vec<bool>,
 }
 
 impl<'t> Model for Tokens<'t> {
-    ghost use Rattle.std.specs.Prelude.{List};
+    ghost use Rattle.std.specs.Prelude.{List, map};
     ghost use Rattle.grammar_spec.specs.Sights.{Sight};
-    ghost use Rattle.std.specs.Prelude.{map};
     ghost use Rattle.grammar_tokens.specs.Spots.{sight_of, AreTokens};
 
     ghost Value = { List Sight };
 
     ghost view = { λ t. map (sight_of t.text.now) t.spots.now };
 
-    ghost invariant = { λ t. AreTokens t.text.now t.spots.now t.arrows.now };
+    ghost invariant = { λ t. AreTokens t.text.now t.spots.now t.arrows.items };
 }
 
 pub(crate) fn code_of(kind: Kind) -> u8
@@ -49,16 +50,17 @@ pub(crate) fn code_of(kind: Kind) -> u8
 }
 
 impl<'t> Tokens<'t> {
-    /// The tokens that are kept so, of this text, with what [`arrows_of`](crate::arrows_of) gives for them.
-    pub fn of(text: &'t [u8], spots: &'t [Spot], arrows: &'t [bool]) -> Tokens<'t>
-        requires { AreTokens text.now spots.now arrows.now }
-        ensures { result ≡ map (sight_of text.now) spots.now }
+    /// The tokens that are kept so, of this text.
+    pub fn of(alloc: Global, text: &'t [u8], spots: &'t [Spot]) -> Result<Tokens<'t>, Memory>
+        requires { All (IsSpot text.now) spots.now }
+        ensures { IfOk result (λ tokens. tokens ≡ map (sight_of text.now) spots.now) }
     {
-        Tokens {
+        let arrows = arrows_of(alloc, text, spots)?;
+        Ok(Tokens {
             text,
             spots,
             arrows,
-        }
+        })
     }
 
     /// The number of brackets that are open before the token.
