@@ -1,6 +1,7 @@
 -- What is kept of a token agrees with it.
-use Rattle.std.proofs.Common.{◌≡◌, ◌==◌, ◌≤◌, ◌^◌, ℕ, Bool, true, false, not, ◌&&◌, ◌||◌, bytes_eq, List, [], ◌∷◌, refl, sym, ◌∙◌, ap, arith}
+use Rattle.std.proofs.Common.{◌≡◌, ◌==◌, ◌≤◌, ◌^◌, ℕ, Bool, true, false, not, ◌&&◌, ◌||◌, bytes_eq, List, [], ◌∷◌, Result, Ok, Err, refl, sym, ◌∙◌, ap, arith}
 use Rattle.std.specs.List.{list_any}
+use Rattle.std.specs.Prelude.{IsErrAnd, MatchResult}
 use Rattle.module_spec.specs.declared.token.Kind.TheVariants as kind
 use Rattle.module_spec.specs.declared.token.Token.{Token}
 use Rattle.grammar_spec.specs.Sights.{Sight, is_kind, is_word, is_any_of, is_ident, reserved}
@@ -41,4 +42,10 @@ deep_there token depth behind l = deep_before l
 pub deep_after : (token : Token) (depth behind : ℕ) → 2 ^ 16 ≤ behind → HasNoRoom token depth behind
 deep_after token depth behind l = deep_behind l
 
-pub ruleset agreeing = (ident_is, any_word, begins_far, ends_far, deep_there, deep_after)
+pub handed_on : {X E : Type 0} (P : X → Type 0) (result : Result X E) (fault : E) (token : Token) (depth behind : ℕ)
+    → IsErrAnd result (λ other. other ≡ fault) → HasNoRoom token depth behind
+    → MatchResult result P (λ _. HasNoRoom token depth behind)
+handed_on P (Ok x) fault token depth behind is h = absurd is
+handed_on P (Err other) fault token depth behind is h = h
+
+pub ruleset agreeing = (ident_is, any_word, begins_far, ends_far, deep_there, deep_after, handed_on)

@@ -70,11 +70,11 @@ module _ {text : List ℕ} {spots rest : List Spot} {signs arrows : List Bool} {
   pub has_sign : (d : ℕ) → Passed text spots rest signs sign arrows → d < 65536 → d < length signs
   has_sign d p l = let size = p.size in rw size l
 
-  pub one_passed : (before : List Spot) (s : Spot) (later more : List Bool) (next here : Bool)
+  pub one_passed : (before : List Spot) (s : Spot) (later more : List Bool) (next : Bool)
       → Passed text spots rest signs sign arrows → rest ≡ before ++ s ∷ [] → s.depth < 65536 → s.behind < 65536
-      → here ≡ get_or signs s.depth false → more ≡ arrows ++ here ∷ [] → later ≡ set signs s.behind sign
+      → more ≡ arrows ++ get_or signs s.depth false ∷ [] → later ≡ set signs s.behind sign
       → next ≡ is_arrow_sign (sight_of text s) → Passed text spots before later next more
-  one_passed before s later more next here p split deep within e f k g =
+  one_passed before s later more next p split deep within f k g =
       let size = p.size in
       record {
         done = s ∷ p.done;
@@ -88,8 +88,8 @@ module _ {text : List ℕ} {spots rest : List Spot} {signs arrows : List Bool} {
         says = g;
         told =
             f
-            ∙ (ap (λ (x : List Bool). x ++ here ∷ []) p.told
-            ∙ (ap (λ b. reverse (arrows_behind (map (sight_of text) p.done)) ++ b ∷ []) (e ∙ p.tells s.depth deep)
+            ∙ (ap (λ (x : List Bool). x ++ get_or signs s.depth false ∷ []) p.told
+            ∙ (ap (λ b. reverse (arrows_behind (map (sight_of text) p.done)) ++ b ∷ []) (p.tells s.depth deep)
             ∙ sym (reverse_onto (arrows_behind (map (sight_of text) p.done)) (sign_behind s.depth (map (sight_of text) p.done)) [])));
       }
 
