@@ -25,7 +25,8 @@ pub record IsSpotOf (text : List ℕ) (token : Token) (line : Bool) (depth behin
   pub from : s.from ≡ token.from
   pub to : s.to ≡ token.to
 
--- own: it ends above 4 GiB, or so many brackets are open before it or behind it that two bytes have no room for the number
+-- own: it ends at 4 GiB or above, or so many brackets are open before it or behind it that their number has no room in
+-- two bytes
 pub data HasNoRoom (token : Token) (depth behind : ℕ) : Type 0 where
   far : 2 ^ 32 ≤ token.to → HasNoRoom token depth behind
   deep_before : 2 ^ 16 ≤ depth → HasNoRoom token depth behind

@@ -32,8 +32,8 @@ fn between(bytes: &[u8], from: usize, to: usize) -> &[u8]
     bytes.get(from..to).unwrap_or(b"".as_slice())
 }
 
-/// What is kept of each token of the text, in their order, or the text's first fault. For a text above 4 GiB there is no
-/// room.
+/// What is kept of each token of the text, in their order, or the text's first fault. For a text above 4 GiB there is
+/// no room.
 pub fn spots_of(alloc: Global, text: &str) -> Result<Listed<Spot>, TokensFault>
     ensures spots { IfOk result (λ spots. SpotsOf text.now spots) }
     ensures fault { IfErr result (λ e. (fault : LexFault) → e ≡ TokensFault.Lexical fault

@@ -35,8 +35,8 @@ fn no_signs(alloc: Global, count: usize) -> Result<Vec<bool>, Memory>
     vec![in alloc; false; count]
 }
 
-/// For each token, the last one first, whether `=>` stands behind the next token that leaves as many brackets open as are
-/// open before it, and on its line. One pass from the last token to the first finds all.
+/// For each token, the last one first, whether `=>` stands behind the next token that leaves as many brackets open as
+/// are open before it, and on its line. One pass from the last token to the first finds all.
 #[tactic(auto, using(crate::proofs::Passing::passing))]
 pub(crate) fn arrows_of(alloc: Global, text: &[u8], spots: &[Spot]) -> Result<Vec<bool>, Memory>
     requires { All (IsSpot text.now) spots.now }

@@ -1,7 +1,7 @@
 use module_spec::Kind;
 
-/// A token: where it stands, and what the grammar asks of it. A text may have a token a byte, so a spot is small: places
-/// of four bytes, and depths of two.
+/// A token: where it stands, and what the grammar asks of it. A text may have a token a byte, so a spot is small:
+/// places of four bytes, and depths of two.
 #[derive(Clone, Copy)]
 pub struct Spot {
     pub from: u32,

@@ -1,4 +1,4 @@
-use Rattle.std.proofs.Common.{◌≡◌, ◌&&◌, sym, ◌∙◌, ap}
+use Rattle.std.proofs.Common.{◌&&◌, sym, ◌∙◌, ap}
 use Rattle.grammar_tokens.specs.Spots.{arrow_at}
 use Rattle.grammar_tokens.proofs.Places.{round_at}
 use Rattle.grammar_tokens.proofs.tokens.Tokens.is_round_arrow.Goals as goal
