@@ -152,6 +152,7 @@ module _ (references : List ℕ) (before after : State) (question : Question) (r
         (IsAskedBy (answers_of references before) (fine (ask question answered))) (λ e. is ∙ ap result_by e) asked_by
         (learns_at (afresh before) after before.trail after.trail (response ≡ fails no_memory)
         (IsLookOf (afresh before) (put question)) (learns_by (afresh before) after (put question) response a));
+    covered = λ finished covers. a.covered (λ e. finished (is ∙ ap result_by e)) covers;
   }
 
 -- ---- the walk
