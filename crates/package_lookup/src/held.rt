@@ -34,6 +34,17 @@ impl Seen {
         }
     }
 
+    /// The bytes of a file.
+    pub fn file(&self) -> Option<&[u8]>
+        ensures { option_copied result ≡ bytes_of (look_seen self.now) }
+    {
+        match self {
+            Seen::Absent => None,
+            Seen::Folder => None,
+            Seen::File(bytes) => Some(bytes.as_bytes()),
+        }
+    }
+
     /// How many bytes stand there.
     pub fn size(&self) -> u64
         ensures { result ≡ size_at (entry_of self.now) }
@@ -120,8 +131,8 @@ impl Held {
         ensures { option_copied result ≡ bytes_of self.now }
     {
         match &self.seen {
-            Some(Seen::File(bytes)) => Some(bytes.as_bytes()),
-            _ => None,
+            None => None,
+            Some(seen) => seen.file(),
         }
     }
 

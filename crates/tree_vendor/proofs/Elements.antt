@@ -1,5 +1,5 @@
 -- What lists contain that are made of others.
-use Rattle.std.proofs.Common.{◌≡◌, ◌+◌, ◌<◌, [], ◌∷◌, ◌++◌, ℕ, List, zero, suc, length, take, map, Some, refl, sym, ap, ◌∙◌, subst, arith}
+use Rattle.std.proofs.Common.{◌≡◌, ◌+◌, ◌<◌, [], ◌∷◌, ◌++◌, ℕ, List, zero, suc, length, take, map, get_or, Some, refl, sym, ap, ◌∙◌, subst, arith}
 use Rattle.std.specs.Prelude.{Contains, slice_get}
 use Rattle.tree_spec.proofs.Contained.{contains_here, contains_there, contains_cases, contains_none}
 
@@ -38,3 +38,9 @@ pub taken_more : {A : Type 0} (xs : List A) (place : ℕ) (x : A) → slice_get 
 taken_more [] place x at = absurd (cc)
 taken_more (y ∷ xs) zero x at = (let same : y ≡ x = cc in ap (λ z. z ∷ []) same)
 taken_more (y ∷ xs) (suc place) x at = ap (λ zs. y ∷ zs) (taken_more xs place x at)
+
+pub got : {A : Type 0} (xs : List A) (place : ℕ) (x : A) → place < length xs → x ≡ get_or xs place x
+    → slice_get xs place ≡ Some x
+got [] place x below is = absurd (omega (arith, below))
+got (y ∷ xs) zero x below is = ap Some (sym is)
+got (y ∷ xs) (suc place) x below is = got xs place x (omega (arith, below)) is

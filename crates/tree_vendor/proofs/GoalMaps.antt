@@ -1,6 +1,5 @@
 -- The goals of files, as they are gathered and listed.
-use Rattle.std.proofs.Common.{◌≡◌, ◌≢◌, ◌⊎◌, ◌+◌, ◌≤◌, ◌<◌, ◌++◌, [], ◌∷◌, ℕ, List, Bool, true, false, length, take, cond, Option, Some, None, Result, Ok, Err, refl, sym, ap, ◌∙◌, subst, inl, inr, arith, ⊎_elim}
-use Rattle.std.proofs.lemmas.Bool.{cases_lt}
+use Rattle.std.proofs.Common.{◌≡◌, ◌≢◌, ◌⊎◌, ◌+◌, ◌≤◌, ◌<◌, ◌++◌, [], ◌∷◌, ℕ, suc, List, Bool, true, false, length, take, cond, Option, Some, None, Result, Ok, Err, refl, sym, ap, ◌∙◌, subst, inl, inr, arith, ⊎_elim}
 use Rattle.std.proofs.lemmas.List.Elements.{Contains-append_left, Contains-append_right, Contains-append_cases}
 use Rattle.std.proofs.lemmas.Map.Lookups.{exact_bytes}
 use Rattle.std.proofs.lemmas.Map.Text.{is_eq-slice_cmp}
@@ -11,16 +10,24 @@ use Rattle.std.specs.Bool.{Decides}
 use Rattle.std.specs.Cmp.Lexicographic.{slice_cmp, nat_list_cmp_total}
 use Rattle.std.specs.Map.{lookup}
 use Rattle.std.specs.Ordering.{nat_cmp}
-use Rattle.std.specs.Prelude.{◌↔◌, Contains, bytes_eq}
+use Rattle.std.specs.Prelude.{◌↔◌, Contains, bytes_eq, slice_get}
 use Rattle.package_lookup.specs.declared.known.Known.{Known}
 use Rattle.tree_spec.proofs.Contained.{contains_here, contains_cases, contains_none}
 use Rattle.tree_spec.specs.Paths.{IsPath}
-use Rattle.tree_vendor.proofs.GoalPaths.{goal_depth}
+use Rattle.tree_vendor.proofs.Elements.{contains_at, taken_more}
+use Rattle.tree_vendor.proofs.GoalPaths.{goal_depth, too_deep}
 use Rattle.tree_vendor.specs.Copying.{Step}
-use Rattle.tree_vendor.specs.Planning.{goal_of, AreOfBytes, IsSource, InOrder, ArePlanned, IsTooLong, HasLongGoal, HasDeepGoal, HasBadGoal, IsGoal, AreGoals}
+use Rattle.tree_vendor.specs.Planning.{goal_of, AreOfBytes, IsSource, InOrder, ArePlanned, Plans}
+use Rattle.tree_vendor.specs.Planning.{IsTooLong, HasLongGoal, HasDeepGoal, IsBad, HasBadGoal, IsGoal, AreGoals}
+use Rattle.tree_vendor.specs.declared.planning.VendorFault.{VendorFault}
+use Rattle.tree_vendor.specs.declared.planning.VendorFault.TheVariants.{PathTooLong, TooManySegments, Memory}
 
 abbrev Goals : Type 0
 Goals = BTreeMap (List ℕ) (List ℕ)
+
+-- the fault, as the result of the call that gathers the goals
+abbrev pub failed : VendorFault → Result Goals VendorFault
+failed fault = Err fault
 
 abbrev goal_at : Goals → List ℕ → Option (List ℕ)
 goal_at goals path = get (slice_cmp nat_cmp) goals path
@@ -133,11 +140,47 @@ module _ (known : Known) (to : List ℕ) where
         source = bad.source;
         depth = depth;
         segments = segments;
-        deep = elim (cases_lt 64 depth) [
-          | inl more ↦ more
-          | inr few ↦ elim (cases_lt 1024 (length (goal_of to has.path))) [
-            | inl long ↦ absurd (short (record { path = has.path; looked_at = has.looked_at; too_long = record { source = bad.source; long = long } }))
-            | inr within ↦ absurd (bad.bad (record { depth = depth; segments = segments; few = few; short = within }))
-          ]
-        ];
+        deep = too_deep (goal_of to has.path) depth segments bad.bad
+            (λ long. short (record {
+              path = has.path;
+              looked_at = has.looked_at;
+              too_long = record { source = bad.source; long = long };
+            }));
       }
+
+  -- why there is no plan, where no goal has too many bytes
+  pub plan_fails : (footprint : List (List ℕ)) (fault : VendorFault) → failed fault ≢ failed PathTooLong
+      → (failed fault ≡ failed TooManySegments → HasBadGoal footprint known to) → (HasLongGoal footprint known to → ⊥)
+      → Plans footprint known to (Err fault)
+  plan_fails footprint PathTooLong other bad short = absurd (other refl)
+  plan_fails footprint TooManySegments other bad short = (short, deep_goal footprint short (bad refl))
+  plan_fails footprint Memory other bad short = tt
+
+  -- ---- one path after another
+
+  module _ (footprint : List (List ℕ)) (place : ℕ) (path : List ℕ) (at : slice_get footprint place ≡ Some path) where
+    pub held_more : (P : List ℕ → Type 0) → ((p : List ℕ) → Contains (take place footprint) p → P p) → P path
+        → (p : List ℕ) → Contains (take (suc place) footprint) p → P p
+    held_more P before here p held =
+        elim (last_one (take place footprint) path p
+        (subst (λ ps. Contains ps p) (taken_more footprint place path at) held)) [
+          | inl earlier ↦ before p earlier
+          | inr same ↦ subst P same here
+        ]
+
+    pub goals_more : (before after : Goals)
+        → ((done : List (List ℕ)) → AreGoals known to done before → AreGoals known to (done ++ path ∷ []) after)
+        → AreGoals known to (take place footprint) before → AreGoals known to (take (suc place) footprint) after
+    goals_more before after puts were =
+        subst (λ done. AreGoals known to done after) (sym (taken_more footprint place path at))
+        (puts (take place footprint) were)
+
+    pub bad_here : IsBad known to path → HasBadGoal footprint known to
+    bad_here bad = record { path = path; looked_at = contains_at footprint place path at; is_bad = bad }
+
+    pub long_here : IsTooLong known to path → HasLongGoal footprint known to
+    long_here long = record { path = path; looked_at = contains_at footprint place path at; too_long = long }
+
+  pub none_long : (footprint : List (List ℕ))
+      → ((p : List ℕ) → Contains footprint p → IsTooLong known to p → ⊥) → HasLongGoal footprint known to → ⊥
+  none_long footprint none long = none long.path long.looked_at long.too_long

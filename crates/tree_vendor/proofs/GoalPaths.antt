@@ -1,6 +1,6 @@
 -- How deep a file's copy lies below a folder.
 use Rattle.std.proofs.Common.{◌≡◌, ◌≢◌, ◌⊎◌, ◌+◌, ◌≤◌, ◌<◌, ◌++◌, [], ◌∷◌, ℕ, List, Bool, true, false, length, refl, sym, ap, ◌∙◌, subst, inl, inr, append_assoc, arith}
-use Rattle.std.proofs.lemmas.Bool.{cond-false}
+use Rattle.std.proofs.lemmas.Bool.{cases_lt}
 use Rattle.std.proofs.lemmas.Slice.Eq.{bytes_eq-Decides}
 use Rattle.std.specs.Bool.{Decides}
 use Rattle.std.specs.Prelude.{codes, bytes_eq, if◌then◌else◌}
@@ -64,3 +64,20 @@ goal_behind to path deep = ap (λ front. front ++ path) (by (bytes_eq to (codes 
     by : (b : Bool) → Decides b (to ≡ codes "/") → (if b then [] else to) ≡ to
     by true d = absurd (deep (d.0 refl))
     by false d = refl
+
+-- what has few bytes and is no path has too many segments
+pub too_deep : (text : List ℕ) (depth : ℕ) → HasDepth depth text → (IsPath text → ⊥) → (1024 < length text → ⊥)
+    → 64 < depth
+too_deep text depth segments bad short =
+    elim (cases_lt 64 depth) [
+      | inl more ↦ more
+      | inr few ↦ elim (cases_lt 1024 (length text)) [
+        | inl long ↦ absurd (short long)
+        | inr within ↦ absurd (bad (record {
+          depth = depth;
+          segments = segments;
+          few = omega (arith, few);
+          short = omega (arith, within);
+        }))
+      ]
+    ]

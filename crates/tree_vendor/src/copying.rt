@@ -38,7 +38,7 @@ fn copy_file<F: Folder>(
 }
 
 /// The bytes of the file that is kept for a path.
-pub(crate) fn file_of(known: &Known, path: &Path) -> Option<&[u8]>
+pub(crate) fn file_of<'a>(known: &'a Known, path: &Path) -> Option<&'a [u8]>
     ensures { option_copied result ≡ file_at known.now path.now }
 {
     match known.kept(path) {

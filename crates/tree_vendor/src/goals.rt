@@ -1,7 +1,7 @@
 ghost use Rattle.std.specs.BTreeMap.{Updates};
 ghost use Rattle.std.specs.Cmp.Lexicographic.{slice_cmp};
 ghost use Rattle.std.specs.Ordering.{nat_cmp};
-ghost use Rattle.std.specs.Prelude.{◌≡◌, ◌≢◌, ◌++◌, ◌∷◌, [], List, ℕ, Err, Some, IfOk, OnOk, IsErrOf, length};
+ghost use Rattle.std.specs.Prelude.{◌≡◌, ◌≢◌, ◌++◌, ◌∷◌, [], List, ℕ, Err, Some, IfOk, OnOk, length};
 ghost use Rattle.std.specs.String.{string_bytes};
 ghost use Rattle.tree_model.specs.declared.path.PathFault.{PathFault};
 ghost use Rattle.tree_spec.specs.Paths.{IsPath};
@@ -75,7 +75,7 @@ fn insert(alloc: Global, goals: &mut Goals, path: &Path, goal: Path) -> Result<(
 // The path of a file's copy.
 fn goal(alloc: Global, to: &Path, path: &Path) -> Result<Path, PathFault>
     ensures path { IfOk result (λ goal. (goal ≡ goal_of to.now path.now) × IsPath goal) }
-    ensures bad { IsErrOf result PathFault.BadPath → IsPath (goal_of to.now path.now) → ⊥ }
+    ensures bad { result ≡ Err PathFault.BadPath → IsPath (goal_of to.now path.now) → ⊥ }
     ensures paths { IsPath to.now × IsPath path.now }
 {
     match goal_text(alloc, to.as_str(), path.as_str()) {

@@ -49,7 +49,8 @@ pub fn plan(
 
 // The goals as a list, in the order of their sources.
 fn plan_of(alloc: Global, goals: Goals) -> Result<Plan, Memory>
-    ensures { IfOk result (λ plan. (plan ≡ goals.entries) × InOrder plan) }
+    ensures entries { IfOk result (λ plan. plan ≡ goals.entries) }
+    ensures in_order { IfOk result InOrder }
 {
     let _count = goals.len();
     Ok(Plan::from_vec(goals.into_iter().collect(alloc)?))
@@ -72,12 +73,22 @@ fn is_too_long(known: &Known, to: &Path, path: &Path) -> bool
     ensures long { IsTrue result ↔ IsTooLong known.now to.now path.now }
     ensures bytes { IsOfBytes path.now }
 {
-    goal_length(to, path) > MOST_PATH_BYTES && is_source(known, path)
+    if goal_length(to, path) > MOST_PATH_BYTES {
+        is_source(known, path)
+    } else {
+        false
+    }
 }
 
 /// Whether a file is kept for a path that isn't the root.
 pub(crate) fn is_source(known: &Known, path: &Path) -> bool
     ensures { IsTrue result ↔ IsSource known.now path.now }
 {
-    path.as_str() != "/" && file_of(known, path).is_some()
+    if path.as_str() == "/" {
+        return false;
+    }
+    match file_of(known, path) {
+        None => false,
+        Some(_) => true,
+    }
 }
