@@ -67,9 +67,9 @@ fn module_at(trace: &Trace, place: usize) -> Option<ModuleView<'_>>
     ensures module { option_map module_of result ≡ slice_get trace.now.gathered.modules place }
     ensures source { option_map source_of result ≡ slice_get trace.now.gathered.sources place }
 {
-    let view = trace.view();
+    let graph = trace.view();
     match trace.slot(place) {
-        Some(slot) => view.module(slot),
+        Some(slot) => graph.module(slot),
         None => None,
     }
 }

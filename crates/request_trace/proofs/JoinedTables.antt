@@ -7,12 +7,11 @@
 --     tables_are               the parts are told as the tables
 --     traces_lost              there is no memory for what was traced
 --     as_trace, takes_trace    the trace that was made of the tables
-use Rattle.std.proofs.Common.{◌≡◌, ◌≤◌, ◌+◌, ◌<◌, ◌++◌, ℕ, List, [], ◌∷◌, length, map, reverse, Option, Some, None, Result, Ok, Err, refl, sym, ap, ◌∙◌, subst, arith}
+use Rattle.std.proofs.Common.{◌≡◌, ◌≤◌, ◌+◌, ◌<◌, ◌++◌, ℕ, List, [], ◌∷◌, length, map, reverse, Some, Ok, Err, refl, sym, ap, ◌∙◌, subst, arith}
 use Rattle.std.specs.Prelude.{flat_map, slice_get}
 use Rattle.std.specs.Map.{keys_of}
 use Rattle.std.proofs.lemmas.List.{append_assoc, map-append, length-map, length-append, length-reverse, reverse-append}
 use Rattle.std.proofs.lemmas.Option.{slice_get_within, get_or_from_slice_get}
-use Rattle.layout_spec.specs.declared.Need.{Need}
 use Rattle.module_spec.specs.declared.request.Request.{Request}
 use Rattle.module_graph.specs.declared.module.Module as vertex
 use Rattle.module_graph.specs.Many.{requests_in}
@@ -22,9 +21,8 @@ use Rattle.package_lookup.proofs.Learnings.{learns_as}
 use Rattle.package_lookup.specs.declared.known.Known.{Known}
 use Rattle.trace_graph.specs.Building.{IsGraphOf}
 use Rattle.trace_graph.specs.Links.{Links, module_of, source_of}
-use Rattle.trace_spec.specs.declared.TraceFault.{TraceFault}
 use Rattle.trace_spec.specs.declared.TraceFault.TheVariants.{Memory}
-use Rattle.trace_spec.specs.Checks.{Gathered, Spelling}
+use Rattle.trace_spec.specs.Checks.{Gathered}
 use Rattle.trace_spec.specs.Modules.{Config, Module}
 use Rattle.trace_spec.specs.Questions.{Source}
 use Rattle.tree_spec.proofs.ToldStates.{if_all}

@@ -2,7 +2,7 @@
 --     field_some, field_none      a part of it, or none where there is no module
 --     then_some, then_none        what may be there of it
 --     asked_same                  the specifier of a request
-use Rattle.std.proofs.Common.{◌≡◌, ℕ, List, map, Option, Some, None, refl, sym, ap, ◌∙◌}
+use Rattle.std.proofs.Common.{◌≡◌, ℕ, map, Option, Some, None, refl, sym, ap, ◌∙◌}
 use Rattle.std.specs.Prelude.{option_map, option_and_then, slice_get}
 use Rattle.std.proofs.lemmas.Option.{slice_get-map}
 use Rattle.module_spec.specs.declared.request.Request.{Request}

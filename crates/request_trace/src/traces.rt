@@ -10,7 +10,7 @@ ghost use Rattle.request_trace.specs.Naming.{AllNamedAt};
 ghost use Rattle.request_trace.specs.Showing.{Shows};
 ghost use Rattle.request_trace.specs.Tracing.{CountsModules};
 
-use crate::vertices::{Joined, joined};
+use crate::vertices::{Joined, join};
 use need_table::Needs;
 use package_lookup::Trail;
 use primitives::{Memory, Text};
@@ -69,7 +69,8 @@ impl Trace {
             spellings,
             targets,
         } = tables;
-        let Joined { vertices, names } = joined(alloc, modules, sources)?;
+        let parts = join(alloc, modules, sources)?;
+        let Joined { vertices, names } = parts;
         let graph = TraceGraph::of(alloc, vertices, &targets, entries)?;
         Ok(Trace {
             base,

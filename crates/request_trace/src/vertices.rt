@@ -18,7 +18,7 @@ pub(crate) struct Joined {
 }
 
 /// Joins each module with its source. Both tables are emptied from their ends, so that nothing is held twice.
-pub(crate) fn joined(
+pub(crate) fn join(
     alloc: Global,
     modules: IndexMap<Module, Name>,
     sources: Vec<Source>,

@@ -1,4 +1,4 @@
-use Rattle.std.proofs.Common.{◌+◌, Result, Ok, length, sym, ap, ◌∙◌, subst}
+use Rattle.std.proofs.Common.{◌+◌, Result, length, sym, ap, ◌∙◌, subst}
 use Rattle.trace_spec.specs.declared.TraceFault.{TraceFault}
 use Rattle.trace_spec.specs.declared.TraceFault.TheVariants.{Memory}
 use Rattle.trace_walk.proofs.FaultKinds.{handed}
@@ -58,3 +58,6 @@ pub of-requires-clause-counted : goal.of-requires-clause-counted
 of-requires-clause-counted g c =
     c.in_ok-tables.ensures.traces.tables.counted
     ∙ ap (λ n. n + module_requests (before_of c.in_ok-tables.tables).sources) (sym (ap length c.entries.ensures.entries))
+
+pub of-requires-clause-beside : goal.of-requires-clause-beside
+of-requires-clause-beside g c = c.in_ok-tables.ensures.tables.beside

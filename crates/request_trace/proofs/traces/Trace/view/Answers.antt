@@ -1,5 +1,5 @@
 use Rattle.std.proofs.Common.{subst}
-use Rattle.request_trace.specs.Showing.{Traced, Shows}
+use Rattle.request_trace.specs.Showing.{Shows}
 use Rattle.request_trace.proofs.Showings.{shows_own}
 use Rattle.request_trace.proofs.traces.Trace.view.Goals as goal
 

@@ -7,7 +7,7 @@ use Rattle.trace_graph.specs.Links.{module_of, source_of}
 use Rattle.trace_spec.specs.Modules.{Module}
 use Rattle.trace_walk.specs.declared.tables.Name.{Name}
 use Rattle.trace_walk.specs.Walking.{AllInside}
-use Rattle.request_trace.proofs.vertices.joined.Given as goal
+use Rattle.request_trace.proofs.vertices.join.Given as goal
 
 abbrev pub text_in : Module × Name → Option (List ℕ)
 text_in entry = Some entry.1.text
