@@ -1,5 +1,5 @@
 -- What lists contain that are made of others.
-use Rattle.std.proofs.Common.{◌≡◌, ◌+◌, ◌<◌, [], ◌∷◌, ◌++◌, ℕ, List, zero, suc, length, take, map, get_or, Some, refl, sym, ap, ◌∙◌, subst, arith}
+use Rattle.std.proofs.Common.{◌≡◌, ◌+◌, ◌<◌, [], ◌∷◌, ◌++◌, ℕ, List, zero, suc, length, take, map, get_or, Some, refl, sym, ap, ◌∙◌, subst, inl, inr, arith}
 use Rattle.std.specs.Prelude.{Contains, slice_get}
 use Rattle.tree_spec.proofs.Contained.{contains_here, contains_there, contains_cases, contains_none}
 
@@ -33,11 +33,16 @@ contains_at (y ∷ xs) zero x at =
 contains_at (y ∷ xs) (suc place) x at = contains_there x y xs (contains_at xs place x at)
 
 -- the first ones with the next one
-pub taken_more : {A : Type 0} (xs : List A) (place : ℕ) (x : A) → slice_get xs place ≡ Some x
+taken_next : {A : Type 0} (xs : List A) (place : ℕ) (x : A) → slice_get xs place ≡ Some x
     → take (suc place) xs ≡ take place xs ++ x ∷ []
-taken_more [] place x at = absurd (cc)
-taken_more (y ∷ xs) zero x at = (let same : y ≡ x = cc in ap (λ z. z ∷ []) same)
-taken_more (y ∷ xs) (suc place) x at = ap (λ zs. y ∷ zs) (taken_more xs place x at)
+taken_next [] place x at = absurd (cc)
+taken_next (y ∷ xs) zero x at = (let same : y ≡ x = cc in ap (λ z. z ∷ []) same)
+taken_next (y ∷ xs) (suc place) x at = ap (λ zs. y ∷ zs) (taken_next xs place x at)
+
+pub taken_more : {A : Type 0} (xs : List A) (place : ℕ) (x : A) → slice_get xs place ≡ Some x
+    → take (place + 1) xs ≡ take place xs ++ x ∷ []
+taken_more xs place x at =
+    let next : place + 1 ≡ suc place = omega arith in ap (λ n. take n xs) next ∙ taken_next xs place x at
 
 pub got : {A : Type 0} (xs : List A) (place : ℕ) (x : A) → place < length xs → x ≡ get_or xs place x
     → slice_get xs place ≡ Some x

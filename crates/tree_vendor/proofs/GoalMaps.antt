@@ -1,5 +1,5 @@
 -- The goals of files, as they are gathered and listed.
-use Rattle.std.proofs.Common.{◌≡◌, ◌≢◌, ◌⊎◌, ◌+◌, ◌≤◌, ◌<◌, ◌++◌, [], ◌∷◌, ℕ, suc, List, Bool, true, false, length, take, cond, Option, Some, None, Result, Ok, Err, refl, sym, ap, ◌∙◌, subst, inl, inr, arith, ⊎_elim}
+use Rattle.std.proofs.Common.{◌≡◌, ◌≢◌, ◌⊎◌, ◌+◌, ◌≤◌, ◌<◌, ◌++◌, [], ◌∷◌, ℕ, List, Bool, true, false, length, take, cond, Option, Some, None, Result, Ok, Err, refl, sym, ap, ◌∙◌, subst, inl, inr, arith, ⊎_elim}
 use Rattle.std.proofs.lemmas.List.Elements.{Contains-append_left, Contains-append_right, Contains-append_cases}
 use Rattle.std.proofs.lemmas.Map.Lookups.{exact_bytes}
 use Rattle.std.proofs.lemmas.Map.Text.{is_eq-slice_cmp}
@@ -160,7 +160,7 @@ module _ (known : Known) (to : List ℕ) where
 
   module _ (footprint : List (List ℕ)) (place : ℕ) (path : List ℕ) (at : slice_get footprint place ≡ Some path) where
     pub held_more : (P : List ℕ → Type 0) → ((p : List ℕ) → Contains (take place footprint) p → P p) → P path
-        → (p : List ℕ) → Contains (take (suc place) footprint) p → P p
+        → (p : List ℕ) → Contains (take (place + 1) footprint) p → P p
     held_more P before here p held =
         elim (last_one (take place footprint) path p
         (subst (λ ps. Contains ps p) (taken_more footprint place path at) held)) [
@@ -170,7 +170,7 @@ module _ (known : Known) (to : List ℕ) where
 
     pub goals_more : (before after : Goals)
         → ((done : List (List ℕ)) → AreGoals known to done before → AreGoals known to (done ++ path ∷ []) after)
-        → AreGoals known to (take place footprint) before → AreGoals known to (take (suc place) footprint) after
+        → AreGoals known to (take place footprint) before → AreGoals known to (take (place + 1) footprint) after
     goals_more before after puts were =
         subst (λ done. AreGoals known to done after) (sym (taken_more footprint place path at))
         (puts (take place footprint) were)

@@ -1,5 +1,5 @@
 -- One write after another.
-use Rattle.std.proofs.Common.{◌≡◌, ◌≢◌, ◌≤◌, ◌++◌, [], ◌∷◌, ℕ, List, true, zero, suc, length, take, drop, map, Option, Some, None, Result, Ok, Err, IfSome, refl, sym, ap, ◌∙◌, subst, arith}
+use Rattle.std.proofs.Common.{◌≡◌, ◌≢◌, ◌≤◌, ◌+◌, ◌++◌, [], ◌∷◌, ℕ, List, true, zero, suc, length, take, drop, map, Option, Some, None, Result, Ok, Err, IfSome, refl, sym, ap, ◌∙◌, subst, arith}
 use Rattle.std.specs.Prelude.{All, is_some, slice_get, OnOk}
 use Rattle.package_lookup.specs.declared.known.Known.{Known}
 use Rattle.tree_spec.specs.Counts.{Rose}
@@ -77,7 +77,7 @@ module _ {E : Type 0} (known : Known) (steps : List Step) (place : ℕ) (step : 
     (result : Result (Unit {0}) E) (at : slice_get steps place ≡ Some step)
     (were : AreWritten known (take place steps) before middle)
     (written : IsWritten middle step.1 (bytes_at known step.0) result after) where
-  pub one_written : result ≡ Ok tt → AreWritten known (take (suc place) steps) before after
+  pub one_written : result ≡ Ok tt → AreWritten known (take (place + 1) steps) before after
   one_written fine = record {
     leaves = subst (λ files. Leaves files before after)
         (sym (ap (copies known) (taken_more steps place step at) ∙ copies_more known (take place steps) step))

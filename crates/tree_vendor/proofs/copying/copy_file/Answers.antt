@@ -3,8 +3,8 @@ use Rattle.std.specs.Prelude.{option_copied, unwrap_or}
 use Rattle.tree_spec.specs.States.{IsWritten}
 use Rattle.tree_vendor.proofs.copying.copy_file.Goals as goal
 
-pub returns-in-Some : goal.returns-in-Some
-returns-in-Some g c =
+pub returns : goal.returns
+returns g c =
     subst
     (λ bytes. IsWritten (g.F.Folder.state c.args.folder.now) c.args.goal.now bytes c.write.result
     (g.F.Folder.state c.write.new.folder))
