@@ -12,7 +12,6 @@ pub use planning::{Plan, VendorFault, plan};
 
 /// Where looks see the tree, and of each path of a footprint one is kept, a plan for the footprint is one of exactly
 /// the tree's files there, and its writes are those of their copies.
-#[tactic(auto, using(crate::proofs::PlannedFiles::planned_is_plan))]
 pub fn planned_is_plan()
     ensures { PlannedIsPlan }
 {}

@@ -7,7 +7,7 @@ pub returns : goal.returns
 returns g c =
     subst
     (λ bytes. IsWritten (g.F.Folder.state c.args.folder.now) c.args.goal.now bytes c.write.result
-    (g.F.Folder.state c.write.new.folder))
+    (g.F.Folder.state c.write.new.self))
     (ap (λ found. unwrap_or found []) (ap option_copied (sym c.in-Some.is) ∙ c.file_of.ensures)) c.write.ensures
 
 pub unreachable-requires : goal.unreachable-requires
