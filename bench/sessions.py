@@ -1,0 +1,86 @@
+"""Measures sessions of build/salimgub and `measure`, and says PASS or FAIL to each target."""
+
+import os
+import shutil
+import sys
+import tempfile
+
+import bench
+import trees
+
+FILE = 16 * bench.MIB
+SESSION = [bench.PROGRAM, "session"]
+EDITED = "/node_modules/p7/x/a.js"
+
+
+def put(path, content):
+    """The lines that put a file."""
+    return f"put {path} {len(content)}\n".encode() + content + b"\n"
+
+
+def held(folder, name, edits, tries):
+    """The fastest of a few sessions with these edits, each of which has to be accepted."""
+    path = os.path.join(folder, "..", name)
+    with open(path, "wb") as file:
+        file.writelines(edits)
+        file.write(b"end\n")
+    run = bench.best(SESSION, folder, tries, path)
+    lines = run.out.splitlines()
+    accepted = len(lines) == len(edits) + 2 and all(line.startswith("ok: ") for line in lines[:-1])
+    if run.status != 0 or not accepted:
+        bench.say(False, f"{name}: status {run.status}, {len(lines)} lines, {lines[-1:]}")
+    return run
+
+
+def measure_stated(work, count, slack, tries):
+    """`measure` over the stated tree in memory, beside `link` over the same on disk; then edits of one module there."""
+    tree = trees.packages(os.path.join(work, f"packages-{count}"), count)
+    linked = bench.link(tree, tries)
+    stated = bench.best([bench.PROGRAM, "measure", str(count)], tree.folder, tries)
+    wanted = f"measure {count}: {len(tree.paths)} modules, {tree.requests} requests, {tree.mappings} mappings\n"
+    if stated.status != 0 or stated.out != wanted:
+        bench.say(False, f"measure {count}: status {stated.status}, out {stated.out!r}, wanted {wanted!r}")
+    bench.say(stated.seconds <= max(0.6 * slack * linked.seconds, bench.NOISE),
+              f"measure {count}: {stated.times()}, {stated.seconds / linked.seconds:.2f} times as long as link on "
+              f"disk, {linked.times()}, at most {0.6 * slack:g}")
+    opening = held(tree.folder, "opening", [], tries)
+    edits = 10
+    edited = held(tree.folder, "edits", [put(EDITED, b"export {};\n" * (1 + i % 2)) for i in range(edits)], tries)
+    cost = (edited.seconds - opening.seconds) / edits
+    bench.say(cost <= max(slack * opening.seconds, bench.NOISE),
+              f"an edit of one module of {count} packages: {cost:.3f} s, {cost / opening.seconds:.2f} of the opening, "
+              f"{opening.times()}, at most {slack:g}; {edited.memory / bench.MIB:.1f} MiB behind {edits} edits, "
+              f"{opening.memory / bench.MIB:.1f} MiB before")
+
+
+def measure_puts(work, files, slack, tries):
+    """How fast the bytes of files are taken, in a project without entries."""
+    folder = os.path.join(work, "puts")
+    os.makedirs(folder)
+    bench.put_project(folder, [])
+    few = held(folder, "no-put", [], tries)
+    many = held(folder, "puts-of-files", [put("/a", b"x" * FILE) for _ in range(files)], tries)
+    pace = files * FILE / 1e6 / max(many.seconds - few.seconds, 0.001)
+    bench.say(pace >= 500 / slack,
+              f"{files} puts of 16 MiB: {many.times()}, {pace:.0f} MB/s, at least {500 / slack:g}; "
+              f"{many.memory / bench.MIB:.1f} MiB")
+
+
+def main():
+    smoke = sys.argv[1:] == ["smoke"]
+    if sys.argv[1:] and not smoke:
+        sys.exit("usage: python3 -B bench/sessions.py [smoke]")
+    if not os.access(bench.PROGRAM, os.X_OK):
+        sys.exit("bench: there is no build/salimgub: run ./build.sh first")
+    work = tempfile.mkdtemp(prefix="salimgub-sessions-")
+    try:
+        measure_stated(work, 200 if smoke else 2000, 10 if smoke else 1, 2 if smoke else 3)
+        measure_puts(work, 2 if smoke else 12, 10 if smoke else 1, 2 if smoke else 3)
+    finally:
+        shutil.rmtree(work)
+    print(f"{bench.failures} failed" if bench.failures else "all passed")
+    sys.exit(1 if bench.failures else 0)
+
+
+if __name__ == "__main__":
+    main()
