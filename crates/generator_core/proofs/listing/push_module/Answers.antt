@@ -10,5 +10,5 @@ pub returns-in-Some : goal.returns-in-Some
 returns-in-Some c =
     on_ok_weaker c.push_module_line.result
     (line_pushed c.args.trace.now.gathered c.args.place c.module_at.result c.module_at.ensures.module c.in-Some.module c.args.text.now.items c.push_module_line.new.text.items
-    c.as_str.result.now c.suffix.result.now c.requests.result c.in-Some.is c.module_at.ensures.source (c.as_str.ensures ∙ c.path.ensures) c.suffix.ensures c.requests.ensures.count)
+    c.as_str.result.now c.suffix.result.now c.requests.result c.in-Some.is c.module_at.ensures.source (c.as_str.ensures.text ∙ c.path.ensures) c.suffix.ensures c.requests.ensures.count)
     c.push_module_line.ensures
