@@ -19,7 +19,8 @@ use row_texts::{Said, try_files};
 use std::alloc::Global;
 use std::io;
 use std::marker::Brand;
-use std::sync::ledger::Blank;
+use std::rt::Runtime;
+use std::sync::ledger::{Blank, Ledger};
 
 // What is said beside the rows.
 fn beside(alloc: Global) -> Said {
@@ -30,8 +31,17 @@ fn beside(alloc: Global) -> Said {
     said
 }
 
+// Tries the rows with a counter of steps of its own.
+fn try_packages<R: Runtime + AllocGlobal, L: Ledger>(rt: &R, blank: Blank) -> io::Result<()>
+    requires name { blank.name ≡ L.name }
+    requires parts { blank.parts ≡ L.parts }
+    requires some { 0 < blank.parts }
+{
+    let mut packages = Packages::<L>::start(rt.alloc(), blank)?;
+    try_files(rt, &mut packages)
+}
+
 fn main(rt: HostRuntime) -> io::Result<()> {
-    let mut packages = Packages::<Brand>::start(rt.alloc(), Blank::new(1))?;
-    try_files(&rt, &mut packages)?;
+    try_packages::<HostRuntime, Brand>(&rt, Blank::new(1))?;
     rt.print(beside(rt.alloc()).whole()?)
 }

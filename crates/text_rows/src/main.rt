@@ -17,9 +17,19 @@ use crate::texts::Texts;
 use row_texts::try_files;
 use std::io;
 use std::marker::Brand;
-use std::sync::ledger::Blank;
+use std::rt::Runtime;
+use std::sync::ledger::{Blank, Ledger};
+
+// Tries the rows with a counter of steps of its own.
+fn try_texts<R: Runtime + AllocGlobal, L: Ledger>(rt: &R, blank: Blank) -> io::Result<()>
+    requires name { blank.name ≡ L.name }
+    requires parts { blank.parts ≡ L.parts }
+    requires some { 0 < blank.parts }
+{
+    let mut texts = Texts::<L>::start(blank);
+    try_files(rt, &mut texts)
+}
 
 fn main(rt: HostRuntime) -> io::Result<()> {
-    let mut texts = Texts::<Brand>::start(Blank::new(1));
-    try_files(&rt, &mut texts)
+    try_texts::<HostRuntime, Brand>(&rt, Blank::new(1))
 }

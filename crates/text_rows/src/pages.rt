@@ -36,7 +36,13 @@ pub fn tell_pieces(page: &str, said: &mut Said) {
     }
 }
 
-fn push_attribute(name: &str, tag: &str, piece: Piece, said: &mut Said) {
+/// The value of the attribute with this name in a start tag, or `none`.
+pub fn tell_attribute(name: &str, tag: &str, said: &mut Said) {
+    let mut scanner = Scanner::new(tag);
+    let Some(piece) = scanner.next() else {
+        said.push("no tag");
+        return;
+    };
     match attribute(tag, piece, name) {
         None => said.push("none"),
         Some((from, to)) => {
@@ -44,15 +50,6 @@ fn push_attribute(name: &str, tag: &str, piece: Piece, said: &mut Said) {
             said.push_place("..", to);
             said.push_all(&[" ", tag.get(from..to).unwrap_or("no text")]);
         }
-    }
-}
-
-/// The value of the attribute with this name in a start tag, or `none`.
-pub fn tell_attribute(name: &str, tag: &str, said: &mut Said) {
-    let mut scanner = Scanner::new(tag);
-    match scanner.next() {
-        None => said.push("no tag"),
-        Some(piece) => push_attribute(name, tag, piece, said),
     }
 }
 

@@ -147,6 +147,10 @@ fn push_place_of(alloc: Global, url: &FileUrl, said: &mut Said) {
 }
 
 fn push_joined(alloc: Global, text: &str, parent: &FileUrl, said: &mut Said) {
+    if !is_relative(text) {
+        said.push("not relative");
+        return;
+    }
     match file_join(alloc, text, parent) {
         Ok(Some(url)) => push_place_of(alloc, &url, said),
         Ok(None) => said.push("no URL"),
@@ -157,10 +161,6 @@ fn push_joined(alloc: Global, text: &str, parent: &FileUrl, said: &mut Said) {
 // The place that a relative specifier names: its path, whether it is a folder's alone, whether it escapes a separator,
 // and its suffix before a full stop.
 fn tell_relative(alloc: Global, specifier: &str, said: &mut Said) {
-    if !is_relative(specifier) {
-        said.push("not relative");
-        return;
-    }
     match file_url_of(alloc, PARENT, false) {
         Some(parent) => push_joined(alloc, specifier, &parent, said),
         None => said.push("no path"),

@@ -1,4 +1,4 @@
 use Rattle.package_rows.proofs.main.Given as goal
 
-abbrev pub ghosts-start : goal.ghosts-start
-ghosts-start a = record { name = a.blank.name; parts = a.blank.parts }
+abbrev pub ghosts-try_packages : goal.ghosts-try_packages
+ghosts-try_packages a = record { name = a.blank.name; parts = a.blank.parts }

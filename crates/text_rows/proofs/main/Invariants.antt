@@ -1,4 +1,4 @@
 use Rattle.text_rows.proofs.main.Given as goal
 
-abbrev pub ghosts-start : goal.ghosts-start
-ghosts-start a = record { name = a.blank.name; parts = a.blank.parts }
+abbrev pub ghosts-try_texts : goal.ghosts-try_texts
+ghosts-try_texts a = record { name = a.blank.name; parts = a.blank.parts }
