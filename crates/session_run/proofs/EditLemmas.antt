@@ -18,12 +18,12 @@ use Rattle.session_spec.specs.Replies.{IsRefused, IsAccepted, Follows, Replies, 
 use Rattle.session_spec.specs.SessionStates.{SessionState, IsGenerated, draft_of, next_state}
 use Rattle.edit_session.specs.NewLooks.{AsksNew as LooksAsked, LooksNew}
 use Rattle.edit_session.specs.Sessions.{Prepares, Commits}
-use Rattle.edit_session.specs.SessionTrees.{IsSessionOf, shown_counts}
+use Rattle.edit_session.specs.SessionTrees.{IsSessionOf, shown_map, shown_counts}
 use Rattle.edit_session.specs.declared.session.Session.{Session}
 use Rattle.edit_session.specs.declared.stop.EditStop.{EditStop}
 use Rattle.edit_session.specs.declared.stop.EditStop.TheVariants as stop
 use Rattle.session_talk.specs.EditorLooks.{LookState, AsksNew, AsksAndKeeps, AsksSome, AsksKeeping, EditAsks}
-use Rattle.session_talk.specs.Editors.{EditorState, Seen, IsReplied, EditsTold, Edits}
+use Rattle.session_talk.specs.Editors.{EditorState, Seen, IsReplied, EditsTold, Edits, Shows}
 use Rattle.session_talk.specs.declared.editor.EditorFault.{EditorFault}
 use Rattle.session_talk.specs.declared.editor.EditorFault.TheVariants.{ReadFault, Memory}
 use Rattle.session_talk.proofs.AskLemmas.{some_of_keeping}
@@ -208,3 +208,12 @@ module _ (references : List ℕ) (before after : FolderState) (old new : Session
     pub accepted_asks : (edit : List Change) (result : Result (List ℕ) EditorFault) → Prepares before old edit (Ok tt) after new → EditAsks first_looks result last_looks
     accepted_asks edit (Ok text) prepares = accepted_keeping edit prepares
     accepted_asks edit (Err fault) prepares = some_of_keeping first_looks last_looks (accepted_keeping edit prepares)
+
+-- ---- the map
+
+shows_told : (folder : FolderState) (session : Session) (map : List ℕ) → map ≡ shown_map session → (told : Option SessionState) → IsToldBy folder session told → IfSome told (λ state. map ≡ state.map)
+shows_told folder session map same None none = tt
+shows_told folder session map same (Some state) stands = same ∙ sym stands.is_state.is_state.map_is
+
+pub shows_view : (folder : FolderState) (session : Session) (map : List ℕ) (view : EditorState) → map ≡ shown_map session → IsViewOf folder session view → Shows view map
+shows_view folder session map view same is = shows_told folder session map same view.told is.told

@@ -1,2 +1,3 @@
 pub mod EditLemmas
 pub mod SessionLemmas
+pub mod TalkLemmas

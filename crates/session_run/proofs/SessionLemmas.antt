@@ -1,12 +1,14 @@
 -- How a session ends, by how it is opened and what is replied.
-use Rattle.std.proofs.Common.{◌≡◌, ◌≢◌, ◌≤◌, ◌++◌, [], ℕ, List, true, false, Option, Some, None, Ok, Err, refl, sym, ap, ◌∙◌, subst, inl, inr, arith}
+use Rattle.std.proofs.Common.{◌≡◌, ◌≢◌, ◌≤◌, ◌++◌, [], ℕ, List, length, true, false, Option, Some, None, Ok, Err, refl, sym, ap, ◌∙◌, subst, inl, inr, arith}
 use Rattle.std.proofs.lemmas.Bool.{false≢true}
-use Rattle.std.proofs.lemmas.List.{append-nil, append_assoc}
+use Rattle.std.proofs.lemmas.List.{append-nil, append_assoc, take_all}
 use Rattle.std.proofs.lemmas.List.Elements.{All-weaker}
-use Rattle.std.specs.Prelude.{IfSome, is_some, option_map}
+use Rattle.std.specs.Prelude.{IfSome, is_some, option_map, take}
 use Rattle.tree_spec.specs.Counts.{Rose}
+use Rattle.tree_spec.specs.Limits.{limit_number}
 use Rattle.tree_spec.specs.States.{FolderState, SourceState, SinkState}
 use Rattle.tree_spec.specs.Trees.{Tree}
+use Rattle.tree_spec.specs.declared.LimitName.TheVariants.{Session as Limited}
 use Rattle.tree_spec.proofs.ToldStates.{if_some, if_two, if_all}
 use Rattle.trace_spec.specs.Modules.{Config}
 use Rattle.config_spec.specs.Projects.{IsConfigOf}
@@ -15,30 +17,34 @@ use Rattle.generation.specs.Generating.{AsksNoPathTwice}
 use Rattle.generation.specs.declared.stop.Stop.{Stop}
 use Rattle.generation.specs.declared.stop.Stop.TheVariants as stop
 use Rattle.generator_spec.specs.Asked.{IsConfigAt}
-use Rattle.generator_spec.specs.Lines.{status_of, line_of, memory_line, read_fault_line}
+use Rattle.generator_spec.specs.Ending.{CanRefuse, CanRefuse as can}
+use Rattle.generator_spec.specs.Lines.{status_of, line_of, limit_line, memory_line, read_fault_line}
 use Rattle.generator_spec.specs.Outcome.{RefusesRun, by_tree}
 use Rattle.generator_spec.specs.Statuses.{memory_status, read_fault_status}
 use Rattle.package_lookup.specs.Looked.{kept_at}
+use Rattle.soundness.proofs.Smallest.{generated_is_smallest}
 use Rattle.soundness.proofs.Sound.{sound, modules_are_known}
 use Rattle.session_input.proofs.ReaderLemmas.{takes_none}
-use Rattle.session_spec.specs.Conversations.{Answers}
+use Rattle.session_spec.specs.Conversations.{Answers, end_reply, bad_line}
 use Rattle.session_spec.specs.Replies.{accepted_line}
 use Rattle.session_spec.specs.SessionRuns as runs
-use Rattle.session_spec.specs.SessionRuns.{refresh_words, OpensAt, opens, opening_line, SessionComesTo, RepliesTo, unopened, RepliesToAll, IsAwaited, AsksOnce, MapsServe, NoFault, SessionSays, SessionStops, SessionEnds}
+use Rattle.session_spec.specs.SessionRuns.{refresh_words, OpensAt, opens, opening_line, SessionComesTo, RepliesTo, unopened, RepliesToAll, IsAwaited, AsksOnce, MapsServe, NoFault, IsOpenedText, IsSessionShaped, SessionSays, SessionStops, SessionEnds}
 use Rattle.session_spec.specs.SessionStates.{SessionState, IsGenerated}
-use Rattle.session_spec.specs.Talks.{begun, still}
+use Rattle.session_spec.specs.Talks.{Standing, begun, Talks, still}
 use Rattle.session_spec.proofs.Talking.{talks_stay_current}
 use Rattle.edit_session.specs.NewLooks.{AsksKept}
 use Rattle.edit_session.specs.Sessions.{IsOpened, OpensSession}
+use Rattle.edit_session.specs.SessionTrees.{shown_counts}
 use Rattle.edit_session.specs.declared.session.Session.{Session}
 use Rattle.session_talk.specs.EditorLooks.{LookState, AsksAndKeeps, AsksSome, AsksKeeping}
 use Rattle.session_talk.specs.Editors.{EditorState}
 use Rattle.session_talk.specs.Talking as talking
-use Rattle.session_talk.specs.Talking.{Now, now_at, IsAwaitedBy, RepliesFront, RepliesAll, IsQuiet, Says, Stops}
+use Rattle.session_talk.specs.Talking.{Now, now_at, IsAwaitedBy, RepliesFront, RepliesAll, IsShaped, IsLastLine, IsQuiet, Says, Stops}
 use Rattle.session_talk.proofs.AskLemmas.{some_then}
 use Rattle.session_talk.proofs.TalkLemmas.{gives_then, ends_then}
 use Rattle.session_run.specs.Editing.{IsToldBy, IsViewOf, look_state}
 use Rattle.session_run.specs.Sessions.{fresh, RefusedEnds, opened_line, OpenedEnds, wants, cut_off, replies}
+use Rattle.session_run.proofs.TalkLemmas.{begun_alone}
 
 -- ---- maps
 
@@ -46,11 +52,14 @@ pub maps_serve : (tree : Tree) (input : List ℕ) → MapsServe tree input
 maps_serve tree input _ out later (opens config map counts is generated) talks =
     let state : SessionState = record { tree = tree; config = config; map = map; counts = counts } in
     let current = talks_stay_current (begun state input) later out generated talks in
-    let last = later.state in
-    (current, record {
-      serves = sound last.tree last.config last.map current.generates;
-      knows = modules_are_known last.tree last.config last.map current.generates;
-    })
+    let last = later.state in (
+      current,
+      record {
+        serves = sound last.tree last.config last.map current.generates;
+        knows = modules_are_known last.tree last.config last.map current.generates;
+        smallest = generated_is_smallest last.tree last.config last.map current.generates;
+      },
+    )
 
 -- ---- what is asked
 
@@ -148,6 +157,21 @@ module _ (config : Config) (session : Session) where
 
   -- ---- what is said
 
+  opened_text : (front : List ℕ) → IsOpenedText (opened_line session ++ front)
+  opened_text front = record { counts = shown_counts session; replies = front; says = refl }
+
+  last_then : (front : List ℕ) (status : ℕ) (last : List ℕ) → IsLastLine status last → IsSessionShaped status (opened_line session ++ (front ++ last))
+  last_then front _ _ talking.at_end =
+      runs.ended (opened_line session ++ front) (opened_text front) refl (sym (append_assoc (opened_line session) front end_reply))
+  last_then front _ _ (talking.at_line number) =
+      runs.refused_line (opened_line session ++ front) number (opened_text front) refl (sym (append_assoc (opened_line session) front (bad_line number)))
+  last_then front _ _ talking.at_limit =
+      runs.too_long (opened_line session ++ front) (opened_text front) refl (sym (append_assoc (opened_line session) front (limit_line Limited)))
+
+  shape_then : (status : ℕ) (text : List ℕ) → IsShaped status text → IsSessionShaped status (opened_line session ++ text)
+  shape_then status text shaped =
+      subst (λ (t : List ℕ). IsSessionShaped status (opened_line session ++ t)) (sym shaped.whole) (last_then shaped.front status shaped.last shaped.is_last)
+
   front_then : (taken text : List ℕ) (state : SessionState) (tree : Tree) → Begins tree state → RepliesFront state taken text → RepliesTo tree taken (opened_line session ++ text)
   front_then taken text state tree begins front =
       subst (λ (line : List ℕ). RepliesTo tree taken (line ++ text)) begins.line (runs.opened state text front.later begins.opens_at front.talks)
@@ -160,6 +184,11 @@ module _ (config : Config) (session : Session) where
   comes_then input text status state tree begins answers =
       subst (λ (line : List ℕ). SessionComesTo tree input status (line ++ text)) begins.line (runs.replied state status text begins.opens_at answers)
 
+  allowed_talks : (state : SessionState) (front out : List ℕ) (later : Standing) → length front ≤ limit_number Limited → Talks (begun state front) out later
+      → Talks (begun state (take (limit_number Limited) front)) out later
+  allowed_talks state front out later few talks =
+      subst (λ (bytes : List ℕ). Talks (begun state bytes) out later) (sym (take_all (limit_number Limited) front few)) talks
+
   awaited_then : (taken : List ℕ) (state : SessionState) (tree : Tree) → Begins tree state → IsAwaitedBy state taken → IsAwaited tree taken
   awaited_then taken state tree begins (inl none) = inl none
   awaited_then taken state tree begins (inr last) =
@@ -167,8 +196,10 @@ module _ (config : Config) (session : Session) where
         front = last.front;
         last = last.last;
         whole = last.whole;
+        few = last.few;
+        short = last.short;
         text = opened_line session ++ last.out;
-        replied = all_then last.front last.out state tree begins (record { later = last.later; talks = last.talks; waits = last.waits });
+        replied = all_then last.front last.out state tree begins (record { later = last.later; talks = allowed_talks state last.front last.out last.later last.few last.talks; waits = last.waits });
       })
 
   module _ (holds : Option Tree) (told : Option SessionState) (begun : IsBegun told holds) (before mid after : FolderState) (same_tree : before.holds ≡ holds) (quiet_before : mid.look_faults ≡ before.look_faults)
@@ -192,8 +223,8 @@ module _ (config : Config) (session : Session) where
     with_line text front line is = ap (λ (t : List ℕ). opened_line session ++ t) is ∙ sym (append_assoc (opened_line session) front line)
 
     says_then : (status : ℕ) (text : List ℕ) → Says first last later taken status text → SessionSays before after source later taken status (opened_line session ++ text)
-    says_then status text (talking.outcome quiet here whole) =
-        runs.outcome (no_fault quiet) (up (comes_then taken text status) here)
+    says_then status text (talking.outcome shaped quiet here whole) =
+        runs.outcome (shape_then status text shaped) (no_fault quiet) (up (comes_then taken text status) here)
         (up (λ state tree begins answers. if_some source.left (λ input is. comes_then input text status state tree begins is) answers) whole)
     says_then status text (talking.memory front quiet told is_status is_text) =
         runs.memory (opened_line session ++ front) (no_fault quiet) (up (front_then taken front) told) is_status (with_line text front memory_line is_text)
@@ -240,7 +271,7 @@ module _ (config : Config) (before mid : FolderState) (session : Session) (openi
   front_line : IfSome before.holds (λ tree. RepliesTo tree [] (opened_line session))
   front_line =
       subst (λ (line : List ℕ). IfSome before.holds (λ tree. RepliesTo tree [] line)) (append-nil (opened_line session))
-      (lifted config session told_first before.holds is_begun (λ state tree begins all. front_then config session [] [] state tree begins (record { later = begun state []; talks = still (begun state []) })) (all_told told_first))
+      (lifted config session told_first before.holds is_begun (λ state tree begins all. front_then config session [] [] state tree begins (record { later = begun_alone state; talks = still (begun_alone state) })) (all_told told_first))
     where
       all_told : (told : Option SessionState) → IfSome told (λ state. Unit {0})
       all_told None = tt
@@ -310,7 +341,7 @@ module _ (config : Config) (before mid : FolderState) (source : SourceState) (ou
       stopped (stop.Refused why) opening (inl is) =
           let refused : IfSome before.holds (λ tree. RefusesRun refresh_words tree why) = if_two before.holds (λ tree configured refuses. by_tree Refresh config why configured refuses) is_config.told opening.refused in
           runs.said (status_of why) (line_of why)
-          (runs.outcome (opening.looks.quiet (λ e. cc), refl) (if_some before.holds (λ tree because. runs.refused why because) refused)
+          (runs.outcome (runs.unopened why (can.by_tree Refresh config why is_config.can opening.kind) refl refl) (opening.looks.quiet (λ e. cc), refl) (if_some before.holds (λ tree because. runs.refused why because) refused)
           (if_some before.holds (λ tree because. if_all source.left (λ input. runs.refused why because)) refused)) is
       stopped (stop.Refused why) opening (inr is) =
           runs.said memory_status memory_line (runs.memory [] (opening.looks.quiet (λ e. cc), refl) (if_all before.holds (λ tree. unopened)) refl refl) is

@@ -1,4 +1,4 @@
-ghost use Rattle.std.specs.Prelude.{◌≡◌, ℕ, List, true, is_some};
+ghost use Rattle.std.specs.Prelude.{◌≡◌, ℕ, List, true, is_some, IfOk};
 ghost use Rattle.edit_session.specs.Sessions.{Commits};
 ghost use Rattle.edit_session.specs.SessionTrees.{shown_counts};
 ghost use Rattle.session_spec.specs.Replies.{accepted_line};
@@ -42,12 +42,7 @@ fn accept(alloc: Global, session: &mut Session) -> Result<Bytes, EditorFault>
 {
     session.commit();
     let counts = session.counts();
-    said(done_line(
-        alloc,
-        counts.modules,
-        counts.requests,
-        counts.mappings,
-    ))
+    said(done_line(alloc, counts.modules, counts.requests, counts.mappings))
 }
 
 // Says why an edit isn't made.

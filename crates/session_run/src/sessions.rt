@@ -75,12 +75,7 @@ fn opened<F: Folder, I: Source, O: Sink, L: Ledger>(
 {
     let mut session = session;
     let counts = session.counts();
-    match done_line(
-        alloc,
-        counts.modules,
-        counts.requests,
-        counts.mappings,
-    ) {
+    match done_line(alloc, counts.modules, counts.requests, counts.mappings) {
         Err(_) => tell(out, memory_line(), MEMORY),
         Ok(line) => match out.give(line.as_slice()) {
             Err(_) => WRITE_FAULT,

@@ -24,8 +24,8 @@ use Rattle.session_input.specs.declared.reading.Reading.TheVariants as reading
 use Rattle.session_input.specs.Readers.{Waiting, order_of, IsWithin, IsBeyond, IsRead, ReadsNext}
 use Rattle.session_input.proofs.ReaderLemmas.{takes_then}
 use Rattle.session_talk.specs.Editors.{EditorState}
-use Rattle.session_talk.specs.Talking.{Now, now_at, StandsAt, OrderedAt, IsAwaitedBy, GoesOn, IsOrdered, RepliesFront, RepliesAll, IsQuiet, Converses, TellsEnd}
-use Rattle.session_talk.proofs.TalkLemmas.{if_told, two_told, ends_memory, ends_take_fault, ends_outcome, answers_input, answers_taken, talks_with, turns_with, ordered_with, awaited_with}
+use Rattle.session_talk.specs.Talking.{Now, now_at, StandsAt, OrderedAt, IsAwaitedBy, GoesOn, IsOrdered, RepliesFront, RepliesAll, at_line, at_limit, IsQuiet, Converses, TellsEnd}
+use Rattle.session_talk.proofs.TalkLemmas.{if_told, two_told, replies_with, replies_all, ends_memory, ends_take_fault, ends_outcome, answers_input, answers_taken, talks_with, turns_with, ordered_with, awaited_with}
 
 answers_spent : (left last : Option (List ℕ)) (taken text : List ℕ) (status : ℕ) (state : SessionState) → Answers state taken text status → IfSome left (λ input. IsFront taken input last) → IfSome last (λ rest. rest ≡ [])
     → IfSome left (λ input. Answers state input text status)
@@ -36,7 +36,7 @@ answers_spent (Some input) last taken text status state answers came spent =
     subst (λ (bytes : List ℕ). Answers state bytes text status) whole answers
 
 module _ (first : Now) (editor : EditorState) (before : Waiting) (held : Option (List Change)) (source later : SourceState) (out : SinkState)
-    (goes : GoesOn first (now_at editor before held source out)) (more : List ℕ) (takes : Takes source more later) (needed : IsNeeded before.unread more) where
+    (goes : GoesOn first (now_at editor before held source out)) (more : List ℕ) (takes : Takes source more later) (needed : IsNeeded before.unread more) (few_more : length more ≤ before.room + 1) where
   abbrev here : Now
   here = now_at editor before held source out
 
@@ -49,28 +49,22 @@ module _ (first : Now) (editor : EditorState) (before : Waiting) (held : Option 
   takes_all : Takes first.source all later
   takes_all = takes_then first.source source later goes.taken more goes.takes takes
 
+  most : length goes.taken + length more ≤ limit_number Session + 1
+  most = let limit = goes.limit in let room = goes.room in omega (arith, limit, room, few_more)
+
   awaited_all : IfSome first.editor.told (λ state. IsAwaitedBy state all)
   awaited_all =
       two_told first.editor.told Standing (λ state. IsAwaitedBy state goes.taken) (λ state. IsAwaitedBy state all)
-      (λ state at awaited. awaited_with state goes.taken goes.text more here at needed awaited) goes.stands goes.awaited
+      (λ state at awaited. awaited_with state goes.taken goes.text more here at most needed awaited) goes.stands goes.awaited
 
   long_all : length all ≡ length goes.taken + length more
   long_all = length-append goes.taken more
 
-  quiet : later.faults ≡ source.faults → IsQuiet first editor later
-  quiet e = record { editor_is = goes.quiet_editor; source_is = e ∙ goes.quiet_source }
+  few_all : length all ≤ limit_number Session + 1
+  few_all = let both = most in let long = long_all in omega (arith, both, long)
 
-  pub memory_read : (after : SinkState) (status : ℕ) → later.faults ≡ source.faults → Ends memory_status memory_line out after status → Converses first editor later after status
-  memory_read after status e is =
-      ends_memory first editor later all takes_all awaited_all out after goes.text goes.said goes.quiet_out status (quiet e)
-      (if_told first.editor.told Standing (λ state. RepliesFront state all goes.text) (λ state at. record { later = with_more more at.at; talks = talks_with state goes.taken goes.text more here at }) goes.stands) is
-
-  pub fault_read : (after : SinkState) (status : ℕ) → IsWithin before more unfinished → Rose source.faults later.faults → Ends read_fault_status read_fault_line out after status
-      → Converses first editor later after status
-  fault_read after status within rose is =
-      ends_take_fault first editor later all takes_all awaited_all out after goes.text goes.said goes.quiet_out status goes.quiet_editor (subst (λ (n : ℕ). Rose n later.faults) goes.quiet_source rose)
-      (if_told first.editor.told Standing (λ state. RepliesAll state all goes.text)
-      (λ state at. record { later = with_more more at.at; talks = talks_with state goes.taken goes.text more here at; waits = turns_with state goes.taken goes.text more here at unfinished within.is }) goes.stands) is
+  few_taken : length goes.taken ≤ limit_number Session
+  few_taken = let limit = goes.limit in let room = goes.room in omega (arith, limit, room)
 
   few : (wanted : lines.Reading) → IsWithin before more wanted → length all ≤ limit_number Session
   few wanted within =
@@ -79,6 +73,22 @@ module _ (first : Now) (editor : EditorState) (before : Waiting) (held : Option 
       let few = within.few in
       let long = long_all in
       omega (arith, limit, room, few, long)
+
+  quiet : later.faults ≡ source.faults → IsQuiet first editor later
+  quiet e = record { editor_is = goes.quiet_editor; source_is = e ∙ goes.quiet_source }
+
+  pub memory_read : (after : SinkState) (status : ℕ) → later.faults ≡ source.faults → Ends memory_status memory_line out after status → Converses first editor later after status
+  memory_read after status e is =
+      ends_memory first editor later all takes_all awaited_all few_all out after goes.text goes.said goes.quiet_out status (quiet e)
+      (if_told first.editor.told Standing (λ state. RepliesFront state all goes.text) (λ state at. replies_with state goes.text at.at goes.taken more few_taken at.talks) goes.stands) is
+
+  pub fault_read : (after : SinkState) (status : ℕ) → IsWithin before more unfinished → Rose source.faults later.faults → Ends read_fault_status read_fault_line out after status
+      → Converses first editor later after status
+  fault_read after status within rose is =
+      ends_take_fault first editor later all takes_all awaited_all few_all out after goes.text goes.said goes.quiet_out status goes.quiet_editor (subst (λ (n : ℕ). Rose n later.faults) goes.quiet_source rose)
+      (if_told first.editor.told Standing (λ state. RepliesAll state all goes.text)
+      (λ state at. replies_all state goes.text (with_more more at.at) all (few unfinished within) (talks_with state goes.taken goes.text more here at)
+      (turns_with state goes.taken goes.text more here at unfinished within.is)) goes.stands) is
 
   numbered : (state : SessionState) (at : Standing state) (taken : List ℕ) (status : ℕ) → Answers state taken (goes.text ++ bad_line at.at.number) status → Answers state taken (goes.text ++ bad_line before.number) status
   numbered state at taken status answers = subst (λ (n : ℕ). Answers state taken (goes.text ++ bad_line n) status) (sym at.number) answers
@@ -91,7 +101,7 @@ module _ (first : Now) (editor : EditorState) (before : Waiting) (held : Option 
       let answers : (state : SessionState) → Standing state → (rest : List ℕ) → Answers state (all ++ rest) (goes.text ++ line) file_status =
       λ state at rest. numbered state at (all ++ rest) file_status
       (answers_refused state all goes.text (with_more more at.at) (talks_with state goes.taken goes.text more here at) rest (few malformed within) (turns_with state goes.taken goes.text more here at malformed within.is)) in
-      ends_outcome first editor later all takes_all awaited_all out after goes.text goes.said goes.quiet_out line file_status status (quiet e)
+      ends_outcome first editor later all takes_all awaited_all few_all out after goes.text goes.said goes.quiet_out line file_status status (at_line before.number) (quiet e)
       (if_told first.editor.told Standing (λ state. Answers state all (goes.text ++ line) file_status) (λ state at. answers_taken all (goes.text ++ line) file_status state (answers state at)) goes.stands)
       (if_told first.editor.told Standing (λ state. IfSome first.source.left (λ input. Answers state input (goes.text ++ line) file_status))
       (λ state at. answers_input first.source.left later.left all (goes.text ++ line) file_status state (answers state at) takes_all.came) goes.stands)
@@ -105,7 +115,7 @@ module _ (first : Now) (editor : EditorState) (before : Waiting) (held : Option 
       let answers : (state : SessionState) → Standing state → Answers state all (goes.text ++ line) file_status =
       λ state at. numbered state at all file_status
       (answers_short state all goes.text (with_more more at.at) (talks_with state goes.taken goes.text more here at) (few unfinished within) (turns_with state goes.taken goes.text more here at unfinished within.is)) in
-      ends_outcome first editor later all takes_all awaited_all out after goes.text goes.said goes.quiet_out line file_status status (quiet e)
+      ends_outcome first editor later all takes_all awaited_all few_all out after goes.text goes.said goes.quiet_out line file_status status (at_line before.number) (quiet e)
       (if_told first.editor.told Standing (λ state. Answers state all (goes.text ++ line) file_status) answers goes.stands)
       (if_told first.editor.told Standing (λ state. IfSome first.source.left (λ input. Answers state input (goes.text ++ line) file_status))
       (λ state at. answers_spent first.source.left later.left all (goes.text ++ line) file_status state (answers state at) takes_all.came spent) goes.stands)
@@ -125,7 +135,7 @@ module _ (first : Now) (editor : EditorState) (before : Waiting) (held : Option 
       subst (λ (bytes : List ℕ). Answers state bytes (goes.text ++ line) limit_status) (sym (ap (λ (a : List ℕ). a ++ rest) whole ∙ append_assoc front (byte ∷ []) rest))
       (answers_long state front goes.text (with_more beyond.front at.at) (talks_with state goes.taken goes.text beyond.front here at) byte rest full
       (turns_with state goes.taken goes.text beyond.front here at unfinished beyond.is)) in
-      ends_outcome first editor later all takes_all awaited_all out after goes.text goes.said goes.quiet_out line limit_status status (quiet e)
+      ends_outcome first editor later all takes_all awaited_all few_all out after goes.text goes.said goes.quiet_out line limit_status status at_limit (quiet e)
       (if_told first.editor.told Standing (λ state. Answers state all (goes.text ++ line) limit_status) (λ state at. answers_taken all (goes.text ++ line) limit_status state (answers state at)) goes.stands)
       (if_told first.editor.told Standing (λ state. IfSome first.source.left (λ input. Answers state input (goes.text ++ line) limit_status))
       (λ state at. answers_input first.source.left later.left all (goes.text ++ line) limit_status state (answers state at) takes_all.came) goes.stands)
@@ -156,34 +166,34 @@ module _ (first : Now) (editor : EditorState) (before after : Waiting) (held : O
       → IsOrdered number (order_of order) first (now_at editor after held later out)
   turn_ordered number order e goes next =
       subst (λ (n : ℕ). IsOrdered n (order_of order) first (now_at editor after held later out)) (sym e)
-      (ordered_read first editor before held source later out goes next.taken next.takes next.needed after order next.reads next.faults)
+      (ordered_read first editor before held source later out goes next.taken next.takes next.needed next.few after order next.reads next.faults)
 
   pub turn_malformed : (number : ℕ) (gone : SinkState) (status : ℕ) → number ≡ before.number → GoesOn first (now_at editor before held source out) → ReadsNext before after source later (Ok reading.Malformed)
       → TellsEnd file_status (bad_line number) out gone status → Converses first editor later gone status
   turn_malformed number gone status e goes next is =
-      refused_read first editor before held source later out goes next.taken next.takes next.needed gone status next.reads next.faults
+      refused_read first editor before held source later out goes next.taken next.takes next.needed next.few gone status next.reads next.faults
       (subst (λ (n : ℕ). TellsEnd file_status (bad_line n) out gone status) e is)
 
   pub turn_ended : (number : ℕ) (gone : SinkState) (status : ℕ) → number ≡ before.number → GoesOn first (now_at editor before held source out) → ReadsNext before after source later (Ok reading.Ended)
       → TellsEnd file_status (bad_line number) out gone status → Converses first editor later gone status
   turn_ended number gone status e goes next is =
-      short_read first editor before held source later out goes next.taken next.takes next.needed gone status next.reads.0 next.reads.1 next.faults
+      short_read first editor before held source later out goes next.taken next.takes next.needed next.few gone status next.reads.0 next.reads.1 next.faults
       (subst (λ (n : ℕ). TellsEnd file_status (bad_line n) out gone status) e is)
 
   pub turn_long : (gone : SinkState) (status : ℕ) → GoesOn first (now_at editor before held source out) → ReadsNext before after source later (Ok reading.TooLong)
       → TellsEnd limit_status (limit_line Session) out gone status → Converses first editor later gone status
   turn_long gone status goes next is =
-      long_read first editor before held source later out goes next.taken next.takes next.needed gone status next.reads next.faults is
+      long_read first editor before held source later out goes next.taken next.takes next.needed next.few gone status next.reads next.faults is
 
   pub turn_fault : (gone : SinkState) (status : ℕ) → GoesOn first (now_at editor before held source out) → ReadsNext before after source later (Err ReadFault)
       → Ends read_fault_status read_fault_line out gone status → Converses first editor later gone status
   turn_fault gone status goes next is =
-      fault_read first editor before held source later out goes next.taken next.takes next.needed gone status next.reads next.faults is
+      fault_read first editor before held source later out goes next.taken next.takes next.needed next.few gone status next.reads next.faults is
 
   pub turn_memory : (gone : SinkState) (status : ℕ) → GoesOn first (now_at editor before held source out) → ReadsNext before after source later (Err Memory)
       → Ends memory_status memory_line out gone status → Converses first editor later gone status
   turn_memory gone status goes next is =
-      memory_read first editor before held source later out goes next.taken next.takes next.needed gone status next.faults is
+      memory_read first editor before held source later out goes next.taken next.takes next.needed next.few gone status next.faults is
 
 -- each line that is read leaves fewer bytes to be read
 pub turn_less : (before after : Waiting) (source later : SourceState) (order : Order) → ReadsNext before after source later (Ok (reading.Ordered order))

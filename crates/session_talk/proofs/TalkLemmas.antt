@@ -1,6 +1,6 @@
 -- Where replies stand behind a line, and how they end.
-use Rattle.std.proofs.Common.{◌≡◌, ◌++◌, [], ℕ, List, length, Option, Some, None, refl, sym, ap, ◌∙◌, subst, inl, inr, arith}
-use Rattle.std.proofs.lemmas.List.{append-nil, append_assoc}
+use Rattle.std.proofs.Common.{◌≡◌, ◌≤◌, ◌++◌, [], ℕ, List, length, Option, Some, None, refl, sym, ap, ◌∙◌, subst, inl, inr, arith}
+use Rattle.std.proofs.lemmas.List.{append-nil, append_assoc, take_all, length-append}
 use Rattle.std.proofs.Math.Seq.{take-append-add}
 use Rattle.std.specs.Prelude.{◌+◌, take, option_map, IfSome}
 use Rattle.tree_spec.specs.Counts.{Rose}
@@ -18,12 +18,12 @@ use Rattle.session_spec.specs.SessionLines.{Rest, reads, unfinished, read_line}
 use Rattle.session_spec.specs.SessionStates.{SessionState}
 use Rattle.session_spec.specs.TakenInput.{IsFront, Takes, IsNeeded}
 use Rattle.session_spec.specs.Talks.{Standing, begun, behind, turn_of, Talks, still, edits, collects, shows_it}
-use Rattle.session_spec.proofs.Talking.{with_more, talks_on, talks_then}
+use Rattle.session_spec.proofs.Talking.{with_more, talks_on, talks_then, allowed_front}
 use Rattle.session_input.specs.Readers.{Waiting}
 use Rattle.session_input.proofs.ReaderLemmas.{takes_none}
 use Rattle.session_talk.specs.Editors.{EditorState, IsReplied}
 use Rattle.session_talk.specs.Talking.{Now, now_at, StandsAt, OrderedAt, IsAwaitedBy, GoesOn}
-use Rattle.session_talk.specs.Talking.{RepliesFront, RepliesAll, IsQuiet, Says, outcome, memory, look_fault, take_fault, said, cut_off, Converses}
+use Rattle.session_talk.specs.Talking.{RepliesFront, RepliesAll, IsLastLine, IsQuiet, Says, outcome, memory, look_fault, take_fault, said, cut_off, Converses}
 use Rattle.session_talk.specs.Talking.{CutOff}
 
 -- ---- what is told
@@ -58,11 +58,11 @@ ends_then first now after text line status result e quiet (ending.output_fault i
 
 -- ---- ends
 
-module _ (first : Now) (editor : EditorState) (source : SourceState) (taken : List ℕ) (takes : Takes first.source taken source) (awaited : IfSome first.editor.told (λ state. IsAwaitedBy state taken)) where
+module _ (first : Now) (editor : EditorState) (source : SourceState) (taken : List ℕ) (takes : Takes first.source taken source) (awaited : IfSome first.editor.told (λ state. IsAwaitedBy state taken)) (few : length taken ≤ limit_number Session + 1) where
   module _ (out after : SinkState) (text : List ℕ) (got : out.got ≡ option_map (λ front. front ++ text) first.out.got) (quiet_out : out.faults ≡ first.out.faults) where
     ends_as : (line : List ℕ) (status result : ℕ) → Says first editor source taken status (text ++ line) → Ends status line out after result → Converses first editor source after result
     ends_as line status result says is =
-        record { taken = taken; takes = takes; awaited = awaited; stops = said status (text ++ line) says (ends_then first.out out after text line status result got quiet_out is) }
+        record { taken = taken; takes = takes; few = few; awaited = awaited; stops = said status (text ++ line) says (ends_then first.out out after text line status result got quiet_out is) }
 
     pub ends_memory : (result : ℕ) → IsQuiet first editor source → IfSome first.editor.told (λ state. RepliesFront state taken text) → Ends memory_status memory_line out after result
         → Converses first editor source after result
@@ -76,17 +76,45 @@ module _ (first : Now) (editor : EditorState) (source : SourceState) (taken : Li
         → Ends read_fault_status read_fault_line out after result → Converses first editor source after result
     ends_take_fault result quiet rose all is = ends_as read_fault_line read_fault_status result (take_fault text quiet rose all refl refl) is
 
-    pub ends_outcome : (line : List ℕ) (status result : ℕ) → IsQuiet first editor source → IfSome first.editor.told (λ state. Answers state taken (text ++ line) status)
+    pub ends_outcome : (line : List ℕ) (status result : ℕ) → IsLastLine status line → IsQuiet first editor source → IfSome first.editor.told (λ state. Answers state taken (text ++ line) status)
         → IfSome first.editor.told (λ state. IfSome first.source.left (λ input. Answers state input (text ++ line) status)) → Ends status line out after result → Converses first editor source after result
-    ends_outcome line status result quiet here whole is = ends_as line status result (outcome quiet here whole) is
+    ends_outcome line status result last quiet here whole is =
+        ends_as line status result (outcome (record { front = text; last = line; whole = refl; is_last = last }) quiet here whole) is
 
     pub ends_cut_off : (reply : List ℕ) (result : ℕ) → IsQuiet first editor source → IfSome first.editor.told (λ state. RepliesFront state taken (text ++ reply)) → CutOff reply out after result
         → Converses first editor source after result
     ends_cut_off reply result quiet front cut = record {
       taken = taken;
       takes = takes;
+      few = few;
       awaited = awaited;
       stops = cut_off (text ++ reply) quiet front cut.is_status (gives_then first.out.got out.got after.got text reply got cut.gives) (subst (λ (n : ℕ). Rose n after.faults) quiet_out cut.rose);
+    }
+
+-- ---- what was replied until then
+
+module _ (state : SessionState) (text : List ℕ) (later : Standing) where
+  pub replies_front : (taken : List ℕ) → length taken ≤ limit_number Session → Talks (begun state taken) text later → RepliesFront state taken text
+  replies_front taken few talks = record {
+    later = later;
+    talks = subst (λ (bytes : List ℕ). Talks (begun state bytes) text later) (sym (take_all (limit_number Session) taken few)) talks;
+  }
+
+  pub replies_all : (taken : List ℕ) → length taken ≤ limit_number Session → Talks (begun state taken) text later → turn_of later ≡ stops → RepliesAll state taken text
+  replies_all taken few talks waits = record {
+    later = later;
+    talks = subst (λ (bytes : List ℕ). Talks (begun state bytes) text later) (sym (take_all (limit_number Session) taken few)) talks;
+    waits = waits;
+  }
+
+-- however much was taken behind these bytes
+pub replies_with : (state : SessionState) (text : List ℕ) (later : Standing) (taken more : List ℕ) → length taken ≤ limit_number Session → Talks (begun state taken) text later
+    → RepliesFront state (taken ++ more) text
+replies_with state text later taken more few talks =
+    let allowed = allowed_front taken more few in
+    record {
+      later = with_more allowed.0 later;
+      talks = subst (λ (bytes : List ℕ). Talks (begun state bytes) text (with_more allowed.0 later)) (sym allowed.1) (talks_on allowed.0 (begun state taken) later text talks);
     }
 
 -- ---- the whole input
@@ -177,14 +205,20 @@ module _ (state : SessionState) (front text more : List ℕ) (now : Now) (stands
     input = unread;
   }
 
-pub awaited_with : (state : SessionState) (front text more : List ℕ) (now : Now) → StandsAt state front text now → IsNeeded now.waiting.unread more → IsAwaitedBy state front → IsAwaitedBy state (front ++ more)
-awaited_with state front text more now stands (inl none) awaited =
+pub awaited_with : (state : SessionState) (front text more : List ℕ) (now : Now) → StandsAt state front text now → length front + length more ≤ limit_number Session + 1 → IsNeeded now.waiting.unread more
+    → IsAwaitedBy state front → IsAwaitedBy state (front ++ more)
+awaited_with state front text more now stands most (inl none) awaited =
     subst (λ (bytes : List ℕ). IsAwaitedBy state bytes) (sym (ap (λ (m : List ℕ). front ++ m) none ∙ append-nil front)) awaited
-awaited_with state front text more now stands (inr last) awaited =
+awaited_with state front text more now stands most (inr last) awaited =
+    let long = ap length last.whole ∙ length-append last.front last.last in
+    let longer = length-append front last.front in
+    let some = last.some in
     inr (record {
       front = front ++ last.front;
       last = last.last;
       whole = ap (λ (m : List ℕ). front ++ m) last.whole ∙ sym (append_assoc front last.front last.last);
+      few = omega (arith, most, long, longer, some);
+      short = last.short;
       out = text;
       later = with_more last.front stands.at;
       talks = talks_with state front text last.front now stands;

@@ -18,8 +18,8 @@ use Rattle.session_spec.specs.Talks.{turn_of}
 use Rattle.session_spec.proofs.Standings.{answers_ended, answers_refused}
 use Rattle.session_talk.specs.Editors.{EditorState, IsReplied}
 use Rattle.session_talk.specs.Talking.{Now, now_at, StandsAt, OrderedAt, GoesOn, IsOrdered}
-use Rattle.session_talk.specs.Talking.{RepliesFront, IsQuiet, Converses, GivesReply, TellsEnd, Makes, replied, fails, wants, ShowsMap, shown, lost, Turns}
-use Rattle.session_talk.proofs.TalkLemmas.{if_told, give_then, ends_memory, ends_look_fault, ends_outcome, ends_cut_off, answers_input, answers_taken, stands_made, stands_shown, stands_collected, held_turn}
+use Rattle.session_talk.specs.Talking.{RepliesFront, IsLastLine, at_end, at_line, IsQuiet, Converses, GivesReply, TellsEnd, Makes, replied, fails, wants, ShowsMap, shown, lost, Turns}
+use Rattle.session_talk.proofs.TalkLemmas.{if_told, give_then, replies_front, ends_memory, ends_look_fault, ends_outcome, ends_cut_off, answers_input, answers_taken, stands_made, stands_shown, stands_collected, held_turn}
 
 module _ (first now : Now) (number : ℕ) (order : lines.Order) (goes : IsOrdered number order first now) where
   abbrev Ordering : SessionState → Type 0
@@ -28,20 +28,23 @@ module _ (first now : Now) (number : ℕ) (order : lines.Order) (goes : IsOrdere
   few : length goes.taken ≤ limit_number Session
   few = let room = goes.room in let limit = goes.limit in omega (arith, room, limit)
 
+  few_taken : length goes.taken ≤ limit_number Session + 1
+  few_taken = let fewer = few in omega (arith, fewer)
+
   quiet : IsQuiet first now.editor now.source
   quiet = record { editor_is = goes.quiet_editor; source_is = goes.quiet_source }
 
   front_told : IfSome first.editor.told (λ state. RepliesFront state goes.taken goes.text)
-  front_told = if_told first.editor.told Ordering (λ state. RepliesFront state goes.taken goes.text) (λ state is. record { later = is.at; talks = is.talks }) goes.stands
+  front_told = if_told first.editor.told Ordering (λ state. RepliesFront state goes.taken goes.text) (λ state is. replies_front state goes.text is.at goes.taken few is.talks) goes.stands
 
   pub memory_turns : (after : SinkState) (status : ℕ) → Ends memory_status memory_line now.out after status → Converses first now.editor now.source after status
-  memory_turns after status is = ends_memory first now.editor now.source goes.taken goes.takes goes.awaited now.out after goes.text goes.said goes.quiet_out status quiet front_told is
+  memory_turns after status is = ends_memory first now.editor now.source goes.taken goes.takes goes.awaited few_taken now.out after goes.text goes.said goes.quiet_out status quiet front_told is
 
   -- a line that ends the session, whatever comes behind it
-  ended_by : (line : List ℕ) (status result : ℕ) (after : SinkState) → ((state : SessionState) → Ordering state → (more : List ℕ) → Answers state (goes.taken ++ more) (goes.text ++ line) status)
+  ended_by : (line : List ℕ) (status result : ℕ) (after : SinkState) → IsLastLine status line → ((state : SessionState) → Ordering state → (more : List ℕ) → Answers state (goes.taken ++ more) (goes.text ++ line) status)
       → Ends status line now.out after result → Converses first now.editor now.source after result
-  ended_by line status result after answers is =
-      ends_outcome first now.editor now.source goes.taken goes.takes goes.awaited now.out after goes.text goes.said goes.quiet_out line status result quiet
+  ended_by line status result after last answers is =
+      ends_outcome first now.editor now.source goes.taken goes.takes goes.awaited few_taken now.out after goes.text goes.said goes.quiet_out line status result last quiet
       (if_told first.editor.told Ordering (λ state. Answers state goes.taken (goes.text ++ line) status) (λ state at. answers_taken goes.taken (goes.text ++ line) status state (answers state at)) goes.stands)
       (if_told first.editor.told Ordering (λ state. IfSome first.source.left (λ input. Answers state input (goes.text ++ line) status))
       (λ state at. answers_input first.source.left now.source.left goes.taken (goes.text ++ line) status state (answers state at) goes.takes.came) goes.stands)
@@ -50,7 +53,7 @@ module _ (first now : Now) (number : ℕ) (order : lines.Order) (goes : IsOrdere
   pub refuse_turns : ((state : SessionState) (is : Ordering state) → turn_of is.at ≡ refuses) → (after : SinkState) (status : ℕ) → TellsEnd file_status (bad_line number) now.out after status
       → Converses first now.editor now.source after status
   refuse_turns does after status (inl is) =
-      ended_by (bad_line number) file_status status after
+      ended_by (bad_line number) file_status status after (at_line number)
       (λ state at more. subst (λ (n : ℕ). Answers state (goes.taken ++ more) (goes.text ++ bad_line n) file_status) (sym at.line) (answers_refused state goes.taken goes.text at.at at.talks more few (does state at)))
       is
   refuse_turns does after status (inr is) = memory_turns after status is
@@ -58,7 +61,7 @@ module _ (first now : Now) (number : ℕ) (order : lines.Order) (goes : IsOrdere
   pub end_turns : ((state : SessionState) (is : Ordering state) → turn_of is.at ≡ ends) → (after : SinkState) (status : ℕ) → Ends done_status end_reply now.out after status
       → Converses first now.editor now.source after status
   end_turns does after status is =
-      ended_by end_reply done_status status after (λ state at more. answers_ended state goes.taken goes.text at.at at.talks more few (does state at)) is
+      ended_by end_reply done_status status after at_end (λ state at more. answers_ended state goes.taken goes.text at.at at.talks more few (does state at)) is
 
   pub collect_turns : (held : List Change) → ((state : SessionState) (is : Ordering state) → turn_of is.at ≡ holds held is.rest) → GoesOn first (now_at now.editor now.waiting (Some held) now.source now.out)
   collect_turns held does = record {
@@ -97,10 +100,10 @@ module _ (first now : Now) (number : ℕ) (order : lines.Order) (goes : IsOrdere
       quiet_out = gave.quiet ∙ goes.quiet_out;
     }
     replied_turns (Some status) cut =
-        ends_cut_off first editor now.source goes.taken goes.takes goes.awaited now.out out goes.text goes.said goes.quiet_out line status
+        ends_cut_off first editor now.source goes.taken goes.takes goes.awaited few_taken now.out out goes.text goes.said goes.quiet_out line status
         (record { editor_is = calm ∙ goes.quiet_editor; source_is = goes.quiet_source })
         (if_told first.editor.told Ordering (λ state. RepliesFront state goes.taken (goes.text ++ line))
-        (λ state at. let then = standing state at in record { later = then.at; talks = then.talks }) goes.stands)
+        (λ state at. let then = standing state at in replies_front state (goes.text ++ line) then.at goes.taken few then.talks) goes.stands)
         cut
 
   pub make_turns : (edit : List Change) → ((state : SessionState) (is : Ordering state) → turn_of is.at ≡ makes edit is.rest) → (editor : EditorState) (out : SinkState) (result : Option ℕ)
@@ -112,11 +115,11 @@ module _ (first now : Now) (number : ℕ) (order : lines.Order) (goes : IsOrdere
       result gives
   make_turns edit does editor out result (fails status e rose is) =
       subst (λ (r : Option ℕ). Turns first editor now.waiting None now.source out r) (sym e)
-      (ends_look_fault first editor now.source goes.taken goes.takes goes.awaited now.out out goes.text goes.said goes.quiet_out status
+      (ends_look_fault first editor now.source goes.taken goes.takes goes.awaited few_taken now.out out goes.text goes.said goes.quiet_out status
       (subst (λ (n : ℕ). Rose n editor.faults) goes.quiet_editor rose) goes.quiet_source front_told is)
   make_turns edit does editor out result (wants status e calm is) =
       subst (λ (r : Option ℕ). Turns first editor now.waiting None now.source out r) (sym e)
-      (ends_memory first editor now.source goes.taken goes.takes goes.awaited now.out out goes.text goes.said goes.quiet_out status
+      (ends_memory first editor now.source goes.taken goes.takes goes.awaited few_taken now.out out goes.text goes.said goes.quiet_out status
       (record { editor_is = calm ∙ goes.quiet_editor; source_is = goes.quiet_source }) front_told is)
 
   pub show_turns : ((state : SessionState) (is : Ordering state) → turn_of is.at ≡ shows is.rest) → (out : SinkState) (result : Option ℕ) → ShowsMap now.editor now.out out result

@@ -2,11 +2,15 @@
 --     Now                             all that a turn changes: who edits, what waits, the changes since a `begin`, the
 --                                     source and the sink
 --     StandsAt state taken text now   of these bytes all that doesn't wait is read, and this text is replied
---     IsAwaitedBy state taken         the last of these bytes were taken where what came before them didn't end the
---                                     session
+--     IsAwaitedBy state taken         the last of these bytes were taken, all at once, where what came before them didn't
+--                                     end the session
 --     Goes Stands first now           so far nothing failed, and it stands so
 --     OrderedAt number order state taken text now      so, but the last line that is read isn't obeyed yet
 --     GoesOn first now, IsOrdered number order first now      so far nothing failed, and it stands in one of both ways
+--     RepliesFront state taken text   the text is replies to lines of these bytes, as far as the limit allows
+--     RepliesAll state taken text     so, to each line that stands whole in them
+--     IsLastLine status line          a line with which a session ends, and its exit status
+--     IsShaped status text            a text that ends with such a line
 --     Says first editor source taken status text     why replies end with this status and text
 --     Stops first editor source out taken result     all of the text went out, or the sink failed
 --     Converses first editor source out result       what is promised of replies to an input
@@ -15,19 +19,21 @@
 --     Makes before edit out after out_after result   an edit is made and replied to, or something failed
 --     ShowsMap editor out after result               the map is the reply
 --     Turns first editor waiting held source out result      behind a turn it goes on, or the session ends
-use Rattle.std.specs.Prelude.{◌≡◌, ◌⊎◌, ◌+◌, ◌++◌, [], ℕ, List, length, Option, Some, None, IfSome, option_map}
+use Rattle.std.specs.Prelude.{◌≡◌, ◌≤◌, ◌⊎◌, ◌+◌, ◌++◌, [], ℕ, List, length, take}
+use Rattle.std.specs.Prelude.{Option, Some, None, IfSome, option_map}
 use Rattle.tree_spec.specs.Counts.{Rose}
 use Rattle.tree_spec.specs.Limits.{limit_number}
 use Rattle.tree_spec.specs.States.{SourceState, SinkState}
 use Rattle.tree_spec.specs.declared.LimitName.TheVariants.{Session}
 use Rattle.generator_spec.specs.Ending.{Ends, Gives}
-use Rattle.generator_spec.specs.Lines.{memory_line, read_fault_line}
+use Rattle.generator_spec.specs.Lines.{memory_line, read_fault_line, limit_line}
+use Rattle.generator_spec.specs.Statuses.{done_status, file_status, limit_status}
 use Rattle.generator_spec.specs.Statuses.{memory_status, read_fault_status, write_fault_status}
 use Rattle.session_spec.specs.declared.Change.{Change}
-use Rattle.session_spec.specs.Conversations.{Answers, stops, map_reply}
+use Rattle.session_spec.specs.Conversations.{Answers, stops, map_reply, end_reply, bad_line}
 use Rattle.session_spec.specs.SessionLines.{Order, Rest, reads, read_line}
 use Rattle.session_spec.specs.SessionStates.{SessionState}
-use Rattle.session_spec.specs.TakenInput.{Takes}
+use Rattle.session_spec.specs.TakenInput.{Takes, taken_at_once}
 use Rattle.session_spec.specs.Talks.{Standing, begun, turn_of, Talks}
 use Rattle.session_input.specs.Readers.{Waiting}
 use Rattle.session_talk.specs.Editors.{EditorState, EditsTold, Shows}
@@ -68,6 +74,8 @@ pub record StandsBeforeLastOf (state : SessionState) (taken : List ℕ) : Type 0
   pub front : List ℕ
   pub last : List ℕ
   pub whole : taken ≡ front ++ last
+  pub few : length front ≤ limit_number Session
+  pub short : length last ≤ taken_at_once
   pub out : List ℕ
   pub later : Standing
   pub talks : Talks (begun state front) out later
@@ -100,21 +108,34 @@ IsOrdered number order first now = Goes (λ state taken text. OrderedAt number o
 
 pub record RepliesFront (state : SessionState) (taken text : List ℕ) : Type 0 where
   pub later : Standing
-  pub talks : Talks (begun state taken) text later
+  pub talks : Talks (begun state (take (limit_number Session) taken)) text later
 
 pub record RepliesAll (state : SessionState) (taken text : List ℕ) : Type 0 where
   pub later : Standing
-  pub talks : Talks (begun state taken) text later
+  pub talks : Talks (begun state (take (limit_number Session) taken)) text later
   pub waits : turn_of later ≡ stops
 
 pub record IsQuiet (first : Now) (editor : EditorState) (source : SourceState) : Type 0 where
   pub editor_is : editor.faults ≡ first.editor.faults
   pub source_is : source.faults ≡ first.source.faults
 
+pub data IsLastLine : ℕ → List ℕ → Type 0 where
+  at_end : IsLastLine done_status end_reply
+  at_line : (number : ℕ) → IsLastLine file_status (bad_line number)
+  at_limit : IsLastLine limit_status (limit_line Session)
+
+-- own: status and text belong together, whatever is told
+pub record IsShaped (status : ℕ) (text : List ℕ) : Type 0 where
+  pub front : List ℕ
+  pub last : List ℕ
+  pub whole : text ≡ front ++ last
+  pub is_last : IsLastLine status last
+
 pub data Says (first : Now) (editor : EditorState) (source : SourceState) (taken : List ℕ) (status : ℕ)
     (text : List ℕ) : Type 0 where
   outcome :
-      IsQuiet first editor source → IfSome first.editor.told (λ state. Answers state taken text status)
+      IsShaped status text → IsQuiet first editor source
+      → IfSome first.editor.told (λ state. Answers state taken text status)
       → IfSome first.editor.told (λ state. IfSome first.source.left (λ input. Answers state input text status))
       → Says first editor source taken status text
   memory :
@@ -145,6 +166,7 @@ pub record Converses (first : Now) (editor : EditorState) (source : SourceState)
     (result : ℕ) : Type 0 where
   pub taken : List ℕ
   pub takes : Takes first.source taken source
+  pub few : length taken ≤ limit_number Session + 1
   pub awaited : IfSome first.editor.told (λ state. IsAwaitedBy state taken)
   pub stops : Stops first editor source out taken result
 

@@ -1,0 +1,84 @@
+-- Replies to the lines of an input, from the first on.
+use Rattle.std.proofs.Common.{◌≡◌, ◌++◌, [], ◌∷◌, ℕ, List, None, Ok, Err, refl, ap, ◌∙◌, subst, inl}
+use Rattle.std.specs.Prelude.{option_map, take}
+use Rattle.tree_spec.specs.Limits.{limit_number}
+use Rattle.tree_spec.specs.States.{FolderState, SourceState, SinkState, IsGiven}
+use Rattle.tree_spec.specs.declared.LimitName.TheVariants.{Session as Limited}
+use Rattle.tree_spec.proofs.ToldStates.{if_some, if_all}
+use Rattle.generator_spec.specs.Ending.{Ends}
+use Rattle.generator_spec.specs.Lines.{memory_line}
+use Rattle.generator_spec.specs.Statuses.{memory_status, write_fault_status}
+use Rattle.session_input.specs.declared.reader.SessionInput.{SessionInput}
+use Rattle.session_input.specs.Readers.{Waiting, waiting, IsFresh}
+use Rattle.session_input.proofs.ReaderLemmas.{takes_none}
+use Rattle.session_spec.specs.SessionStates.{SessionState}
+use Rattle.session_spec.specs.Talks.{Standing, begun, still}
+use Rattle.edit_session.specs.declared.session.Session.{Session}
+use Rattle.session_talk.specs.EditorLooks.{AsksSome}
+use Rattle.session_talk.specs.Editors.{EditorState, Seen}
+use Rattle.session_talk.specs.Talking as talking
+use Rattle.session_talk.specs.Talking.{now_at, Converses}
+use Rattle.session_run.specs.Editing.{IsViewOf, look_state}
+use Rattle.session_run.specs.Sessions.{fresh, TalksOn, opened_line, OpenedEnds, cut_off, replies}
+
+pub first_name : {a b c x y z : ℕ} → (a ∷ b ∷ c ∷ []) ≡ (x ∷ y ∷ z ∷ []) → a ≡ x
+first_name e = cc
+
+pub second_name : {a b c x y z : ℕ} → (a ∷ b ∷ c ∷ []) ≡ (x ∷ y ∷ z ∷ []) → b ≡ y
+second_name e = cc
+
+begins_fresh : (reader : SessionInput) → IsFresh reader → waiting reader ≡ fresh
+begins_fresh reader is = λ i. record { unread = is.unread i; number = is.number i; room = is.room i }
+
+module _ (before : EditorState) (source later : SourceState) (out gone : SinkState) (result : ℕ) where
+  abbrev TalkedFrom : Waiting → FolderState → Session → Type 0
+  TalkedFrom waits folder session =
+      Seen (IsViewOf folder session) (λ after. Converses (now_at before waits None source out) after later gone result)
+
+  pub talks_from : (reader : SessionInput) → IsFresh reader → (folder folder_last : FolderState) → folder ≡ folder_last → (session session_last : Session) → session ≡ session_last
+      → TalkedFrom (waiting reader) folder session → Seen (IsViewOf folder_last session_last) (λ after. TalksOn before source out after later gone result)
+  talks_from reader is folder folder_last same_folder session session_last same_session talked =
+      subst (λ (s : Session). TalkedFrom fresh folder_last s) same_session
+      (subst (λ (f : FolderState). TalkedFrom fresh f session) same_folder
+      (subst (λ (w : Waiting). TalkedFrom w folder session) (begins_fresh reader is) talked))
+
+-- the references aside
+module _ (references : List ℕ) (before folder folder_last : FolderState) (old session session_last : Session) where
+  pub asks_from : (names : List ℕ) → folder ≡ folder_last → session ≡ session_last → AsksSome (look_state names before old) (look_state names folder session)
+      → AsksSome (look_state references before old) (look_state references folder_last session_last)
+  asks_from names same_folder same_session asks =
+      subst (λ (s : Session). AsksSome (look_state references before old) (look_state references folder_last s)) same_session
+      (subst (λ (f : FolderState). AsksSome (look_state references before old) (look_state references f session)) same_folder
+      renamed)
+    where
+      renamed : AsksSome (look_state references before old) (look_state references folder session)
+      renamed = record { references = refl; tree = asks.tree; writes = asks.writes; later = asks.later; asked = if_some before.asked (λ list new. record { more = new.more; asked = new.asked; once = new.once; new = new.new }) asks.asked }
+
+-- ---- nothing is taken
+
+abbrev pub begun_alone : SessionState → Standing
+begun_alone state = begun state (take (limit_number Limited) [])
+
+pub wants_reader : (before : EditorState) (source : SourceState) (out gone : SinkState) (result : ℕ) → Ends memory_status memory_line out gone result → TalksOn before source out before source gone result
+wants_reader before source out gone result is = record {
+  taken = [];
+  takes = takes_none source;
+  awaited = if_all before.told (λ state. inl refl);
+  stops = talking.said memory_status memory_line
+      (talking.memory [] (record { editor_is = refl; source_is = refl }) (if_all before.told (λ state. record { later = begun_alone state; talks = still (begun_alone state) })) refl refl) is;
+}
+
+-- ---- a session that is opened
+
+module _ (session : Session) (before : FolderState) (source : SourceState) (out : SinkState) (line : List ℕ) (is : line ≡ opened_line session) where
+  pub opened_cut : {E : Type 0} (fault : E) (gone : SinkState) → IsGiven out line (Err fault) gone → OpenedEnds session before before source source out gone write_fault_status
+  opened_cut fault gone given =
+      cut_off refl refl refl
+      (record { count = given.part.0; given = given.part.1 ∙ ap (λ (l : List ℕ). option_map (λ front. front ++ take given.part.0 l) out.got) is })
+      given.failed
+
+  pub opened_replies : {E : Type 0} (middle gone : SinkState) (after : FolderState) (closed : Session) (later : SourceState) (result : ℕ) → IsGiven {E = E} out line (Ok tt) middle
+      → ((view : EditorState) → IsViewOf before session view → Seen (IsViewOf after closed) (λ last. TalksOn view source middle last later gone result))
+      → AsksSome (look_state [] before session) (look_state [] after closed) → OpenedEnds session before after source later out gone result
+  opened_replies middle gone after closed later result given talks asks =
+      replies middle closed (given.given ∙ ap (λ (l : List ℕ). option_map (λ front. front ++ l) out.got) is) given.quiet talks asks
