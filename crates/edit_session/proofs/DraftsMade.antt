@@ -23,10 +23,12 @@ use Rattle.session_spec.specs.declared.Change.TheVariants.{Link, Unlink, Put, Dr
 use Rattle.tree_spec.specs.FoldersAbove.{folders_from}
 use Rattle.session_spec.specs.declared.EditFault.{EditFault}
 use Rattle.session_spec.specs.declared.EditFault.TheVariants.{BadEdit}
+use Rattle.session_spec.specs.EditFaults.{CanRefuseChange, CanRefuseEdit, bad_put, bad_drop}
+use Rattle.session_spec.proofs.FaultsOfEdits.{fault_of_change, first_refuses, rest_refuses}
 use Rattle.session_spec.specs.Edits.{Draft, can_put, changed, edited, is_file, linked, put_file, then_edited, unlinked}
 use Rattle.edit_session.specs.EditLooks.{climbed, change_looks, behind_change, edit_looks}
 use Rattle.edit_session.specs.LooksOn.{LooksOn, IsSeenBy}
-use Rattle.edit_session.specs.Making.{MakesTree, Work, work, as_draft, IsDraftOf, IsListOfEntries, IsMadeOf, IsAllowed, LeavesDraft, Makes}
+use Rattle.edit_session.specs.Making.{MakesTree, Work, work, as_draft, IsDraftOf, IsListOfEntries, IsMadeOf, IsAllowed, LeavesDraft, CanStop, Makes}
 use Rattle.edit_session.specs.Making.IsAllowed.{is_made, is_bad, not_said, failed, no_memory}
 use Rattle.edit_session.specs.declared.stop.ChangeStop.{ChangeStop}
 use Rattle.edit_session.specs.declared.stop.ChangeStop.TheVariants.{Refused, ReadFault, Memory}
@@ -95,10 +97,17 @@ leaves_entries folder known over tree seen new made other (Err (Refused fault)) 
 leaves_entries folder known over tree seen new made other (Err ReadFault) e is there = tt
 leaves_entries folder known over tree seen new made other (Err Memory) e is there = tt
 
+entries_stop : (tree : Tree) (old new : List (List ℕ)) (change : Change) (result : Done)
+    → IsMadeOf (changed (as_draft tree old) change) result (as_draft tree new) → CanStop (CanRefuseChange change) result
+entries_stop tree old new change (Ok unit) is = tt
+entries_stop tree old new change (Err (Refused fault)) is = fault_of_change (as_draft tree old) change fault is
+entries_stop tree old new change (Err ReadFault) is = tt
+entries_stop tree old new change (Err Memory) is = tt
+
 pub made_of_entries : (folder : FolderState) (known : Known) (over : Over) (old new : List (List ℕ)) (change : Change)
     (result : Done) → ((tree : Tree) → IsMadeOf (changed (as_draft tree old) change) result (as_draft tree new))
-    → Makes (λ now. changed now change) (λ now. change_looks (get now.tree) change) (work folder known over old) result
-    (work folder known over new)
+    → Makes (λ now. changed now change) (λ now. change_looks (get now.tree) change) (CanRefuseChange change)
+    (work folder known over old) result (work folder known over new)
 made_of_entries folder known over old new change result is = record {
   looks = looks_on_nothing folder known (result ≡ Err ReadFault) (result ≡ Err Memory)
       (λ tree path. (now : Draft) → IsDraftOf tree (work folder known over old) now
@@ -107,24 +116,26 @@ made_of_entries folder known over old new change result is = record {
   leaves = λ tree now e there.
       leaves_entries folder known over tree now.tree new (changed (as_draft now.tree old) change) (changed now change) result
       (λ i. changed (record { tree = now.tree; entries = there.entries_are i }) change) (is now.tree) there.seen;
+  kind = entries_stop bare_tree old new change result (is bare_tree);
 }
 
 pub made_of_link : (folder : FolderState) (known : Known) (over : Over) (old new : List (List ℕ)) (entry : List ℕ)
     (result : Done) → ((tree : Tree) → IsMadeOf (linked (as_draft tree old) entry) result (as_draft tree new))
-    → Makes (λ now. changed now (Link entry)) (λ now. change_looks (get now.tree) (Link entry)) (work folder known over old)
-    result (work folder known over new)
+    → Makes (λ now. changed now (Link entry)) (λ now. change_looks (get now.tree) (Link entry)) (CanRefuseChange (Link entry))
+    (work folder known over old) result (work folder known over new)
 made_of_link folder known over old new entry result is = made_of_entries folder known over old new (Link entry) result is
 
 pub made_of_unlink : (folder : FolderState) (known : Known) (over : Over) (old new : List (List ℕ)) (entry : List ℕ)
     (result : Done) → ((tree : Tree) → IsMadeOf (unlinked (as_draft tree old) entry) result (as_draft tree new))
     → Makes (λ now. changed now (Unlink entry)) (λ now. change_looks (get now.tree) (Unlink entry))
-    (work folder known over old) result (work folder known over new)
+    (CanRefuseChange (Unlink entry)) (work folder known over old) result (work folder known over new)
 made_of_unlink folder known over old new entry result is =
     made_of_entries folder known over old new (Unlink entry) result is
 
 -- ---- a file
 
-module _ (change : Change) (path : List ℕ) (allowed : Tree → Bool) (next : Tree → Tree) where
+module _ (change : Change) (path : List ℕ) (allowed : Tree → Bool) (next : Tree → Tree)
+    (can : CanRefuseChange change (BadEdit path)) where
   abbrev tested : Bool → Draft → Result Draft EditFault
   tested may now = if may then Ok (as_draft (next now.tree) now.entries) else Err (BadEdit path)
 
@@ -152,8 +163,8 @@ module _ (change : Change) (path : List ℕ) (allowed : Tree → Bool) (next : T
     changed_by may now e = is_change now ∙ ap (λ b. tested b now) e
 
     pub made_of_file : (result : Result Bool LookFault) (stop : Done) → IsAllowed path result stop → MakesFile result
-        → Makes (λ now. changed now change) (λ now. change_looks (get now.tree) change) (work before known over entries) stop
-        (work after later left entries)
+        → Makes (λ now. changed now change) (λ now. change_looks (get now.tree) change) (CanRefuseChange change)
+        (work before known over entries) stop (work after later left entries)
     made_of_file _ _ is_made makes = record {
       looks = looks_so (answers true) done (λ e. absurd (cc)) (λ e. absurd (cc)) (λ e. absurd (cc)) makes;
       leaves = λ tree now e is.
@@ -165,22 +176,27 @@ module _ (change : Change) (path : List ℕ) (allowed : Tree → Bool) (next : T
               entries_are = is.entries_are;
             },
           ));
+      kind = tt;
     }
     made_of_file _ _ is_bad makes = record {
       looks = looks_so (answers false) (stops (Refused (BadEdit path))) (λ e. absurd (cc)) (λ e. absurd (cc)) (λ e. absurd (cc)) makes;
       leaves = λ tree now e is. changed_by false now (makes.may tree now.tree false e is.seen refl);
+      kind = can;
     }
     made_of_file _ _ not_said makes = record {
       looks = looks_so (answers false) (stops Memory) (λ e. absurd (cc)) (λ e. absurd (cc)) (λ e. absurd (cc)) makes;
       leaves = λ tree now e is. tt;
+      kind = tt;
     }
     made_of_file _ _ failed makes = record {
       looks = looks_so (fails look.Failed) (stops ReadFault) (λ e. refl) (λ e. refl) (λ e. absurd (cc)) makes;
       leaves = λ tree now e is. tt;
+      kind = tt;
     }
     made_of_file _ _ no_memory makes = record {
       looks = looks_so (fails look.Memory) (stops Memory) (λ e. absurd (cc)) (λ e. absurd (cc)) (λ e. refl) makes;
       leaves = λ tree now e is. tt;
+      kind = tt;
     }
 
 pub made_of_put : (path bytes : List ℕ) (before after : FolderState) (known later : Known) (over left : Over)
@@ -188,9 +204,10 @@ pub made_of_put : (path bytes : List ℕ) (before after : FolderState) (known la
     → MakesTree (λ tree seen laid. IsLaid tree laid (put_file seen path bytes) × IsTree (put_file seen path bytes))
     (λ seen. can_put (get seen) path) (λ seen. climbed (get seen) (folders_from path)) before known over result after later left
     → Makes (λ now. changed now (Put path bytes)) (λ now. change_looks (get now.tree) (Put path bytes))
-    (work before known over entries) stop (work after later left entries)
+    (CanRefuseChange (Put path bytes)) (work before known over entries) stop (work after later left entries)
 made_of_put path bytes before after known later over left entries result stop is makes =
-    made_of_file (Put path bytes) path (λ tree. can_put (get tree) path) (λ tree. put_file tree path bytes) (λ now. refl)
+    made_of_file (Put path bytes) path (λ tree. can_put (get tree) path) (λ tree. put_file tree path bytes)
+    (bad_put path bytes) (λ now. refl)
     before after known later over left entries result stop is makes
 
 pub made_of_drop : (path : List ℕ) (before after : FolderState) (known later : Known) (over left : Over)
@@ -198,25 +215,28 @@ pub made_of_drop : (path : List ℕ) (before after : FolderState) (known later :
     → MakesTree (λ tree seen laid. IsLaid tree laid (remove seen path) × IsTree (remove seen path))
     (λ seen. is_file (get seen path)) (λ seen. path ∷ []) before known over result after later left
     → Makes (λ now. changed now (Drop path)) (λ now. change_looks (get now.tree) (Drop path))
-    (work before known over entries) stop (work after later left entries)
+    (CanRefuseChange (Drop path)) (work before known over entries) stop (work after later left entries)
 made_of_drop path before after known later over left entries result stop is makes =
-    made_of_file (Drop path) path (λ tree. is_file (get tree path)) (λ tree. remove tree path) (λ now. refl)
+    made_of_file (Drop path) path (λ tree. is_file (get tree path)) (λ tree. remove tree path) (bad_drop path) (λ now. refl)
     before after known later over left entries result stop is makes
 
 -- ---- one after another
 
 abbrev MakesOne : Change → Work → Done → Work → Type 0
 MakesOne change before result after =
-    Makes (λ now. changed now change) (λ now. change_looks (get now.tree) change) before result after
+    Makes (λ now. changed now change) (λ now. change_looks (get now.tree) change) (CanRefuseChange change) before result
+    after
 
 abbrev pub MakesAll : List Change → Work → Done → Work → Type 0
-MakesAll edit before result after = Makes (λ now. edited now edit) (λ now. edit_looks now edit) before result after
+MakesAll edit before result after =
+    Makes (λ now. edited now edit) (λ now. edit_looks now edit) (CanRefuseEdit edit) before result after
 
 pub makes_nothing : (before : Work) → MakesAll [] before (Ok tt) before
 makes_nothing before = record {
   looks = looks_on_nothing before.folder before.known (done ≡ Err ReadFault) (done ≡ Err Memory)
       (λ tree path. (now : Draft) → IsDraftOf tree before now → Contains (edit_looks now []) path) (λ e. absurd (cc));
   leaves = λ tree now e is. (now, refl, is);
+  kind = tt;
 }
 
 abbrev AsksOne : Change → Work → Tree → List ℕ → Type 0
@@ -240,8 +260,15 @@ makes_stops change more before after stop makes = record {
       (AsksAll (change ∷ more) before) (λ e. e) (λ e. e) (λ e. e)
       (λ tree path e there. asks_first change more before tree path there) makes.looks;
   leaves = λ tree now e is. stopped stop tree (changed now change) (makes.leaves tree now e is);
+  kind = stops_so stop makes.kind;
 }
   where
+    stops_so : (stop : ChangeStop) → CanStop (CanRefuseChange change) (Err stop)
+        → CanStop (CanRefuseEdit (change ∷ more)) (Err stop)
+    stops_so (Refused fault) is = first_refuses change more fault is
+    stops_so ReadFault is = tt
+    stops_so Memory is = tt
+
     stopped : (stop : ChangeStop) (tree : Tree) (made : Result Draft EditFault) → LeavesDraft tree made (Err stop) after
         → LeavesDraft tree (then_edited made (λ next. edited next more)) (Err stop) after
     stopped (Refused fault) tree made is = ap (λ m. then_edited m (λ next. edited next more)) is
@@ -260,8 +287,15 @@ makes_then change more before middle after result one rest = record {
       (let next = one.leaves tree now e is in
       subst (λ made. LeavesDraft tree (then_edited made (λ next. edited next more)) result after) (sym next.1)
       (rest.leaves tree next.0 (one.looks.looks.tree ∙ e) next.2));
+  kind = stops_so result rest.kind;
 }
   where
+    stops_so : (result : Done) → CanStop (CanRefuseEdit more) result → CanStop (CanRefuseEdit (change ∷ more)) result
+    stops_so (Ok unit) is = tt
+    stops_so (Err (Refused fault)) is = rest_refuses change more fault is
+    stops_so (Err ReadFault) is = tt
+    stops_so (Err Memory) is = tt
+
     asks_rest : (tree : Tree) (path : List ℕ) → before.folder.holds ≡ Some tree → AsksAll more middle tree path
         → AsksAll (change ∷ more) before tree path
     asks_rest tree path e there now is =

@@ -98,6 +98,7 @@ module _ (before after : FolderState) (known under learnt later : Known) (config
         generated_of seen (config_with config entries) found
         (laid_so (λ seen. IsMapOfTree seen (config_with config entries) found) is.generated tree seen e behind laid);
     refused = tt;
+    kind = tt;
   }
   tries (Err (Refused why)) is = record {
     looks = looks_so (Err (Refused why)) is;
@@ -108,16 +109,19 @@ module _ (before after : FolderState) (known under learnt later : Known) (config
         (λ seen. (command : Command) → IsGenerating command → Opens seen (config_with config entries) command
         → Refuses seen (config_with config entries) command why)
         is.refused tree seen e behind laid Refresh tt (nothing Refresh refresh);
+    kind = is.kind Refresh tt;
   }
   tries (Err ReadFault) is = record {
     looks = looks_so (Err ReadFault) is;
     same_over = over_so (Err ReadFault) is;
     generated = tt;
     refused = tt;
+    kind = tt;
   }
   tries (Err Memory) is = record {
     looks = looks_so (Err Memory) is;
     same_over = over_so (Err Memory) is;
     generated = tt;
     refused = tt;
+    kind = tt;
   }

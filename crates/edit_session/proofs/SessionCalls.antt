@@ -9,6 +9,7 @@ use Rattle.tree_spec.specs.LookAskings.{Sights, footprint}
 use Rattle.tree_spec.specs.LookLimits.{no_trail}
 use Rattle.tree_spec.specs.States.{FolderState}
 use Rattle.tree_spec.specs.Trees.{Tree, IsTree}
+use Rattle.tree_spec.proofs.ToldStates.{if_some}
 use Rattle.trace_spec.specs.Modules.{Config}
 use Rattle.trace_spec.specs.Traces.{generation}
 use Rattle.config_spec.specs.declared.Command.{Command}
@@ -29,13 +30,13 @@ use Rattle.generation.specs.declared.stop.Stop.{Stop}
 use Rattle.generation.specs.declared.stop.Stop.TheVariants as stop
 use Rattle.session_spec.specs.declared.Change.{Change}
 use Rattle.session_spec.specs.Edits.{edited}
-use Rattle.session_spec.specs.Replies.{IsRefused, fault_line}
+use Rattle.session_spec.specs.Replies.{IsRefused, by_change, by_generation, fault_line}
 use Rattle.session_spec.specs.SessionStates.{SessionState, draft_of, config_with}
 use Rattle.generator_spec.specs.Lines.{line_of}
 use Rattle.edit_session.specs.LooksOn.{LooksOn}
 use Rattle.edit_session.specs.NewLooks.{AsksNew, AsksKept, LooksNew}
 use Rattle.edit_session.specs.SessionTrees.{counts_in, IsSessionOf}
-use Rattle.edit_session.specs.Sessions.{IsOpened, OpensSession, IfRefused, IsEditLook, Accepts, Prepares, Commits}
+use Rattle.edit_session.specs.Sessions.{IsOpened, OpensSession, IfRefused, StopsEdit, IsEditLook, Accepts, Prepares, Commits}
 use Rattle.edit_session.specs.Steps.{MakesNext, IsStep}
 use Rattle.edit_session.specs.declared.session.Pending.{Pending}
 use Rattle.edit_session.specs.declared.session.Session.{Session}
@@ -72,6 +73,15 @@ cleared old = record { known = old.known; config = old.config; generated = old.g
 abbrev pub with_next : Session → Pending → Session
 with_next session pending =
     record { known = session.known; config = session.config; generated = session.generated; pending = Some pending }
+
+-- the line of an edit that isn't prepared
+pub line_of_stop : (state : SessionState) (edit : List Change) (why : EditStop) → StopsEdit state edit why
+    → IfRefused (IsRefused state (edited (draft_of state) edit)) why
+line_of_stop state edit (NoChange fault) is = subst (λ made. IsRefused state made (fault_line fault)) (sym is) (by_change fault)
+line_of_stop state edit (Generation why) is =
+    subst (λ made. IsRefused state made (line_of why)) (sym is.made) (by_generation is.draft why is.refuses)
+line_of_stop state edit ReadFault is = tt
+line_of_stop state edit Memory is = tt
 
 module _ (before after : FolderState) (old mid : Session) (edit : List Change) where
   cleared_so : (tree : Tree) (state : SessionState) → IsSessionOf tree old state → IsSessionOf tree (cleared old) state
@@ -128,17 +138,20 @@ module _ (before after : FolderState) (old mid : Session) (edit : List Change) w
         (λ stands. subst (StandsBehind tree) (sym known) (is.looks.behind tree e stands))
         (ap (λ (k : Known). k.laid) known ∙ is.looks.laid) (config ∙ is.same.config) (generated ∙ is.same.generated) state there)
 
-  refusal_so : (why : EditStop)
-      → IfRefused (λ line. (tree : Tree) (state : SessionState) → before.holds ≡ Some tree
-      → IsSessionOf tree (cleared old) state → IsRefused state (edited (draft_of state) edit) line) why
+  why_so : (why : EditStop)
+      → ((tree : Tree) (state : SessionState) → before.holds ≡ Some tree → IsSessionOf tree (cleared old) state → StopsEdit state edit why)
+      → IfSome before.holds (λ tree. (state : SessionState) → IsSessionOf tree old state → StopsEdit state edit why)
+  why_so why is =
+      all_told (λ tree. (state : SessionState) → IsSessionOf tree old state → StopsEdit state edit why) before.holds
+      (λ tree e state there. is tree state e (cleared_so tree state there))
+
+  refusal_so : (why : EditStop) → IfSome before.holds (λ tree. (state : SessionState) → IsSessionOf tree old state → StopsEdit state edit why)
       → IfRefused (λ line. IfSome before.holds (λ tree. (state : SessionState) → IsSessionOf tree old state
       → IsRefused state (edited (draft_of state) edit) line)) why
   refusal_so (NoChange fault) is =
-      all_told (λ tree. (state : SessionState) → IsSessionOf tree old state → IsRefused state (edited (draft_of state) edit) (fault_line fault))
-      before.holds (λ tree e state there. is tree state e (cleared_so tree state there))
+      if_some before.holds (λ tree stops state there. line_of_stop state edit (NoChange fault) (stops state there)) is
   refusal_so (Generation why) is =
-      all_told (λ tree. (state : SessionState) → IsSessionOf tree old state → IsRefused state (edited (draft_of state) edit) (line_of why))
-      before.holds (λ tree e state there. is tree state e (cleared_so tree state there))
+      if_some before.holds (λ tree stops state there. line_of_stop state edit (Generation why) (stops state there)) is
   refusal_so ReadFault is = tt
   refusal_so Memory is = tt
 
@@ -151,7 +164,9 @@ module _ (before after : FolderState) (old mid : Session) (edit : List Change) w
         (stops why ≡ Err Memory) (λ e. let same : why ≡ ReadFault = cc in ap next_stops same)
         (λ e. let same : why ≡ ReadFault = cc in ap stops same) (λ e. let same : why ≡ Memory = cc in ap stops same) is.looks;
     accepted = tt;
-    refused = refusal_so why is.refused;
+    refused = refusal_so why (why_so why is.refused);
+    why = why_so why is.refused;
+    kind = is.kind;
     stays = stays_so (next_stops why) is mid refl refl refl;
     pending = tt;
     nothing_pending = is.same.pending;
@@ -186,6 +201,8 @@ module _ (before after : FolderState) (old mid : Session) (edit : List Change) w
           accepted = leads.accepted;
         });
     refused = tt;
+    why = tt;
+    kind = tt;
     stays = stays_so (next_leads pending) is (with_next mid pending) refl refl refl;
     pending = refl;
     nothing_pending = tt;
@@ -212,6 +229,13 @@ committed old new pending there step = record {
           map_is = is_next.is_state.map_is ∙ ap (λ (g : Generated). g.map.items) (ap (λ (p : Pending). p.generated) same ∙ sym step.generated);
           counts_are = is_next.is_state.counts_are ∙ ap counts_in (ap (λ (p : Pending). p.generated) same ∙ sym step.generated);
         };
+      });
+  steps = λ other e.
+      (let same : pending ≡ other = same_pending pending other old.pending there e in
+      record {
+        laid = step.laid ∙ ap (λ (p : Pending). p.over) same;
+        config = step.config ∙ ap (λ (p : Pending). config_with old.config p.entries) same;
+        generated = step.generated ∙ ap (λ (p : Pending). p.generated) same;
       });
   kept = λ path. ap (λ kept. map.get bytes_eq kept path) step.kept;
   nothing_pending = step.pending_is;

@@ -8,8 +8,7 @@ use Rattle.tree_spec.specs.Trees.{Tree}
 use Rattle.trace_spec.specs.Modules.{Config}
 use Rattle.trace_spec.specs.Traces.{generation}
 use Rattle.config_spec.specs.declared.Command.TheVariants.{Refresh}
-use Rattle.generator_spec.specs.Commands.{Refuses}
-use Rattle.generator_spec.specs.Lines.{line_of}
+use Rattle.generator_spec.specs.Commands.{Refuses, IsRefusalOf}
 use Rattle.package_lookup.specs.declared.over.Over.{Over}
 use Rattle.package_lookup.specs.LaidTrees.{StandsBehind, IsLaid}
 use Rattle.package_lookup.specs.Looked.{over_at}
@@ -18,18 +17,17 @@ use Rattle.generation.specs.declared.generated.Generated.{Generated}
 use Rattle.generation.specs.declared.stop.Stop.{Stop}
 use Rattle.generation.specs.declared.stop.Stop.TheVariants as map
 use Rattle.session_spec.specs.declared.Change.{Change}
-use Rattle.session_spec.specs.declared.EditFault.{EditFault}
 use Rattle.session_spec.specs.Edits.{Draft, edited}
-use Rattle.session_spec.specs.Replies.{IsRefused, by_change, by_generation, accepted_line, fault_line}
+use Rattle.session_spec.specs.Replies.{accepted_line}
 use Rattle.session_spec.specs.SessionStates.{SessionState, draft_of, config_with, IsGenerated}
 use Rattle.edit_session.specs.LooksOn.{LooksOn}
 use Rattle.edit_session.specs.EditLooks.{edit_looks}
 use Rattle.edit_session.specs.Making.{Work, work, IsDraftOf, LeavesDraft}
 use Rattle.edit_session.specs.SessionTrees.{IsSessionOf, counts_in}
-use Rattle.edit_session.specs.Sessions.{IfRefused, IsEditLook, of_change, of_generation}
-use Rattle.edit_session.specs.Steps.{LeadsTo, IsNotGenerated, IsAsBefore, GeneratesNext, MakesNext}
+use Rattle.edit_session.specs.Sessions.{StopsEdit, CanStopEdit, IsEditLook, of_change, of_generation}
+use Rattle.edit_session.specs.Steps.{LeadsTo, CanLackMap, IsAsBefore, GeneratesNext, MakesNext}
 use Rattle.edit_session.specs.Stopping.{stop_by, stop_for}
-use Rattle.edit_session.specs.Trying.{IfLaid, TriesMap}
+use Rattle.edit_session.specs.Trying.{TriesMap}
 use Rattle.edit_session.specs.declared.session.Pending.{Pending}
 use Rattle.edit_session.specs.declared.session.Session.{Session}
 use Rattle.edit_session.specs.declared.stop.ChangeStop.{ChangeStop}
@@ -82,8 +80,8 @@ module _ (before after : FolderState) (old new : Session) (over left : Over) (en
     same_over = tt;
     same_entries = tt;
     generated = tt;
-    refused = λ tree seen e behind laid.
-        record { why = why; refuses = tries.refused tree seen e behind laid; said = refl };
+    refused = λ tree seen e behind laid. tries.refused tree seen e behind laid;
+    kind = tries.kind;
   }
   no_next map.ReadFault tries = record {
     same = same;
@@ -91,7 +89,8 @@ module _ (before after : FolderState) (old new : Session) (over left : Over) (en
     same_over = tt;
     same_entries = tt;
     generated = tt;
-    refused = tt;
+    refused = λ tree seen e behind laid. tt;
+    kind = tt;
   }
   no_next map.Memory tries = record {
     same = same;
@@ -99,7 +98,8 @@ module _ (before after : FolderState) (old new : Session) (over left : Over) (en
     same_over = tt;
     same_entries = tt;
     generated = tt;
-    refused = tt;
+    refused = λ tree seen e behind laid. tt;
+    kind = tt;
   }
 
   pub has_next : (pending : Pending) → pending.over ≡ left → pending.entries ≡ entries
@@ -112,6 +112,7 @@ module _ (before after : FolderState) (old new : Session) (over left : Over) (en
     same_entries = entries_are;
     generated = tries.generated;
     refused = tt;
+    kind = tt;
   }
 
 -- ---- an edit
@@ -144,10 +145,6 @@ module _ (before middle : FolderState) (old mid : Session) (edit : List Change) 
   asks_change : (tree : Tree) (path : List ℕ) → before.holds ≡ Some tree → AsksChange tree path → AsksEdit tree path
   asks_change tree path e there state is = of_change (there (draft_of state) (draft_is tree state is))
 
-  refused_by : (tree : Tree) (state : SessionState) (fault : EditFault) → edited (draft_of state) edit ≡ Err fault
-      → IsRefused state (edited (draft_of state) edit) (fault_line fault)
-  refused_by tree state fault e = subst (λ made. IsRefused state made (fault_line fault)) (sym e) (by_change fault)
-
   pub no_change : (stop : ChangeStop) → MakesAll edit first (Err stop) second
       → MakesNext before old edit (Err (stop_by stop)) middle mid
   no_change (change.Refused fault) makes = record {
@@ -157,8 +154,8 @@ module _ (before middle : FolderState) (old mid : Session) (edit : List Change) 
         (stopped (NoChange fault) ≡ Err Memory) AsksChange AsksEdit (λ e. absurd (cc)) (λ e. absurd (cc))
         (λ e. absurd (cc)) asks_change makes.looks;
     accepted = tt;
-    refused = λ tree state e is.
-        refused_by tree state fault (makes.leaves tree (draft_of state) e (draft_is tree state is));
+    refused = λ tree state e is. makes.leaves tree (draft_of state) e (draft_is tree state is);
+    kind = makes.kind;
   }
   no_change change.ReadFault makes = record {
     same = same;
@@ -167,7 +164,8 @@ module _ (before middle : FolderState) (old mid : Session) (edit : List Change) 
         (stopped ReadFault ≡ Err Memory) AsksChange AsksEdit (λ e. refl) (λ e. refl)
         (λ e. absurd (cc)) asks_change makes.looks;
     accepted = tt;
-    refused = tt;
+    refused = λ tree state e is. tt;
+    kind = tt;
   }
   no_change change.Memory makes = record {
     same = same;
@@ -176,7 +174,8 @@ module _ (before middle : FolderState) (old mid : Session) (edit : List Change) 
         (stopped Memory ≡ Err Memory) AsksChange AsksEdit (λ e. absurd (cc)) (λ e. absurd (cc))
         (λ e. refl) asks_change makes.looks;
     accepted = tt;
-    refused = tt;
+    refused = λ tree state e is. tt;
+    kind = tt;
   }
 
   -- ---- all changes are made
@@ -265,20 +264,34 @@ module _ (before middle : FolderState) (old mid : Session) (edit : List Change) 
       looks = looks_all makes after new (next_of pending) generates;
       accepted = λ tree state e is. leads pending generates tree state e is;
       refused = tt;
+      kind = tt;
     }
 
-    refused_map : (stop : EditStop) (line : List ℕ) → GeneratesNext middle mid between later_entries (Err stop) after new
-        → IfLaid middle mid.known between (λ seen. IsNotGenerated seen (config_with mid.config later_entries) line)
-        → (tree : Tree) (state : SessionState) → before.holds ≡ Some tree → IsSessionOf tree old state
-        → IsRefused state (edited (draft_of state) edit) line
-    refused_map stop line generates refused tree state e is =
-        (let next = left_by makes after new (stopped stop) generates tree state e is in
-        let not = refused tree next.0.tree (told_on makes after new (stopped stop) generates tree e) next.2.seen.stands next.2.seen.laid in
-        subst (λ made. IsRefused state made line) (sym next.1)
-        (subst (λ said. IsRefused state (Ok next.0) said) (sym not.said)
-        (by_generation next.0 not.why
-        (subst (λ config. Refuses next.0.tree config Refresh not.why)
-        (config_so makes after new (stopped stop) generates state next.0 is.is_state.config_is next.2.entries_are) not.refuses))))
+    refused_so : (stop : EditStop) → GeneratesNext middle mid between later_entries (Err stop) after new → (tree : Tree)
+        (state : SessionState) → before.holds ≡ Some tree → IsSessionOf tree old state → StopsEdit state edit stop
+    refused_so (NoChange fault) generates tree state e is =
+        (let next = left_by makes after new (stopped (NoChange fault)) generates tree state e is in
+        absurd
+        (generates.refused tree next.0.tree (told_on makes after new (stopped (NoChange fault)) generates tree e) next.2.seen.stands next.2.seen.laid))
+    refused_so (Generation why) generates tree state e is =
+        (let stop = Generation why in
+        let next = left_by makes after new (stopped stop) generates tree state e is in
+        record {
+          draft = next.0;
+          made = next.1;
+          refuses = subst (λ config. Refuses next.0.tree config Refresh why)
+              (config_so makes after new (stopped stop) generates state next.0 is.is_state.config_is next.2.entries_are)
+              (generates.refused tree next.0.tree (told_on makes after new (stopped stop) generates tree e) next.2.seen.stands next.2.seen.laid);
+        })
+    refused_so ReadFault generates tree state e is = tt
+    refused_so Memory generates tree state e is = tt
+
+    kind_so : (stop : EditStop) → CanLackMap (config_with mid.config later_entries) stop → CanStopEdit old.config edit stop
+    kind_so (NoChange fault) is = absurd is
+    kind_so (Generation why) is =
+        (later_entries, subst (λ (config : Config). IsRefusalOf (config_with config later_entries) Refresh why) same.config is)
+    kind_so ReadFault is = tt
+    kind_so Memory is = tt
 
     pub refused_next : (stop : EditStop) → GeneratesNext middle mid between later_entries (Err stop) after new
         → MakesNext before old edit (Err stop) after new
@@ -286,17 +299,9 @@ module _ (before middle : FolderState) (old mid : Session) (edit : List Change) 
       same = same_all makes after new (stopped stop) generates;
       looks = looks_all makes after new (stopped stop) generates;
       accepted = tt;
-      refused = refused_by_kind stop generates generates.refused;
+      refused = refused_so stop generates;
+      kind = kind_so stop generates.kind;
     }
-      where
-        refused_by_kind : (stop : EditStop) → GeneratesNext middle mid between later_entries (Err stop) after new
-            → IfRefused (λ line. IfLaid middle mid.known between (λ seen. IsNotGenerated seen (config_with mid.config later_entries) line)) stop
-            → IfRefused (λ line. (tree : Tree) (state : SessionState) → before.holds ≡ Some tree → IsSessionOf tree old state
-            → IsRefused state (edited (draft_of state) edit) line) stop
-        refused_by_kind (NoChange fault) generates is = refused_map (NoChange fault) (fault_line fault) generates is
-        refused_by_kind (Generation why) generates is = refused_map (Generation why) (line_of why) generates is
-        refused_by_kind ReadFault generates is = tt
-        refused_by_kind Memory generates is = tt
 
 pub lacks_next : (before : FolderState) (old : Session) (edit : List Change)
     → MakesNext before old edit (Err Memory) before old
@@ -305,7 +310,8 @@ lacks_next before old edit = record {
   looks = looks_on_nothing before old.known (stopped Memory ≡ Err ReadFault) (stopped Memory ≡ Err Memory)
       (λ tree path. (state : SessionState) → IsSessionOf tree old state → IsEditLook state edit path) (λ e. absurd (cc));
   accepted = tt;
-  refused = tt;
+  refused = λ tree state e is. tt;
+  kind = tt;
 }
 
 -- whatever comes of the map

@@ -6,7 +6,8 @@
 --     IsMadeOf made result next       a change of a draft comes to this
 --     IsAllowed path made result      a file is put or dropped at the path, or that is a bad edit
 --     IsListOfEntries entries         they are distinct, and no more than a project has
---     Makes made asks before result after     changes of a draft, one after another
+--     CanStop Can result              where a change is refused, this holds of why
+--     Makes made asks Can before result after     changes of a draft, one after another, which can be refused so
 use Rattle.std.specs.Prelude.{◌≡◌, ◌≤◌, ⊤, ℕ, List, Bool, true, false, length, bytes_eq, Some, Result, Ok, Err, Contains}
 use Rattle.std.specs.List.{IsDistinct}
 use Rattle.tree_spec.specs.Limits.{limit_number}
@@ -83,11 +84,18 @@ LeavesDraft tree made (Err (Refused fault)) after = made ≡ Err fault
 LeavesDraft tree made (Err ReadFault) after = ⊤
 LeavesDraft tree made (Err Memory) after = ⊤
 
-pub record Makes (made : Draft → Result Draft EditFault) (asks : Draft → List (List ℕ)) (before : Work)
-    (result : Result (Unit {0}) ChangeStop) (after : Work) : Type 0 where
+abbrev pub CanStop : (EditFault → Type 0) → Result (Unit {0}) ChangeStop → Type 0
+CanStop Can (Ok done) = ⊤
+CanStop Can (Err (Refused fault)) = Can fault
+CanStop Can (Err ReadFault) = ⊤
+CanStop Can (Err Memory) = ⊤
+
+pub record Makes (made : Draft → Result Draft EditFault) (asks : Draft → List (List ℕ)) (Can : EditFault → Type 0)
+    (before : Work) (result : Result (Unit {0}) ChangeStop) (after : Work) : Type 0 where
   pub looks :
       LooksOn before.folder before.known after.folder after.known (result ≡ Err ReadFault) (result ≡ Err Memory)
       (λ tree path. (draft : Draft) → IsDraftOf tree before draft → Contains (asks draft) path)
   pub leaves :
       (tree : Tree) (draft : Draft) → before.folder.holds ≡ Some tree → IsDraftOf tree before draft
       → LeavesDraft tree (made draft) result after
+  pub kind : CanStop Can result

@@ -2,11 +2,13 @@
 --     IsOpened tree config session    a session as it is opened on a tree: nothing is laid, and its map is the tree's
 --     OpensSession config before result after         the opening of a session
 --     IfRefused P stop                of the line that is said of a refusal, this
+--     StopsEdit state edit stop       this is why the edit isn't prepared
+--     CanStopEdit config edit stop    it can be, whatever the folder tells
 --     IsEditLook state edit path      the edit looks there, or the generation for what it leaves does
 --     Accepts tree state edit session the edit is accepted, and the state that it leads to is pending
 --     Prepares before old edit result after new       an edit that is prepared
 --     Commits old new                 what is pending becomes the state
-use Rattle.std.specs.Prelude.{◌≡◌, ⊤, ℕ, List, true, None, Result, Err, IfOk, IfErr, IfSome, OnOk, OnErr}
+use Rattle.std.specs.Prelude.{◌≡◌, ⊤, ℕ, List, true, Some, None, Result, Err, IfOk, IfErr, IfSome, OnOk, OnErr}
 use Rattle.std.specs.Prelude.{Contains, is_some, Ok}
 use Rattle.std.specs.FinMap.{get}
 use Rattle.tree_spec.specs.LookAskings.{footprint}
@@ -18,18 +20,21 @@ use Rattle.config_spec.specs.declared.Command.TheVariants.{Refresh}
 use Rattle.generator_spec.specs.Commands.{Refuses, IsRefusalOf}
 use Rattle.generator_spec.specs.Generation.{PageIsFile}
 use Rattle.generator_spec.specs.Lines.{line_of}
+use Rattle.generator_spec.specs.declared.Refusal.{Refusal}
 use Rattle.package_lookup.specs.Looked.{kept_at, laid_at}
 use Rattle.generation.specs.declared.stop.Stop.{Stop}
 use Rattle.generation.specs.declared.stop.Stop.TheVariants as stop
 use Rattle.generation.specs.Generating as generating
 use Rattle.generation.specs.Generating.{AsksNoPathTwice, AsksFootprint}
 use Rattle.session_spec.specs.declared.Change.{Change}
+use Rattle.session_spec.specs.EditFaults.{CanRefuseEdit}
 use Rattle.session_spec.specs.Edits.{Draft, edited}
 use Rattle.session_spec.specs.Replies.{IsRefused, IsAccepted, fault_line}
 use Rattle.session_spec.specs.SessionStates.{SessionState, draft_of, config_with, IsCurrent}
 use Rattle.edit_session.specs.EditLooks.{edit_looks}
 use Rattle.edit_session.specs.NewLooks.{AsksKept, LooksNew}
 use Rattle.edit_session.specs.SessionTrees.{IsSessionOf, IsPendingOf}
+use Rattle.edit_session.specs.declared.session.Pending.{Pending}
 use Rattle.edit_session.specs.declared.session.Session.{Session}
 use Rattle.edit_session.specs.declared.stop.EditStop.{EditStop}
 use Rattle.edit_session.specs.declared.stop.EditStop.TheVariants.{Change as NoChange, Generation, ReadFault, Memory}
@@ -66,6 +71,27 @@ IfRefused P (Generation why) = P (line_of why)
 IfRefused P ReadFault = ⊤
 IfRefused P Memory = ⊤
 
+-- own: there is no map of what the edit leaves
+pub record LeavesNoMap (state : SessionState) (edit : List Change) (why : Refusal) : Type 0 where
+  pub draft : Draft
+  pub made : edited (draft_of state) edit ≡ Ok draft
+  pub refuses : Refuses draft.tree (config_with state.config draft.entries) Refresh why
+
+-- own: for this fault the first change that can't be made isn't, or for this refusal there is no map
+abbrev pub StopsEdit : SessionState → List Change → EditStop → Type 0
+StopsEdit state edit (NoChange fault) = edited (draft_of state) edit ≡ Err fault
+StopsEdit state edit (Generation why) = LeavesNoMap state edit why
+StopsEdit state edit ReadFault = ⊤
+StopsEdit state edit Memory = ⊤
+
+-- own: one of its changes can be refused so, or a map for the config with some entries
+abbrev pub CanStopEdit : Config → List Change → EditStop → Type 0
+CanStopEdit config edit (NoChange fault) = CanRefuseEdit edit fault
+CanStopEdit config edit (Generation why) =
+    (entries : List (List ℕ)) × IsRefusalOf (config_with config entries) Refresh why
+CanStopEdit config edit ReadFault = ⊤
+CanStopEdit config edit Memory = ⊤
+
 pub data IsEditLook (state : SessionState) (edit : List Change) (path : List ℕ) : Type 0 where
   of_change : Contains (edit_looks (draft_of state) edit) path → IsEditLook state edit path
   of_generation :
@@ -95,6 +121,10 @@ pub record Prepares (before : FolderState) (old : Session) (edit : List Change) 
       IfErr result (IfRefused (λ line. IfSome before.holds
       (λ tree. (state : SessionState) → IsSessionOf tree old state
       → IsRefused state (edited (draft_of state) edit) line)))
+  pub why :
+      IfErr result (λ stop. IfSome before.holds
+      (λ tree. (state : SessionState) → IsSessionOf tree old state → StopsEdit state edit stop))
+  pub kind : IfErr result (CanStopEdit old.config edit)
   pub stays :
       IfSome before.holds (λ tree. (state : SessionState) → IsSessionOf tree old state → IsSessionOf tree new state)
   pub pending : OnOk result (is_some new.pending ≡ true)
@@ -102,9 +132,16 @@ pub record Prepares (before : FolderState) (old : Session) (edit : List Change) 
 
 -- ---- a step
 
+-- own: laid looks, entries, map and counts are those that were pending, on any folder
+pub record StepsTo (old : Session) (pending : Pending) (new : Session) : Type 0 where
+  pub laid : new.known.laid ≡ pending.over
+  pub config : new.config ≡ config_with old.config pending.entries
+  pub generated : new.generated ≡ pending.generated
+
 pub record Commits (old new : Session) : Type 0 where
   pub becomes :
       (tree : Tree) (state next : SessionState) → IsSessionOf tree old state → IsPendingOf tree old next
       → IsSessionOf tree new next
+  pub steps : (pending : Pending) → old.pending ≡ Some pending → StepsTo old pending new
   pub kept : (path : List ℕ) → kept_at new.known path ≡ kept_at old.known path
   pub nothing_pending : new.pending ≡ None

@@ -1,11 +1,12 @@
 -- The steps of an edit.
 --     LeadsTo tree state edit config pending  the edit leads to what is pending, for this config
---     IsNotGenerated tree config line         there is no map, of which this line is said
+--     LacksMap tree config stop               for this reason there is no map
+--     CanLackMap config stop                  there can be none, whatever the folder tells
 --     IsAsBefore old new                      but for what is kept, the session is as before
 --     GeneratesNext before old over entries result after new      what is pending once the changes are made
 --     MakesNext before old edit result after new                  what is pending of an edit
 --     IsStep old pending new                  what is pending becomes the state
-use Rattle.std.specs.Prelude.{◌≡◌, ℕ, List, Some, Result, Err, IfOk, IfErr, Contains}
+use Rattle.std.specs.Prelude.{◌≡◌, ⊤, ℕ, List, Some, Result, Err, IfOk, IfErr, Contains}
 use Rattle.std.specs.FinMap.{get}
 use Rattle.tree_spec.specs.LookAskings.{footprint}
 use Rattle.tree_spec.specs.States.{FolderState}
@@ -13,24 +14,21 @@ use Rattle.tree_spec.specs.Trees.{Tree}
 use Rattle.trace_spec.specs.Modules.{Config}
 use Rattle.trace_spec.specs.Traces.{generation}
 use Rattle.config_spec.specs.declared.Command.TheVariants.{Refresh}
-use Rattle.generator_spec.specs.Commands.{Refuses}
-use Rattle.generator_spec.specs.Lines.{line_of}
-use Rattle.generator_spec.specs.declared.Refusal.{Refusal}
+use Rattle.generator_spec.specs.Commands.{Refuses, IsRefusalOf}
 use Rattle.package_lookup.specs.declared.over.Over.{Over}
 use Rattle.package_lookup.specs.LaidTrees.{StandsBehind, IsLaid}
 use Rattle.package_lookup.specs.Looked.{over_at}
 use Rattle.session_spec.specs.declared.Change.{Change}
-use Rattle.session_spec.specs.Edits.{edited}
-use Rattle.session_spec.specs.Replies.{IsRefused, IsAccepted}
-use Rattle.session_spec.specs.SessionStates.{SessionState, draft_of, config_with, IsGenerated}
+use Rattle.session_spec.specs.Replies.{IsAccepted}
+use Rattle.session_spec.specs.SessionStates.{SessionState, config_with, IsGenerated}
 use Rattle.edit_session.specs.LooksOn.{LooksOn}
-use Rattle.edit_session.specs.Sessions.{IsEditLook, IfRefused}
+use Rattle.edit_session.specs.Sessions.{IsEditLook, StopsEdit, CanStopEdit}
 use Rattle.edit_session.specs.SessionTrees.{IsSessionOf, IsStateOf, counts_in}
 use Rattle.edit_session.specs.Trying.{IfLaid}
 use Rattle.edit_session.specs.declared.session.Pending.{Pending}
 use Rattle.edit_session.specs.declared.session.Session.{Session}
 use Rattle.edit_session.specs.declared.stop.EditStop.{EditStop}
-use Rattle.edit_session.specs.declared.stop.EditStop.TheVariants.{ReadFault, Memory}
+use Rattle.edit_session.specs.declared.stop.EditStop.TheVariants.{Change as NoChange, Generation, ReadFault, Memory}
 
 pub record LeadsTo (tree : Tree) (state : SessionState) (edit : List Change) (config : Config)
     (pending : Pending) : Type 0 where
@@ -39,11 +37,18 @@ pub record LeadsTo (tree : Tree) (state : SessionState) (edit : List Change) (co
   pub is_state : IsStateOf tree pending.over (config_with config pending.entries) pending.generated next
   pub accepted : IsAccepted state edit next line
 
--- own: this line is said of why there is no map
-pub record IsNotGenerated (tree : Tree) (config : Config) (line : List ℕ) : Type 0 where
-  pub why : Refusal
-  pub refuses : Refuses tree config Refresh why
-  pub said : line ≡ line_of why
+-- own: a generation stops for no change
+abbrev pub LacksMap : Tree → Config → EditStop → Type 0
+LacksMap tree config (NoChange fault) = ⊥
+LacksMap tree config (Generation why) = Refuses tree config Refresh why
+LacksMap tree config ReadFault = ⊤
+LacksMap tree config Memory = ⊤
+
+abbrev pub CanLackMap : Config → EditStop → Type 0
+CanLackMap config (NoChange fault) = ⊥
+CanLackMap config (Generation why) = IsRefusalOf config Refresh why
+CanLackMap config ReadFault = ⊤
+CanLackMap config Memory = ⊤
 
 -- own: but for what is kept, the session is as before
 pub record IsAsBefore (old new : Session) : Type 0 where
@@ -64,8 +69,9 @@ pub record GeneratesNext (before : FolderState) (old : Session) (over : Over) (e
       IfOk result (λ pending. IfLaid before old.known over (λ seen.
       IsGenerated seen (config_with old.config entries) pending.generated.map.items (counts_in pending.generated)))
   pub refused :
-      IfErr result (IfRefused (λ line. IfLaid before old.known over
-      (λ seen. IsNotGenerated seen (config_with old.config entries) line)))
+      IfErr result (λ stop. IfLaid before old.known over
+      (λ seen. LacksMap seen (config_with old.config entries) stop))
+  pub kind : IfErr result (CanLackMap (config_with old.config entries))
 
 pub record MakesNext (before : FolderState) (old : Session) (edit : List Change) (result : Result Pending EditStop)
     (after : FolderState) (new : Session) : Type 0 where
@@ -77,8 +83,9 @@ pub record MakesNext (before : FolderState) (old : Session) (edit : List Change)
       IfOk result (λ pending. (tree : Tree) (state : SessionState) → before.holds ≡ Some tree
       → IsSessionOf tree old state → LeadsTo tree state edit old.config pending)
   pub refused :
-      IfErr result (IfRefused (λ line. (tree : Tree) (state : SessionState) → before.holds ≡ Some tree
-      → IsSessionOf tree old state → IsRefused state (edited (draft_of state) edit) line))
+      IfErr result (λ stop. (tree : Tree) (state : SessionState) → before.holds ≡ Some tree
+      → IsSessionOf tree old state → StopsEdit state edit stop)
+  pub kind : IfErr result (CanStopEdit old.config edit)
 
 pub record IsStep (old : Session) (pending : Pending) (new : Session) : Type 0 where
   pub laid : new.known.laid ≡ pending.over

@@ -8,7 +8,7 @@ use Rattle.tree_spec.specs.Trees.{Tree}
 use Rattle.trace_spec.specs.Modules.{Config}
 use Rattle.trace_spec.specs.Traces.{generation}
 use Rattle.config_spec.specs.declared.Command.TheVariants.{Refresh}
-use Rattle.generator_spec.specs.Commands.{Refuses}
+use Rattle.generator_spec.specs.Commands.{Refuses, IsRefusalOf}
 use Rattle.package_lookup.specs.declared.known.Known.{Known}
 use Rattle.package_lookup.specs.declared.over.Over.{Over}
 use Rattle.package_lookup.specs.LaidTrees.{StandsBehind, IsLaid}
@@ -39,3 +39,4 @@ pub record TriesMap (before : FolderState) (known : Known) (config : Config) (ov
   pub refused :
       IfErr result (IfRefused (λ why. IfLaid before known over
       (λ seen. Refuses seen (config_with config entries) Refresh why)))
+  pub kind : IfErr result (IfRefused (λ why. IsRefusalOf (config_with config entries) Refresh why))

@@ -1,6 +1,7 @@
 ghost use Rattle.std.specs.Prelude.{false, Ok, Err};
 ghost use Rattle.std.specs.FinMap.{get};
 ghost use Rattle.session_spec.specs.Edits.{changed, edited};
+ghost use Rattle.session_spec.specs.EditFaults.{CanRefuseChange, CanRefuseEdit};
 ghost use Rattle.edit_session.specs.EditLooks.{change_looks, edit_looks};
 ghost use Rattle.edit_session.specs.Making.{work, IsAllowed, Makes};
 
@@ -22,7 +23,7 @@ pub(crate) fn make_all<F: Folder>(
     folder: &mut F,
     edit: &[Change],
 ) -> Result<(), ChangeStop>
-    ensures { Makes (λ draft. edited draft edit.now) (λ draft. edit_looks draft edit.now)
+    ensures { Makes (λ draft. edited draft edit.now) (λ draft. edit_looks draft edit.now) (CanRefuseEdit edit.now)
         (work (F.state folder.old) known.old over.old entries.old) result
         (work (F.state folder.new) known.new over.new entries.new) }
 {
@@ -46,7 +47,7 @@ fn make<F: Folder>(
     change: &Change,
 ) -> Result<(), ChangeStop>
     ensures { Makes (λ draft. changed draft change.now) (λ draft. change_looks (get draft.tree) change.now)
-        (work (F.state folder.old) known.old over.old entries.old) result
+        (CanRefuseChange change.now) (work (F.state folder.old) known.old over.old entries.old) result
         (work (F.state folder.new) known.new over.new entries.new) }
 {
     match change {

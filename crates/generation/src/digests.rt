@@ -16,7 +16,7 @@ type Digests = BTreeMap<Text, Text>;
 /// The digests of a trace's modules, each under the module's URL. A URL stands there once.
 pub(crate) fn digests(alloc: Global, config: &Config, trace: &Trace) -> Result<Mappings, Memory>
     ensures { IfOk result (λ pairs. pairs
-        ≡ entries (definition.digests config.now trace.now.modules trace.now.sources)) }
+        ≡ entries (definition.digests config.now trace.now.gathered.modules trace.now.gathered.sources)) }
 {
     let mut kept = Digests::new(alloc);
     let mut place = trace.len();
@@ -35,7 +35,7 @@ fn put(
     trace: &Trace,
     place: usize,
 ) -> Result<(), Memory>
-    ensures { OnOk result (IsPut config.now trace.now place (kept_texts kept.old) (kept_texts kept.new)) }
+    ensures { OnOk result (IsPut config.now trace.now.gathered place (kept_texts kept.old) (kept_texts kept.new)) }
 {
     let url = trace.url(alloc, config.base(), place)?;
     let (Some(url), Some(bytes)) = (url, trace.bytes(place)) else {

@@ -108,9 +108,9 @@ fn map_of(
     trace: &Trace,
 ) -> Result<Generated, MapFault>
     requires { web_name config.now the_page ≡ Some page.now }
-    ensures map { IfOk result (IsMapOf config.now trace.now) }
-    ensures many { result ≡ Err MapFault.TooManyChoices → HasTooManyChoices trace.now.needs }
-    ensures too_large { result ≡ Err MapFault.MapTooLarge → HasLargeMap config.now trace.now }
+    ensures map { IfOk result (IsMapOf config.now trace.now.gathered) }
+    ensures many { result ≡ Err MapFault.TooManyChoices → HasTooManyChoices trace.now.gathered.needs }
+    ensures too_large { result ≡ Err MapFault.MapTooLarge → HasLargeMap config.now trace.now.gathered }
 {
     match layout(alloc, trace.needs()) {
         Ok(layout) => match printed(alloc, config, page, trace, &layout) {
@@ -132,10 +132,10 @@ fn printed(
     layout: &Layout,
 ) -> Result<Generated, PrintFault>
     requires page { web_name config.now the_page ≡ Some page.now }
-    requires fewest { FewestLists trace.now.needs layout.now }
-    requires few { HasTooManyChoices trace.now.needs → ⊥ }
-    ensures map { IfOk result (IsMapOf config.now trace.now) }
-    ensures too_large { result ≡ Err PrintFault.MapTooLarge → HasLargeMap config.now trace.now }
+    requires fewest { FewestLists trace.now.gathered.needs layout.now }
+    requires few { HasTooManyChoices trace.now.gathered.needs → ⊥ }
+    ensures map { IfOk result (IsMapOf config.now trace.now.gathered) }
+    ensures too_large { result ≡ Err PrintFault.MapTooLarge → HasLargeMap config.now trace.now.gathered }
 {
     let digests = digests(alloc, config, trace)?;
     let map = print_map(alloc, layout, &digests, page)?;

@@ -1,4 +1,5 @@
 ghost use Rattle.std.specs.Prelude.{◌+◌, length};
+ghost use Rattle.request_trace.specs.Showing.{gathered_of};
 ghost use Rattle.request_trace.specs.Tracing.{TakesSteps};
 ghost use Rattle.generation.specs.Generating.{Tracing, TracingOver};
 
@@ -18,8 +19,9 @@ pub fn traced<F: Folder, L: Ledger>(
     config: &Config,
     steps: &mut Steps<L>,
 ) -> Result<Trace, Stop>
-    ensures traces { Tracing config.now (F.state folder.old) result (F.state folder.new) }
-    ensures steps { TakesSteps result (λ all. length all.modules + length all.targets) steps.old steps.new }
+    ensures traces { Tracing config.now (F.state folder.old) (gathered_of result) (F.state folder.new) }
+    ensures steps { TakesSteps result (λ trace. length trace.gathered.modules + length trace.gathered.targets)
+        steps.old steps.new }
 {
     let mut known = Known::new(alloc);
     traced_over(alloc, folder, &mut known, config, steps)
@@ -33,8 +35,10 @@ pub(crate) fn traced_over<F: Folder, L: Ledger>(
     config: &Config,
     steps: &mut Steps<L>,
 ) -> Result<Trace, Stop>
-    ensures traces { TracingOver config.now (F.state folder.old) known.old result (F.state folder.new) known.new }
-    ensures steps { TakesSteps result (λ all. length all.modules + length all.targets) steps.old steps.new }
+    ensures traces { TracingOver config.now (F.state folder.old) known.old (gathered_of result) (F.state folder.new)
+        known.new }
+    ensures steps { TakesSteps result (λ trace. length trace.gathered.modules + length trace.gathered.targets)
+        steps.old steps.new }
 {
     match trace(alloc, folder, known, config, steps) {
         Err(fault) => Err(stop_of(fault)),

@@ -4,6 +4,7 @@ use Rattle.std.proofs.lemmas.List.{append-nil, append_assoc}
 use Rattle.tree_spec.specs.Counts.{Rose}
 use Rattle.tree_spec.specs.States.{FolderState, SourceState, SinkState, OnlyLooks}
 use Rattle.tree_spec.specs.Trees.{Tree}
+use Rattle.tree_spec.proofs.FootprintSets.{distinct_none}
 use Rattle.tree_spec.proofs.ToldStates.{if_some, if_all}
 use Rattle.words_spec.proofs.ReadIsPlain.{read_is_plain}
 use Rattle.words_spec.specs.PlainWords.{editing, refreshing}
@@ -26,10 +27,10 @@ use Rattle.generator_spec.specs.Lines.{status_of, line_of, memory_line, read_fau
 use Rattle.generator_spec.specs.Outcome.{RefusesRun, RefusesRun as refuses_run}
 use Rattle.generator_spec.specs.Statuses.{memory_status, read_fault_status}
 use Rattle.session_input.proofs.ReaderLemmas.{takes_none}
-use Rattle.session_run.proofs.SessionLemmas.{maps_serve}
+use Rattle.soundness.proofs.SessionMaps.{session_maps_serve}
 use Rattle.session_spec.specs.SessionRuns as runs
 use Rattle.session_spec.specs.SessionRuns.{IsSessionShaped as shaped, RepliesTo as replies_to}
-use Rattle.session_spec.specs.SessionRuns.{refresh_words, AsksOnce, NoFault, RepliesTo, SessionSays, SessionStops, SessionEnds}
+use Rattle.session_spec.specs.SessionRuns.{refresh_words, AsksOnce, IsAwaited, MapsServe, NoFault, RepliesTo, RepliesToAll, SessionComesTo, SessionSays, SessionStops, SessionEnds}
 use Rattle.generator_core.specs.Configuring.{StopsConfig, StopsConfig as stops_config}
 use Rattle.generator_core.specs.Writing.{TellsStop, TellsWords}
 use Rattle.generator_core.proofs.Endings.{some_same, still}
@@ -46,22 +47,34 @@ refreshes = record {
 -- ---- a session behind the look at the project
 
 module _ (before middle after : FolderState) (same_tree : middle.holds ≡ before.holds) (quiet : middle.look_faults ≡ before.look_faults) (source later : SourceState) (taken : List ℕ) where
-  of_before : {P : Tree → Type 0} → IfSome middle.holds P → IfSome before.holds P
-  of_before {P} told = subst (λ (held : Option Tree). IfSome held P) same_tree told
+  of_before : (P : Tree → Type 0) → IfSome middle.holds P → IfSome before.holds P
+  of_before P told = subst (λ (held : Option Tree). IfSome held P) same_tree told
+
+  abbrev Comes : ℕ → List ℕ → Tree → Type 0
+  Comes status text tree = SessionComesTo tree taken status text
+
+  abbrev ComesWhole : ℕ → List ℕ → Tree → Type 0
+  ComesWhole status text tree = IfSome source.left (λ input. SessionComesTo tree input status text)
+
+  abbrev Replied : List ℕ → Tree → Type 0
+  Replied front tree = RepliesTo tree taken front
+
+  abbrev AllReplied : List ℕ → Tree → Type 0
+  AllReplied front tree = RepliesToAll tree taken front
 
   no_fault : NoFault middle after source later → NoFault before after source later
   no_fault none = (none.0 ∙ quiet, none.1)
 
   says_before : (status : ℕ) (text : List ℕ) → SessionSays middle after source later taken status text → SessionSays before after source later taken status text
-  says_before status text (runs.outcome shaped none here whole) = runs.outcome shaped (no_fault none) (of_before here) (of_before whole)
-  says_before status text (runs.memory front none told is_status is_text) = runs.memory front (no_fault none) (of_before told) is_status is_text
+  says_before status text (runs.outcome shaped none here whole) = runs.outcome shaped (no_fault none) (of_before (Comes status text) here) (of_before (ComesWhole status text) whole)
+  says_before status text (runs.memory front none told is_status is_text) = runs.memory front (no_fault none) (of_before (Replied front) told) is_status is_text
   says_before status text (runs.look_fault front rose same told is_status is_text) =
-      runs.look_fault front (subst (λ (n : ℕ). Rose n after.look_faults) quiet rose) same (of_before told) is_status is_text
-  says_before status text (runs.take_fault front same rose told is_status is_text) = runs.take_fault front (same ∙ quiet) rose (of_before told) is_status is_text
+      runs.look_fault front (subst (λ (n : ℕ). Rose n after.look_faults) quiet rose) same (of_before (Replied front) told) is_status is_text
+  says_before status text (runs.take_fault front same rose told is_status is_text) = runs.take_fault front (same ∙ quiet) rose (of_before (AllReplied front) told) is_status is_text
 
   stops_before : (out gone : SinkState) (result : ℕ) → SessionStops middle after source later taken out gone result → SessionStops before after source later taken out gone result
   stops_before out gone result (runs.said status text says ends) = runs.said status text (says_before status text says) ends
-  stops_before out gone result (runs.cut_off text none told is_status gives rose) = runs.cut_off text (no_fault none) (of_before told) is_status gives rose
+  stops_before out gone result (runs.cut_off text none told is_status gives rose) = runs.cut_off text (no_fault none) (of_before (Replied text) told) is_status gives rose
 
 asks_both :
     (middle after : FolderState) (told : Option (List (List ℕ))) → IfSome told (λ old. AsksOwn (project_path ∷ []) old middle) → IfSome middle.asked (λ old. AsksNoPathTwice old after)
@@ -84,10 +97,10 @@ ends_before before middle after source later out gone result looked own more is 
       output_later = is.output_later;
       taken = is.taken;
       takes = is.takes;
-      awaited = of_before before middle after looked.tree quiet source later is.taken is.awaited;
+      awaited = of_before before middle after looked.tree quiet source later is.taken (λ tree. IsAwaited tree is.taken) is.awaited;
       asked = asks_both middle after before.asked own more;
       stops = stops_before before middle after looked.tree quiet source later is.taken out gone result is.stops;
-      serves = of_before before middle after looked.tree quiet source later is.taken is.serves;
+      serves = of_before before middle after looked.tree quiet source later is.taken (λ tree. MapsServe tree is.taken) is.serves;
     }
 
 -- ---- a session that isn't opened
@@ -108,9 +121,9 @@ module _ (before after : FolderState) (source : SourceState) (out gone : SinkSta
     taken = [];
     takes = takes_none source;
     awaited = if_all before.holds (λ tree. inl refl);
-    asked = if_some before.asked (λ old is. record { first = is.first; is_first = is.is_own; more = []; asked = is.asked ∙ ap (λ (new : List (List ℕ)). Some (old ++ new)) (sym (append-nil is.first)); once = tt }) own;
+    asked = if_some before.asked (λ old is. record { first = is.first; is_first = is.is_own; more = []; asked = is.asked ∙ ap (λ (new : List (List ℕ)). Some (old ++ new)) (sym (append-nil is.first)); once = distinct_none }) own;
     stops = stops;
-    serves = if_all before.holds (λ tree. maps_serve tree []);
+    serves = if_all before.holds (λ tree. session_maps_serve tree []);
   }
 
   memory_at_once : after.look_faults ≡ before.look_faults → Ends memory_status memory_line out gone result → StopsAtOnce

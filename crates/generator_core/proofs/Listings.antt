@@ -3,9 +3,12 @@ use Rattle.std.proofs.Common.{◌≡◌, ◌≤◌, ◌<◌, ◌+◌, ◌++◌, 
 use Rattle.std.proofs.lemmas.List.{append-nil, drop_all}
 use Rattle.std.specs.FinMap.{get}
 use Rattle.std.specs.List.{concat}
-use Rattle.std.specs.Prelude.{All, slice_get}
+use Rattle.std.specs.Prelude.{All, option_map, slice_get}
 use Rattle.std.proofs.lemmas.List.Elements.{All-nil, All-cons}
+use Rattle.module_graph.specs.declared.module.Module as vertex
 use Rattle.primitives.proofs.ListSteps.{drop_at}
+use Rattle.trace_graph.specs.Links.{module_of, source_of}
+use Rattle.trace_graph.proofs.Showing.{as_many_specifiers}
 use Rattle.tree_spec.specs.States.{FolderState, SinkState, OnlyLooks}
 use Rattle.tree_spec.specs.Trees.{Tree}
 use Rattle.tree_spec.proofs.ToldStates.{if_all, if_two, looks_as}
@@ -30,6 +33,25 @@ use Rattle.generator_core.proofs.Preparings.{asks_few}
 use Rattle.generator_core.proofs.Endings.{ends_as}
 
 -- ---- the text
+
+same_some : {A : Type 0} (x y : A) → Some x ≡ Some y → x ≡ y
+same_some x y same = cc
+
+-- the module at a place, as a graph shows it
+module _ (all : Gathered) (place : ℕ) (found : Option vertex.Module) (modules : option_map module_of found ≡ slice_get all.modules place) where
+  pub no_line : (text : List ℕ) → found ≡ None → IsPushed all place text text
+  no_line text none = λ m source at read. (let same : None ≡ Some m = sym (ap (option_map module_of) none) ∙ (modules ∙ at) in absurd (cc))
+
+  pub line_pushed :
+      (v : vertex.Module) (old new path suffix : List ℕ) (count : ℕ) → found ≡ Some v → option_map source_of found ≡ slice_get all.sources place → path ≡ v.path → suffix ≡ v.suffix
+      → count ≡ length v.requests.value → new ≡ old ++ module_line (path ++ suffix) count → IsPushed all place old new
+  line_pushed v old new path suffix count here sources path_is suffix_is count_is line = λ m source at read.
+      let m_is = same_some (module_of v) m (sym (ap (option_map module_of) here) ∙ (modules ∙ at)) in
+      let source_is = same_some (source_of v) source (sym (ap (option_map source_of) here) ∙ (sources ∙ read)) in
+      let path_same = path_is ∙ ap (λ (n : Module). n.path) m_is in
+      let suffix_same = suffix_is ∙ ap (λ (n : Module). n.suffix) m_is in
+      let count_same = count_is ∙ (as_many_specifiers v ∙ ap (λ (s : Source). length s.specifiers) source_is) in
+      line ∙ (λ i. old ++ module_line (path_same i ++ suffix_same i) (count_same i))
 
 some_at : {A : Type 0} (xs : List A) (place : ℕ) → place < length xs → (x : A) × (slice_get xs place ≡ Some x)
 some_at [] place below = absurd (omega (arith, below))

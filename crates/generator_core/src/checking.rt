@@ -156,7 +156,7 @@ fn checked_by<F: Folder, L: Ledger>(
 
 // What the map doesn't serve of a trace's needs.
 fn report_of(alloc: Global, trace: &Trace, parsed: &ParsedMap) -> Result<Report, Memory>
-    ensures { IfOk result (IsReport parsed.now trace.now) }
+    ensures { IfOk result (IsReport parsed.now trace.now.gathered) }
 {
     let differences = check_map(alloc, trace.needs(), parsed)?;
     if differences.len() == 0 {
@@ -178,7 +178,7 @@ fn served(alloc: Global, needs: usize) -> Result<Report, Memory>
 fn differing(alloc: Global, trace: &Trace, differences: &Differences) -> Result<Report, Memory>
     ensures status { IfOk result (λ report. report.status ≡ differences_status) }
     ensures text { IfOk result (λ report. report.text.items
-        ≡ concat (map (λ d. difference_line trace.now (shown d)) differences.now)
+        ≡ concat (map (λ d. difference_line trace.now.gathered (shown d)) differences.now)
         ++ spec.differences_line (length differences.now)) }
 {
     let mut text = difference_text(alloc, trace, differences)?;
@@ -197,7 +197,7 @@ fn difference_text(
     differences: &Differences,
 ) -> Result<Vec<u8>, Memory>
     ensures { IfOk result (λ text. text.items
-        ≡ concat (map (λ d. difference_line trace.now (shown d)) differences.now)) }
+        ≡ concat (map (λ d. difference_line trace.now.gathered (shown d)) differences.now)) }
 {
     let mut text = Vec::new(alloc);
     for number in 0..differences.len() {
@@ -216,7 +216,7 @@ fn push_difference(
     difference: &Difference,
 ) -> Result<(), Memory>
     ensures { OnOk result (text.new.items
-        ≡ text.old.items ++ difference_line trace.now (shown difference.now)) }
+        ≡ text.old.items ++ difference_line trace.now.gathered (shown difference.now)) }
 {
     let (referrer, specifier) = spelled(trace, difference.need);
     let wants = wanted(trace, difference.need);
@@ -226,8 +226,8 @@ fn push_difference(
 
 // How a need is first spelled: who asks, and the specifier.
 fn spelled(trace: &Trace, number: usize) -> (&str, &str)
-    ensures referrer { result.0.now ≡ (spec_at.spelling_at trace.now number).referrer }
-    ensures specifier { result.1.now ≡ (spec_at.spelling_at trace.now number).specifier }
+    ensures referrer { result.0.now ≡ (spec_at.spelling_at trace.now.gathered number).referrer }
+    ensures specifier { result.1.now ≡ (spec_at.spelling_at trace.now.gathered number).specifier }
 {
     match trace.spelling(number) {
         None => ("", ""),
@@ -237,7 +237,7 @@ fn spelled(trace: &Trace, number: usize) -> (&str, &str)
 
 // What has to come of a need.
 fn wanted(trace: &Trace, number: usize) -> &str
-    ensures { result.now ≡ (spec_at.need_at trace.now number).target }
+    ensures { result.now ≡ (spec_at.need_at trace.now.gathered number).target }
 {
     match trace.needs().at(number) {
         None => "",

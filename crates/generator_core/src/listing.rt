@@ -1,16 +1,17 @@
 //! What a list says of the modules, or why it says nothing.
 
-ghost use Rattle.std.specs.Prelude.{◌≡◌, ◌≤◌, ◌+◌, IfOk, OnOk};
+ghost use Rattle.std.specs.Prelude.{◌≡◌, ◌≤◌, ◌+◌, IfOk, OnOk, option_map, slice_get};
 ghost use Rattle.std.specs.List.{concat};
 ghost use Rattle.tree_spec.specs.declared.LimitName.TheVariants.{Modules, Requests};
 ghost use Rattle.tree_spec.specs.Limits.{limit_number};
+ghost use Rattle.trace_graph.specs.Links.{module_of, source_of};
 ghost use Rattle.generator_spec.specs.Listing.{list_lines};
 ghost use Rattle.generator_core.specs.Listing.{IsPushed, Lists};
 
 use crate::checking::Report;
 use generation::{Stop, traced};
 use primitives::{Memory, Steps};
-use request_trace::{Config, Trace};
+use request_trace::{Config, ModuleView, Trace};
 use run_texts::{DONE, push_module_line};
 use std::alloc::Global;
 use std::sync::ledger::Ledger;
@@ -37,7 +38,7 @@ pub fn listed<F: Folder, L: Ledger>(
 
 // The line of each module, in the order of the trace.
 fn module_text(alloc: Global, trace: &Trace) -> Result<Vec<u8>, Memory>
-    ensures { IfOk result (λ text. text.items ≡ concat (list_lines trace.now)) }
+    ensures { IfOk result (λ text. text.items ≡ concat (list_lines trace.now.gathered)) }
 {
     let mut text = Vec::new(alloc);
     for place in 0..trace.len() {
@@ -47,13 +48,28 @@ fn module_text(alloc: Global, trace: &Trace) -> Result<Vec<u8>, Memory>
 }
 
 fn push_module(alloc: Global, text: &mut Vec<u8>, trace: &Trace, place: usize) -> Result<(), Memory>
-    ensures { OnOk result (IsPushed trace.now place text.old.items text.new.items) }
+    ensures { OnOk result (IsPushed trace.now.gathered place text.old.items text.new.items) }
 {
-    let (Some(path), Some(suffix)) = (trace.path(place), trace.suffix(place)) else {
-        return Ok(());
-    };
-    let Some(requests) = trace.requests(place) else {
-        return Ok(());
-    };
-    push_module_line(alloc, text, path.as_str(), suffix, requests)
+    match module_at(trace, place) {
+        None => Ok(()),
+        Some(module) => push_module_line(
+            alloc,
+            text,
+            module.path().as_str(),
+            module.suffix(),
+            module.requests(),
+        ),
+    }
+}
+
+// The module at a place, as the trace's graph shows it.
+fn module_at(trace: &Trace, place: usize) -> Option<ModuleView<'_>>
+    ensures module { option_map module_of result ≡ slice_get trace.now.gathered.modules place }
+    ensures source { option_map source_of result ≡ slice_get trace.now.gathered.sources place }
+{
+    let graph = trace.view();
+    match trace.slot(place) {
+        Some(slot) => graph.module(slot),
+        None => None,
+    }
 }

@@ -1,4 +1,4 @@
 pub mod WellMade
 pub mod Naming
 pub mod Many
-mod Dealing
+pub mod Dealing

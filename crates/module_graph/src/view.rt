@@ -9,6 +9,7 @@ use primitives::Bytes;
 use slot_arena::Slot;
 use std::marker::Model;
 use tree_model::Path;
+use web_url::Suffix;
 
 /// A graph that is looked at. It stays as it is for as long as a view is kept.
 #[derive(Drop)]
@@ -80,6 +81,13 @@ impl<'a> ModuleView<'a> {
         ensures { result.now ≡ self.now.suffix }
     {
         self.module.suffix.as_str()
+    }
+
+    /// The suffix as one of a URL.
+    pub fn as_suffix(&self) -> &'a Suffix
+        ensures { result.now ≡ self.now.suffix }
+    {
+        &self.module.suffix
     }
 
     /// The bytes of the module.

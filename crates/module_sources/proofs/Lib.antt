@@ -1,1 +1,2 @@
 mod SourceAnswers
+mod RequestSpans

@@ -3,8 +3,10 @@
 --     no_source_of why          why there is none
 --     source_in found           a source, or why there is none
 --     IsOfSource why            of the limits only those of a trace are passed
---     NamesLimit result         so it is where a call finds no source
-use Rattle.std.specs.Prelude.{map, ⊤, Result, Ok, Err, IfOk, IfErr}
+--     AreInside bytes requests  the literal of each request stands in these bytes
+--     IsSource found            a source, whose requests are inside its bytes; or why there is none
+--     FindsSource result        what a call finds is such
+use Rattle.std.specs.Prelude.{◌≤◌, ℕ, List, All, length, map, ⊤, Result, Ok, Err, IfOk}
 use Rattle.module_spec.specs.declared.request.Request.{Request}
 use Rattle.trace_spec.specs.Kinds.{IsTraceLimit}
 use Rattle.trace_spec.specs.Questions as spec
@@ -31,5 +33,12 @@ abbrev pub IsOfSource : NoSource → Type 0
 IsOfSource (NotModule reason) = ⊤
 IsOfSource (Above which) = IsTraceLimit which
 
-abbrev pub NamesLimit : {E : Type 0} → Result (Result Source NoSource) E → Type 0
-NamesLimit result = IfOk result (λ found. IfErr found IsOfSource)
+abbrev pub AreInside : List ℕ → List Request → Type 0
+AreInside bytes requests = All (λ request. (request.from ≤ request.to) × (request.to ≤ length bytes)) requests
+
+abbrev pub IsSource : Result Source NoSource → Type 0
+IsSource (Ok source) = AreInside source.bytes.value source.requests.value
+IsSource (Err why) = IsOfSource why
+
+abbrev pub FindsSource : {E : Type 0} → Result (Result Source NoSource) E → Type 0
+FindsSource result = IfOk result IsSource

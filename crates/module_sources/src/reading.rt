@@ -1,4 +1,4 @@
-ghost use Rattle.std.specs.Prelude.{◌≡◌, ◌≤◌, ◌+◌, Bool, ℕ, List, Some, Result, Ok, Err, IfOk, IfErr};
+ghost use Rattle.std.specs.Prelude.{◌≡◌, ◌≤◌, ◌+◌, Bool, ℕ, List, Some, Result, Ok, Err, IfOk};
 ghost use Rattle.std.specs.Str.{is_utf8};
 ghost use Rattle.tree_spec.specs.declared.Entry.TheVariants.{Stored};
 ghost use Rattle.tree_spec.specs.LookLimits.{begun};
@@ -12,7 +12,7 @@ ghost use Rattle.package_lookup.specs.Responses.{given, fails, never, by_fault, 
 ghost use Rattle.package_lookup.specs.SeenLooks.{entry_of};
 ghost use Rattle.es_module_parser.specs.Faults.{IsFaultOf};
 ghost use Rattle.es_module_parser.specs.Outlines.{as_outline};
-ghost use Rattle.module_sources.specs.Shown.{source_in, IsOfSource, NamesLimit};
+ghost use Rattle.module_sources.specs.Shown.{source_in, AreInside, FindsSource, IsSource};
 
 use crate::{NoSource, Source};
 use es_module_parser::{Outline, OutlineFault, outline};
@@ -38,7 +38,7 @@ pub fn module_source<F: Folder, L: Ledger>(
     ensures answered { Answered (state (F.state folder.old) known.old (begun trail.old)) (spec.module_source path.now)
         (looked source_in result) (state (F.state folder.new) known.new trail.new) }
     ensures cost { steps.new ≤ steps.old + 1 }
-    ensures limit { NamesLimit result }
+    ensures is { FindsSource result }
 {
     match format_of(alloc, known, folder, trail, path) {
         Err(fault) => without_format(fault),
@@ -49,7 +49,7 @@ pub fn module_source<F: Folder, L: Ledger>(
 // The format of a file that isn't known, since a package.json has too many open brackets, is no source.
 fn without_format(fault: LookupFault) -> Result<Result<Source, NoSource>, LookupFault>
     ensures source { looked source_in result ≡ by_fault (fails never) (given (Err (spec.above LimitName.Depth))) fault }
-    ensures limit { NamesLimit result }
+    ensures is { FindsSource result }
 {
     match fault {
         LookupFault::Limit { which } => above_limit(which),
@@ -61,7 +61,7 @@ fn without_format(fault: LookupFault) -> Result<Result<Source, NoSource>, Lookup
 
 fn above_limit(which: LimitName) -> Result<Result<Source, NoSource>, LookupFault>
     ensures source { looked source_in result ≡ by_limit (given (Err (spec.above LimitName.Depth))) which }
-    ensures limit { NamesLimit result }
+    ensures is { FindsSource result }
 {
     match which {
         LimitName::Depth => Ok(Err(NoSource::Above { which })),
@@ -83,7 +83,7 @@ fn source_by_format<F: Folder, L: Ledger>(
         → Answered (state (F.state folder.old) known.old trail.old) (spec.by_format path.now found)
         (looked source_in result) (state (F.state folder.new) known.new trail.new) }
     ensures cost { steps.new ≤ steps.old + 1 }
-    ensures limit { NamesLimit result }
+    ensures is { FindsSource result }
 {
     match format {
         Format::Module => read_module(alloc, known, folder, trail, path, false, steps),
@@ -105,7 +105,7 @@ fn read_module<F: Folder, L: Ledger>(
     ensures answered { Answered (state (F.state folder.old) known.old trail.old) (spec.read_module is_detected path.now)
         (looked source_in result) (state (F.state folder.new) known.new trail.new) }
     ensures cost { steps.new ≤ steps.old + 1 }
-    ensures limit { NamesLimit result }
+    ensures is { FindsSource result }
 {
     match known.look(alloc, folder, path, trail) {
         Err(fault) => Err(fault),
@@ -121,7 +121,7 @@ fn source_seen<L: Ledger>(
 ) -> Result<Result<Source, NoSource>, Memory>
     ensures source { IfOk result (λ found. source_in found ≡ spec.by_entry is_detected (entry_of seen)) }
     ensures cost { steps.new ≤ steps.old + 1 }
-    ensures limit { NamesLimit result }
+    ensures is { FindsSource result }
 {
     match seen {
         Seen::Absent => Ok(unreadable(0)),
@@ -132,7 +132,7 @@ fn source_seen<L: Ledger>(
 
 fn unreadable(at: usize) -> Result<Source, NoSource>
     ensures source { source_in result ≡ Err (spec.not_module (Reason.Unreadable at)) }
-    ensures limit { IfErr result IsOfSource }
+    ensures is { IsSource result }
 {
     Err(NoSource::NotModule {
         reason: Reason::Unreadable { at },
@@ -147,7 +147,7 @@ fn source_of_bytes<L: Ledger>(
 ) -> Result<Result<Source, NoSource>, Memory>
     ensures source { IfOk result (λ found. source_in found ≡ spec.by_bytes is_detected bytes.value) }
     ensures cost { steps.new ≤ steps.old + 1 }
-    ensures limit { NamesLimit result }
+    ensures is { FindsSource result }
 {
     match std::str::from_utf8(bytes.as_bytes()) {
         Err(fault) => Ok(unreadable(fault.valid_up_to())),
@@ -162,7 +162,7 @@ fn source_of_bytes<L: Ledger>(
 fn without_outline(fault: OutlineFault) -> Result<Result<Source, NoSource>, Memory>
     ensures source { IfOk result (λ found. (text bytes : List ℕ) (is_detected : Bool) → IsFaultOf text fault
         → source_in found ≡ spec.by_outline is_detected bytes (read_outline text)) }
-    ensures limit { NamesLimit result }
+    ensures is { FindsSource result }
 {
     match fault {
         OutlineFault::Unreadable { at } => Ok(unreadable(at)),
@@ -183,9 +183,10 @@ fn source_of_outline(
     outline: Outline,
     is_detected: bool,
 ) -> Result<Result<Source, NoSource>, Memory>
+    requires { AreInside bytes.value outline.requests }
     ensures source { IfOk result (λ found. source_in found
         ≡ spec.by_outline is_detected bytes.value (Ok (as_outline outline))) }
-    ensures limit { NamesLimit result }
+    ensures is { FindsSource result }
 {
     if is_detected && !outline.declares {
         return Ok(Err(NoSource::NotModule {

@@ -1,7 +1,7 @@
 -- A question of a walk that is answered by looks, and the walk over these answers.
 --     answers_always       the answers are always the same, unless a limit stops them
 --     always_ready         an answerer that needs nothing to be ready
---     kind_of, limit_of    the limits of a module's source
+--     kind_of, found_of    why a module has no source, and that one that it has is right
 --     met_by               a question
 --     traces_by            the walk
 --     traces_moved         the same beside another name for the state
@@ -13,9 +13,9 @@
 use Rattle.std.proofs.Common.{◌≡◌, ◌≤◌, ◌+◌, ℕ, List, Option, Some, None, Result, Ok, Err, IfSome, refl, sym, ap, ◌∙◌, subst, arith}
 use Rattle.std.specs.Prelude.{◌≢◌, [], ◌∷◌, Contains, IfErr, IfOk, MatchResult, OnOk, ⊤}
 use Rattle.std.proofs.lemmas.List.Elements.{Contains-append_left}
-use Rattle.asking_spec.specs.Askings.{Asking, answered, ask, questions}
+use Rattle.asking_spec.specs.Askings.{answered, ask, questions}
 use Rattle.asking_spec.proofs.EvaluationLemmas.{ends_outcome}
-use Rattle.asking_spec.specs.Evaluation.{Ended, ends, stopped, then_ended, evaluated, AreAlways}
+use Rattle.asking_spec.specs.Evaluation.{Ended, ends, then_ended, evaluated, AreAlways}
 use Rattle.tree_spec.specs.declared.LimitName.{LimitName}
 use Rattle.tree_spec.specs.Limits.{limit_number}
 use Rattle.tree_spec.specs.declared.LimitName.TheVariants.{File, Bytes, Looks, Modules, ModuleRequests, Requests, Specifier, Entries, Brackets, Depth, Session, Map, Choices}
@@ -42,7 +42,7 @@ use Rattle.package_lookup.proofs.Learnings.{learns_as, learns_by, learns_at, lea
 use Rattle.trace_walk.specs.Meeting.{Told, Kept, IsTold, looks_of, IsAskedBy, Comes, Met, fine}
 use Rattle.module_sources.specs.declared.source.Source.{Source}
 use Rattle.module_sources.specs.declared.source.NoSource.{NoSource}
-use Rattle.module_sources.specs.Shown.{IsOfSource, NamesLimit}
+use Rattle.module_sources.specs.Shown.{FindsSource, IsSource}
 use Rattle.trace_walk.specs.Kinds.{IsOfAnswers, IsOfWalk}
 use Rattle.trace_walk.specs.Shown.{traced_of}
 use Rattle.trace_walk.specs.declared.tables.Tables.{Tables}
@@ -54,13 +54,13 @@ pub always_ready : {A E : Type 0} (result : Result A E) → OnOk result ⊤
 always_ready (Ok value) = tt
 always_ready (Err fault) = tt
 
-pub kind_of : (result : Result (Result Source NoSource) TraceFault) (P : Type 0) → MatchResult result (λ source. P → IfErr source IsOfSource) IsOfAnswers → IfErr result IsOfAnswers
+pub kind_of : (result : Result (Result Source NoSource) TraceFault) (P : Type 0) → MatchResult result (λ source. P → IsSource source) IsOfAnswers → IfErr result IsOfAnswers
 kind_of (Ok source) P is = tt
 kind_of (Err fault) P is = is
 
-pub limit_of : (result : Result (Result Source NoSource) TraceFault) (P : Type 0) → MatchResult result (λ source. P → IfErr source IsOfSource) IsOfAnswers → P → NamesLimit result
-limit_of (Ok source) P is holds = is holds
-limit_of (Err fault) P is holds = tt
+pub found_of : (result : Result (Result Source NoSource) TraceFault) (P : Type 0) → MatchResult result (λ source. P → IsSource source) IsOfAnswers → P → FindsSource result
+found_of (Ok source) P is holds = is holds
+found_of (Err fault) P is holds = tt
 
 abbrev Answering : Type 0
 Answering = Told Trail Question Answer

@@ -1,3 +1,6 @@
 mod FootprintPaths
 pub mod AnswerLemmas
 mod NamedModules
+mod Lending
+mod JoinedTables
+mod Showings

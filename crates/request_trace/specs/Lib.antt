@@ -1,3 +1,5 @@
 pub mod Answering
 pub mod Tracing
 pub mod Naming
+pub mod Joining
+pub mod Showing

@@ -1,5 +1,5 @@
 ghost use Rattle.std.specs.Prelude.{◌≡◌, ◌≢◌, Result, IfErr, MatchResult};
-ghost use Rattle.module_sources.specs.Shown.{source_in, IsOfSource, NamesLimit};
+ghost use Rattle.module_sources.specs.Shown.{source_in, FindsSource, IsSource};
 ghost use Rattle.node_resolve.specs.Places.{module_of};
 ghost use Rattle.node_resolve.specs.Responses.{responded};
 ghost use Rattle.node_spec.specs.NodeAnswers.{Module, Refusal};
@@ -78,7 +78,7 @@ fn source_answer(
 ) -> Result<Result<Source, NoSource>, TraceFault>
     requires { looked source_in found ≢ fails never }
     ensures is { sources result ≡ result_by (looked source_in found) }
-    ensures kind { MatchResult result (λ source. NamesLimit found → IfErr source IsOfSource) IsOfAnswers }
+    ensures kind { MatchResult result (λ source. FindsSource found → IsSource source) IsOfAnswers }
 {
     match found {
         Ok(source) => Ok(source),

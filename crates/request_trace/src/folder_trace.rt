@@ -1,4 +1,5 @@
-ghost use Rattle.std.specs.Prelude.{◌+◌, length};
+ghost use Rattle.std.specs.Prelude.{◌≡◌, ◌+◌, IfOk, length};
+ghost use Rattle.request_trace.specs.Showing.{gathered_of};
 ghost use Rattle.request_trace.specs.Tracing.{TakesSteps, Traces, TracesTables};
 
 use crate::folder_answers::FolderAnswers;
@@ -21,12 +22,16 @@ pub fn trace<F: Folder, L: Ledger>(
     config: &Config,
     steps: &mut Steps<L>,
 ) -> Result<Trace, TraceFault>
-    ensures traces { Traces config.now (F.state folder.old) known.old result (F.state folder.new) known.new }
-    ensures steps { TakesSteps result (λ trace. length trace.sources + length trace.targets) steps.old steps.new }
+    ensures traces { Traces config.now (F.state folder.old) known.old (gathered_of result) (F.state folder.new)
+        known.new }
+    ensures entries { IfOk result (λ trace. length trace.links.roots ≡ length config.now.entries) }
+    ensures steps { TakesSteps result (λ trace. length trace.gathered.sources + length trace.gathered.targets)
+        steps.old steps.new }
 {
     let base = config.base().copy(alloc)?;
     let tables = tables_of(alloc, folder, known, config, steps)?;
-    Ok(Trace::of(base, tables))
+    let trace = Trace::of(alloc, base, tables, config.entries().len())?;
+    Ok(trace)
 }
 
 // The tables of the trace.

@@ -8,8 +8,10 @@
 mod folder_answers;
 mod folder_trace;
 mod traces;
+mod vertices;
 
 pub use folder_trace::trace;
+pub use trace_graph::{ModuleView, Slot, View};
 pub use trace_spec::TraceFault;
 pub use trace_walk::Config;
 pub use traces::Trace;

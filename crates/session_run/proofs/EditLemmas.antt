@@ -17,7 +17,7 @@ use Rattle.session_spec.specs.Replies as replies
 use Rattle.session_spec.specs.Replies.{IsRefused, IsAccepted, Follows, Replies, fault_line, accepted_line}
 use Rattle.session_spec.specs.SessionStates.{SessionState, IsGenerated, draft_of, next_state}
 use Rattle.edit_session.specs.NewLooks.{AsksNew as LooksAsked, LooksNew}
-use Rattle.edit_session.specs.Sessions.{Prepares, Commits}
+use Rattle.edit_session.specs.Sessions.{Accepts, Prepares, Commits}
 use Rattle.edit_session.specs.SessionTrees.{IsSessionOf, shown_map, shown_counts}
 use Rattle.edit_session.specs.declared.session.Session.{Session}
 use Rattle.edit_session.specs.declared.stop.EditStop.{EditStop}
@@ -29,8 +29,8 @@ use Rattle.session_talk.specs.declared.editor.EditorFault.TheVariants.{ReadFault
 use Rattle.session_talk.proofs.AskLemmas.{some_of_keeping}
 use Rattle.session_run.specs.Editing.{IsToldBy, IsViewOf, look_state, SaysLine, SaysStop}
 
-pub at_tree : {P : Tree → Type 0} (told : Option Tree) (tree : Tree) → told ≡ Some tree → IfSome told P → P tree
-at_tree {P} told tree e p = subst (λ (t : Option Tree). IfSome t P) e p
+pub at_tree : (P : Tree → Type 0) (told : Option Tree) (tree : Tree) → told ≡ Some tree → IfSome told P → P tree
+at_tree P told tree e p = subst (λ (t : Option Tree). IfSome t P) e p
 
 -- ---- replies
 
@@ -51,25 +51,31 @@ module _ (before after : FolderState) (old new : Session) (edit : List Change) (
   abbrev left_view : EditorState
   left_view = record { told = view.told; faults = after.look_faults }
 
+  abbrev Stays : Tree → Type 0
+  Stays tree = (state : SessionState) → IsSessionOf tree old state → IsSessionOf tree new state
+
   told_still : (result : Result (Unit {0}) EditStop) → Prepares before old edit result after new → (told : Option SessionState) → IsToldBy before old told → IsToldBy after new told
   told_still result prepares None none = prepares.looks.looks.tree ∙ none
   told_still result prepares (Some state) stands = record {
     tree = stands.tree;
     holds = prepares.looks.looks.tree ∙ stands.holds;
-    is_state = at_tree before.holds stands.tree stands.holds prepares.stays state stands.is_state;
+    is_state = at_tree Stays before.holds stands.tree stands.holds prepares.stays state stands.is_state;
   }
 
   -- ---- what is refused
 
   module _ (fault : EditStop) (prepares : Prepares before old edit (Err fault) after new) where
+    abbrev IsWhyOf : List ℕ → Tree → Type 0
+    IsWhyOf line tree = (state : SessionState) → IsSessionOf tree old state → IsRefused state (edited (draft_of state) edit) line
+
     abbrev IsWhy : List ℕ → Type 0
-    IsWhy line = IfSome before.holds (λ tree. (state : SessionState) → IsSessionOf tree old state → IsRefused state (edited (draft_of state) edit) line)
+    IsWhy line = IfSome before.holds (IsWhyOf line)
 
     refused_replied : (line : List ℕ) → IsWhy line → (told : Option SessionState) → IsToldBy before old told → IfSome told (λ state. IsReplied state edit line told)
     refused_replied line why None none = tt
     refused_replied line why (Some state) stands = record {
       next = state;
-      replies = replies.refused (edited (draft_of state) edit) line (at_tree before.holds stands.tree stands.holds why state stands.is_state);
+      replies = replies.refused (edited (draft_of state) edit) line (at_tree (IsWhyOf line) before.holds stands.tree stands.holds why state stands.is_state);
       is_told = refl;
     }
 
@@ -102,6 +108,9 @@ module _ (before after : FolderState) (old new : Session) (edit : List Change) (
   -- ---- what is accepted
 
   module _ (closed : Session) (prepares : Prepares before old edit (Ok tt) after new) (commits : Commits new closed) where
+    abbrev Leads : Tree → Type 0
+    Leads tree = (state : SessionState) → IsSessionOf tree old state → Accepts tree state edit new
+
     record NextTold (told : Option SessionState) : Type 0 where
       pub later : Option SessionState
       pub is_told : IsToldBy after closed later
@@ -112,8 +121,8 @@ module _ (before after : FolderState) (old new : Session) (edit : List Change) (
     next_told None none = record { later = None; is_told = prepares.looks.looks.tree ∙ none; replied = tt; untold = λ e. refl }
     next_told (Some state) stands =
         let tree = stands.tree in
-        let accepts = at_tree before.holds tree stands.holds prepares.accepted state stands.is_state in
-        let stays = at_tree before.holds tree stands.holds prepares.stays state stands.is_state in
+        let accepts = at_tree Leads before.holds tree stands.holds prepares.accepted state stands.is_state in
+        let stays = at_tree Stays before.holds tree stands.holds prepares.stays state stands.is_state in
         let stands_now = commits.becomes tree state accepts.next stays accepts.is_pending in
         let line = accepts.accepted.said ∙ ap accepted_line stands_now.is_state.counts_are in
         record {

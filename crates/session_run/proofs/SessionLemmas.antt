@@ -22,16 +22,14 @@ use Rattle.generator_spec.specs.Lines.{status_of, line_of, limit_line, memory_li
 use Rattle.generator_spec.specs.Outcome.{RefusesRun, by_tree}
 use Rattle.generator_spec.specs.Statuses.{memory_status, read_fault_status}
 use Rattle.package_lookup.specs.Looked.{kept_at}
-use Rattle.soundness.proofs.Smallest.{generated_is_smallest}
-use Rattle.soundness.proofs.Sound.{sound, modules_are_known}
+use Rattle.soundness.proofs.SessionMaps.{session_maps_serve}
 use Rattle.session_input.proofs.ReaderLemmas.{takes_none}
 use Rattle.session_spec.specs.Conversations.{Answers, end_reply, bad_line}
 use Rattle.session_spec.specs.Replies.{accepted_line}
 use Rattle.session_spec.specs.SessionRuns as runs
-use Rattle.session_spec.specs.SessionRuns.{refresh_words, OpensAt, opens, opening_line, SessionComesTo, RepliesTo, unopened, RepliesToAll, IsAwaited, AsksOnce, MapsServe, NoFault, IsOpenedText, IsSessionShaped, SessionSays, SessionStops, SessionEnds}
+use Rattle.session_spec.specs.SessionRuns.{refresh_words, OpensAt, opens, opening_line, SessionComesTo, RepliesTo, unopened, RepliesToAll, IsAwaited, AsksOnce, NoFault, IsOpenedText, IsSessionShaped, SessionSays, SessionStops, SessionEnds}
 use Rattle.session_spec.specs.SessionStates.{SessionState, IsGenerated}
 use Rattle.session_spec.specs.Talks.{Standing, begun, Talks, still}
-use Rattle.session_spec.proofs.Talking.{talks_stay_current}
 use Rattle.edit_session.specs.NewLooks.{AsksKept}
 use Rattle.edit_session.specs.Sessions.{IsOpened, OpensSession}
 use Rattle.edit_session.specs.SessionTrees.{shown_counts}
@@ -45,21 +43,6 @@ use Rattle.session_talk.proofs.TalkLemmas.{gives_then, ends_then}
 use Rattle.session_run.specs.Editing.{IsToldBy, IsViewOf, look_state}
 use Rattle.session_run.specs.Sessions.{fresh, RefusedEnds, opened_line, OpenedEnds, wants, cut_off, replies}
 use Rattle.session_run.proofs.TalkLemmas.{begun_alone}
-
--- ---- maps
-
-pub maps_serve : (tree : Tree) (input : List ℕ) → MapsServe tree input
-maps_serve tree input _ out later (opens config map counts is generated) talks =
-    let state : SessionState = record { tree = tree; config = config; map = map; counts = counts } in
-    let current = talks_stay_current (begun state input) later out generated talks in
-    let last = later.state in (
-      current,
-      record {
-        serves = sound last.tree last.config last.map current.generates;
-        knows = modules_are_known last.tree last.config last.map current.generates;
-        smallest = generated_is_smallest last.tree last.config last.map current.generates;
-      },
-    )
 
 -- ---- what is asked
 
@@ -234,14 +217,14 @@ module _ (config : Config) (session : Session) where
         runs.take_fault (opened_line session ++ front) (same_faults quiet) rose (up (all_then taken front) told) is_status (with_line text front read_fault_line is_text)
 
     module _ (out gone : SinkState) (result : ℕ) (got : middle.got ≡ option_map (λ front. front ++ opened_line session) out.got) (quiet_out : middle.faults ≡ out.faults) where
-      pub stops_then : Stops first last later gone taken result → SessionStops before after source later taken out gone result
+      stops_then : Stops first last later gone taken result → SessionStops before after source later taken out gone result
       stops_then (talking.said status text says is) =
           runs.said status (opened_line session ++ text) (says_then status text says) (ends_then out middle gone (opened_line session) text status result got quiet_out is)
       stops_then (talking.cut_off text quiet told is_status gives rose) =
           runs.cut_off (opened_line session ++ text) (no_fault quiet) (up (front_then taken text) told) is_status (gives_then out.got middle.got gone.got (opened_line session) text got gives)
           (subst (λ (n : ℕ). Rose n gone.faults) quiet_out rose)
 
-    pub awaited_with : IfSome view.told (λ state. IsAwaitedBy state taken) → IfSome before.holds (λ tree. IsAwaited tree taken)
+    awaited_with : IfSome view.told (λ state. IsAwaitedBy state taken) → IfSome before.holds (λ tree. IsAwaited tree taken)
     awaited_with awaited = up (awaited_then taken) awaited
 
 -- ---- a session that is opened
@@ -290,7 +273,7 @@ module _ (config : Config) (before mid : FolderState) (session : Session) (openi
       awaited = none_awaited before.holds;
       asked = once_of before.asked mid opening.asked;
       stops = stops;
-      serves = if_all before.holds (λ tree. maps_serve tree []);
+      serves = if_all before.holds (λ tree. session_maps_serve tree []);
     }
 
     pub opened_ends : (after : FolderState) (later : SourceState) → OpenedEnds session mid after source later out gone result → SessionEnds before after source later out gone result
@@ -317,7 +300,7 @@ module _ (config : Config) (before mid : FolderState) (session : Session) (openi
           awaited = awaited_with config session before.holds told_first is_begun before mid after refl (quiet_opening config before mid session opening) view_first seen.at refl refl seen.is.faults source later middle done.taken done.awaited;
           asked = once_of before.asked after (asked_with config before mid session opening after closed asks);
           stops = stops_then config session before.holds told_first is_begun before mid after refl (quiet_opening config before mid session opening) view_first seen.at refl refl seen.is.faults source later middle done.taken out gone result got quiet done.stops;
-          serves = if_all before.holds (λ tree. maps_serve tree done.taken);
+          serves = if_all before.holds (λ tree. session_maps_serve tree done.taken);
         }
 
 -- ---- a session that isn't opened
@@ -334,7 +317,7 @@ module _ (config : Config) (before mid : FolderState) (source : SourceState) (ou
     awaited = none_awaited before.holds;
     asked = once_of before.asked mid opening.asked;
     stops = stopped why opening is;
-    serves = if_all before.holds (λ tree. maps_serve tree []);
+    serves = if_all before.holds (λ tree. session_maps_serve tree []);
   }
     where
       stopped : (why : Stop) → OpensSession config before (Err why) mid → RefusedEnds why out gone result → SessionStops before mid source source [] out gone result

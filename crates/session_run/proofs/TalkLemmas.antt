@@ -1,5 +1,5 @@
 -- Replies to the lines of an input, from the first on.
-use Rattle.std.proofs.Common.{◌≡◌, ◌++◌, [], ◌∷◌, ℕ, List, None, Ok, Err, refl, ap, ◌∙◌, subst, inl}
+use Rattle.std.proofs.Common.{◌≡◌, ◌++◌, [], ◌∷◌, ℕ, List, None, Ok, Err, refl, ap, ◌∙◌, subst, inl, arith}
 use Rattle.std.specs.Prelude.{option_map, take}
 use Rattle.tree_spec.specs.Limits.{limit_number}
 use Rattle.tree_spec.specs.States.{FolderState, SourceState, SinkState, IsGiven}
@@ -44,9 +44,9 @@ module _ (before : EditorState) (source later : SourceState) (out gone : SinkSta
 
 -- the references aside
 module _ (references : List ℕ) (before folder folder_last : FolderState) (old session session_last : Session) where
-  pub asks_from : (names : List ℕ) → folder ≡ folder_last → session ≡ session_last → AsksSome (look_state names before old) (look_state names folder session)
+  pub asks_from : (names names_last : List ℕ) → folder ≡ folder_last → session ≡ session_last → AsksSome (look_state names before old) (look_state names_last folder session)
       → AsksSome (look_state references before old) (look_state references folder_last session_last)
-  asks_from names same_folder same_session asks =
+  asks_from names names_last same_folder same_session asks =
       subst (λ (s : Session). AsksSome (look_state references before old) (look_state references folder_last s)) same_session
       (subst (λ (f : FolderState). AsksSome (look_state references before old) (look_state references f session)) same_folder
       renamed)
@@ -63,6 +63,7 @@ pub wants_reader : (before : EditorState) (source : SourceState) (out gone : Sin
 wants_reader before source out gone result is = record {
   taken = [];
   takes = takes_none source;
+  few = omega arith;
   awaited = if_all before.told (λ state. inl refl);
   stops = talking.said memory_status memory_line
       (talking.memory [] (record { editor_is = refl; source_is = refl }) (if_all before.told (λ state. record { later = begun_alone state; talks = still (begun_alone state) })) refl refl) is;

@@ -8,7 +8,7 @@ use Rattle.std.specs.List.{IsDistinct, AllByRecursion}
 use Rattle.std.specs.Prelude.{All, IfSome, bytes_eq}
 use Rattle.tree_spec.proofs.FootprintSets.{distinct_none}
 use Rattle.tree_spec.proofs.ToldStates.{if_some}
-use Rattle.session_talk.specs.EditorLooks.{LookState, AsksNew, AsksAndKeeps, OnlyAsks, AsksSome, AsksKeeping, TurnAsks}
+use Rattle.session_talk.specs.EditorLooks.{LookState, AsksNew, AsksAndKeeps, AsksSome, AsksKeeping, TurnAsks}
 
 -- ---- paths
 

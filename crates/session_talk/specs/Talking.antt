@@ -2,8 +2,8 @@
 --     Now                             all that a turn changes: who edits, what waits, the changes since a `begin`, the
 --                                     source and the sink
 --     StandsAt state taken text now   of these bytes all that doesn't wait is read, and this text is replied
---     IsAwaitedBy state taken         the last of these bytes were taken, all at once, where what came before them didn't
---                                     end the session
+--     IsAwaitedBy state taken         the last of these bytes were taken, all at once, where what came before them
+--                                     didn't end the session
 --     Goes Stands first now           so far nothing failed, and it stands so
 --     OrderedAt number order state taken text now      so, but the last line that is read isn't obeyed yet
 --     GoesOn first now, IsOrdered number order first now      so far nothing failed, and it stands in one of both ways
@@ -59,7 +59,8 @@ pub record StandsAt (state : SessionState) (taken text : List ℕ) (now : Now) :
   pub held : now.held ≡ at.held
   pub input : now.waiting.unread ≡ at.input
 
-pub record OrderedAt (number : ℕ) (order : Order) (state : SessionState) (taken text : List ℕ) (now : Now) : Type 0 where
+pub record OrderedAt (number : ℕ) (order : Order) (state : SessionState) (taken text : List ℕ)
+    (now : Now) : Type 0 where
   pub at : Standing
   pub talks : Talks (begun state taken) text at
   pub told : now.editor.told ≡ Some at.state
@@ -186,7 +187,8 @@ GivesReply reply out after None = Gave reply out after
 GivesReply reply out after (Some status) = CutOff reply out after status
 
 abbrev pub TellsEnd : ℕ → List ℕ → SinkState → SinkState → ℕ → Type 0
-TellsEnd status line out after result = Ends status line out after result ⊎ Ends memory_status memory_line out after result
+TellsEnd status line out after result =
+    Ends status line out after result ⊎ Ends memory_status memory_line out after result
 
 pub data Makes (before : EditorState) (edit : List Change) (out : SinkState) (after : EditorState)
     (out_after : SinkState) (result : Option ℕ) : Type 0 where

@@ -1,5 +1,5 @@
-//! What is replied to the lines of a session, over whoever makes its edits: `converse` reads line by line, replies before
-//! it takes more, and ends with the session's exit status.
+//! What is replied to the lines of a session, over whoever makes its edits: `converse` reads line by line, replies
+//! before it takes more, and ends with the session's exit status.
 #![tactic(auto)]
 
 mod editor;

@@ -8,3 +8,4 @@ pub mod Smallest
 pub mod Differing
 pub mod Checked
 pub mod Clashing
+pub mod SessionMaps

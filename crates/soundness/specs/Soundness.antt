@@ -15,6 +15,7 @@
 --     ModulesAreKnown      what is generated has the digest of each module that the page reaches
 --     MapsArePlain      what is generated holds no markup
 --     OneMapInPage      a page into which it is put has it as its one map
+--     SessionMapsServe      wherever a session stands that is opened on a tree, its map is generated and serves
 use Rattle.std.specs.FinMap.{get}
 use Rattle.std.specs.Prelude.{◌≡◌, ℕ, List, [], Some, Ok, Contains}
 use Rattle.std.specs.Str.{IsUtf8}
@@ -42,6 +43,7 @@ use Rattle.generator_spec.specs.Digests.{with_digests}
 use Rattle.generator_spec.specs.Ending.{IsGenerated}
 use Rattle.generator_spec.specs.Generation.{Generates, map_base}
 use Rattle.generator_spec.specs.Serves.{IsSmallest, KnowsModules, Serves}
+use Rattle.session_spec.specs.SessionRuns as sessions
 
 -- own: in the map's integrity stand texts under URLs, whatever they are
 abbrev pub HasDigests : ParsedMap → Type 0
@@ -138,3 +140,8 @@ abbrev pub OneMapInPage : Type 0
 OneMapInPage =
     (tree : Tree) (config : Config) (map page new : List ℕ) → Generates tree config map → Injection map page (Ok new)
     → IsOneMap map new
+
+-- own law: wherever a session stands that is opened on a tree, whatever edits led there, its map is generated for the
+-- tree and the config of its state, serves, has the digests of the modules, and is smallest
+abbrev pub SessionMapsServe : Type 0
+SessionMapsServe = (tree : Tree) (input : List ℕ) → sessions.MapsServe tree input

@@ -6,7 +6,8 @@
 
 ghost use Rattle.soundness.specs.Soundness.{CheckedMapsServe, FewestMapsServe, GeneratedIsSmallest, GeneratedReadsBack};
 ghost use Rattle.soundness.specs.Soundness.{MapsArePlain, MapsReadBack, MapsServe, ModulesAreKnown, NoMapServesAClash};
-ghost use Rattle.soundness.specs.Soundness.{NothingDiffers, OneMapInPage, Soundness, WrittenMapsDifferNowhere};
+ghost use Rattle.soundness.specs.Soundness.{NothingDiffers, OneMapInPage, SessionMapsServe, Soundness};
+ghost use Rattle.soundness.specs.Soundness.{WrittenMapsDifferNowhere};
 
 /// Wherever generation gives a map's text, this text serves: through it every request of the page and of each module
 /// that the page reaches leads to exactly the file that Node's resolver gives.
@@ -75,4 +76,10 @@ pub fn maps_are_plain()
 /// A page into which such a text is put has one import map element, and the text is its raw text.
 pub fn one_map_in_page()
     ensures { OneMapInPage }
+{}
+
+/// Wherever a session stands that is opened on a tree, its map is generated for its tree and config, whatever edits led
+/// there; so it serves, has the digests of the modules, and is smallest.
+pub fn session_maps_serve()
+    ensures { SessionMapsServe }
 {}

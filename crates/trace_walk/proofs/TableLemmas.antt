@@ -30,7 +30,7 @@ use Rattle.trace_walk.specs.declared.tables.Name.{Name}
 use Rattle.trace_walk.specs.declared.tables.Tables.{Tables}
 use Rattle.module_sources.specs.Shown.{source_of}
 use Rattle.trace_walk.specs.Shown.{module_at, before_of, done}
-use Rattle.trace_walk.specs.Walking.{IsReferrer, IsNamed, AllNamed, AreBeside, IsAdded, IsGiven, Grows}
+use Rattle.trace_walk.specs.Walking.{IsReferrer, IsNamed, AllNamed, AllInside, AreBeside, IsAdded, IsGiven, Grows}
 use Rattle.trace_walk.specs.Kinds.{IsOfWalk}
 use Rattle.trace_walk.specs.Putting.{IsKnown, Puts}
 use Rattle.trace_walk.specs.Refusing.{clash_by, IsClash, IsMisnamed}
@@ -87,6 +87,13 @@ places_within old new count more place e few is all =
 clear_more : (old new : Tables) (need : Need) (spelling : Spelling) (place : ℕ) → IsPut old new need spelling place → NoClash old.needs → NoClash new.needs
 clear_more old new need spelling place put clear = subst NoClash (sym put.added.needs_are) (no_clash_more old.needs need clear put.added.clear)
 
+beside_more : (old new : Tables) (need : Need) (spelling : Spelling) (place : ℕ) → IsPut old new need spelling place → AreBeside old → All (λ p. p < length new.modules.entries) new.targets.items → AreBeside new
+beside_more old new need spelling place put beside placed = record {
+  spelled = put.added.beside;
+  placed = placed;
+  inside = subst (λ sources. AllInside sources.items) (sym put.sources) beside.inside;
+}
+
 pub grows_by_one : (config : Config) (old new : Tables) (need : Need) (spelling : Spelling) (name : Name) → AreBeside old → length old.targets.items < limit_number Requests → length old.modules.entries < limit_number Modules
     → new.modules.entries ≡ old.modules.entries ++ (spelling.target, name) ∷ [] → IsNamed config spelling.target name → IsPut old new need spelling (length old.modules.entries) → Grows config 0 old new
 grows_by_one config old new need spelling name beside few room e is put = record {
@@ -95,7 +102,7 @@ grows_by_one config old new need spelling name beside few room e is put = record
   longer = let n = ap length e in let m = length-append old.modules.entries ((spelling.target, name) ∷ []) in omega arith;
   sources = let n = ap (λ s. length s.items) put.sources in omega arith;
   requests = λ within. let n = ap length put.targets in let m = length-append old.targets.items (length old.modules.entries ∷ []) in omega arith;
-  beside = (put.added.beside, places_within old.targets.items new.targets.items (length old.modules.entries) (length new.modules.entries) (length old.modules.entries) put.targets (let n = ap length e in let m = length-append old.modules.entries ((spelling.target, name) ∷ []) in omega arith) (let n = ap length e in let m = length-append old.modules.entries ((spelling.target, name) ∷ []) in omega arith) beside.1);
+  beside = beside_more old new need spelling (length old.modules.entries) put beside (places_within old.targets.items new.targets.items (length old.modules.entries) (length new.modules.entries) (length old.modules.entries) put.targets (let n = ap length e in let m = length-append old.modules.entries ((spelling.target, name) ∷ []) in omega arith) (let n = ap length e in let m = length-append old.modules.entries ((spelling.target, name) ∷ []) in omega arith) beside.placed);
   clear = clear_more old new need spelling (length old.modules.entries) put;
 }
 
@@ -106,7 +113,7 @@ grows_by_none config old new need spelling place beside at few modules put = rec
   longer = let n = ap (λ ms. length ms.entries) modules in omega arith;
   sources = let n = ap (λ s. length s.items) put.sources in omega arith;
   requests = λ within. let n = ap length put.targets in let m = length-append old.targets.items (place ∷ []) in omega arith;
-  beside = (put.added.beside, places_within old.targets.items new.targets.items (length old.modules.entries) (length new.modules.entries) place put.targets (let n = ap (λ ms. length ms.entries) modules in omega arith) (let n = ap (λ ms. length ms.entries) modules in omega (arith, at)) beside.1);
+  beside = beside_more old new need spelling place put beside (places_within old.targets.items new.targets.items (length old.modules.entries) (length new.modules.entries) place put.targets (let n = ap (λ ms. length ms.entries) modules in omega arith) (let n = ap (λ ms. length ms.entries) modules in omega (arith, at)) beside.placed);
   clear = clear_more old new need spelling place put;
 }
 
@@ -179,7 +186,7 @@ with_new old new need spelling name beside fresh e put =
       needs = sym put.added.needs_are i;
       spellings = sym put.added.spellings_are i;
       targets =
-          ((λ j. sym (still_all (keys old.modules) (spelling.target ∷ []) old.targets.items (subst (λ n. All (λ p. p < n) old.targets.items) (sym count) beside.1)) j
+          ((λ j. sym (still_all (keys old.modules) (spelling.target ∷ []) old.targets.items (subst (λ n. All (λ p. p < n) old.targets.items) (sym count) beside.placed)) j
           ++ sym (last_there (keys old.modules) spelling.target) j ∷ [])
           ∙ (ap (λ n. map (module_at (keys old.modules ++ spelling.target ∷ [])) old.targets.items ++ module_at (keys old.modules ++ spelling.target ∷ []) n ∷ []) count
           ∙ (sym (map-append (module_at (keys old.modules ++ spelling.target ∷ [])) old.targets.items (length old.modules.entries ∷ []))

@@ -1,10 +1,10 @@
 -- Visits, and the walk over the table of modules.
 use Rattle.std.proofs.Common.{◌≡◌, ◌≢◌, ◌≤◌, ◌<◌, ◌+◌, ◌-◌, ℕ, zero, suc, List, [], ◌∷◌, ◌++◌, length, length-append, Option, Some, None, Result, Ok, Err, refl, sym, ap, ◌∙◌, subst, arith}
-use Rattle.std.specs.Prelude.{slice_get, map}
+use Rattle.std.specs.Prelude.{slice_get, map, All}
 use Rattle.std.specs.Map.{keys_of}
 use Rattle.std.specs.Result.{IsErrAnd}
 use Rattle.std.proofs.lemmas.List.{map-append, length-map}
-use Rattle.std.proofs.lemmas.List.Elements.{All-head, All-tail}
+use Rattle.std.proofs.lemmas.List.Elements.{All-nil, All-head, All-tail, All-push}
 use Rattle.std.proofs.lemmas.Option.{slice_get_past}
 use Rattle.asking_spec.specs.Askings.{Asking, answered, ask, on_ok, and_ok}
 use Rattle.layout_spec.specs.Needs.{NoClash}
@@ -26,10 +26,10 @@ use Rattle.trace_walk.specs.declared.tables.Tables.{Tables}
 use Rattle.trace_walk.specs.Meeting.{AnswererState, fine, Met}
 use Rattle.module_sources.specs.declared.source.NoSource.{NoSource}
 use Rattle.module_sources.specs.declared.source.NoSource.TheVariants.{NotModule, Above}
-use Rattle.module_sources.specs.Shown.{source_of, no_source_of}
+use Rattle.module_sources.specs.Shown.{AreInside, source_of, no_source_of}
 use Rattle.trace_walk.specs.Shown.{module_at, before_of, done}
 use Rattle.trace_walk.specs.Refusing.{no_source_fault}
-use Rattle.trace_walk.specs.Walking.{IsReferrer, IsNamed, AllNamed, AreBeside, AreOfUrls, module_requests, IsGiven, Grows, IsWhole, IsUnserved}
+use Rattle.trace_walk.specs.Walking.{IsReferrer, IsNamed, AllNamed, AllInside, AreBeside, AreEmpty, AreOfUrls, module_requests, IsGiven, Grows, IsWhole, IsUnserved}
 use Rattle.trace_walk.proofs.TableLemmas.{keys_of-length}
 use Rattle.trace_walk.proofs.FaultKinds.{handed}
 use Rattle.trace_walk.proofs.Meetings.{met_then, met_failed, met_lost, met_now, Left}
@@ -70,6 +70,23 @@ grows_by_visit config tables pushed new source modules sources needs targets gro
       clear = λ clear. grows.clear (subst NoClash (sym needs) clear);
     }
 
+pub beside_pushed : (tables pushed : Tables) (source : Source) → pushed.modules ≡ tables.modules → pushed.sources.items ≡ tables.sources.items ++ source ∷ [] → pushed.needs ≡ tables.needs → pushed.spellings ≡ tables.spellings
+    → pushed.targets ≡ tables.targets → AreInside source.bytes.value source.requests.value → AreBeside tables → AreBeside pushed
+beside_pushed tables pushed source modules sources needs spellings targets inside beside = record {
+  spelled = ap (λ ss. length ss.items) spellings ∙ (beside.spelled ∙ sym (ap length needs));
+  placed = subst (λ ms. All (λ place. place < length ms.entries) pushed.targets.items) (sym modules)
+      (subst (λ ts. All (λ place. place < length tables.modules.entries) ts.items) (sym targets) beside.placed);
+  inside = subst AllInside (sym sources)
+      (All-push (λ (s : Source). AreInside s.bytes.value s.requests.value) tables.sources.items source beside.inside inside);
+}
+
+pub nothing_beside : (tables : Tables) → AreEmpty tables → AreBeside tables
+nothing_beside tables empty = record {
+  spelled = ap length empty.spellings ∙ sym (ap length empty.needs);
+  placed = subst (All (λ place. place < length tables.modules.entries)) (sym empty.targets) (All-nil (λ place. place < length tables.modules.entries));
+  inside = subst AllInside (sym empty.sources) (All-nil (λ (s : Source). AreInside s.bytes.value s.requests.value));
+}
+
 -- the tables behind the page's visit and those of all modules
 pub whole_by : (config : Config) (empty paged tables : Tables) → empty.modules.entries ≡ [] → empty.sources.items ≡ [] → empty.needs ≡ [] → empty.targets.items ≡ []
     → Grows config 0 empty paged → Grows config (length tables.modules.entries) paged tables → AreOfUrls tables.needs → module_requests (before_of tables).sources ≤ length tables.targets.items → IsWhole (before_of tables)
@@ -83,7 +100,7 @@ whole_by config empty paged tables modules sources needs targets page all urls c
       few = (let few = all.few (page.few (omega (arith, none))) in omega (arith, few, keys));
       few_requests = (let few = all.requests (page.requests (let none = ap length targets in omega (arith, none))) in let same = length-map tables.targets.items (module_at (keys_of tables.modules.entries)) in omega (arith, few, same));
       counted = (let same = length-map tables.targets.items (module_at (keys_of tables.modules.entries)) in omega (arith, counted, same));
-      spelled = all.beside.0;
+      spelled = all.beside.spelled;
       clear = all.clear (page.clear (subst NoClash (sym needs) (λ one other c d. absurd (contains_none one c))));
       urls = urls;
     }

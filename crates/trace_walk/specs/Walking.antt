@@ -5,7 +5,8 @@
 --     AreEmpty tables                       nothing is in the tables yet
 --     AllNamed config entries               each module stands with its web name, which is no folder's, and the text
 --                                           of that
---     AreBeside tables                      each need has its spelling, and each target is the place of a module
+--     AreBeside tables                      each need has its spelling, each target is the place of a module, and the
+--                                           requests of each source stand in its bytes
 --     module_requests sources               how many requests these sources have together
 --     Counts more old new                   the targets grow by one to each request of the new sources, and so many
 --                                           more
@@ -45,6 +46,8 @@ use Rattle.trace_spec.specs.Walking as spec
 use Rattle.trace_spec.specs.Modules.{Config, Module, path_of, web_name, shown, served_name, file_name}
 use Rattle.url_spec.specs.Parsing.{IsUrl}
 use Rattle.url_spec.specs.WebNames.{web}
+use Rattle.module_sources.specs.declared.source.Source as code
+use Rattle.module_sources.specs.Shown.{AreInside}
 use Rattle.trace_walk.specs.declared.referrer.Referrer.{Referrer}
 use Rattle.trace_walk.specs.declared.tables.Name.{Name}
 use Rattle.trace_walk.specs.declared.tables.Tables.{Tables}
@@ -78,10 +81,13 @@ pub record IsNamed (config : Config) (m : Module) (name : Name) : Type 0 where
 abbrev pub AllNamed : Config → List (Module × Name) → Type 0
 AllNamed config entries = All (λ entry. IsNamed config entry.0 entry.1) entries
 
-abbrev pub AreBeside : Tables → Type 0
-AreBeside tables =
-    (length tables.spellings.items ≡ length tables.needs)
-    × All (λ place. place < length tables.modules.entries) tables.targets.items
+abbrev pub AllInside : List code.Source → Type 0
+AllInside sources = All (λ source. AreInside source.bytes.value source.requests.value) sources
+
+pub record AreBeside (tables : Tables) : Type 0 where
+  pub spelled : length tables.spellings.items ≡ length tables.needs
+  pub placed : All (λ place. place < length tables.modules.entries) tables.targets.items
+  pub inside : AllInside tables.sources.items
 
 abbrev pub module_requests : List Source → ℕ
 module_requests sources = length (flat_map (λ source. source.specifiers) sources)

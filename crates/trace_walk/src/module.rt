@@ -32,6 +32,15 @@ impl Module {
         Module { path, suffix }
     }
 
+    /// The path and the suffix, moved out.
+    pub fn into_parts(self) -> (Path, Suffix)
+        ensures path { result.0 ≡ self.path }
+        ensures suffix { result.1 ≡ self.suffix }
+    {
+        let Module { path, suffix } = self;
+        (path, suffix)
+    }
+
     pub fn path(&self) -> &Path
         ensures { result.now ≡ self.now.path }
     {

@@ -38,21 +38,21 @@ number_there P (Some other) number h e = let same : other ≡ number = cc in sub
 
 pub returns-in_err-map-clause-too_large : goal.returns-in_err-map-clause-too_large
 returns-in_err-map-clause-too_large c = λ same.
-    let needs : List Need = c.args.trace.now.needs in
+    let needs : List Need = c.args.trace.now.gathered.needs in
     let laid : FewestLists needs c.args.layout.now = c.requires.fewest in
-    let printed = digested c.args.config.now c.args.trace.now c.args.layout.now laid.m c.in_ok-digests.digests c.in_ok-digests.ensures laid.lists in
-    record { few = c.requires.few; layout = laid.m; is_fewest = laid.is_fewest; large = beside_large c.args.config.now c.args.page.now (with_digests c.args.config.now c.args.trace.now laid.m) c.requires.page (c.print_map.ensures.too_large (search (rules, same)) (with_digests c.args.config.now c.args.trace.now laid.m) printed) }
+    let printed = digested c.args.config.now c.args.trace.now.gathered c.args.layout.now laid.m c.in_ok-digests.digests c.in_ok-digests.ensures laid.lists in
+    record { few = c.requires.few; layout = laid.m; is_fewest = laid.is_fewest; large = beside_large c.args.config.now c.args.page.now (with_digests c.args.config.now c.args.trace.now.gathered laid.m) c.requires.page (c.print_map.ensures.too_large (search (rules, same)) (with_digests c.args.config.now c.args.trace.now.gathered laid.m) printed) }
 
 pub returns-clause-map : goal.returns-clause-map
 returns-clause-map c =
-    let needs : List Need = c.args.trace.now.needs in
+    let needs : List Need = c.args.trace.now.gathered.needs in
     let laid : FewestLists needs c.args.layout.now = c.requires.fewest in
-    let printed = digested c.args.config.now c.args.trace.now c.args.layout.now laid.m c.in_ok-digests.digests c.in_ok-digests.ensures laid.lists in
+    let printed = digested c.args.config.now c.args.trace.now.gathered c.args.layout.now laid.m c.in_ok-digests.digests c.in_ok-digests.ensures laid.lists in
     record {
       few = c.requires.few;
       layout = laid.m;
       is_fewest = laid.is_fewest;
-      map = beside c.args.config.now c.args.page.now (with_digests c.args.config.now c.args.trace.now laid.m) c.in_ok-map.map.items c.requires.page (c.in_ok-map.ensures.printed.text (with_digests c.args.config.now c.args.trace.now laid.m) printed);
+      map = beside c.args.config.now c.args.page.now (with_digests c.args.config.now c.args.trace.now.gathered laid.m) c.in_ok-map.map.items c.requires.page (c.in_ok-map.ensures.printed.text (with_digests c.args.config.now c.args.trace.now.gathered laid.m) printed);
       within = c.in_ok-map.ensures.printed.within;
       modules = c.len.ensures.modules;
       requests = c.request_count.ensures.requests;

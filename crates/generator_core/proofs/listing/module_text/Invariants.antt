@@ -6,4 +6,4 @@ use Rattle.generator_core.proofs.listing.module_text.Given as goal
 
 -- the lines that are left stand behind those that are there
 abbrev pub invariant-loop-place : goal.invariant-loop-place
-invariant-loop-place l = concat (list_lines l.fn.trace) ≡ l.text.items ++ lines_from l.fn.trace l.place
+invariant-loop-place l = concat (list_lines l.fn.trace.gathered) ≡ l.text.items ++ lines_from l.fn.trace.gathered l.place

@@ -1,7 +1,7 @@
-use Rattle.std.proofs.Common.{Err, Some, subst}
+use Rattle.std.proofs.Common.{Err, subst}
 use Rattle.generator_spec.specs.Ending.{Ends}
-use Rattle.session_talk.specs.Editors.{Seen, Edits}
-use Rattle.session_talk.specs.Talking.{GivesReply, Makes}
+use Rattle.session_talk.specs.Editors.{Edits}
+use Rattle.session_talk.specs.Talking.{GivesReply}
 use Rattle.session_talk.proofs.AskLemmas.{turn_keeping}
 use Rattle.session_talk.proofs.ReplyLemmas.{seen_by, makes_replied, makes_fault, makes_nothing}
 use Rattle.session_talk.proofs.talk.make.Goals as goal

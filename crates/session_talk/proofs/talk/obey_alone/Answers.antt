@@ -1,4 +1,4 @@
-use Rattle.std.proofs.Common.{◌≡◌, ◌++◌, ◌∷◌, [], ℕ, List, Option, Some, None, refl, sym, ap, ◌∙◌, subst}
+use Rattle.std.proofs.Common.{◌≡◌, ◌++◌, ◌∷◌, [], List, Some, None, sym, ap, ◌∙◌, subst}
 use Rattle.session_spec.specs.declared.Change.{Change}
 use Rattle.session_input.specs.Readers.{order_of}
 use Rattle.session_input.specs.declared.reading.Order.{Order}
@@ -20,8 +20,8 @@ pub returns-in-Err-clause-asks : goal.returns-in-Err-clause-asks
 returns-in-Err-clause-asks g c =
     turn_same (Some c.tell.result) (g.E.Editor.looks c.args.editor.now)
 
-pub returns-in-Ok-clause-turns : goal.returns-in-Ok-clause-turns
-returns-in-Ok-clause-turns g c first left source before is goes =
+pub returns-in-Change-clause-turns : goal.returns-in-Change-clause-turns
+returns-in-Change-clause-turns g c first left source before is goes =
     let out = g.O.Sink.state c.args.out.now in
     let gone = g.O.Sink.state c.make.new.out in
     let one : c.push.new.self ≡ c.in-Change.change ∷ [] = c.in-Ok.ensures ∙ ap (λ (front : List Change). front ++ c.in-Change.change ∷ []) c.new-edit.ensures in
@@ -63,13 +63,13 @@ pub returns-in-Map-clause-asks : goal.returns-in-Map-clause-asks
 returns-in-Map-clause-asks g c =
     subst (λ editor. TurnAsks c.show.result (g.E.Editor.looks c.args.editor.now) (g.E.Editor.looks editor)) (sym c.show.ensures.same) (turn_same c.show.result (g.E.Editor.looks c.args.editor.now))
 
-pub returns-in-End-clause-turns : goal.returns-in-End-clause-turns
-returns-in-End-clause-turns g c first left source before is goes =
+pub returns-clause-turns : goal.returns-clause-turns
+returns-clause-turns g c first left source before is goes =
     let out = g.O.Sink.state c.args.out.now in
     let gone = g.O.Sink.state c.tell-in-End.new.out in
     seen_at before is
     (alone_end first c.args.number before left source out gone c.tell-in-End.result (subst (λ (o : Order). IsOrdered c.args.number (order_of o) first (now_at before left None source out)) c.in-End.is goes) (said_line c.end_line.ensures c.tell-in-End.ensures.ends))
 
-pub returns-in-End-clause-asks : goal.returns-in-End-clause-asks
-returns-in-End-clause-asks g c =
+pub returns-clause-asks : goal.returns-clause-asks
+returns-clause-asks g c =
     turn_same (Some c.tell-in-End.result) (g.E.Editor.looks c.args.editor.now)

@@ -1,9 +1,8 @@
-use Rattle.std.proofs.Common.{◌≡◌, ◌++◌, ◌∷◌, [], ℕ, List, Option, Some, None, refl, sym, ap, ◌∙◌, subst}
+use Rattle.std.proofs.Common.{List, Some, sym, subst}
 use Rattle.session_spec.specs.declared.Change.{Change}
 use Rattle.session_input.specs.Readers.{order_of}
 use Rattle.session_input.specs.declared.reading.Order.{Order}
-use Rattle.session_talk.specs.Talking.{now_at, GoesOn, IsOrdered, Makes}
-use Rattle.session_talk.specs.EditorLooks.{TurnAsks}
+use Rattle.session_talk.specs.Talking.{now_at, GoesOn, IsOrdered}
 use Rattle.session_talk.proofs.AskLemmas.{keeps_same, turn_same}
 use Rattle.session_talk.proofs.ReplyLemmas.{seen_at, seen_by, said_line}
 use Rattle.session_talk.proofs.TurnLemmas.{within_change, within_commit, within_begin, within_map, within_end, memory_ordered, none_held}
@@ -34,9 +33,9 @@ returns-in-Ok-clause-asks g c =
 pub returns-in-Commit-clause-turns : goal.returns-in-Commit-clause-turns
 returns-in-Commit-clause-turns g c first left source before is goes =
     let out = g.O.Sink.state c.args.out.now in
-    let gone = g.O.Sink.state c.make-in-Commit.new.out in
-    seen_by (c.make-in-Commit.ensures.makes before is) (λ later made. none_held first later left c.args.held.now source gone c.make-in-Commit.result c.requires
-    (within_commit first c.args.number before left source out c.args.edit later gone c.make-in-Commit.result (subst (λ (o : Order). IsOrdered c.args.number (order_of o) first (now_at before left (Some c.args.edit) source out)) c.in-Commit.is goes) made))
+    let gone = g.O.Sink.state c.make.new.out in
+    seen_by (c.make.ensures.makes before is) (λ later made. none_held first later left c.args.held.now source gone c.make.result c.requires
+    (within_commit first c.args.number before left source out c.args.edit later gone c.make.result (subst (λ (o : Order). IsOrdered c.args.number (order_of o) first (now_at before left (Some c.args.edit) source out)) c.in-Commit.is goes) made))
 
 pub returns-in-Begin-clause-turns : goal.returns-in-Begin-clause-turns
 returns-in-Begin-clause-turns g c first left source before is goes =

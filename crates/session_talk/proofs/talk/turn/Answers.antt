@@ -1,4 +1,4 @@
-use Rattle.std.proofs.Common.{Option, Some, Ok, Err, subst}
+use Rattle.std.proofs.Common.{Some, Ok, Err, subst}
 use Rattle.session_input.specs.Readers.{waiting, ReadsNext}
 use Rattle.session_talk.proofs.AskLemmas.{turn_same}
 use Rattle.session_talk.proofs.ReplyLemmas.{seen_at, said_line}

@@ -8,10 +8,15 @@ use Rattle.trace_walk.specs.declared.tables.Tables.{Tables}
 use Rattle.module_sources.specs.Shown.{source_of}
 use Rattle.trace_walk.specs.Shown.{before_of, done}
 use Rattle.trace_walk.specs.Walking.{Counts}
-use Rattle.trace_walk.proofs.Visiting.{visit_failed, visit_lost, visit_sourceless, visit_done, pushed_source}
+use Rattle.trace_walk.proofs.Visiting.{beside_pushed, visit_failed, visit_lost, visit_sourceless, visit_done, pushed_source}
 use Rattle.trace_walk.proofs.FaultKinds.{answers_kind, source_kind}
 use Rattle.trace_walk.proofs.Advancing.{bounded_module, walks_refused, walks_visit, counts_visit, counts_as}
 use Rattle.trace_walk.proofs.visits.visit_module.Goals as goal
+
+pub follow_all-requires-clause-beside : goal.follow_all-requires-clause-beside
+follow_all-requires-clause-beside g c =
+    let pushed : Tables = record { modules = c.args.tables.now.modules; sources = c.push_source.new.sources; needs = c.args.tables.now.needs; spellings = c.args.tables.now.spellings; targets = c.args.tables.now.targets } in
+    beside_pushed c.args.tables.now pushed c.in-Ok.source refl c.in_ok-push_source-in-Ok.ensures refl refl refl (rw c.in-Ok.is at c.in_ok-source.ensures.answered.is) c.requires.beside
 
 pub returns-in_ok-push_source-in-Ok-clause-met : goal.returns-in_ok-push_source-in-Ok-clause-met
 returns-in_ok-push_source-in-Ok-clause-met g c = λ m is all.
@@ -52,7 +57,7 @@ returns-in_err-source-clause-walks g c =
 pub returns-in_ok-no_source-in-Err-clause-walks : goal.returns-in_ok-no_source-in-Err-clause-walks
 returns-in_ok-no_source-in-Err-clause-walks g c =
     walks_refused c.args.config.now 1 1 _ _ _ _ _ _ c.in_ok-no_source-in-Err.field-0 (Err c.in_ok-no_source-in-Err.field-0) refl (bounded_module c.args.tables.now _ _ c.in_ok-source.ensures.answered.answered.steps)
-    (subst (IsOfWalk c.args.config.now) (sym c.in_ok-no_source-in-Err.ensures) (source_kind c.args.config.now c.args.referrer.now.shown c.in-Err.why (rw c.in-Err.is at c.in_ok-source.ensures.answered.limit)))
+    (subst (IsOfWalk c.args.config.now) (sym c.in_ok-no_source-in-Err.ensures) (source_kind c.args.config.now c.args.referrer.now.shown c.in-Err.why (rw c.in-Err.is at c.in_ok-source.ensures.answered.is)))
 
 pub returns-in_err-requests-in-Ok-clause-walks : goal.returns-in_err-requests-in-Ok-clause-walks
 returns-in_err-requests-in-Ok-clause-walks g c = walks_refused c.args.config.now 1 1 _ _ _ _ _ _ Memory c.from_residual-in_err-requests-in-Ok.result c.from_residual-in_err-requests-in-Ok.ensures.1 (bounded_module c.args.tables.now _ _ c.in_ok-source.ensures.answered.answered.steps) tt

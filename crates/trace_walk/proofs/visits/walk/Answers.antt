@@ -8,9 +8,12 @@ use Rattle.trace_walk.specs.Shown.{before_of, traced_of}
 use Rattle.trace_walk.specs.Walking.{IsNamed, AllNamed, AreOfUrls}
 use Rattle.trace_walk.proofs.FaultKinds.{handed}
 use Rattle.trace_walk.proofs.Advancing.{walk_refused, counts_all}
-use Rattle.trace_walk.proofs.Visiting.{begun_is, walk_unpaged, walk_paged, whole_by}
+use Rattle.trace_walk.proofs.Visiting.{begun_is, walk_unpaged, walk_paged, whole_by, nothing_beside}
 use Rattle.trace_walk.proofs.UrlLemmas.{no_urls}
 use Rattle.trace_walk.proofs.visits.walk.Goals as goal
+
+pub visit_page-requires-clause-beside : goal.visit_page-requires-clause-beside
+visit_page-requires-clause-beside g c = nothing_beside c.new-tables.result c.new-tables.ensures
 
 pub returns-in_err-visit_page-clause-met : goal.returns-in_err-visit_page-clause-met
 returns-in_err-visit_page-clause-met g c =
@@ -50,6 +53,7 @@ returns-clause-walked g c =
             (c.in_ok-visit_modules.ensures.walks.advances.urls (c.in_ok-visit_page.ensures.walks.advances.grows.named none) (c.in_ok-visit_page.ensures.walks.advances.urls tt begun))
             (omega (arith, counted));
         counted = counted;
+        beside = c.in_ok-visit_modules.ensures.walks.advances.grows.beside;
       };
       steps = search rules;
       bounded = omega (arith, begins, page, all);

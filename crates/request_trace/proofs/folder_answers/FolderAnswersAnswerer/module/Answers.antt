@@ -5,7 +5,7 @@ use Rattle.package_lookup.specs.Responses.{looked}
 use Rattle.package_lookup.specs.Answered.{state}
 use Rattle.trace_spec.specs.Questions.{of_module}
 use Rattle.trace_walk.specs.Shown.{sources}
-use Rattle.request_trace.proofs.AnswerLemmas.{always_ready, met_by, kind_of, limit_of}
+use Rattle.request_trace.proofs.AnswerLemmas.{always_ready, met_by, kind_of, found_of}
 use Rattle.request_trace.proofs.folder_answers.FolderAnswersAnswerer.module.Goals as goal
 
 pub returns-clause-met : goal.returns-clause-met
@@ -23,5 +23,5 @@ returns-clause-answered g c = record {
     ready = always_ready c.source_answer.result;
     kind = kind_of c.source_answer.result _ c.source_answer.ensures.kind;
   };
-  limit = limit_of c.source_answer.result _ c.source_answer.ensures.kind c.module_source-found.ensures.limit;
+  is = found_of c.source_answer.result _ c.source_answer.ensures.kind c.module_source-found.ensures.is;
 }

@@ -1,6 +1,6 @@
 use Rattle.session_run.proofs.EditLemmas.{shows_view}
 use Rattle.session_run.proofs.session_editor.SessionEditorEditor.map.Goals as goal
 
-pub returns-clause-shows : goal.returns-clause-shows
-returns-clause-shows g c view is =
+pub returns : goal.returns
+returns g c view is =
     shows_view (g.F.Folder.state c.args.self.now.folder.now) c.args.self.now.session.now c.map.result.now view c.map.ensures is

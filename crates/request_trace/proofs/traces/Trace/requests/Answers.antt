@@ -1,0 +1,14 @@
+use Rattle.std.proofs.Common.{length, ◌∙◌}
+use Rattle.trace_spec.specs.Questions.{Source}
+use Rattle.trace_graph.specs.Links.{source_of}
+use Rattle.trace_graph.proofs.Showing.{as_many_specifiers}
+use Rattle.request_trace.proofs.Lending.{field_some, field_none}
+use Rattle.request_trace.proofs.traces.Trace.requests.Goals as goal
+
+pub returns-in-None : goal.returns-in-None
+returns-in-None c = field_none source_of _ c.module.result c.module.ensures.source (λ (s : Source). length s.specifiers) c.in-None.is
+
+pub returns-in-Some : goal.returns-in-Some
+returns-in-Some c =
+    field_some source_of _ c.module.result c.module.ensures.source (λ (s : Source). length s.specifiers) c.in-Some.module c.requests.result c.in-Some.is
+    (c.requests.ensures.count ∙ as_many_specifiers c.in-Some.module)
